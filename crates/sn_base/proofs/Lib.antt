@@ -1,0 +1,4 @@
+pub mod MapBorrows
+pub mod Maps
+pub mod Prefixes
+pub mod SumLaws

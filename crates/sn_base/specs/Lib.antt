@@ -1,0 +1,4 @@
+pub mod Faults
+pub mod MapLends
+pub mod Prefix
+pub mod Sums
