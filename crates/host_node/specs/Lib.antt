@@ -1,0 +1,9 @@
+pub mod Faults
+pub mod Levels
+pub mod Order
+pub mod Routes
+pub mod Told
+pub mod Tree
+pub mod TreeCode
+pub mod TreeFalls
+pub mod TreeSize

@@ -1,0 +1,7 @@
+pub mod Errors
+pub mod Taken
+pub mod Shelf
+pub mod Plan
+pub mod InMemory
+pub mod Opened
+pub mod Reading
