@@ -1,0 +1,4 @@
+pub mod HeaderPairs
+pub mod ImageFaults
+pub mod LoadableImages
+pub mod ImageLaws

@@ -1,0 +1,11 @@
+use Rattle.std.proofs.Common.{refl, rules}
+use borrow.Author.Tests.{tests}
+use Rattle.std.proofs.lemmas.Iterator.Consumers.{YieldsList-from_first}
+use Rattle.std.proofs.lemmas.Iterator.Search.{any_from_yields_List}
+use Rattle.elf_image.proofs.fault.has_interpreter.Goals as goal
+use Rattle.elf_image.specs.Headers.{is_interpreter}
+
+pub returns : goal.returns
+returns c =
+    any_from_yields_List is_interpreter _ _ _ c.any.ensures.ran (YieldsList-from_first (λ x. x) (λ rest. rest) c.args.headers refl)
+    (λ x b q k. search (rules, tests))

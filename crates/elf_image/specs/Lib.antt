@@ -1,0 +1,4 @@
+pub mod Headers
+pub mod Faults
+pub mod Loadable
+pub mod Images

@@ -1,0 +1,115 @@
+//! Executable images, and how one is read from a file.
+
+ghost use Rattle.std.specs.Prelude.{◌≡◌, ◌+◌, ◌≤◌, IfOk, IfErr, OnOk, ◌∷◌, [], ◌++◌, false, length, AllPairs};
+ghost use Rattle.std.specs.List.{list_any};
+ghost use Rattle.elf_image.specs.Faults.{is_misplaced, image_fault, IsFaultOf};
+ghost use Rattle.elf_image.specs.Loadable.{AreApart, StartsInCode};
+ghost use Rattle.elf_image.specs.Images.{rights_of, segment_of, segments_of, image_in};
+ghost use Rattle.elf_image.specs.declared.fault.ImageFault.{ImageFault as Fault};
+
+use crate::fault::{ImageFault, image_fault};
+use crate::header::{ProgramHeader, file_header};
+use crate::table::Headers;
+use sn_base::{List, Memory};
+use std::alloc::Global;
+use std::marker::Model;
+
+/// What may be done with the bytes of a segment.
+///
+/// ELF-64 Object File Format, `p_flags`.
+#[derive(Clone, Copy, Debug, PartialEq, Eq)]
+pub struct Rights {
+    pub read: bool,
+    pub write: bool,
+    pub execute: bool,
+}
+
+/// A loadable segment: `size` bytes from `address` on, of which the first are the file's `bytes` and the rest are 0.
+///
+/// ELF-64 Object File Format, Program Header: `p_vaddr`, `p_memsz`, the file's part, `p_flags`.
+#[derive(Debug, Drop)]
+pub struct Segment {
+    pub address: u64,
+    pub size: u64,
+    pub bytes: List<u8>,
+    pub rights: Rights,
+}
+
+/// An executable image: where it starts, and its loadable segments in the file's order. There are at most 64, each of
+/// at least one byte and of no fewer than the file has, between the addresses 4,096 and 2^37.
+#[derive(Debug, Drop)]
+pub struct Image {
+    pub entry: u64,
+    pub segments: List<Segment>,
+}
+
+impl Model for Image {
+    ghost use Rattle.elf_image.specs.Loadable.{Loadable, AreLoadable};
+
+    ghost Value = { Loadable };
+
+    ghost view = { λ a. record { entry = a.entry; segments = a.segments } };
+
+    ghost invariant = { λ a. AreLoadable a.segments };
+}
+
+/// Reads an executable image.
+///
+/// The faults come in the order of `ImageFault`, so a fault of the bytes comes before want of memory, and nothing is
+/// allocated for what is refused.
+#[tactic(auto, using(crate::proofs::ImageFaults::fault_of_first, crate::proofs::ImageFaults::without_fault, crate::proofs::LoadableImages::loadable), unfolding(crate::specs::Images::image_in))]
+pub fn read_image(alloc: Global, bytes: &[u8]) -> Result<Image, ImageFault>
+    ensures ok { IfOk result (λ image. image ≡ image_in bytes.now) }
+    ensures sound { OnOk result (image_fault bytes.now ≡ None) }
+    ensures fault { IfErr result (IsFaultOf bytes.now) }
+    ensures apart { IfOk result (λ image. AllPairs AreApart image.segments) }
+    ensures starts { IfOk result StartsInCode }
+    ensures faulty { (f : Fault) → image_fault bytes.now ≡ Some f → result ≡ Err f }
+{
+    if let Some(fault) = image_fault(bytes) {
+        return Err(fault);
+    }
+    let file = file_header(bytes);
+    let segments = segments_of(alloc, bytes, Headers::new(bytes, &file))?;
+    Ok(Image {
+        entry: file.e_entry,
+        segments,
+    })
+}
+
+fn rights_of(flags: u32) -> Rights
+    ensures { result ≡ rights_of flags }
+{
+    Rights {
+        read: flags / 4 % 2 == 1,
+        write: flags / 2 % 2 == 1,
+        execute: flags % 2 == 1,
+    }
+}
+
+fn segment_of(alloc: Global, bytes: &[u8], header: &ProgramHeader) -> Result<Segment, Memory>
+    requires { header.now.p_offset + header.now.p_filesz ≤ length bytes.now }
+    ensures { IfOk result (λ segment. segment ≡ segment_of bytes.now header.now) }
+{
+    let start = header.p_offset as usize;
+    Ok(Segment {
+        address: header.p_vaddr,
+        size: header.p_memsz,
+        bytes: List::from_slice(alloc, &bytes[start..start + header.p_filesz as usize])?,
+        rights: rights_of(header.p_flags),
+    })
+}
+
+/// The segments of the headers that are left, of which none is misplaced in the file.
+fn segments_of(alloc: Global, bytes: &[u8], headers: Headers<'_>) -> Result<List<Segment>, Memory>
+    requires { list_any (is_misplaced (length bytes.now)) headers ≡ false }
+    ensures { IfOk result (λ segments. segments ≡ segments_of bytes.now headers.entry) }
+{
+    let mut segments = List::new(alloc);
+    for header in headers {
+        if header.is_loaded() {
+            segments.push(segment_of(alloc, bytes, &header)?)?;
+        }
+    }
+    Ok(segments)
+}

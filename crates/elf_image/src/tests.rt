@@ -1,0 +1,202 @@
+use crate::{ImageFault, Rights, image_fault, read_image};
+use std::test::Fail;
+
+/// A program of eight instructions: file header, one program header, which loads the file whole, and the instructions.
+#[rattlefmt::skip]
+const GUEST: [u8; 152] = [
+    0x7f, 0x45, 0x4c, 0x46, 2, 1, 1, 0, 0, 0, 0, 0, 0, 0, 0, 0,
+    2, 0, 243, 0, 1, 0, 0, 0, 0x78, 0, 1, 0, 0, 0, 0, 0,
+    64, 0, 0, 0, 0, 0, 0, 0, 0, 0, 0, 0, 0, 0, 0, 0,
+    0, 0, 0, 0, 64, 0, 56, 0, 1, 0, 0, 0, 0, 0, 0, 0,
+    1, 0, 0, 0, 5, 0, 0, 0, 0, 0, 0, 0, 0, 0, 0, 0,
+    0, 0, 1, 0, 0, 0, 0, 0, 0, 0, 1, 0, 0, 0, 0, 0,
+    152, 0, 0, 0, 0, 0, 0, 0, 152, 0, 0, 0, 0, 0, 0, 0,
+    0, 16, 0, 0, 0, 0, 0, 0,
+    0x13, 0x05, 0x10, 0x00, 0x93, 0x05, 0x00, 0x00, 0x13, 0x06, 0x00, 0x00, 0x93, 0x08, 0x00, 0x04,
+    0x73, 0x00, 0x00, 0x00, 0x13, 0x05, 0x00, 0x00, 0x93, 0x08, 0xe0, 0x05, 0x73, 0x00, 0x00, 0x00,
+];
+
+/// A file of two segments: the first loads it whole, the second begins where the first ends, and has 8 bytes of the
+/// file and 4,096 of memory.
+#[rattlefmt::skip]
+const TWO: [u8; 184] = [
+    0x7f, 0x45, 0x4c, 0x46, 2, 1, 1, 0, 0, 0, 0, 0, 0, 0, 0, 0,
+    2, 0, 243, 0, 1, 0, 0, 0, 0xb0, 0, 1, 0, 0, 0, 0, 0,
+    64, 0, 0, 0, 0, 0, 0, 0, 0, 0, 0, 0, 0, 0, 0, 0,
+    0, 0, 0, 0, 64, 0, 56, 0, 2, 0, 0, 0, 0, 0, 0, 0,
+    1, 0, 0, 0, 5, 0, 0, 0, 0, 0, 0, 0, 0, 0, 0, 0,
+    0, 0, 1, 0, 0, 0, 0, 0, 0, 0, 1, 0, 0, 0, 0, 0,
+    184, 0, 0, 0, 0, 0, 0, 0, 184, 0, 0, 0, 0, 0, 0, 0,
+    0, 16, 0, 0, 0, 0, 0, 0,
+    1, 0, 0, 0, 6, 0, 0, 0, 176, 0, 0, 0, 0, 0, 0, 0,
+    0xb8, 0, 1, 0, 0, 0, 0, 0, 0xb8, 0, 1, 0, 0, 0, 0, 0,
+    8, 0, 0, 0, 0, 0, 0, 0, 0, 16, 0, 0, 0, 0, 0, 0,
+    0, 16, 0, 0, 0, 0, 0, 0,
+    0x73, 0x00, 0x00, 0x00, 0x6f, 0x00, 0x00, 0x00,
+];
+
+/// A byte of `GUEST` by its place, another value there, and the fault that it makes.
+const DAMAGES: [(usize, u8, ImageFault); 31] = [
+    (0, 0x7e, ImageFault::Magic),
+    (3, 0x47, ImageFault::Magic),
+    (4, 1, ImageFault::Class),
+    (5, 2, ImageFault::Class),
+    (6, 0, ImageFault::Class),
+    (18, 62, ImageFault::Machine),
+    (19, 1, ImageFault::Machine),
+    (16, 3, ImageFault::Kind),
+    (17, 1, ImageFault::Kind),
+    (48, 1, ImageFault::Flags),
+    (48, 24, ImageFault::Flags),
+    (32, 97, ImageFault::Headers),
+    (39, 255, ImageFault::Headers),
+    (54, 32, ImageFault::Headers),
+    (56, 0, ImageFault::Headers),
+    (56, 2, ImageFault::Headers),
+    (56, 65, ImageFault::Headers),
+    (64, 3, ImageFault::Interp),
+    (64, 2, ImageFault::Range),
+    (72, 1, ImageFault::Range),
+    (79, 255, ImageFault::Range),
+    (82, 0, ImageFault::Range),
+    (84, 32, ImageFault::Range),
+    (87, 255, ImageFault::Range),
+    (96, 153, ImageFault::Range),
+    (104, 0, ImageFault::Range),
+    (111, 255, ImageFault::Range),
+    (24, 0x7a, ImageFault::Entry),
+    (24, 0x98, ImageFault::Entry),
+    (26, 0, ImageFault::Entry),
+    (68, 6, ImageFault::Entry),
+];
+
+/// One damage for each fault, in the order in which the faults are told.
+const IN_ORDER: [(usize, u8, ImageFault); 9] = [
+    (0, 0x7e, ImageFault::Magic),
+    (4, 1, ImageFault::Class),
+    (18, 62, ImageFault::Machine),
+    (16, 3, ImageFault::Kind),
+    (48, 1, ImageFault::Flags),
+    (54, 32, ImageFault::Headers),
+    (64, 3, ImageFault::Interp),
+    (96, 153, ImageFault::Range),
+    (24, 0x7a, ImageFault::Entry),
+];
+
+fn damage(file: &mut [u8], place: usize, value: u8) {
+    if let Some(byte) = file.get_mut(place) {
+        *byte = value;
+    }
+}
+
+/// The fault of a file cut to its first bytes, by how many there are.
+fn fault_of_prefix(length: usize) -> ImageFault {
+    if length < 64 {
+        ImageFault::Short
+    } else if length < 120 {
+        ImageFault::Headers
+    } else {
+        ImageFault::Range
+    }
+}
+
+#[test]
+fn a_guest_of_152_bytes_is_an_image_of_one_segment(rt: HostRuntime) -> Result<(), Fail> {
+    let image = read_image(rt.alloc(), &GUEST)?;
+    assert_eq!(rt; image.entry, 65_656);
+    assert_eq!(rt; image.segments.len(), 1);
+    let segment = image.segments.get(0).ok_or("no segment")?;
+    assert_eq!(rt; segment.address, 65_536);
+    assert_eq!(rt; segment.size, 152);
+    assert_eq!(rt; segment.bytes.as_slice(), GUEST.as_slice());
+    let rights = Rights {
+        read: true,
+        write: false,
+        execute: true,
+    };
+    assert_eq!(rt; segment.rights, rights);
+    Ok(())
+}
+
+#[test]
+fn a_file_that_is_cut_short_is_refused(rt: HostRuntime) {
+    for length in 0..GUEST.len() {
+        let fault = fault_of_prefix(length);
+        assert_eq!(rt;
+            image_fault(&GUEST[..length]),
+            Some(fault),
+            "of {length} bytes"
+        );
+    }
+}
+
+#[test]
+fn each_damaged_field_is_told(rt: HostRuntime) {
+    for (place, value, fault) in DAMAGES {
+        let mut file = GUEST;
+        damage(&mut file, place, value);
+        assert_eq!(rt; image_fault(&file), Some(fault), "at {place}");
+        assert!(rt; read_image(rt.alloc(), &file).is_err_and(|e| e == fault));
+    }
+}
+
+#[test]
+fn of_two_faults_the_earlier_is_told(rt: HostRuntime) {
+    for (k, first) in IN_ORDER.iter().enumerate() {
+        for second in &IN_ORDER[k..] {
+            let mut file = GUEST;
+            damage(&mut file, second.0, second.1);
+            damage(&mut file, first.0, first.1);
+            assert_eq!(rt;
+                image_fault(&file),
+                Some(first.2),
+                "at {} and {}",
+                first.0,
+                second.0
+            );
+        }
+    }
+}
+
+#[test]
+fn flags_above_the_low_four_pass(rt: HostRuntime) {
+    let mut file = GUEST;
+    damage(&mut file, 48, 0xf0);
+    damage(&mut file, 51, 0xff);
+    assert_eq!(rt; image_fault(&file), None);
+}
+
+#[test]
+fn a_segment_may_begin_where_another_ends(rt: HostRuntime) -> Result<(), Fail> {
+    let image = read_image(rt.alloc(), &TWO)?;
+    assert_eq!(rt; image.segments.len(), 2);
+    let second = image.segments.get(1).ok_or("no second segment")?;
+    assert_eq!(rt; second.address, 65_720);
+    assert_eq!(rt; second.size, 4096);
+    assert_eq!(rt;
+        second.bytes.as_slice(),
+        [0x73, 0, 0, 0, 0x6f, 0, 0, 0].as_slice()
+    );
+    assert!(rt; second.rights.write && !second.rights.execute);
+    Ok(())
+}
+
+#[test]
+fn segments_with_one_byte_in_common_overlap(rt: HostRuntime) {
+    let mut file = TWO;
+    damage(&mut file, 136, 0xb7);
+    assert_eq!(rt; image_fault(&file), Some(ImageFault::Overlap));
+    damage(&mut file, 64, 3);
+    assert_eq!(rt; image_fault(&file), Some(ImageFault::Interp));
+}
+
+#[test]
+fn a_segment_of_no_bytes_meets_none_and_is_left_out(rt: HostRuntime) -> Result<(), Fail> {
+    let mut file = TWO;
+    damage(&mut file, 136, 0);
+    damage(&mut file, 152, 0);
+    damage(&mut file, 161, 0);
+    let image = read_image(rt.alloc(), &file)?;
+    assert_eq!(rt; image.segments.len(), 1);
+    Ok(())
+}
