@@ -1,0 +1,7 @@
+use Rattle.std.proofs.Common.{◌≡◌, drop}
+use Rattle.kernel_model.specs.FileTree.{number_in}
+use Rattle.kernel_model.proofs.kernel.Node.number_of.Given as goal
+
+abbrev pub invariant-loop-entry : goal.invariant-loop-entry
+invariant-loop-entry l =
+    number_in l.name (drop l.entry-index l.fn.self.numbers) ≡ number_in l.name l.fn.self.numbers

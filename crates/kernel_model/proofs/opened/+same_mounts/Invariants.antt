@@ -1,0 +1,5 @@
+use Rattle.std.proofs.Common.{length}
+use Rattle.kernel_model.proofs.opened.+same_mounts.Given as goal
+
+abbrev pub decreases-same_mounts : goal.decreases-same_mounts
+decreases-same_mounts l = length l.a.now

@@ -1,0 +1,11 @@
+use Rattle.kernel_model.proofs.LocalityLaws.{same_reads, rest_stays, touched_alike}
+use Rattle.kernel_model.proofs.step.locality.Goals as goal
+
+pub returns-clause-same : goal.returns-clause-same
+returns-clause-same c = same_reads
+
+pub returns-clause-rest : goal.returns-clause-rest
+returns-clause-rest c = rest_stays
+
+pub returns-clause-touched : goal.returns-clause-touched
+returns-clause-touched c = touched_alike

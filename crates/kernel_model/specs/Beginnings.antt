@@ -1,0 +1,32 @@
+-- Openings done in place: what an execve and an opening leave, by what they answer.
+use Rattle.std.specs.Prelude.{◌≡◌, ⊤, List, Result, Ok, Err}
+use Rattle.sn_errno.specs.declared.errno.Errno.{Errno}
+use Rattle.elf_image.specs.declared.image.Image.{Image as Elf}
+use Rattle.kernel_model.specs.declared.kernel.Kernel.{Kernel}
+use Rattle.kernel_model.specs.declared.walking.Execved.{Execved}
+use Rattle.kernel_model.specs.declared.walking.Execved.TheVariants as answers
+use Rattle.kernel_model.specs.declared.plain.OpeningErr.{OpeningErr}
+use Rattle.kernel_model.specs.declared.plain.OpeningErr.TheVariants.{Image, Misfit, Memory}
+use Rattle.kernel_model.specs.Parts.{Change, changed}
+use Rattle.kernel_model.specs.Opening.{Executed, Starts, Fails, Unfit, Begun, Refuses, Misfits}
+
+-- an execve in place answers what it does, and does its changes
+-- execve(2)
+abbrev pub Executes : Executed → Kernel → Kernel → Execved → Type 0
+Executes does before after (answers.Starts image) = (changes : List Change) × (does ≡ Starts image changes) × (after ≡ changed changes before)
+Executes does before after (answers.Fails errno) = (changes : List Change) × (does ≡ Fails errno changes) × (after ≡ changed changes before)
+Executes does before after answers.Unfit = does ≡ Unfit
+
+-- an execve answers with its image or its error
+-- execve(2)
+abbrev pub IsByImage : Result Elf Errno → Execved → Type 0
+IsByImage image (answers.Starts elf) = image ≡ Ok elf
+IsByImage image (answers.Fails errno) = image ≡ Err errno
+IsByImage image answers.Unfit = ⊥
+
+-- an opening is refused so: an execve failed, its record fits no task, or want of memory
+-- execve(2), ERRORS; profile
+abbrev pub IsRefusedBy : Begun → OpeningErr → Type 0
+IsRefusedBy begun (Image task errno) = (k : Kernel) × (begun ≡ Refuses k task errno)
+IsRefusedBy begun (Misfit task) = begun ≡ Misfits task
+IsRefusedBy begun Memory = ⊤

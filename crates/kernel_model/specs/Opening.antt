@@ -1,0 +1,194 @@
+-- The opening: the state after the opening execves, from the mount file, the granted trees and the record of what was drawn and met.
+use Rattle.std.specs.Prelude.{ℕ, ◌+◌, ◌==◌, nat_eq, nat_lt, List, [], ◌∷◌, length, map, drop, Bool, true, false, ◌&&◌, not, Option, Some, None, Result, Ok, Err, if◌then◌else◌}
+use Rattle.std.specs.List.{list_any}
+use Rattle.std.specs.Str.{bytes_eq}
+use Rattle.std.specs.FinMap as map
+use Rattle.host_node.specs.Tree.{Shape, directory, file, link, lent}
+use Rattle.sn_text.specs.Folders.{FolderPath}
+use Rattle.sn_errno.specs.declared.errno.Errno.{Errno}
+use Rattle.sn_errno.specs.declared.errno.Errno.TheVariants.{EIO, ENOENT, EACCES, ENOEXEC, ENOMEM, ENFILE, ELOOP}
+use Rattle.elf_image.specs.declared.image.Image.{Image}
+use Rattle.kernel_model.specs.declared.kernel.Kernel.{Kernel}
+use Rattle.kernel_model.specs.declared.kernel.Node.{Node}
+use Rattle.kernel_model.specs.declared.kernel.Life.TheVariants.{Live}
+use Rattle.kernel_model.specs.declared.kernel.Part.TheVariants.{OfNode}
+use Rattle.kernel_model.specs.declared.mounts.Mounts.{Mounts}
+use Rattle.kernel_model.specs.declared.mounts.Mount.{Mount}
+use Rattle.kernel_model.specs.declared.mounts.Program.{Program}
+use Rattle.kernel_model.specs.declared.opening.Opening.{Opening}
+use Rattle.kernel_model.specs.declared.opening.Opened.{Opened}
+use Rattle.kernel_model.specs.declared.opening.Given.{Given}
+use Rattle.kernel_model.specs.declared.opening.Fresh.{Fresh}
+use Rattle.kernel_model.specs.Image.{image_of, pages_mapped, space_of, registers_of, count_up}
+use Rattle.kernel_model.specs.FileTree.{Nodes, last_number, Child, Missing, Known, Unnumbered, child_at, root_node, owner_executes}
+use Rattle.kernel_model.specs.Faulted.{has_any, is_in_order, Nodes_so_far, number_all, node_changes, faulted}
+use Rattle.kernel_model.specs.Parts.{parts, Prog, done, look, run, ◌>>=◌, Change, changed}
+
+-- an image as execve takes it: of an executable regular file of at most 67,108,864 bytes, with at most 16,384 pages
+-- execve(2), ERRORS: EACCES, ENOEXEC, ENOMEM; a link answers ELOOP so far; the numbers and the order: profile
+abbrev pub image_within : Option Image → Result Image Errno
+image_within None = Err ENOEXEC
+image_within (Some image) = if nat_lt 16384 (pages_mapped image) then Err ENOMEM else Ok image
+
+abbrev pub image_in : List ℕ → Result Image Errno
+image_in bytes = if nat_lt 67108864 (length bytes) then Err ENOEXEC else image_within (image_of bytes)
+
+abbrev pub executed : Shape → Result Image Errno
+executed (file bytes mode faults) = if owner_executes (file bytes mode faults) then image_in bytes else Err EACCES
+executed (link text faults) = Err ELOOP
+executed (directory mode faults entries) = Err EACCES
+executed (lent kind) = Err EACCES
+
+-- what an opening execve comes to: whether it walks to a child without a number, and its image or error
+-- profile
+pub record Walked : Type 0 where
+  pub draws : Bool
+  pub image : Result Image Errno
+
+abbrev pub numbered_image : Option Node → Result Image Errno
+numbered_image None = Err ENOENT
+numbered_image (Some node) = executed node.tree
+
+abbrev pub walked_to : Child → Prog Walked
+walked_to Missing = done (record { draws = false; image = Err ENOENT })
+walked_to (Unnumbered shape) = done (record { draws = true; image = executed shape })
+walked_to (Known ino) = look (OfNode ino) (λ node. done (record { draws = false; image = numbered_image node }))
+
+abbrev pub walked_from : List ℕ → Option Node → Prog Walked
+walked_from name None = done (record { draws = false; image = Err ENOENT })
+walked_from name (Some root) =
+    if owner_executes root.tree then walked_to (child_at name root) else done (record { draws = false; image = Err EACCES })
+
+-- the walk of an opening execve: one name, from the root of the mount at `/`, whose number is 1
+-- path_resolution(7); execve(2), ERRORS: EACCES, ENOENT
+abbrev pub walk_of : List ℕ → Prog Walked
+walk_of name = look (OfNode 1) (walked_from name)
+
+-- the fresh numbers are exactly those that the walk names: that of the child, if it draws one
+-- profile
+abbrev pub draws_just : Bool → List ℕ → List Fresh → Bool
+draws_just false name [] = true
+draws_just true name (f ∷ []) = (f.dir == 1) && bytes_eq f.name name && nat_lt 0 f.ino
+draws_just _ name fresh = false
+
+-- what an opening execve does: it starts an image, or fails, with changes; or what was drawn and met does not fit it
+-- profile
+pub data Executed : Type 0 where
+  Starts : Image → List Change → Executed
+  Fails : Errno → List Change → Executed
+  Unfit : Executed
+
+abbrev pub failed_by : Option (List Change) → Executed
+failed_by None = Unfit
+failed_by (Some changes) = Fails EIO changes
+
+abbrev pub by_image : Result Image Errno → List Change → Executed
+by_image (Ok image) changes = Starts image changes
+by_image (Err errno) changes = Fails errno changes
+
+abbrev pub by_numbers : Result Image Errno → Option Nodes_so_far → Executed
+by_numbers image None = Unfit
+by_numbers image (Some nodes) = by_image image (node_changes nodes)
+
+-- a number above the greatest is drawn for a child and given to no node
+-- profile
+abbrev pub above_last : Fresh → Bool
+above_last f = nat_lt last_number f.ino
+
+abbrev pub by_walk : List ℕ → Given → Walked → Prog Executed
+by_walk name given walked =
+    if has_any given.rises then (if is_in_order given then (faulted given >>= λ changes. done (failed_by changes)) else done Unfit)
+    else if not (draws_just walked.draws name given.fresh) then done Unfit
+    else if list_any above_last given.fresh then done (Fails ENFILE [])
+    else (number_all given.fresh [] >>= λ nodes. done (by_numbers walked.image nodes))
+
+-- an opening execve of a name, with what it drew and met: with a rise it answers EIO, with a number above the greatest
+-- ENFILE, else what the image is
+-- execve(2)
+abbrev pub execve : List ℕ → Given → Prog Executed
+execve name given = walk_of name >>= by_walk name given
+
+-- the nodes of the roots, numbered in order of the mounts
+-- profile
+abbrev pub rooted : ℕ → List Shape → Nodes
+rooted first [] = map.empty
+rooted first (tree ∷ trees) = map.insert (rooted (first + 1) trees) first (root_node first tree)
+
+-- the kernel before its first task
+-- profile
+abbrev pub bare : List Shape → Kernel
+bare trees = record { tasks = map.empty; spaces = map.empty; nodes = rooted 1 trees; console = []; failed = map.empty; entries = 0 }
+
+-- the kernel with an opening task, which is a group of its own
+-- execve(2)
+abbrev pub with_task : ℕ → Image → Kernel → Kernel
+with_task number image k = record k {
+  tasks = map.insert k.tasks number (record { group = number; space = number; registers = registers_of image; life = Live });
+  spaces = map.insert k.spaces number (space_of image);
+}
+
+-- what an opening comes to: a kernel, or the errno of the first execve that fails, with the kernel that it leaves, or
+-- the first task whose record does not fit
+-- profile
+pub data Begun : Type 0 where
+  Opens : Kernel → Begun
+  Refuses : Kernel → (task : ℕ) → Errno → Begun
+  Misfits : (task : ℕ) → Begun
+
+-- the name in a path of `/` and one name
+-- path_resolution(7)
+abbrev pub name_in_path : List ℕ → List ℕ
+name_in_path path = drop 1 path
+
+-- the opening tasks in order, the first of them with that number
+-- profile
+abbrev pub task_begun : (Kernel → Begun) → ℕ → Kernel → Executed → Begun
+task_begun rest number k (Starts image changes) = rest (with_task number image (changed changes k))
+task_begun rest number k (Fails errno changes) = Refuses (changed changes k) number errno
+task_begun rest number k Unfit = Misfits number
+
+abbrev pub tasks_begun : ℕ → List Program → List Opened → Kernel → Begun
+tasks_begun number [] opened k = Opens k
+tasks_begun number (p ∷ ps) [] k = Misfits number
+tasks_begun number (p ∷ ps) (o ∷ os) k =
+    task_begun (tasks_begun (number + 1) ps os) number k (run (parts k) (execve (name_in_path p.path) o.given))
+
+-- two lists have the same items, by a test of two items; and the first is a beginning of the second
+-- profile
+abbrev pub same_list : {A : Type 0} → (A → A → Bool) → List A → List A → Bool
+same_list same [] [] = true
+same_list same (x ∷ xs) (y ∷ ys) = same x y && same_list same xs ys
+same_list same _ _ = false
+
+abbrev pub begins : {A : Type 0} → (A → A → Bool) → List A → List A → Bool
+begins same [] ys = true
+begins same (x ∷ xs) (y ∷ ys) = same x y && begins same xs ys
+begins same (x ∷ xs) [] = false
+
+abbrev pub same_flag : Bool → Bool → Bool
+same_flag true b = b
+same_flag false b = not b
+
+abbrev pub same_place : Option (List ℕ) → Option (List ℕ) → Bool
+same_place None None = true
+same_place (Some a) (Some b) = bytes_eq a b
+same_place _ _ = false
+
+abbrev pub same_folder : FolderPath → FolderPath → Bool
+same_folder a b = same_flag a.rooted b.rooted && same_list bytes_eq a.names b.names
+
+abbrev pub same_mount : Mount → Mount → Bool
+same_mount a b = same_place a.at b.at && same_folder a.folder b.folder && same_flag a.write b.write
+
+-- the record is of these mounts and tasks, with the roots numbered 1 up
+-- profile
+abbrev pub is_of : Mounts → Opening → Bool
+is_of mounts opening =
+    same_list same_mount opening.mounts mounts.mounts
+    && same_list nat_eq opening.roots (count_up 1 (length mounts.mounts))
+    && begins (same_list bytes_eq) (map (λ (o : Opened). o.words) opening.tasks) (map (λ (p : Program). p.args) mounts.tasks)
+
+-- the opening of a mount file over the granted trees, a directory for each mount in order
+-- profile
+unfoldable pub opening_of : Mounts → List Shape → Opening → Begun
+opening_of mounts trees opening = if is_of mounts opening then tasks_begun 1 mounts.tasks opening.tasks (bare trees) else Misfits 0

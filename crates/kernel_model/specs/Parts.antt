@@ -1,0 +1,101 @@
+-- The state part by part, and decision trees over parts: what a step reads is what its tree looks at.
+use Rattle.std.specs.Prelude.{◌≡◌, ℕ, List, [], ◌∷◌, Option, Some, None, ◌⊎◌}
+use Rattle.std.specs.Ordering.{nat_cmp}
+use Rattle.std.specs.FinMap as map
+use Rattle.kernel_model.specs.declared.kernel.Kernel.{Kernel}
+use Rattle.kernel_model.specs.declared.kernel.Task.{Task}
+use Rattle.kernel_model.specs.declared.kernel.Node.{Node}
+use Rattle.kernel_model.specs.declared.kernel.Part.{Part}
+use Rattle.kernel_model.specs.declared.kernel.Part.TheVariants.{OfTask, OfSpace, OfNode, OfConsole, OfFaults}
+use Rattle.kernel_model.specs.declared.space.Space.{Space}
+
+-- what a part holds
+-- profile
+abbrev pub Holds : Part → Type 0
+Holds (OfTask task) = Option Task
+Holds (OfSpace space) = Option Space
+Holds (OfNode ino) = Option Node
+Holds OfConsole = List ℕ
+Holds OfFaults = map.FinMap nat_cmp ℕ
+
+-- a state, seen part by part
+-- profile
+abbrev pub Parts : Type 0
+Parts = (part : Part) → Holds part
+
+-- the parts of a kernel
+-- profile
+abbrev pub parts : Kernel → Parts
+parts k (OfTask task) = map.get k.tasks task
+parts k (OfSpace space) = map.get k.spaces space
+parts k (OfNode ino) = map.get k.nodes ino
+parts k OfConsole = k.console
+parts k OfFaults = k.failed
+
+-- a decision tree: it is done, or it looks at a part and goes on by what that holds
+-- profile
+pub data Prog (A : Type 0) : Type 0 where
+  done : A → Prog A
+  look : (part : Part) → (Holds part → Prog A) → Prog A
+
+-- what the tree comes to in a state
+-- profile
+abbrev pub run : {A : Type 0} → Parts → Prog A → A
+run state (done a) = a
+run state (look part then) = run state (then (state part))
+
+-- the parts that the tree looks at in a state, in order
+-- profile
+abbrev pub uses : {A : Type 0} → Parts → Prog A → List Part
+uses state (done a) = []
+uses state (look part then) = part ∷ uses state (then (state part))
+
+-- one tree, and then the one that its outcome names
+-- profile
+infixl 10 ◌>>=◌
+abbrev pub ◌>>=◌ : {A B : Type 0} → Prog A → (A → Prog B) → Prog B
+(done a) >>= next = next a
+(look part then) >>= next = look part (λ content. then content >>= next)
+
+-- a part is in a list of parts
+-- profile
+abbrev pub IsIn : Part → List Part → Type 0
+IsIn part [] = ⊥
+IsIn part (p ∷ ps) = (part ≡ p) ⊎ IsIn part ps
+
+-- two states hold the same in each of these parts
+-- profile
+abbrev pub AgreeOn : List Part → Parts → Parts → Type 0
+AgreeOn ps a b = (part : Part) → IsIn part ps → a part ≡ b part
+
+-- a part with what it holds after a step
+-- profile
+abbrev pub Change : Type 0
+Change = (part : Part) × Holds part
+
+-- a map with another value under a key, or without the key
+-- profile
+abbrev pub set_at : {V : Type 0} → ℕ → Option V → map.FinMap nat_cmp V → map.FinMap nat_cmp V
+set_at key (Some value) m = map.insert m key value
+set_at key None m = map.remove m key
+
+-- a kernel with another content of a part
+-- profile
+abbrev pub put : (part : Part) → Holds part → Kernel → Kernel
+put (OfTask task) content k = record k { tasks = set_at task content k.tasks }
+put (OfSpace space) content k = record k { spaces = set_at space content k.spaces }
+put (OfNode ino) content k = record k { nodes = set_at ino content k.nodes }
+put OfConsole content k = record k { console = content }
+put OfFaults content k = record k { failed = content }
+
+-- a kernel after changes, in their order
+-- profile
+abbrev pub changed : List Change → Kernel → Kernel
+changed [] k = k
+changed (change ∷ changes) k = changed changes (put change.0 change.1 k)
+
+-- the parts of changes
+-- profile
+abbrev pub parts_of : List Change → List Part
+parts_of [] = []
+parts_of (change ∷ changes) = change.0 ∷ parts_of changes

@@ -1,0 +1,117 @@
+//! The kernel before its first task, and its opening tasks in order.
+
+ghost use Rattle.std.specs.Prelude.{◌≡◌, ◌+◌, ◌<◌, ◌≤◌, ◌^◌, length, IfOk, OnOk, IfErr};
+ghost use Rattle.kernel_model.specs.declared.kernel.Kernel.{Kernel as AKernel};
+ghost use Rattle.kernel_model.specs.Opening.{Begun, Opens, rooted, bare, with_task, name_in_path, execve, task_begun, tasks_begun};
+ghost use Rattle.kernel_model.specs.Parts.{parts, run as outcome};
+ghost use Rattle.kernel_model.specs.Beginnings.{IsRefusedBy};
+
+use crate::walking::Execved;
+use crate::{Given, Kernel, Life, Node, Opened, OpeningErr, Program, Registers, Space, Task};
+use elf_image::Image;
+use host_node::Tree;
+use sn_base::{List, Map, Memory};
+use sn_text::Text;
+use std::alloc::Global;
+
+/// The name in a path of `/` and one name.
+fn name_in_path(path: &Text) -> &[u8]
+    ensures { result.now ≡ name_in_path path.now }
+{
+    match path.as_bytes() {
+        [] => &[],
+        [_, name @ ..] => name,
+    }
+}
+
+/// The nodes of the roots, numbered in order of the mounts.
+fn number_roots(alloc: Global, trees: &[Tree]) -> Result<Map<Node>, Memory>
+    ensures { IfOk result (λ nodes. nodes ≡ rooted 1 trees.now) }
+{
+    let mut nodes = Map::new(alloc);
+    for index in (0..trees.len()).rev() {
+        let ino = index as u64 + 1;
+        let tree = trees[index].copy(alloc)?;
+        nodes.insert(ino, Node::root(alloc, ino, tree))?;
+    }
+    Ok(nodes)
+}
+
+impl Kernel {
+    /// The kernel before its first task.
+    pub(crate) fn bare(alloc: Global, trees: &[Tree]) -> Result<Kernel, Memory>
+        ensures { IfOk result (λ k. k ≡ bare trees.now) }
+    {
+        let nodes = number_roots(alloc, trees)?;
+        Ok(Kernel {
+            tasks: Map::new(alloc),
+            spaces: Map::new(alloc),
+            nodes,
+            console: List::new(alloc),
+            failed: Map::new(alloc),
+            entries: 0,
+        })
+    }
+
+    /// Begins the opening tasks in order.
+    pub(crate) fn begin_tasks(
+        &mut self,
+        alloc: Global,
+        programs: &[Program],
+        opened: &[Opened],
+    ) -> Result<(), OpeningErr>
+        requires { length programs.now ≤ 2 ^ 31 }
+        ensures ok { OnOk result (tasks_begun 1 programs.now opened.now self.old ≡ Opens self.new) }
+        ensures refused { IfErr result (IsRefusedBy (tasks_begun 1 programs.now opened.now self.old)) }
+    {
+        for index in 0..programs.len() {
+            let number = index as u32 + 1;
+            let Some(one) = opened.get(index) else {
+                return Err(OpeningErr::Misfit { task: number });
+            };
+            self.begin_task(alloc, number, &programs[index], &one.given)?;
+        }
+        Ok(())
+    }
+
+    /// Begins an opening task by its execve.
+    fn begin_task(
+        &mut self,
+        alloc: Global,
+        number: u32,
+        program: &Program,
+        given: &Given,
+    ) -> Result<(), OpeningErr>
+        ensures ok { OnOk result ((rest : AKernel → Begun) → task_begun rest number self.old (outcome (parts self.old) (execve (name_in_path program.now.path) given.now)) ≡ rest self.new) }
+        ensures refused { IfErr result (λ e. (rest : AKernel → Begun) → IsRefusedBy (task_begun rest number self.old (outcome (parts self.old) (execve (name_in_path program.now.path) given.now))) e) }
+    {
+        match self.execve(alloc, name_in_path(&program.path), given)? {
+            Execved::Starts(image) => {
+                self.add_task(alloc, number, &image)?;
+                Ok(())
+            }
+            Execved::Fails(errno) => Err(OpeningErr::Image {
+                task: number,
+                errno,
+            }),
+            Execved::Unfit => Err(OpeningErr::Misfit { task: number }),
+        }
+    }
+
+    /// Adds an opening task, which is a group of its own.
+    fn add_task(&mut self, alloc: Global, number: u32, image: &Image) -> Result<(), Memory>
+        ensures { OnOk result (self.new ≡ with_task number image.now self.old) }
+    {
+        let key = u64::from(number);
+        let task = Task {
+            group: number,
+            space: key,
+            registers: Registers::of_image(image),
+            life: Life::Live,
+        };
+        let space = Space::of_image(alloc, image)?;
+        self.tasks.insert(key, task)?;
+        self.spaces.insert(key, space)?;
+        Ok(())
+    }
+}

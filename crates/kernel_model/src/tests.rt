@@ -1,0 +1,4 @@
+//! Tests against values from outside: files and words put together by hand from the manuals.
+
+mod machine;
+mod plain;

@@ -1,0 +1,134 @@
+use crate::{Args, Instruction, Next, Registers, Space, decode, next, read_executable, run};
+use elf_image::{Image, Rights};
+use std::alloc::Global;
+use std::test::Fail;
+
+/// A program that writes no bytes to descriptor 1 and exits with 0: ELF header, program header, eight words.
+#[rattlefmt::skip]
+pub(super) const GUEST: [u8; 152] = [
+    0x7f, 0x45, 0x4c, 0x46, 2, 1, 1, 0, 0, 0, 0, 0, 0, 0, 0, 0,
+    2, 0, 243, 0, 1, 0, 0, 0, 0x78, 0, 1, 0, 0, 0, 0, 0,
+    64, 0, 0, 0, 0, 0, 0, 0, 0, 0, 0, 0, 0, 0, 0, 0,
+    0, 0, 0, 0, 64, 0, 56, 0, 1, 0, 0, 0, 0, 0, 0, 0,
+    1, 0, 0, 0, 5, 0, 0, 0, 0, 0, 0, 0, 0, 0, 0, 0,
+    0, 0, 1, 0, 0, 0, 0, 0, 0, 0, 1, 0, 0, 0, 0, 0,
+    152, 0, 0, 0, 0, 0, 0, 0, 152, 0, 0, 0, 0, 0, 0, 0,
+    0, 16, 0, 0, 0, 0, 0, 0,
+    0x13, 0x05, 0x10, 0x00, 0x93, 0x05, 0x00, 0x00, 0x13, 0x06, 0x00, 0x00, 0x93, 0x08, 0x00, 0x04,
+    0x73, 0x00, 0x00, 0x00, 0x13, 0x05, 0x00, 0x00, 0x93, 0x08, 0xe0, 0x05, 0x73, 0x00, 0x00, 0x00,
+];
+
+/// A file of two segments: the first loads it whole, the second begins where the first ends, and has 8 bytes of the
+/// file and 4,096 of memory, to be written and not run.
+#[rattlefmt::skip]
+const TWO_SEGMENTS: [u8; 184] = [
+    0x7f, 0x45, 0x4c, 0x46, 2, 1, 1, 0, 0, 0, 0, 0, 0, 0, 0, 0,
+    2, 0, 243, 0, 1, 0, 0, 0, 0xb0, 0, 1, 0, 0, 0, 0, 0,
+    64, 0, 0, 0, 0, 0, 0, 0, 0, 0, 0, 0, 0, 0, 0, 0,
+    0, 0, 0, 0, 64, 0, 56, 0, 2, 0, 0, 0, 0, 0, 0, 0,
+    1, 0, 0, 0, 5, 0, 0, 0, 0, 0, 0, 0, 0, 0, 0, 0,
+    0, 0, 1, 0, 0, 0, 0, 0, 0, 0, 1, 0, 0, 0, 0, 0,
+    184, 0, 0, 0, 0, 0, 0, 0, 184, 0, 0, 0, 0, 0, 0, 0,
+    0, 16, 0, 0, 0, 0, 0, 0,
+    1, 0, 0, 0, 6, 0, 0, 0, 176, 0, 0, 0, 0, 0, 0, 0,
+    0xb8, 0, 1, 0, 0, 0, 0, 0, 0xb8, 0, 1, 0, 0, 0, 0, 0,
+    8, 0, 0, 0, 0, 0, 0, 0, 0, 16, 0, 0, 0, 0, 0, 0,
+    0, 16, 0, 0, 0, 0, 0, 0,
+    0x73, 0x00, 0x00, 0x00, 0x6f, 0x00, 0x00, 0x00,
+];
+
+/// The image of a file.
+fn image_in(alloc: Global, file: &[u8]) -> Result<Image, Fail> {
+    read_executable(alloc, file)?.map_err(|_| Fail::from("no image"))
+}
+
+#[test]
+fn a_guest_begins_with_its_pages_and_its_stack(rt: HostRuntime) -> Result<(), Fail> {
+    let image = image_in(rt.alloc(), &GUEST)?;
+    let space = Space::of_image(rt.alloc(), &image)?;
+    assert_eq!(rt; space.pages.len(), 65);
+    let page = space.pages.get(16).ok_or("no page")?;
+    let rights = Rights {
+        read: true,
+        write: false,
+        execute: true,
+    };
+    assert_eq!(rt; page.rights, rights);
+    assert_eq!(rt; page.bytes.len(), 4096);
+    Ok(())
+}
+
+#[test]
+fn a_page_of_two_segments_has_the_bytes_and_rights_of_both(rt: HostRuntime) -> Result<(), Fail> {
+    let image = image_in(rt.alloc(), &TWO_SEGMENTS)?;
+    let space = Space::of_image(rt.alloc(), &image)?;
+    // The pages 16 and 17, and the 64 of the stack.
+    assert_eq!(rt; space.pages.len(), 66);
+    let page = space.pages.get(16).ok_or("no page")?;
+    let rights = Rights {
+        read: true,
+        write: true,
+        execute: true,
+    };
+    assert_eq!(rt; page.rights, rights);
+    assert!(rt; page.bytes.as_slice().starts_with(&TWO_SEGMENTS));
+    assert_eq!(rt; page.bytes.get(184).copied(), Some(0x73));
+    assert_eq!(rt; page.bytes.get(192).copied(), Some(0));
+    let rest = space.pages.get(17).ok_or("no second page")?;
+    assert!(rt; rest.rights.write && !rest.rights.execute);
+    Ok(())
+}
+
+#[test]
+fn a_guest_runs_to_its_two_calls(rt: HostRuntime) -> Result<(), Fail> {
+    let image = image_in(rt.alloc(), &GUEST)?;
+    let space = Space::of_image(rt.alloc(), &image)?;
+    let mut registers = Registers::of_image(&image);
+    assert_eq!(rt; registers.read(2), 274_877_906_944);
+    assert_eq!(rt; run(&mut registers, &space, 10_000), 4);
+    assert_eq!(rt; next(&registers, &space), Next::Calls);
+    assert_eq!(rt; registers.call(), 64);
+    let args = Args {
+        a0: 1,
+        a1: 0,
+        a2: 0,
+        a3: 0,
+        a4: 0,
+        a5: 0,
+    };
+    assert_eq!(rt; registers.args(), args);
+    registers.reply(-9);
+    assert_eq!(rt; registers.read(10), 18_446_744_073_709_551_607);
+    assert_eq!(rt; run(&mut registers, &space, 10_000), 2);
+    assert_eq!(rt; registers.call(), 94);
+    assert_eq!(rt; registers.read(10), 0);
+    Ok(())
+}
+
+#[test]
+fn what_may_not_be_executed_traps_with_signal_11(rt: HostRuntime) -> Result<(), Fail> {
+    let image = image_in(rt.alloc(), &GUEST)?;
+    let space = Space::of_image(rt.alloc(), &image)?;
+    let mut registers = Registers::of_image(&image);
+    registers.pc = 274_877_906_944 - 4;
+    assert_eq!(rt; next(&registers, &space), Next::Traps(11));
+    registers.pc = 65_536 + 152;
+    assert_eq!(rt; next(&registers, &space), Next::Traps(4));
+    Ok(())
+}
+
+#[test]
+fn words_decode_as_the_manual_lists_them(rt: HostRuntime) -> Result<(), Fail> {
+    assert_eq!(rt; decode(0x0000_0073), Some(Instruction::Ecall));
+    assert_eq!(rt;
+        decode(0xfff1_8f93),
+        Some(Instruction::Addi {
+            rd: 31,
+            rs1: 3,
+            imm: 4095
+        })
+    );
+    assert_eq!(rt; decode(0x0000_0000), None);
+    assert_eq!(rt; decode(0x0010_0073), None);
+    Ok(())
+}

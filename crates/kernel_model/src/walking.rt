@@ -1,0 +1,193 @@
+//! The walk of an opening execve, and the image that it comes to.
+
+ghost use Rattle.std.specs.Prelude.{◌≡◌, false, IfOk};
+ghost use Rattle.std.specs.FinMap as map;
+ghost use Rattle.std.specs.List.{list_any};
+ghost use Rattle.kernel_model.specs.FileTree.{owner_executes};
+ghost use Rattle.kernel_model.specs.Faulted.{has_any};
+ghost use Rattle.kernel_model.specs.Opening.{image_in, executed, numbered_image, walk_of, draws_just, above_last, execve};
+ghost use Rattle.kernel_model.specs.Parts.{parts, run as outcome};
+ghost use Rattle.kernel_model.specs.Beginnings.{Executes};
+
+use crate::numbering::LAST_NUMBER;
+use crate::{Fresh, Given, Kernel, read_executable};
+use elf_image::Image;
+use host_node::{Kind, Tree};
+use sn_base::Memory;
+use sn_errno::Errno;
+use std::alloc::Global;
+
+/// The greatest size of an image's file, in bytes.
+const LONGEST_IMAGE: usize = 67_108_864;
+
+/// The number of the root of the mount at `/`.
+const ROOT: u64 = 1;
+
+/// What a walk comes to: whether it is to a child without a number, and its image or error.
+#[derive(Drop)]
+struct Walk {
+    draws: bool,
+    image: Result<Image, Errno>,
+}
+
+impl Walk {
+    fn refused(errno: Errno) -> Walk
+        ensures { result ≡ record { draws = false; image = Err errno } }
+    {
+        Walk {
+            draws: false,
+            image: Err(errno),
+        }
+    }
+}
+
+/// What an opening execve does: it starts an image, or fails, or what it drew and met does not fit it.
+#[derive(Drop)]
+pub enum Execved {
+    Starts(Image),
+    Fails(Errno),
+    Unfit,
+}
+
+impl Execved {
+    ghost use Rattle.kernel_model.specs.Beginnings.{IsByImage};
+
+    fn by_image(image: Result<Image, Errno>) -> Execved
+        ensures { IsByImage image result }
+    {
+        match image {
+            Ok(image) => Execved::Starts(image),
+            Err(errno) => Execved::Fails(errno),
+        }
+    }
+}
+
+/// The image of a file's bytes, as execve takes it.
+fn image_in(alloc: Global, bytes: &[u8]) -> Result<Result<Image, Errno>, Memory>
+    ensures { IfOk result (λ image. image ≡ image_in bytes.now) }
+{
+    if LONGEST_IMAGE < bytes.len() {
+        return Ok(Err(Errno::ENOEXEC));
+    }
+    read_executable(alloc, bytes)
+}
+
+fn owner_executes(tree: &Tree) -> bool
+    ensures { result ≡ owner_executes tree.now }
+{
+    tree.attr().mode / 64 % 2 == 1
+}
+
+/// The image of a node, or the error with which execve refuses it.
+fn executed(alloc: Global, tree: &Tree) -> Result<Result<Image, Errno>, Memory>
+    ensures { IfOk result (λ image. image ≡ executed tree.now) }
+{
+    if !owner_executes(tree) {
+        return Ok(Err(Errno::EACCES));
+    }
+    match tree.kind() {
+        Kind::Dir => Ok(Err(Errno::EACCES)),
+        Kind::Link => Ok(Err(Errno::ELOOP)),
+        Kind::File => image_in(alloc, tree.bytes()),
+    }
+}
+
+/// Whether the fresh numbers are just those that a walk to a name draws.
+fn draws_just(draws: bool, name: &[u8], fresh: &[Fresh]) -> bool
+    ensures { result ≡ draws_just draws name.now fresh.now }
+{
+    match fresh {
+        [] => !draws,
+        [one] => draws && one.dir == ROOT && one.name.is(name) && 0 < one.ino,
+        _ => false,
+    }
+}
+
+fn any_above_last(fresh: &[Fresh]) -> bool
+    ensures { result ≡ list_any above_last fresh.now }
+{
+    fresh.iter().any(|one| LAST_NUMBER < one.ino)
+}
+
+impl Kernel {
+    /// The image of the node of a number, or the error with which execve refuses it.
+    fn numbered_image(&self, alloc: Global, ino: u64) -> Result<Result<Image, Errno>, Memory>
+        ensures { IfOk result (λ image. image ≡ numbered_image (map.get self.now.nodes ino)) }
+    {
+        match self.nodes.get(ino) {
+            Some(node) => executed(alloc, &node.tree),
+            None => Ok(Err(Errno::ENOENT)),
+        }
+    }
+
+    /// Walks from the root of the mount at `/` to a name.
+    fn walk(&self, alloc: Global, name: &[u8]) -> Result<Walk, Memory>
+        ensures { IfOk result (λ w. outcome (parts self.now) (walk_of name.now) ≡ record { draws = w.draws; image = w.image }) }
+    {
+        let Some(root) = self.nodes.get(ROOT) else {
+            return Ok(Walk::refused(Errno::ENOENT));
+        };
+        if !owner_executes(&root.tree) {
+            return Ok(Walk::refused(Errno::EACCES));
+        }
+        if let Some(ino) = root.number_of(name) {
+            let image = self.numbered_image(alloc, ino)?;
+            return Ok(Walk {
+                draws: false,
+                image,
+            });
+        }
+        match root.tree.find_bytes(name) {
+            Some(tree) => {
+                let image = executed(alloc, tree)?;
+                Ok(Walk { draws: true, image })
+            }
+            None => Ok(Walk::refused(Errno::ENOENT)),
+        }
+    }
+
+    /// Does an opening execve of a name with what it drew and met: with a rise it answers EIO.
+    pub(crate) fn execve(
+        &mut self,
+        alloc: Global,
+        name: &[u8],
+        given: &Given,
+    ) -> Result<Execved, Memory>
+        ensures { IfOk result (Executes (outcome (parts self.old) (execve name.now given.now)) self.old self.new) }
+    {
+        if given.rises.is_empty() {
+            return self.execve_walked(alloc, name, given);
+        }
+        if !given.is_in_order() {
+            return Ok(Execved::Unfit);
+        }
+        if !self.faulted(alloc, given)? {
+            return Ok(Execved::Unfit);
+        }
+        Ok(Execved::Fails(Errno::EIO))
+    }
+
+    /// Does an opening execve that met no rise: its image, where the numbers are just those that its walk draws.
+    fn execve_walked(
+        &mut self,
+        alloc: Global,
+        name: &[u8],
+        given: &Given,
+    ) -> Result<Execved, Memory>
+        requires { has_any given.now.rises ≡ false }
+        ensures { IfOk result (Executes (outcome (parts self.old) (execve name.now given.now)) self.old self.new) }
+    {
+        let walk = self.walk(alloc, name)?;
+        let fresh = given.fresh.as_slice();
+        if !draws_just(walk.draws, name, fresh) {
+            return Ok(Execved::Unfit);
+        }
+        if any_above_last(fresh) {
+            return Ok(Execved::Fails(Errno::ENFILE));
+        }
+        if !self.number_all(alloc, fresh)? {
+            return Ok(Execved::Unfit);
+        }
+        Ok(Execved::by_image(walk.image))
+    }
+}
