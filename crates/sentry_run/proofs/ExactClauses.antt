@@ -1,0 +1,162 @@
+-- The clauses of a run that go from a cause to the answer, each from the way that it went.
+use Rattle.std.proofs.Common.{◌≡◌, ℕ, Bool, false, List, [], ◌∷◌, length, refl, ap, sym, ◌∙◌, subst}
+use Rattle.std.specs.Prelude.{Option, Some, None, IsSome, if◌then◌else◌, ◌&&◌, nat_eq, map}
+use Rattle.std.specs.Str.{bytes_eq}
+use Rattle.std.proofs.lemmas.Option.{same_Some}
+use Rattle.host_node.specs.Tree.{Shape}
+use Rattle.sn_base.specs.Faults.{Rose}
+use Rattle.sn_edge.specs.Shelf.{Shelf}
+use Rattle.sn_errno.specs.declared.errno.Errno.{Errno}
+use Rattle.kernel_model.specs.declared.entry.Entry.{Entry}
+use Rattle.kernel_model.specs.declared.kernel.Kernel.{Kernel}
+use Rattle.kernel_model.specs.declared.mounts.Mounts.{Mounts}
+use Rattle.kernel_model.specs.declared.mounts.Mount.{Mount}
+use Rattle.kernel_model.specs.declared.opening.Opening.{Opening}
+use Rattle.kernel_model.specs.MountFile.{IsMountFile, IsNoMountFile, mounts_in}
+use Rattle.kernel_model.specs.Opening.{Opens, Refuses, Misfits, opening_of, is_of, tasks_begun, bare, same_list, same_mount, begins}
+use Rattle.kernel_model.specs.Image.{count_up}
+use Rattle.kernel_model.specs.declared.mounts.Program.{Program}
+use Rattle.kernel_model.specs.Words.{Command}
+use Rattle.sentry_run.specs.declared.outcome.Fault.{Fault}
+use Rattle.sentry_run.specs.declared.outcome.Fault.TheVariants as faults
+use Rattle.sentry_run.specs.declared.outcome.Outcome.{Outcome}
+use Rattle.sentry_run.specs.Played.{nothing_opened}
+use Rattle.sentry_run.specs.Ran.{ReadsAs, FailsToRead}
+use Rattle.sentry_run.specs.Outcome.{WhereTold, bytes_read, granted, begun, begun_over, WhereRead, MayFailToGrant, MayFailToStart, IsAccepted, HasEnded}
+use Rattle.sentry_run.proofs.RunFacts.{ToldFacts}
+use Rattle.sentry_run.proofs.Ways.{Sides, Over, Way, Misused, Unread, Over_file}
+use Rattle.sentry_run.proofs.Clauses.{any_as, told_as, where_none, where_read}
+
+-- ---- what an opening can't be
+
+starts_not_granted : (m : Mounts) (w : Shape) (o : Opening) (k : Kernel) → granted m.mounts w ≡ None → begun m w o ≡ Opens k → ⊥
+starts_not_granted m w o k e b = let f : Misfits 0 ≡ Opens k = sym (ap (begun_over m o) e) ∙ b in cc
+
+refuses_not_granted : (m : Mounts) (w : Shape) (o : Opening) (k : Kernel) (task : ℕ) (errno : Errno) → granted m.mounts w ≡ None → begun m w o ≡ Refuses k task errno → ⊥
+refuses_not_granted m w o k task errno e b = let f : Misfits 0 ≡ Refuses k task errno = sym (ap (begun_over m o) e) ∙ b in cc
+
+starts_not_refused : (m : Mounts) (w : Shape) (o : Opening) (k j : Kernel) (task : ℕ) (errno : Errno) → begun m w o ≡ Opens k → begun m w o ≡ Refuses j task errno → ⊥
+starts_not_refused m w o k j task errno e b = let f : Opens k ≡ Refuses j task errno = sym e ∙ b in cc
+
+no_mounts : (mounts : List Mount) → length mounts ≡ 1 → same_list same_mount [] mounts ≡ false
+no_mounts [] e = cc
+no_mounts (m ∷ ms) e = refl
+
+-- a record of nothing is of no mount file with a mount
+nothing_unlike : (m : Mounts) → length m.mounts ≡ 1 → is_of m nothing_opened ≡ false
+nothing_unlike m e = ap (λ b. b && same_list nat_eq [] (count_up 1 (length m.mounts)) && begins (same_list bytes_eq) [] (map (λ (p : Program). p.args) m.tasks)) (no_mounts m.mounts e)
+
+nothing_begun : (m : Mounts) (trees : Option (List Shape)) → length m.mounts ≡ 1 → begun_over m nothing_opened trees ≡ Misfits 0
+unfolding opening_of
+nothing_begun m None e = refl
+nothing_begun m (Some trees) e = ap (λ b. if b then tasks_begun 1 m.tasks [] (bare trees) else Misfits 0) (nothing_unlike m e)
+
+nothing_refused : (m : Mounts) (w : Shape) (o : Opening) (k : Kernel) (task : ℕ) (errno : Errno) → length m.mounts ≡ 1 → o ≡ nothing_opened → begun m w o ≡ Refuses k task errno → ⊥
+nothing_refused m w o k task errno e f b = let g : Misfits 0 ≡ Refuses k task errno = sym (nothing_begun m (granted m.mounts w) e) ∙ ap (λ x. begun m w x) (sym f) ∙ b in cc
+
+-- ---- from the folder and the image to the answer
+
+grant_by : (m : Mounts) (w : Shape) (after : Option Shape) (o : Opening) (trace : List Entry) (flag : Bool) (sink sink' : Option (List ℕ)) (f : Fault) → ToldFacts m w after o trace flag sink sink' f → granted m.mounts w ≡ None → MayFailToGrant f
+grant_by m w after o trace flag sink sink' faults.Done t e = absurd (starts_not_granted m w o t.1.start e t.1.opens)
+grant_by m w after o trace flag sink sink' faults.Full t e = absurd (starts_not_granted m w o t.1.start e t.1.opens)
+grant_by m w after o trace flag sink sink' faults.SinkFault t e = absurd (starts_not_granted m w o t.1.start e t.1.opens)
+grant_by m w after o trace flag sink sink' (faults.Image task errno) t e = absurd (refuses_not_granted m w o t.1.left 1 errno e t.1.refuses)
+grant_by m w after o trace flag sink sink' faults.Memory t e = tt
+grant_by m w after o trace flag sink sink' faults.HostFault t e = tt
+grant_by m w after o trace flag sink sink' (faults.Grant n) t e = tt
+grant_by m w after o trace flag sink sink' faults.Usage t e = absurd t
+grant_by m w after o trace flag sink sink' (faults.Mounts f) t e = absurd t
+grant_by m w after o trace flag sink sink' faults.SourceFault t e = absurd t
+grant_by m w after o trace flag sink sink' faults.Stuck t e = absurd t
+
+pub grant_exact : (s : Sides) (r : Outcome) → Way s r → WhereRead r.mounts s.world (λ m w. granted m.mounts w ≡ None → MayFailToGrant r.fault)
+grant_exact s r (Misused e n) = where_none r.mounts s.world _ n.refused.mounts
+grant_exact s r (Unread command e w u) = where_none r.mounts s.world _ u.refused.mounts
+grant_exact s r (Over_file command e w m d o) = where_read r.mounts s.world (λ m w. granted m.mounts w ≡ None → MayFailToGrant r.fault) m o.read
+    (λ v told no_folder. grant_by m v s.world' r.opening r.trace command.trace s.sink s.sink' r.fault (o.told v told) no_folder)
+
+image_by : (m : Mounts) (w : Shape) (after : Option Shape) (o : Opening) (trace : List Entry) (flag : Bool) (sink sink' : Option (List ℕ)) (f : Fault) → length m.mounts ≡ 1 → ToldFacts m w after o trace flag sink sink' f
+    → (k : Kernel) (task : ℕ) (errno : Errno) → begun m w o ≡ Refuses k task errno → MayFailToStart task errno f
+image_by m w after o trace flag sink sink' faults.Done e t k task errno b = absurd (starts_not_refused m w o t.1.start k task errno t.1.opens b)
+image_by m w after o trace flag sink sink' faults.Full e t k task errno b = absurd (starts_not_refused m w o t.1.start k task errno t.1.opens b)
+image_by m w after o trace flag sink sink' faults.SinkFault e t k task errno b = absurd (starts_not_refused m w o t.1.start k task errno t.1.opens b)
+image_by m w after o trace flag sink sink' (faults.Image n err) e t k task errno b =
+    let f : Refuses t.1.left 1 err ≡ Refuses k task errno = sym t.1.refuses ∙ b in
+    let g : 1 ≡ task = cc f in
+    let h : err ≡ errno = cc f in
+    (t.0 ∙ g, h)
+image_by m w after o trace flag sink sink' faults.Memory e t k task errno b = tt
+image_by m w after o trace flag sink sink' faults.HostFault e t k task errno b = absurd (nothing_refused m w o k task errno e t.opened b)
+image_by m w after o trace flag sink sink' (faults.Grant n) e t k task errno b = absurd (nothing_refused m w o k task errno e t.1.opened b)
+image_by m w after o trace flag sink sink' faults.Usage e t k task errno b = absurd t
+image_by m w after o trace flag sink sink' (faults.Mounts f) e t k task errno b = absurd t
+image_by m w after o trace flag sink sink' faults.SourceFault e t k task errno b = absurd t
+image_by m w after o trace flag sink sink' faults.Stuck e t k task errno b = absurd t
+
+pub image_exact : (s : Sides) (r : Outcome) → Way s r → WhereRead r.mounts s.world (λ m w. (k : Kernel) (task : ℕ) (errno : Errno) → begun m w r.opening ≡ Refuses k task errno → MayFailToStart task errno r.fault)
+image_exact s r (Misused e n) = where_none r.mounts s.world _ n.refused.mounts
+image_exact s r (Unread command e w u) = where_none r.mounts s.world _ u.refused.mounts
+image_exact s r (Over_file command e w m d o) =
+    where_read r.mounts s.world (λ m w. (k : Kernel) (task : ℕ) (errno : Errno) → begun m w r.opening ≡ Refuses k task errno → MayFailToStart task errno r.fault) m o.read
+    (λ v told k task errno b. image_by m v s.world' r.opening r.trace command.trace s.sink s.sink' r.fault o.one_mount (o.told v told) k task errno b)
+
+-- ---- a run of what is accepted comes to its end
+
+told_file : (shelf : Option Shelf) (files : Shelf) (F : Shelf → Type 0) → shelf ≡ Some files → WhereTold shelf F → F files
+told_file shelf files F e h = of (subst (λ (o : Option Shelf). WhereTold o F) e h)
+  where
+    of : WhereTold (Some files) F → F files
+    of h = h
+
+same_mounts : (bytes : List ℕ) (m n : Mounts) → IsMountFile bytes m → IsMountFile bytes n → m ≡ n
+same_mounts bytes m n a b =
+    let document : a.document ≡ b.document = same_Some _ _ (sym a.parsed ∙ b.parsed) in
+    same_Some m n (sym a.fits ∙ ap mounts_in document ∙ b.fits)
+
+unread_end : (s : Sides) (command : Command) (o : Opening) (f : Fault) → s.words ≡ Some command → IsAccepted s.words s.shelf s.world o → (Rose s.count s.now → ⊥) → FailsToRead command s.shelf s.count s.now f → HasEnded f
+unread_end s command o faults.SourceFault e a no_rise h = absurd (no_rise h)
+unread_end s command o (faults.Mounts f) e a no_rise h =
+    let same : a.command ≡ command = same_Some _ _ (sym a.words_are ∙ e) in
+    absurd (told_file s.shelf a.files (λ x. IsNoMountFile (bytes_read command x)) a.files_are h.1 a.mounts (subst (λ (c : Command). IsMountFile (bytes_read c a.files) a.mounts) same a.file))
+unread_end s command o faults.Memory e a no_rise h = tt
+unread_end s command o faults.Done e a no_rise h = tt
+unread_end s command o faults.Full e a no_rise h = tt
+unread_end s command o faults.Usage e a no_rise h = absurd h
+unread_end s command o (faults.Image task errno) e a no_rise h = absurd h
+unread_end s command o faults.SinkFault e a no_rise h = absurd h
+unread_end s command o faults.Stuck e a no_rise h = absurd h
+unread_end s command o faults.HostFault e a no_rise h = absurd h
+unread_end s command o (faults.Grant n) e a no_rise h = absurd h
+
+not_none : {A : Type 0} (o : Option A) → IsSome o → o ≡ None → ⊥
+not_none None h e = cc
+not_none (Some x) h e = cc
+
+-- the accepted mount file is the one that was read
+file_is : (s : Sides) (command : Command) (m : Mounts) (r : Outcome) → s.words ≡ Some command → ReadsAs command s.shelf m → (a : IsAccepted s.words s.shelf s.world r.opening) → a.mounts ≡ m
+file_is s command m r e d a =
+    let same : a.command ≡ command = same_Some _ _ (sym a.words_are ∙ e) in
+    same_mounts (bytes_read command a.files) a.mounts m (subst (λ (c : Command). IsMountFile (bytes_read c a.files) a.mounts) same a.file) (told_file s.shelf a.files (λ x. IsMountFile (bytes_read command x) m) a.files_are d)
+
+over_end : (s : Sides) (command : Command) (m : Mounts) (r : Outcome) (f : Fault) → s.words ≡ Some command → ReadsAs command s.shelf m → Over s command m r → r.fault ≡ f → IsAccepted s.words s.shelf s.world r.opening
+    → (Rose s.hosts s.hosts' → ⊥) → (Rose s.sinks s.sinks' → ⊥) → HasEnded f
+over_end s command m r faults.Done e d o h a no_host no_sink = tt
+over_end s command m r faults.Full e d o h a no_host no_sink = tt
+over_end s command m r faults.Memory e d o h a no_host no_sink = tt
+over_end s command m r faults.SinkFault e d o h a no_host no_sink = absurd (no_sink (any_as s command m r faults.SinkFault o h))
+over_end s command m r faults.HostFault e d o h a no_host no_sink = absurd (no_host (any_as s command m r faults.HostFault o h).0)
+over_end s command m r (faults.Image task errno) e d o h a no_host no_sink =
+    let t = told_as s command m r (faults.Image task errno) o h a.tree a.tree_is in
+    absurd (a.starts t.1.left 1 errno (ap (λ x. begun x a.tree r.opening) (file_is s command m r e d a) ∙ t.1.refuses))
+over_end s command m r (faults.Grant n) e d o h a no_host no_sink =
+    let t = told_as s command m r (faults.Grant n) o h a.tree a.tree_is in
+    absurd (not_none (granted a.mounts.mounts a.tree) a.folders (ap (λ (x : Mounts). granted x.mounts a.tree) (file_is s command m r e d a) ∙ t.2))
+over_end s command m r faults.Usage e d o h a no_host no_sink = absurd (any_as s command m r faults.Usage o h)
+over_end s command m r (faults.Mounts f) e d o h a no_host no_sink = absurd (any_as s command m r (faults.Mounts f) o h)
+over_end s command m r faults.SourceFault e d o h a no_host no_sink = absurd (any_as s command m r faults.SourceFault o h)
+over_end s command m r faults.Stuck e d o h a no_host no_sink = absurd (any_as s command m r faults.Stuck o h)
+
+pub complete : (s : Sides) (r : Outcome) → Way s r → IsAccepted s.words s.shelf s.world r.opening → (Rose s.count s.now → ⊥) → (Rose s.hosts s.hosts' → ⊥) → (Rose s.sinks s.sinks' → ⊥) → HasEnded r.fault
+complete s r (Misused e n) a no_source no_host no_sink = let f : None ≡ Some a.command = sym e ∙ a.words_are in cc
+complete s r (Unread command e w u) a no_source no_host no_sink = unread_end s command r.opening r.fault e a no_source u.fails
+complete s r (Over_file command e w m d o) a no_source no_host no_sink = over_end s command m r r.fault e d o refl a no_host no_sink

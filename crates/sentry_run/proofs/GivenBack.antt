@@ -1,0 +1,239 @@
+-- What a root tells once the program's node is back in its place.
+use Rattle.std.proofs.Common.{◌≡◌, inl, inr, ℕ, ◌<◌, ◌^◌, true, false, List, [], ◌∷◌, refl, ap, sym, ◌∙◌, subst}
+use Rattle.std.specs.Prelude.{Option, Some, None, Err, IfSome, IsSomeAnd, option_map, slice_get, if◌then◌else◌}
+use Rattle.std.specs.Option.{option_map_or}
+use Rattle.host_node.specs.declared.kind.Kind.{Kind}
+use Rattle.host_node.specs.declared.kind.Kind.TheVariants.{Dir}
+use Rattle.host_node.specs.Tree.{Shape, directory, file, link, lent, kind_of, faults_of, is_lent, none_lent, child_of, with_child, lend_child}
+use Rattle.host_node.specs.Routes.{subtree, put_subtree, directory_at}
+use Rattle.host_node.specs.Told.{CanLend, CanTakeBack, TakesBack, CanGrant, TellsGranted, ComesFrom, CanSettle, Settles}
+use Rattle.host_node.proofs.TreeLemmas.{with_child-lend, directory_from_child, child_of-with_same, lend_child_found, none_lent-child_of}
+use Rattle.host_node.proofs.RouteLemmas.{put-put_subtree, none_lent-subtree, is_free-none_lent, subtree-directory_at, is_directory-directory_at, subtree-granted}
+use Rattle.sn_errno.specs.declared.errno.Errno.{Errno}
+use Rattle.sn_errno.specs.declared.errno.Errno.TheVariants.{ENOENT, EACCES}
+use Rattle.kernel_model.specs.declared.entry.Entry.{Entry}
+use Rattle.kernel_model.specs.declared.mounts.Mounts.{Mounts}
+use Rattle.kernel_model.specs.declared.mounts.Mount.{Mount}
+use Rattle.kernel_model.specs.declared.opening.Opening.{Opening}
+use Rattle.kernel_model.specs.FileTree.{owner_executes}
+use Rattle.kernel_model.specs.WalkedIn.{walked_in, walked_by}
+use Rattle.sentry_run.specs.declared.walk.Met.{Met}
+use Rattle.sentry_run.specs.declared.walk.Met.TheVariants.{Nothing, RootFailed, Drawn, ChildFailed}
+use Rattle.sentry_run.specs.declared.walk.Answer.{Answer}
+use Rattle.sentry_run.specs.declared.walk.Answer.TheVariants.{Starts, Refuses, Memory}
+use Rattle.sentry_run.specs.declared.play.End.{End}
+use Rattle.sentry_run.specs.declared.play.End.TheVariants as ends
+use Rattle.sentry_run.specs.Walk.{faulted_by, Loads, LendsFrom, Walks, WalksTo}
+use Rattle.sentry_run.specs.Played.{Fits, given_back, Ended}
+use Rattle.sentry_run.specs.PlayedMachine.{IsInner}
+use Rattle.sentry_run.specs.Granted.{PlaysRoot, IsUngranted, first_names, Plays, PlaysIn, PlaysOver}
+
+-- ---- what was answered fits the walk
+
+refused_walk : (t : Shape) (name : List ℕ) → owner_executes t ≡ false → walked_in t name ≡ record { draws = false; image = Err EACCES }
+refused_walk t name x = ap (λ b. if b then walked_by (child_of name t) else record { draws = false; image = Err EACCES }) x
+
+missing_walk : (t : Shape) (name : List ℕ) → owner_executes t ≡ true → child_of name t ≡ None → walked_in t name ≡ record { draws = false; image = Err ENOENT }
+missing_walk t name x e = ap (λ b. if b then walked_by (child_of name t) else record { draws = false; image = Err EACCES }) x ∙ ap walked_by e
+
+loads_fit : (t : Shape) (name : List ℕ) (s : Shape) (child : Option Shape) (met : Met) (answer : Answer) → owner_executes t ≡ true → child_of name t ≡ Some s → faults_of s < 2 ^ 64 → Loads s child met answer → Fits t name met answer
+loads_fit t name s child Drawn (Starts image) x e l h = (s, x, e, h.0, l)
+loads_fit t name s child Drawn (Refuses errno) x e l h = (s, x, e, h.0, l)
+loads_fit t name s child Drawn Memory x e l h = tt
+loads_fit t name s child (ChildFailed d) (Refuses errno) x e l h = (s, e, h.0, h.1)
+loads_fit t name s child (ChildFailed d) (Starts image) x e l h = absurd h
+loads_fit t name s child (ChildFailed d) Memory x e l h = tt
+loads_fit t name s child Nothing (Starts image) x e l h = absurd h
+loads_fit t name s child Nothing (Refuses errno) x e l h = absurd h
+loads_fit t name s child Nothing Memory x e l h = tt
+loads_fit t name s child (RootFailed d) (Starts image) x e l h = absurd h
+loads_fit t name s child (RootFailed d) (Refuses errno) x e l h = absurd h
+loads_fit t name s child (RootFailed d) Memory x e l h = tt
+
+lends_fit : (t : Shape) (name : List ℕ) (root : Option Shape) (child : Option (Option Shape)) (met : Met) (answer : Answer) → owner_executes t ≡ true → LendsFrom t name root child met answer → Fits t name met answer
+lends_fit t name root (Some child) met answer x h = loads_fit t name h.1 child met answer x h.2 h.3 h.4
+lends_fit t name root None Nothing (Refuses errno) x h = subst (λ (e : Errno). walked_in t name ≡ record { draws = false; image = Err e }) (sym h.2) (missing_walk t name x h.1)
+lends_fit t name root None Nothing Memory x h = tt
+lends_fit t name root None Nothing (Starts image) x h = absurd h
+lends_fit t name root None (RootFailed d) (Refuses errno) x h = (h.0, h.1)
+lends_fit t name root None (RootFailed d) (Starts image) x h = absurd h
+lends_fit t name root None (RootFailed d) Memory x h = tt
+lends_fit t name root None Drawn (Refuses errno) x h = absurd h
+lends_fit t name root None Drawn (Starts image) x h = absurd h
+lends_fit t name root None Drawn Memory x h = tt
+lends_fit t name root None (ChildFailed d) (Refuses errno) x h = absurd h
+lends_fit t name root None (ChildFailed d) (Starts image) x h = absurd h
+lends_fit t name root None (ChildFailed d) Memory x h = tt
+
+pub walked_fits : (t : Shape) (name : List ℕ) (root : Option Shape) (child : Option (Option Shape)) (met : Met) (answer : Answer) → WalksTo t name root child met answer → Fits t name met answer
+walked_fits t name root child met answer (inl h) = lends_fit t name root child met answer h.0 h.1
+walked_fits t name root child met answer (inr (inl h)) =
+    subst (λ (m : Met). Fits t name m answer) (sym h.3) (subst (λ (a : Answer). Fits t name Nothing a) (sym h.4) (refused_walk t name h.0))
+walked_fits t name root child met answer (inr (inr (inl h))) = subst (λ (a : Answer). Fits t name met a) (sym h.3) tt
+walked_fits t name root child met answer (inr (inr (inr h))) =
+    subst (λ (m : Met). Fits t name m answer) (sym h.4) (subst (λ (a : Answer). Fits t name (RootFailed h.0) a) (sym h.5) (refl, h.1))
+
+-- ---- the root, with the program's node in its place
+
+not_lent : (s : Shape) → none_lent s ≡ true → is_lent s ≡ false
+not_lent (directory mode faults entries) e = refl
+not_lent (file bytes mode faults) e = refl
+not_lent (link text faults) e = refl
+not_lent (lent kind) e = cc
+
+-- the program's node came back as it then told itself
+back_as : (t : Shape) (name : List ℕ) (s : Shape) (child : Option Shape) (own : Shape) (after : Option Shape) → child ≡ Some own → TakesBack name (Some (lend_child name t)) child after → after ≡ Some (with_child name own (lend_child name t))
+back_as t name s child own after c b = subst (λ (o : Option Shape). TakesBack name (Some (lend_child name t)) o after) c b
+
+lent_there : (t : Shape) (name : List ℕ) (s : Shape) → child_of name t ≡ Some s → IsSomeAnd (child_of name (lend_child name t)) (λ x. is_lent x ≡ true)
+lent_there t name s e =
+    let found : child_of name (lend_child name t) ≡ Some (lent (kind_of s)) =
+    ap (child_of name) (lend_child_found name s t e) ∙ child_of-with_same name (lent (kind_of s)) t (directory_from_child name t s e) in
+    subst (λ (o : Option Shape). IsSomeAnd o (λ x. is_lent x ≡ true)) (sym found) refl
+
+loads_back : (t : Shape) (name : List ℕ) (s : Shape) (child : Option Shape) (met : Met) (answer : Answer) (after : Option Shape) → child_of name t ≡ Some s → Loads s child met answer
+    → TakesBack name (Some (lend_child name t)) child after → after ≡ Some (given_back t name met)
+loads_back t name s child Drawn (Starts image) after e h b = back_as t name s child s after h.1 b ∙ ap Some (with_child-lend name s t e)
+loads_back t name s child Drawn (Refuses errno) after e h b = back_as t name s child s after h.1 b ∙ ap Some (with_child-lend name s t e)
+loads_back t name s child Drawn Memory after e h b = back_as t name s child s after h b ∙ ap Some (with_child-lend name s t e)
+loads_back t name s child (ChildFailed d) (Refuses errno) after e h b =
+    back_as t name s child (faulted_by d s) after h.2 b ∙ ap (λ o. Some (option_map_or (λ x. with_child name (faulted_by d x) (lend_child name t)) o t)) (sym e)
+loads_back t name s child (ChildFailed d) (Starts image) after e h b = absurd h
+loads_back t name s child (ChildFailed d) Memory after e h b = absurd h
+loads_back t name s child Nothing answer after e h b = absurd (no_load answer h)
+  where
+    no_load : (answer : Answer) → Loads s child Nothing answer → ⊥
+    no_load (Starts image) h = h
+    no_load (Refuses errno) h = h
+    no_load Memory h = h
+loads_back t name s child (RootFailed d) answer after e h b = absurd (no_load answer h)
+  where
+    no_load : (answer : Answer) → Loads s child (RootFailed d) answer → ⊥
+    no_load (Starts image) h = h
+    no_load (Refuses errno) h = h
+    no_load Memory h = h
+
+pub can_take_back : (t : Shape) (name : List ℕ) (root : Option Shape) (child : Option Shape) (met : Met) (answer : Answer) → WalksTo t name root (Some child) met answer → CanTakeBack name root
+can_take_back t name root child met answer (inl h) = subst (λ (o : Option Shape). CanTakeBack name o) (sym h.1.0) (lent_there t name h.1.1 h.1.2)
+can_take_back t name root child met answer (inr (inl h)) = absurd (let e = h.2 in cc)
+can_take_back t name root child met answer (inr (inr (inl h))) = absurd (let e = h.1 in cc)
+can_take_back t name root child met answer (inr (inr (inr h))) = absurd (let e = h.3 in cc)
+
+pub walked_back : (t : Shape) (name : List ℕ) (root : Option Shape) (child : Option Shape) (met : Met) (answer : Answer) (after : Option Shape) → WalksTo t name root (Some child) met answer
+    → TakesBack name root child after → after ≡ Some (given_back t name met)
+walked_back t name root child met answer after (inl h) b = loads_back t name h.1.1 child met answer after h.1.2 h.1.4 (subst (λ (o : Option Shape). TakesBack name o child after) h.1.0 b)
+walked_back t name root child met answer after (inr (inl h)) b = absurd (let e = h.2 in cc)
+walked_back t name root child met answer after (inr (inr (inl h))) b = absurd (let e = h.1 in cc)
+walked_back t name root child met answer after (inr (inr (inr h))) b = absurd (let e = h.3 in cc)
+
+lends_alone : (t : Shape) (name : List ℕ) (root : Option Shape) (met : Met) (answer : Answer) → LendsFrom t name root None met answer → root ≡ Some (given_back t name met)
+lends_alone t name root Nothing (Refuses errno) h = h.0
+lends_alone t name root Nothing Memory h = h
+lends_alone t name root Nothing (Starts image) h = absurd h
+lends_alone t name root (RootFailed d) (Refuses errno) h = h.2
+lends_alone t name root (RootFailed d) (Starts image) h = absurd h
+lends_alone t name root (RootFailed d) Memory h = absurd h
+lends_alone t name root Drawn (Refuses errno) h = absurd h
+lends_alone t name root Drawn (Starts image) h = absurd h
+lends_alone t name root Drawn Memory h = absurd h
+lends_alone t name root (ChildFailed d) (Refuses errno) h = absurd h
+lends_alone t name root (ChildFailed d) (Starts image) h = absurd h
+lends_alone t name root (ChildFailed d) Memory h = absurd h
+
+pub walked_alone : (t : Shape) (name : List ℕ) (root : Option Shape) (met : Met) (answer : Answer) → WalksTo t name root None met answer → root ≡ Some (given_back t name met)
+walked_alone t name root met answer (inl h) = lends_alone t name root met answer h.1
+walked_alone t name root met answer (inr (inl h)) = h.1 ∙ ap (λ m. Some (given_back t name m)) (sym h.3)
+walked_alone t name root met answer (inr (inr (inl h))) = h.0 ∙ ap (λ m. Some (given_back t name m)) (sym h.2)
+walked_alone t name root met answer (inr (inr (inr h))) = h.2 ∙ ap (λ m. Some (given_back t name m)) (sym h.4)
+
+-- ---- a run over a root, where it tells
+
+-- what was shown of each tree that fits
+abbrev pub EndsForAll : Mounts → List ℕ → Met → Answer → Opening → List Entry → End → Type 0
+EndsForAll mounts name met answer opening trace end = (t : Shape) → faults_of t < 2 ^ 64 → Fits t name met answer → Ended mounts t (given_back t name met) opening trace end
+
+pub plays_back : (mounts : Mounts) (name : List ℕ) (told root : Option Shape) (child : Option Shape) (met : Met) (answer : Answer) (after : Option Shape) (opening : Opening) (trace : List Entry) (end : End)
+    → Walks told name root (Some child) met answer → TakesBack name root child after → EndsForAll mounts name met answer opening trace end → PlaysRoot mounts told after opening trace end
+plays_back mounts name None root child met answer after opening trace end w b ends = subst (λ (o : Option Shape). TakesBack name o child after) w b
+plays_back mounts name (Some t) root child met answer after opening trace end w b ends =
+    (given_back t name met, walked_back t name root child met answer after w.1 b, ends t w.0 (walked_fits t name root (Some child) met answer w.1))
+
+pub plays_alone : (mounts : Mounts) (name : List ℕ) (told root : Option Shape) (met : Met) (answer : Answer) (opening : Opening) (trace : List Entry) (end : End)
+    → Walks told name root None met answer → EndsForAll mounts name met answer opening trace end → PlaysRoot mounts told root opening trace end
+plays_alone mounts name None root met answer opening trace end w ends = w
+plays_alone mounts name (Some t) root met answer opening trace end w ends =
+    (given_back t name met, walked_alone t name root met answer w.1, ends t w.0 (walked_fits t name root None met answer w.1))
+
+pub takes_back : (name : List ℕ) (told root : Option Shape) (child : Option Shape) (met : Met) (answer : Answer) → Walks told name root (Some child) met answer → CanTakeBack name root
+takes_back name None root child met answer w = subst (λ (o : Option Shape). CanTakeBack name o) (sym w) tt
+takes_back name (Some t) root child met answer w = can_take_back t name root child met answer w.1
+
+-- an option that is no `Some`
+pub not_some : {A : Type 0} (o : Option A) → ((x : A) → o ≡ Some x → ⊥) → o ≡ None
+not_some None h = refl
+not_some (Some x) h = absurd (h x refl)
+
+-- ---- a granted folder
+
+pub can_grant : (names : List (List ℕ)) (world : Option Shape) → IsUngranted world → CanGrant names world
+can_grant names None u = tt
+can_grant names (Some w) u = is_free-none_lent names w u
+
+free_child : (name : List ℕ) (t : Shape) → none_lent t ≡ true → IfSome (child_of name t) (λ s. is_lent s ≡ false)
+free_child name t n = by_child (child_of name t) refl
+  where
+    by_child : (o : Option Shape) → child_of name t ≡ o → IfSome o (λ s. is_lent s ≡ false)
+    by_child None e = tt
+    by_child (Some s) e = not_lent s (none_lent-child_of name s t n e)
+
+pub can_lend : (names : List (List ℕ)) (name : List ℕ) (world root : Option Shape) (count : ℕ) (what : Kind) → IsUngranted world → TellsGranted names world root count what → CanLend name root
+can_lend names name None root count what u g = subst (λ (o : Option Shape). CanLend name o) (sym g) tt
+can_lend names name (Some w) root count what u g = by_directory (directory_at names w) refl g
+  where
+    by_directory : (o : Option Shape) → directory_at names w ≡ o → ComesFrom o root count what → CanLend name root
+    by_directory None e from = absurd from
+    by_directory (Some t) e from =
+        let free : none_lent t ≡ true = none_lent-subtree names t w u (subtree-directory_at names t w e) in
+        let own : CanLend name (Some t) = (is_directory-directory_at names t w e, free_child name t free) in
+        subst (λ (o : Option Shape). CanLend name o) (sym from.0) own
+
+pub can_settle : (names : List (List ℕ)) (world world1 root : Option Shape) (count : ℕ) (what : Kind) → TellsGranted names world root count what → world1 ≡ option_map (put_subtree names (lent Dir)) world → CanSettle names world1
+can_settle names None world1 root count what g e = subst (λ (o : Option Shape). CanSettle names o) (sym e) tt
+can_settle names (Some w) world1 root count what g e = subst (λ (o : Option Shape). CanSettle names o) (sym e) (by_directory (directory_at names w) refl g)
+  where
+    by_directory : (o : Option Shape) → directory_at names w ≡ o → ComesFrom o root count what → subtree names (put_subtree names (lent Dir) w) ≡ Some (lent Dir)
+    by_directory None d from = absurd from
+    by_directory (Some t) d from = subtree-granted names t w d
+
+pub first_names_of : (mounts : List Mount) (m : Mount) → slice_get mounts 0 ≡ Some m → first_names mounts ≡ m.folder.names
+first_names_of [] m e = cc
+first_names_of (x ∷ xs) m e = let same : x ≡ m = cc in ap (λ (y : Mount). y.folder.names) same
+
+-- an end after a grant, over the granted tree
+inner_plays : (mounts : Mounts) (names : List (List ℕ)) (w : Shape) (after : Option Shape) (opening : Opening) (trace : List Entry) (end : End) → IsInner end → PlaysOver mounts names w after opening trace end → Plays mounts names w after opening trace end
+inner_plays mounts names w after opening trace (ends.Done k) i p = p
+inner_plays mounts names w after opening trace (ends.Full k) i p = p
+inner_plays mounts names w after opening trace (ends.Image errno) i p = p
+inner_plays mounts names w after opening trace ends.Memory i p = inr p
+inner_plays mounts names w after opening trace ends.HostFault i p = absurd i
+inner_plays mounts names w after opening trace ends.Grant i p = absurd i
+
+pub plays_in : (mounts : Mounts) (names : List (List ℕ)) (world world1 world2 root root1 : Option Shape) (count : ℕ) (what : Kind) (opening : Opening) (trace : List Entry) (end : End)
+    → first_names mounts.mounts ≡ names → TellsGranted names world root count what → world1 ≡ option_map (put_subtree names (lent Dir)) world → PlaysRoot mounts root root1 opening trace end → IsInner end
+    → Settles names world1 root1 world2 → PlaysIn mounts world world2 opening trace end
+plays_in mounts names None world1 world2 root root1 count what opening trace end f g e p i s = subst (λ (o : Option Shape). Settles names o root1 world2) e s
+plays_in mounts names (Some w) world1 world2 root root1 count what opening trace end f g e p i s =
+    subst (λ (ns : List (List ℕ)). Plays mounts ns w world2 opening trace end) (sym f) (inner_plays mounts names w world2 opening trace end i (by_directory (directory_at names w) refl g))
+  where
+    over_tree : (t : Shape) → directory_at names w ≡ Some t → PlaysRoot mounts (Some t) root1 opening trace end → PlaysOver mounts names w world2 opening trace end
+    over_tree t d p =
+        let settled : world2 ≡ Some (put_subtree names p.0 (put_subtree names (lent Dir) w)) =
+        subst (λ (o : Option Shape). Settles names o (Some p.0) world2) e (subst (λ (o : Option Shape). Settles names world1 o world2) p.1 s) in
+        (t, d, p.0, settled ∙ ap Some (put-put_subtree names p.0 (lent Dir) w), p.2)
+
+    by_directory : (o : Option Shape) → directory_at names w ≡ o → ComesFrom o root count what → PlaysOver mounts names w world2 opening trace end
+    by_directory None d from = absurd from
+    by_directory (Some t) d from = over_tree t d (subst (λ (o : Option Shape). PlaysRoot mounts o root1 opening trace end) from.0 p)
+
+pub inner_fault : (end : End) → IsInner end → end ≡ ends.HostFault → ⊥
+inner_fault end i e = subst (λ (x : End). IsInner x) e i

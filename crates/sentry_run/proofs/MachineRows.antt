@@ -1,0 +1,154 @@
+-- What a row gives for the entry that the machine makes.
+use Rattle.std.proofs.Common.{◌≡◌, ◌⊎◌, inl, inr, ℕ, zero, suc, ◌+◌, ◌≤◌, Bool, true, false, List, [], ◌∷◌, refl, ap, sym, ◌∙◌, subst, arith, ℤ}
+use Rattle.std.specs.Prelude.{Result, Ok, Err, IfOk, Some, None, if◌then◌else◌, ◌&&◌, ◌||◌, not, ◌==◌, nat_eq, nat_le, option_map}
+use Rattle.std.specs.Ordering.{int_eq, nat_cmp}
+use Rattle.std.specs.FinMap as map
+use Rattle.sn_base.proofs.Maps.{get-insert_same, insert-insert}
+use Rattle.std.proofs.lemmas.Bool.{le-leb}
+use Rattle.std.proofs.lemmas.Bool.Decides.{Decides-int_eq, Decides-eqb}
+use Rattle.kernel_model.specs.declared.entry.Entry.{Entry}
+use Rattle.kernel_model.specs.declared.entry.Entry.TheVariants.{Run, Call, Sleep, End}
+use Rattle.kernel_model.specs.declared.kernel.Kernel.{Kernel}
+use Rattle.kernel_model.specs.declared.kernel.Life.TheVariants.{Live}
+use Rattle.kernel_model.specs.declared.kernel.Task.{Task}
+use Rattle.kernel_model.specs.declared.registers.Registers.{Registers}
+use Rattle.kernel_model.specs.declared.registers.Next.{Next}
+use Rattle.kernel_model.specs.declared.registers.Next.TheVariants.{Goes, Calls, Traps}
+use Rattle.kernel_model.specs.declared.entry.Args.{Args}
+use Rattle.kernel_model.specs.declared.space.Space.{Space}
+use Rattle.kernel_model.specs.Instructions.{next_of, went, ran}
+use Rattle.kernel_model.specs.FileTree.{Nodes}
+use Rattle.kernel_model.specs.History.{goes_on, has_next, is_whole}
+use Rattle.kernel_model.proofs.OneRoot.{run_bind}
+use Rattle.sentry_run.specs.Machine.{kernel_with, Changes, IsWholeRun}
+use Rattle.kernel_model.specs.declared.calls.Outcome.{Outcome}
+use Rattle.kernel_model.specs.declared.kernel.Part.TheVariants.{OfConsole}
+use Rattle.kernel_model.proofs.StepLemmas.{call_quiet}
+use Rattle.kernel_model.specs.declared.opening.Fresh.{Fresh}
+use Rattle.kernel_model.specs.declared.opening.Rise.{Rise}
+use Rattle.kernel_model.specs.Parts.{Parts, parts, run, done, ◌>>=◌}
+use Rattle.kernel_model.specs.Registers.{call_of, args_of}
+use Rattle.kernel_model.specs.Rows.{call_row}
+use Rattle.kernel_model.specs.Step.{run_row, with_registers, task_change, same_args, answered, by_given, at_call, step, stepped, live, found, if_live, in_space, if_running, row_of, task_of}
+
+pub int_same : (z : ℤ) → int_eq z z ≡ true
+int_same z = (Decides-int_eq z z).1 refl
+
+pub nat_same : (n : ℕ) → nat_eq n n ≡ true
+nat_same n = (Decides-eqb n n).1 refl
+
+-- an instruction that goes on isn't one that stops
+goes_went : (next : Next) → goes_on next ≡ true → went next ≡ None → ⊥
+goes_went (Goes r) g w = cc
+goes_went Calls g w = cc
+goes_went (Traps signal) g w = cc
+
+-- a run from an instruction that goes on has one at least
+pub ran_one : (n : ℕ) (space : Space) (r r' : Registers) → goes_on (next_of space r) ≡ true → ran n space r ≡ Some r' → (n ≡ 10000) ⊎ (went (next_of space r') ≡ None) → 1 ≤ n
+unfolding ran
+ran_one zero space r r' g e (inl h) = absurd (omega arith)
+ran_one zero space r r' g e (inr h) = absurd (goes_went (next_of space r) g (let same : r ≡ r' = cc in subst (λ (q : Registers). went (next_of space q) ≡ None) (sym same) h))
+ran_one (suc n) space r r' g e h = omega arith
+
+pub run_is : (n : ℕ) (space : Space) (task : Task) (r : Registers) → ran n space task.registers ≡ Some r → 1 ≤ n → n ≤ 10000 → run_row 1 n (record { task = task; space = space }) ≡ Some (task_change 1 (with_registers task r) ∷ [])
+run_is n space task r e low high =
+    ap (λ b. if b && nat_le n 10000 then option_map (λ registers. task_change 1 (with_registers task registers) ∷ []) (ran n space task.registers) else None) (le-leb 1 n low)
+    ∙ ap (λ b. if b then option_map (λ registers. task_change 1 (with_registers task registers) ∷ []) (ran n space task.registers) else None) (le-leb n 10000 high)
+    ∙ ap (option_map (λ registers. task_change 1 (with_registers task registers) ∷ [])) e
+
+pub args_same : (args : Args) → same_args args args ≡ true
+args_same args = simp nat_same
+
+-- a call with nothing drawn and nothing met
+pub call_is : (s : Parts) (number : ℕ) (args : Args) (reply : ℤ) (fresh : List Fresh) (rises : List Rise) (task : Task) (space : Space) (next : Next) (o : Outcome)
+    → next ≡ Calls → number ≡ call_of task.registers → args ≡ args_of task.registers → fresh ≡ [] → rises ≡ [] → run s (call_row number args space) ≡ o
+    → run s (at_call 1 number args reply (record { fresh = fresh; rises = rises }) task space next) ≡ run s (answered 1 task reply o)
+call_is s number args reply fresh rises task space next o n e f g h row =
+    ap (λ x. run s (at_call 1 number args reply (record { fresh = fresh; rises = rises }) task space x)) n
+    ∙ ap (λ b. run s (if b then by_given 1 task space number args reply (record { fresh = fresh; rises = rises }) else done None))
+    (ap (λ b. b && same_args (args_of task.registers) args) (ap (λ x. nat_eq x number) (sym e) ∙ nat_same number) ∙ ap (λ x. same_args x args) (sym f) ∙ args_same args)
+    ∙ ap (λ rs. run s (by_given 1 task space number args reply (record { fresh = fresh; rises = rs }))) h
+    ∙ ap (λ fs. run s (by_given 1 task space number args reply (record { fresh = fs; rises = [] }))) g
+    ∙ call_quiet s 1 task space number args reply (record { fresh = []; rises = [] }) refl
+    ∙ ap (λ x. run s (answered 1 task reply x)) row
+
+-- ---- the machine as a kernel
+
+pub live_of : (task : Task) (space : Space) (console : List ℕ) (nodes : Nodes) (failed : map.FinMap nat_cmp ℕ) (n : ℕ) → task.life ≡ Live → task.space ≡ 1
+    → run (parts (kernel_with task space console nodes failed n)) (live 1) ≡ Some (record { task = task; space = space })
+live_of task space console nodes failed n l e =
+    let s : Parts = parts (kernel_with task space console nodes failed n) in
+    ap (λ o. run s (found o)) (get-insert_same map.empty 1 task)
+    ∙ ap (λ x. run s (if_live task x)) l
+    ∙ ap (λ (x : ℕ). in_space task (map.get {R = nat_cmp} (map.insert {R = nat_cmp} map.empty 1 space) x)) e
+    ∙ ap (in_space task) (get-insert_same map.empty 1 space)
+
+row_in : (entry : Entry) (task : Task) (space : Space) (console : List ℕ) (nodes : Nodes) (failed : map.FinMap nat_cmp ℕ) (n : ℕ) → task.life ≡ Live → task.space ≡ 1 → task_of entry ≡ 1
+    → run (parts (kernel_with task space console nodes failed n)) (live (task_of entry) >>= if_running entry)
+    ≡ run (parts (kernel_with task space console nodes failed n)) (row_of entry (record { task = task; space = space }))
+row_in entry task space console nodes failed n l e t =
+    let k : Kernel = kernel_with task space console nodes failed n in
+    ap (λ x. run (parts k) (live x >>= if_running entry)) t
+    ∙ run_bind (parts k) (live 1) (if_running entry)
+    ∙ ap (λ r. run (parts k) (if_running entry r)) (live_of task space console nodes failed n l e)
+
+-- an entry that changes its task, and perhaps the console
+pub step_changes : (entry : Entry) (task task' : Task) (space : Space) (console console' : List ℕ) (nodes : Nodes) (failed : map.FinMap nat_cmp ℕ) (n : ℕ) → task.life ≡ Live → task.space ≡ 1 → task_of entry ≡ 1
+    → ((s : Parts) → s OfConsole ≡ console → Changes console console' task' (run s (row_of entry (record { task = task; space = space }))))
+    → step (kernel_with task space console nodes failed n) entry ≡ Some (kernel_with task' space console' nodes failed (n + 1))
+unfolding step
+step_changes entry task task' space console console' nodes failed n l e t row =
+    ap (option_map (stepped k)) (row_in entry task space console nodes failed n l e t) ∙ by (row (parts k) refl)
+  where
+    k : Kernel
+    k = kernel_with task space console nodes failed n
+
+    alike : (c : List ℕ) → Some (record (kernel_with task' space c nodes failed (n + 1)) { tasks = map.insert (map.insert map.empty 1 task) 1 task' }) ≡ Some (kernel_with task' space c nodes failed (n + 1))
+    alike c = ap (λ tasks. Some (record (kernel_with task' space c nodes failed (n + 1)) { tasks = tasks })) (insert-insert map.empty 1 task task')
+
+    by : Changes console console' task' (run (parts k) (row_of entry (record { task = task; space = space })))
+        → option_map (stepped k) (run (parts k) (row_of entry (record { task = task; space = space }))) ≡ Some (kernel_with task' space console' nodes failed (n + 1))
+    by (inl h) = ap (option_map (stepped k)) h.1 ∙ alike console ∙ ap (λ c. Some (kernel_with task' space c nodes failed (n + 1))) (sym h.0)
+    by (inr h) = ap (option_map (stepped k)) h ∙ alike console'
+
+-- an entry that changes its task alone
+pub step_of : (entry : Entry) (task task' : Task) (space : Space) (console : List ℕ) (nodes : Nodes) (failed : map.FinMap nat_cmp ℕ) (n : ℕ) → task.life ≡ Live → task.space ≡ 1 → task_of entry ≡ 1
+    → ((s : Parts) → run s (row_of entry (record { task = task; space = space })) ≡ Some (task_change 1 task' ∷ []))
+    → step (kernel_with task space console nodes failed n) entry ≡ Some (kernel_with task' space console nodes failed (n + 1))
+step_of entry task task' space console nodes failed n l e t row =
+    step_changes entry task task' space console console nodes failed n l e t (λ s same. inl (refl, row s))
+
+stopped_next : (next : Next) → went next ≡ None → goes_on next ≡ false
+stopped_next (Goes r) e = cc
+stopped_next Calls e = refl
+stopped_next (Traps signal) e = refl
+
+or_true : (b : Bool) → (b || true) ≡ true
+or_true true = refl
+or_true false = refl
+
+pub whole_of : (entry : Entry) (task : Task) (space : Space) (console : List ℕ) (nodes : Nodes) (failed : map.FinMap nat_cmp ℕ) (n : ℕ) → task.space ≡ 1 → IsWholeRun entry space task
+    → is_whole entry (kernel_with task space console nodes failed n) ≡ true
+whole_of (Run number count) task space console nodes failed n e w =
+    elim w.2 [
+      | inl h ↦ ap (λ x. nat_eq x 10000 || not (has_next (run (parts (kernel_with task space console nodes failed n)) (live number)))) h
+      | inr h ↦ ap (λ x. (count == 10000) || not (has_next (run (parts (kernel_with task space console nodes failed n)) (live x)))) w.0
+          ∙ ap (λ r. (count == 10000) || not (has_next r)) (live_of task space console nodes failed n w.1 e)
+          ∙ ap (λ b. (count == 10000) || not b) (stopped_next (next_of space task.registers) h)
+          ∙ or_true (count == 10000)
+    ]
+whole_of (Call number call args given reply) task space console nodes failed n e w = refl
+whole_of (Sleep number) task space console nodes failed n e w = refl
+whole_of (End number signal) task space console nodes failed n e w = refl
+
+-- the same of an entry that may lack memory
+pub step_ok : {E : Type 0} (r : Result Entry E) (task task' : Task) (space : Space) (console console' : List ℕ) → task.life ≡ Live → task.space ≡ 1 → IfOk r (λ entry. task_of entry ≡ 1)
+    → IfOk r (λ entry. (s : Parts) → s OfConsole ≡ console → Changes console console' task' (run s (row_of entry (record { task = task; space = space }))))
+    → IfOk r (λ entry. (nodes : Nodes) (failed : map.FinMap nat_cmp ℕ) (n : ℕ) → step (kernel_with task space console nodes failed n) entry ≡ Some (kernel_with task' space console' nodes failed (n + 1)))
+step_ok (Ok entry) task task' space console console' l e t row = λ nodes failed n. step_changes entry task task' space console console' nodes failed n l e t row
+step_ok (Err x) task task' space console console' l e t row = tt
+
+pub whole_ok : {E : Type 0} (r : Result Entry E) (task : Task) (space : Space) (console : List ℕ) → task.space ≡ 1 → IfOk r (λ entry. IsWholeRun entry space task)
+    → IfOk r (λ entry. (nodes : Nodes) (failed : map.FinMap nat_cmp ℕ) (n : ℕ) → is_whole entry (kernel_with task space console nodes failed n) ≡ true)
+whole_ok (Ok entry) task space console e w = λ nodes failed n. whole_of entry task space console nodes failed n e w
+whole_ok (Err x) task space console e w = tt

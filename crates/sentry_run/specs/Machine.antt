@@ -1,0 +1,54 @@
+-- The state of a run of one task, as a part of the kernel's.
+use Rattle.std.specs.Prelude.{◌≡◌, ◌⊎◌, ℕ, List, Option, Some, None, [], ◌∷◌}
+use Rattle.kernel_model.specs.declared.entry.Entry.{Entry}
+use Rattle.kernel_model.specs.declared.entry.Entry.TheVariants.{Run, Call, Sleep, End}
+use Rattle.kernel_model.specs.Instructions.{next_of, went}
+use Rattle.std.specs.Ordering.{nat_cmp}
+use Rattle.std.specs.FinMap as map
+use Rattle.kernel_model.specs.declared.kernel.Kernel.{Kernel}
+use Rattle.kernel_model.specs.declared.kernel.Task.{Task}
+use Rattle.kernel_model.specs.declared.kernel.Life.TheVariants.{Live}
+use Rattle.kernel_model.specs.declared.kernel.Part.TheVariants.{OfConsole}
+use Rattle.kernel_model.specs.declared.space.Space.{Space}
+use Rattle.elf_image.specs.declared.image.Image.{Image}
+use Rattle.kernel_model.specs.FileTree.{Nodes}
+use Rattle.kernel_model.specs.Parts.{Change}
+use Rattle.kernel_model.specs.Step.{task_change}
+use Rattle.kernel_model.specs.Image.{registers_of}
+
+-- a kernel with one task, which is number 1, and these nodes and counts of faults
+-- profile
+abbrev pub kernel_with : Task → Space → List ℕ → Nodes → map.FinMap nat_cmp ℕ → ℕ → Kernel
+kernel_with task space console nodes failed entries = record {
+  tasks = map.insert map.empty 1 task;
+  spaces = map.insert map.empty 1 space;
+  nodes = nodes;
+  console = console;
+  failed = failed;
+  entries = entries;
+}
+
+-- the task that an image begins with
+-- execve(2)
+abbrev pub task_of_image : Image → Task
+task_of_image image = record { group = 1; space = 1; registers = registers_of image; life = Live }
+
+-- what an entry changes: its task, and the console too where it took bytes
+-- write(2)
+abbrev pub Changes : List ℕ → List ℕ → Task → Option (List Change) → Type 0
+Changes before after task changes =
+    ((after ≡ before) × (changes ≡ Some (task_change 1 task ∷ []))) ⊎ (changes ≡ Some ((OfConsole, after) ∷ task_change 1 task ∷ []))
+
+-- a Run that leaves this task is whole: it has 10,000 instructions, or the next one calls or traps
+-- profile
+abbrev pub IsWholeRun : Entry → Space → Task → Type 0
+IsWholeRun (Run task n) space after = (task ≡ 1) × (after.life ≡ Live) × ((n ≡ 10000) ⊎ (went (next_of space after.registers) ≡ None))
+IsWholeRun (Call task number args given reply) space after = Unit {0}
+IsWholeRun (Sleep task) space after = Unit {0}
+IsWholeRun (End task signal) space after = Unit {0}
+
+-- a state is left, with these nodes and counts of faults
+-- profile
+abbrev pub Leaves : Nodes → map.FinMap nat_cmp ℕ → Option Kernel → Type 0
+Leaves nodes failed None = ⊥
+Leaves nodes failed (Some state) = (state.nodes ≡ nodes) × (state.failed ≡ failed)

@@ -1,0 +1,256 @@
+-- What the clauses of a run speak of: the state that its trace leaves, and the world then.
+use Rattle.std.specs.Prelude.{◌≡◌, ◌⊎◌, ℕ, List, [], ◌∷◌, length, take, Bool, true, false, All, AllPairs, Option, Some, None, IsSome, IfSome, ⊤, unwrap_or, option_and_then, option_map}
+use Rattle.host_node.specs.Tree.{Shape}
+use Rattle.host_node.specs.Routes.{directory_at}
+use Rattle.sn_edge.specs.Shelf.{Shelf, content_at}
+use Rattle.sn_errno.specs.declared.errno.Errno.{Errno}
+use Rattle.kernel_model.specs.declared.entry.Entry.{Entry}
+use Rattle.kernel_model.specs.declared.kernel.Kernel.{Kernel}
+use Rattle.kernel_model.specs.declared.mounts.Mounts.{Mounts}
+use Rattle.kernel_model.specs.declared.mounts.Mount.{Mount}
+use Rattle.kernel_model.specs.declared.opening.Opening.{Opening}
+use Rattle.kernel_model.specs.declared.opening.Left.{Left}
+use Rattle.kernel_model.specs.Words.{Command}
+use Rattle.kernel_model.specs.MountFile.{IsMountFile, IsNoMountFile}
+use Rattle.kernel_model.specs.Opening.{Begun, Opens, Refuses, Misfits, opening_of}
+use Rattle.kernel_model.specs.History.{replay, each_whole, any_live}
+use Rattle.kernel_model.specs.Printed.{printed}
+use Rattle.std.specs.FinMap as map
+use Rattle.kernel_model.specs.declared.kernel.Node.{Node}
+use Rattle.kernel_model.specs.declared.opening.Fresh.{Fresh}
+use Rattle.kernel_model.specs.FileTree.{Child, Missing, child_at}
+use Rattle.kernel_model.specs.Numbers.{IsUnnumbered, left_fresh}
+use Rattle.kernel_model.specs.Settled.{tree_now, settled, outside}
+use Rattle.sentry_run.specs.declared.outcome.Fault.{Fault}
+use Rattle.sentry_run.specs.declared.outcome.Fault.TheVariants.{Done, Usage, Mounts as MountsRefused, Image, SourceFault, SinkFault, Full, Memory, HostFault, Grant}
+
+-- a fact of what an object tells, where it tells
+-- profile
+abbrev pub WhereTold : {A : Type 0} → Option A → (A → Type 0) → Type 0
+WhereTold None fact = ⊤
+WhereTold (Some a) fact = fact a
+
+-- ---- the mount file
+
+-- the bytes that are read of the file that a command names: all, or the first 65,537
+-- profile
+abbrev pub bytes_read : Command → Shelf → List ℕ
+bytes_read command shelf = take 65537 (unwrap_or (content_at shelf.files command.mounts) [])
+
+-- what was read is what the file says
+-- profile
+abbrev pub ReadsMounts : Option Command → Option Shelf → Option Mounts → Type 0
+ReadsMounts None shelf mounts = mounts ≡ None
+ReadsMounts (Some command) shelf mounts = WhereTold shelf (λ s. IfSome mounts (IsMountFile (bytes_read command s)))
+
+-- the file that a command names is no mount file
+-- profile
+abbrev pub ReadsNoMounts : Option Command → Option Shelf → Type 0
+ReadsNoMounts None shelf = ⊥
+ReadsNoMounts (Some command) shelf = WhereTold shelf (λ s. IsNoMountFile (bytes_read command s))
+
+-- ---- the opening and the state
+
+-- the granted trees of mounts, in order, where each folder is there
+-- profile
+abbrev pub granted : List Mount → Shape → Option (List Shape)
+granted [] world = Some []
+granted (m ∷ mounts) world = option_and_then (λ t. option_map (λ ts. t ∷ ts) (granted mounts world)) (directory_at m.folder.names world)
+
+-- what the opening over the granted trees comes to
+-- profile
+abbrev pub begun_over : Mounts → Opening → Option (List Shape) → Begun
+begun_over mounts opening None = Misfits 0
+begun_over mounts opening (Some trees) = opening_of mounts trees opening
+
+abbrev pub begun : Mounts → Shape → Opening → Begun
+begun mounts world opening = begun_over mounts opening (granted mounts.mounts world)
+
+-- the kernel that an opening starts, and the one that a refused opening leaves
+-- profile
+abbrev pub started_kernel : Begun → Option Kernel
+started_kernel (Opens k) = Some k
+started_kernel (Refuses k task errno) = None
+started_kernel (Misfits task) = None
+
+-- the state that a trace leaves from the opening: none where the trace is no history
+-- profile
+abbrev pub state_after : Mounts → Shape → Opening → List Entry → Option Kernel
+state_after mounts world opening trace = option_and_then (λ (k : Kernel). replay k trace) (started_kernel (begun mounts world opening))
+
+-- the mount file, where it was accepted, and the world's tree, where it is told
+-- profile
+abbrev pub WhereRead : Option Mounts → Option Shape → (Mounts → Shape → Type 0) → Type 0
+WhereRead None world fact = ⊤
+WhereRead (Some mounts) None fact = ⊤
+WhereRead (Some mounts) (Some world) fact = fact mounts world
+
+-- a fact of the state that the trace leaves, where there is one
+-- profile
+abbrev pub WhereState : Option Mounts → Option Shape → Opening → List Entry → (Mounts → Shape → Kernel → Type 0) → Type 0
+WhereState mounts world opening trace fact = WhereRead mounts world (λ m w. IfSome (state_after m w opening trace) (fact m w))
+
+-- the trace is a history from the opening: each of its steps is defined, and each Run of it is whole
+-- profile
+pub record IsHistory (mounts : Mounts) (world : Shape) (opening : Opening) (trace : List Entry) : Type 0 where
+  pub start : Kernel
+  pub opens : begun mounts world opening ≡ Opens start
+  pub defined : IsSome (replay start trace)
+  pub whole : each_whole start trace ≡ true
+
+-- the opening execve of that task answers that error, and leaves this kernel
+-- execve(2), ERRORS
+abbrev pub RefusesAs : Begun → (task : ℕ) → Errno → Type 0
+RefusesAs begun task errno = (k : Kernel) × (begun ≡ Refuses k task errno)
+
+abbrev pub refused_kernel : Begun → Option Kernel
+refused_kernel (Opens k) = None
+refused_kernel (Refuses k task errno) = Some k
+refused_kernel (Misfits task) = None
+
+-- ---- how a run came out
+
+-- a run whose mount file was not accepted
+-- profile
+abbrev pub IsUnread : Fault → Type 0
+IsUnread Usage = ⊤
+IsUnread (MountsRefused fault) = ⊤
+IsUnread SourceFault = ⊤
+IsUnread Memory = ⊤
+IsUnread _ = ⊥
+
+-- a run whose task began and that is over: Done, Full or SinkFault
+-- profile
+abbrev pub HasRun : Fault → Type 0
+HasRun Done = ⊤
+HasRun Full = ⊤
+HasRun SinkFault = ⊤
+HasRun _ = ⊥
+
+-- a run in which nothing of the world was opened
+-- profile
+abbrev pub HasNotBegun : Fault → Type 0
+HasNotBegun Usage = ⊤
+HasNotBegun (MountsRefused fault) = ⊤
+HasNotBegun SourceFault = ⊤
+HasNotBegun HostFault = ⊤
+HasNotBegun (Grant mount) = ⊤
+HasNotBegun _ = ⊥
+
+-- a run that leaves no trace
+-- profile
+abbrev pub HasNoTrace : Fault → Type 0
+HasNoTrace Usage = ⊤
+HasNoTrace (MountsRefused fault) = ⊤
+HasNoTrace (Image task errno) = ⊤
+HasNoTrace SourceFault = ⊤
+HasNoTrace HostFault = ⊤
+HasNoTrace (Grant mount) = ⊤
+HasNoTrace _ = ⊥
+
+-- no task lives, or the trace is full
+-- profile
+abbrev pub IsOver : Mounts → List Entry → Kernel → Type 0
+IsOver mounts trace k = (any_live k ≡ false) ⊎ ((any_live k ≡ true) × (length trace ≡ mounts.entries))
+
+-- an answer of a run whose folder isn't there
+-- profile
+abbrev pub MayFailToGrant : Fault → Type 0
+MayFailToGrant (Grant mount) = ⊤
+MayFailToGrant HostFault = ⊤
+MayFailToGrant Memory = ⊤
+MayFailToGrant _ = ⊥
+
+-- an answer of a run whose opening execve answers that error
+-- profile
+abbrev pub MayFailToStart : (task : ℕ) → Errno → Fault → Type 0
+MayFailToStart task errno (Image of errno') = (of ≡ task) × (errno' ≡ errno)
+MayFailToStart task errno Memory = ⊤
+MayFailToStart task errno _ = ⊥
+
+-- ---- the text
+
+-- whether the words ask for the trace
+-- profile
+abbrev pub asks_trace : Option Command → Bool
+asks_trace None = false
+asks_trace (Some command) = command.trace
+
+-- a run whose text was taken
+-- profile
+abbrev pub HasText : Fault → Type 0
+HasText Done = ⊤
+HasText Full = ⊤
+HasText _ = ⊥
+
+-- a run of whose text a front was taken
+-- profile
+abbrev pub HasFront : Fault → Type 0
+HasFront SinkFault = ⊤
+HasFront Memory = ⊤
+HasFront _ = ⊥
+
+-- the text of a state, or nothing where there is none
+-- profile
+abbrev pub text_of : Option Kernel → List Entry → Bool → List ℕ
+text_of None trace flag = []
+text_of (Some k) trace flag = printed k trace flag
+
+-- ---- the numbers
+
+-- the child that a fresh number names, in a state
+-- profile
+abbrev pub child_in : Option Node → List ℕ → Child
+child_in None name = Missing
+child_in (Some node) name = child_at name node
+
+abbrev pub child_named : Kernel → Fresh → Child
+child_named k f = child_in (map.get k.nodes f.dir) f.name
+
+-- two fresh numbers are of different children
+-- profile
+abbrev pub AreApart : Fresh → Fresh → Type 0
+AreApart a b = (a.dir ≡ b.dir) × (a.name ≡ b.name) → ⊥
+
+-- what no entry has is of different children, each there without a number
+-- profile
+pub record IsLeftOver (left : Left) (k : Kernel) : Type 0 where
+  pub unnumbered : All (λ f. IsUnnumbered (child_named k f)) (left_fresh left)
+  pub apart : AllPairs AreApart (left_fresh left)
+
+-- ---- when a run comes to its end
+
+-- the words, the file, the folder and the image are accepted
+-- profile
+pub record IsAccepted (words : Option Command) (shelf : Option Shelf) (world : Option Shape) (opening : Opening) : Type 0 where
+  pub command : Command
+  pub words_are : words ≡ Some command
+  pub files : Shelf
+  pub files_are : shelf ≡ Some files
+  pub mounts : Mounts
+  pub file : IsMountFile (bytes_read command files) mounts
+  pub tree : Shape
+  pub tree_is : world ≡ Some tree
+  pub folders : IsSome (granted mounts.mounts tree)
+  pub starts : (k : Kernel) (task : ℕ) (errno : Errno) → begun mounts tree opening ≡ Refuses k task errno → ⊥
+
+-- a run that came to its end
+-- profile
+abbrev pub HasEnded : Fault → Type 0
+HasEnded Done = ⊤
+HasEnded Full = ⊤
+HasEnded Memory = ⊤
+HasEnded _ = ⊥
+
+-- ---- what is left of the world
+
+-- the world's tree after a run that left this state: each grant replaced by the tree of its root in that state, each
+-- node's count of faults risen by its rises in opening, trace and what was left
+-- profile
+abbrev pub world_after : Mounts → Opening → Left → Kernel → Shape → Shape
+world_after mounts opening left state world = settled mounts.mounts opening.roots (tree_now state left) world
+
+-- the world is told, and outside the grants it is as it was
+-- profile
+abbrev pub KeepsOutside : Mounts → Shape → Option Shape → Type 0
+KeepsOutside mounts world after = (w : Shape) × (after ≡ Some w) × (outside mounts.mounts w ≡ outside mounts.mounts world)

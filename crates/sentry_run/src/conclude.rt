@@ -1,0 +1,125 @@
+ghost use Rattle.std.specs.Prelude.{◌≡◌, Some, OnOk, OnErr};
+ghost use Rattle.sn_base.specs.Faults.{HasCause};
+ghost use Rattle.sn_edge.specs.Errors.{has_failed};
+ghost use Rattle.sn_edge.specs.Taken.{with_taken};
+ghost use Rattle.kernel_model.specs.Printed.{printed};
+ghost use Rattle.sentry_run.specs.Status.{status_of};
+ghost use Rattle.sentry_run.specs.Played.{no_left};
+ghost use Rattle.sentry_run.specs.Concluded.{Fronts, Writes, Concludes};
+
+use crate::outcome::{Fault, Outcome};
+use crate::play::{End, Played};
+use crate::text::printed_text;
+use kernel_model::{Kernel, Left, Mounts, Opening, Trace};
+use sn_base::List;
+use sn_edge::{EdgeErr, Sink, write_all};
+use std::alloc::Global;
+
+/// Nothing is left beside a trace as long as one task runs.
+fn nothing_left(alloc: Global) -> Left
+    ensures { result ≡ no_left }
+{
+    Left {
+        rises: List::new(alloc),
+        lent: List::new(alloc),
+    }
+}
+
+/// Writes the text of a run.
+fn write_text<K: Sink>(
+    alloc: Global,
+    kernel: &Kernel,
+    trace: &Trace,
+    flag: bool,
+    out: &mut K,
+) -> Result<(), EdgeErr>
+    ensures ok { OnOk result (K.told out.new ≡ with_taken (K.told out.old) (printed kernel.now trace.now flag)) }
+    ensures err { OnErr result (Fronts (K.told out.old) (K.told out.new) (printed kernel.now trace.now flag)) }
+    ensures cause { HasCause (has_failed result) (K.count out.old) (K.count out.new) }
+{
+    match printed_text(alloc, kernel, trace, flag) {
+        Ok(text) => write_all(out, text.as_slice()),
+        Err(_) => Err(EdgeErr::Memory),
+    }
+}
+
+/// Writes the text of a run that comes out so where all of it is taken.
+fn written<K: Sink>(
+    alloc: Global,
+    kernel: &Kernel,
+    trace: &Trace,
+    flag: bool,
+    out: &mut K,
+    whole: Fault,
+) -> Fault
+    ensures { Writes kernel.now trace.now flag whole (K.told out.old) (K.told out.new) (K.count out.old) (K.count out.new) result }
+{
+    match write_text(alloc, kernel, trace, flag, out) {
+        Ok(()) => whole,
+        Err(EdgeErr::Failed) => Fault::SinkFault,
+        Err(EdgeErr::Memory) => Fault::Memory,
+    }
+}
+
+/// How a run comes out, once its text is written where it has one.
+fn concluded<K: Sink>(alloc: Global, end: End, trace: &Trace, flag: bool, out: &mut K) -> Fault
+    ensures { Concludes end trace.now flag (K.told out.old) (K.told out.new) (K.count out.old) (K.count out.new) result }
+{
+    match end {
+        End::Done(kernel) => written(alloc, &kernel, trace, flag, out, Fault::Done),
+        End::Full(kernel) => written(alloc, &kernel, trace, flag, out, Fault::Full),
+        End::Image(errno) => Fault::Image { task: 1, errno },
+        End::HostFault => Fault::HostFault,
+        End::Grant => Fault::Grant { mount: 1 },
+        End::Memory => Fault::Memory,
+    }
+}
+
+/// The outcome of a run, with its status.
+pub fn outcome(
+    alloc: Global,
+    fault: Fault,
+    opening: Opening,
+    trace: Trace,
+    mounts: Option<Mounts>,
+) -> Outcome
+    ensures status { result.status ≡ status_of result.fault }
+    ensures fault { result.fault ≡ fault }
+    ensures opening { result.opening ≡ opening }
+    ensures trace { result.trace ≡ trace }
+    ensures mounts { result.mounts ≡ mounts }
+    ensures left { result.left ≡ no_left }
+{
+    Outcome {
+        status: fault.status(),
+        fault,
+        opening,
+        trace,
+        left: nothing_left(alloc),
+        mounts,
+    }
+}
+
+/// Writes the text of what was played, and gives its outcome.
+pub fn conclude<K: Sink>(
+    alloc: Global,
+    played: Played,
+    mounts: Mounts,
+    flag: bool,
+    out: &mut K,
+) -> Outcome
+    ensures concludes { Concludes played.end played.trace flag (K.told out.old) (K.told out.new) (K.count out.old) (K.count out.new) result.fault }
+    ensures status { result.status ≡ status_of result.fault }
+    ensures opening { result.opening ≡ played.opening }
+    ensures trace { result.trace ≡ played.trace }
+    ensures mounts { result.mounts ≡ Some mounts }
+    ensures left { result.left ≡ no_left }
+{
+    let Played {
+        end,
+        opening,
+        trace,
+    } = played;
+    let fault = concluded(alloc, end, &trace, flag, out);
+    outcome(alloc, fault, opening, trace, Some(mounts))
+}

@@ -1,0 +1,201 @@
+ghost use Rattle.std.specs.Prelude.{◌≡◌, ℕ, ◌+◌, [], ◌∷◌, Some, true, IsTrue, IfOk, OnErr};
+ghost use Rattle.std.specs.Ordering.{nat_cmp};
+ghost use Rattle.std.specs.FinMap as map;
+ghost use Rattle.kernel_model.specs.FileTree.{Nodes};
+ghost use Rattle.kernel_model.specs.Parts.{Parts, run as outcome_in};
+ghost use Rattle.kernel_model.specs.Instructions.{next_of};
+ghost use Rattle.kernel_model.specs.History.{is_live, is_whole, goes_on};
+ghost use Rattle.kernel_model.specs.Step.{step, row_of, task_of, answered, task_change, with_registers};
+ghost use Rattle.kernel_model.specs.Registers.{replied};
+ghost use Rattle.kernel_model.specs.InPlace.{WritesFew};
+ghost use Rattle.kernel_model.specs.declared.kernel.Part.TheVariants.{OfConsole};
+ghost use Rattle.kernel_model.specs.Numbers.{numbers_in};
+ghost use Rattle.kernel_model.specs.Image.{space_of};
+ghost use Rattle.sentry_run.specs.Machine.{task_of_image, Changes, IsWholeRun};
+
+use elf_image::Image;
+use kernel_model::{Entry, Given, Kernel, Life, Next, Outcome, Registers, Space, Task};
+use sn_base::{List, Map, Memory};
+use std::alloc::Global;
+
+/// The most instructions of one entry.
+const QUANTUM: u32 = 10_000;
+
+/// The number of the one task.
+const TASK: u32 = 1;
+
+/// The machine of a run: the one task, its address space and the console.
+#[derive(Drop)]
+pub struct Machine {
+    pub task: Task,
+    pub space: Space,
+    pub console: List<u8>,
+    ghost first: { task.space ≡ 1 },
+}
+
+/// Runs the task's next instructions, until one of them traps or calls, or 10,000 ran.
+fn run_entry(task: &mut Task, space: &Space) -> Entry
+    requires live { task.old.life ≡ Life.Live }
+    requires goes { IsTrue (goes_on (next_of space.now task.old.registers)) }
+    ensures row { (parts : Parts) → outcome_in parts (row_of result (record { task = task.old; space = space.now })) ≡ Some (task_change 1 task.new ∷ []) }
+    ensures task { task_of result ≡ TASK }
+    ensures space { task.new.space ≡ task.old.space }
+    ensures numbers { numbers_in result ≡ [] }
+    ensures whole { IsWholeRun result space.now task.new }
+{
+    let mut registers = task.registers;
+    let n = kernel_model::run(&mut registers, space, QUANTUM);
+    task.registers = registers;
+    Entry::Run { task: TASK, n }
+}
+
+/// Goes on behind a call with its reply.
+fn reply_to(task: &mut Task, value: i64)
+    ensures { task.new ≡ with_registers task.old (replied task.old.registers value) }
+{
+    let mut registers = task.registers;
+    registers.reply(value);
+    task.registers = registers;
+}
+
+/// What a call comes to, done to its task and the console: the reply that its entry has. Want of memory leaves both.
+fn apply(task: &mut Task, console: &mut List<u8>, outcome: Outcome) -> Result<i64, Memory>
+    requires { WritesFew outcome }
+    ensures row { IfOk result (λ reply. (s : Parts) → s OfConsole ≡ console.old →
+        Changes console.old console.new task.new (outcome_in s (answered TASK task.old reply outcome))) }
+    ensures space { task.new.space ≡ task.old.space }
+    ensures err { OnErr result (task.new ≡ task.old) }
+    ensures err_console { OnErr result (console.new ≡ console.old) }
+{
+    match outcome {
+        Outcome::Returns(value) => {
+            reply_to(task, value);
+            Ok(value)
+        }
+        Outcome::Exits(code) => {
+            task.life = Life::Exited(code);
+            Ok(0)
+        }
+        Outcome::Writes(bytes) => {
+            console.extend_from_slice(bytes.as_slice())?;
+            let count = bytes.len() as i64;
+            reply_to(task, count);
+            Ok(count)
+        }
+    }
+}
+
+/// Answers the call that the task stands at. Want of memory leaves the task and the console.
+fn call_entry(
+    alloc: Global,
+    task: &mut Task,
+    space: &Space,
+    console: &mut List<u8>,
+) -> Result<Entry, Memory>
+    requires { next_of space.now task.old.registers ≡ Next.Calls }
+    ensures row { IfOk result (λ entry. (s : Parts) → s OfConsole ≡ console.old →
+        Changes console.old console.new task.new (outcome_in s (row_of entry (record { task = task.old; space = space.now })))) }
+    ensures task { IfOk result (λ entry. task_of entry ≡ TASK) }
+    ensures space { task.new.space ≡ task.old.space }
+    ensures numbers { IfOk result (λ entry. numbers_in entry ≡ []) }
+    ensures whole { IfOk result (λ entry. IsWholeRun entry space.now task.new) }
+    ensures err { OnErr result (task.new ≡ task.old) }
+    ensures err_console { OnErr result (console.new ≡ console.old) }
+{
+    let no = task.registers.call();
+    let args = task.registers.args();
+    let outcome = kernel_model::call(alloc, no, &args, space, console.len())?;
+    let reply = apply(task, console, outcome)?;
+    Ok(Entry::Call {
+        task: TASK,
+        no,
+        args,
+        given: Given {
+            fresh: List::new(alloc),
+            rises: List::new(alloc),
+        },
+        reply,
+    })
+}
+
+/// Ends the task by the signal of its next instruction's trap.
+fn end_entry(task: &mut Task, space: &Space, signal: u8) -> Entry
+    requires { next_of space.now task.old.registers ≡ Next.Traps signal }
+    ensures row { (parts : Parts) → outcome_in parts (row_of result (record { task = task.old; space = space.now })) ≡ Some (task_change 1 task.new ∷ []) }
+    ensures task { task_of result ≡ TASK }
+    ensures space { task.new.space ≡ task.old.space }
+    ensures numbers { numbers_in result ≡ [] }
+    ensures whole { IsWholeRun result space.now task.new }
+{
+    task.life = Life::Killed(signal);
+    Entry::End { task: TASK, signal }
+}
+
+impl Machine {
+    ghost use Rattle.sentry_run.specs.MachineKernel.{kernel_of};
+
+    /// The machine that an image begins with.
+    pub fn start(alloc: Global, image: &Image) -> Result<Machine, Memory>
+        ensures task { IfOk result (λ m. m.task ≡ task_of_image image.now) }
+        ensures space { IfOk result (λ m. m.space ≡ space_of image.now) }
+        ensures console { IfOk result (λ m. m.console ≡ []) }
+    {
+        let space = Space::of_image(alloc, image)?;
+        let task = Task {
+            group: TASK,
+            space: u64::from(TASK),
+            registers: Registers::of_image(image),
+            life: Life::Live,
+        };
+        Ok(Machine {
+            task,
+            space,
+            console: List::new(alloc),
+        })
+    }
+
+    /// Whether the task lives.
+    pub fn is_live(&self) -> bool
+        ensures { result ≡ is_live self.now.task.life }
+    {
+        matches!(self.task.life, Life::Live)
+    }
+
+    /// Makes the next entry of the task, which lives, and does it. Want of memory leaves the machine.
+    pub fn advance(&mut self, alloc: Global) -> Result<Entry, Memory>
+        requires { self.old.task.life ≡ Life.Live }
+        ensures step { IfOk result (λ entry. (nodes : Nodes) (failed : map.FinMap nat_cmp ℕ) (n : ℕ) → step (kernel_of self.old nodes failed n) entry ≡ Some (kernel_of self.new nodes failed (n + 1))) }
+        ensures numbers { IfOk result (λ entry. numbers_in entry ≡ []) }
+        ensures whole { IfOk result (λ entry. (nodes : Nodes) (failed : map.FinMap nat_cmp ℕ) (n : ℕ) → is_whole entry (kernel_of self.new nodes failed n) ≡ true) }
+        ensures err { OnErr result (self.new ≡ self.old) }
+    {
+        match kernel_model::next(&self.task.registers, &self.space) {
+            Next::Goes(_) => Ok(run_entry(&mut self.task, &self.space)),
+            Next::Calls => call_entry(alloc, &mut self.task, &self.space, &mut self.console),
+            Next::Traps(signal) => Ok(end_entry(&mut self.task, &self.space, signal)),
+        }
+    }
+
+    /// The kernel of the machine, with no nodes.
+    pub fn into_kernel(self, alloc: Global, entries: u64) -> Result<Kernel, Memory>
+        ensures { IfOk result (λ k. k ≡ kernel_of self map.empty map.empty entries) }
+    {
+        let Machine {
+            task,
+            space,
+            console,
+        } = self;
+        let mut tasks = Map::new(alloc);
+        tasks.insert(u64::from(TASK), task)?;
+        let mut spaces = Map::new(alloc);
+        spaces.insert(u64::from(TASK), space)?;
+        Ok(Kernel {
+            tasks,
+            spaces,
+            nodes: Map::new(alloc),
+            console,
+            failed: Map::new(alloc),
+            entries,
+        })
+    }
+}

@@ -1,0 +1,216 @@
+ghost use Rattle.std.specs.Prelude.{◌≡◌, ◌≤◌, ◌<◌, ◌^◌, [], length, Some, None, IfOk};
+ghost use Rattle.std.specs.FinMap as map;
+ghost use Rattle.std.specs.List.{flat_map};
+ghost use Rattle.host_node.specs.Tree.{Shape, faults_of};
+ghost use Rattle.kernel_model.specs.FileTree.{Nodes};
+ghost use Rattle.kernel_model.specs.Image.{space_of};
+ghost use Rattle.kernel_model.specs.Numbers.{IsGapless, numbers_opened, numbers_in};
+ghost use Rattle.sentry_run.specs.Machine.{kernel_with, task_of_image};
+ghost use Rattle.sentry_run.specs.Walk.{given_by};
+ghost use Rattle.sentry_run.specs.Played.{nothing_opened, record_of, NamesTask, Fits, given_back, Ended, RanFrom, TraceOf};
+ghost use Rattle.sentry_run.specs.PlayedMachine.{EndsAs, FinishesAs, IsInner};
+
+use crate::engine::{Ran, run_machine};
+use crate::machine::Machine;
+use crate::walk::{Answer, Loaded, Met, given};
+use elf_image::Image;
+use kernel_model::{Kernel, Mount, Mounts, Opened, Opening, Program, Trace};
+use sn_base::{List, Memory};
+use sn_errno::Errno;
+use sn_text::{Name, Text};
+use std::alloc::Global;
+
+/// How the opening and the run ended: the task has ended, the trace is full, the opening execve answers an error, the
+/// host failed in a grant, there is no such folder, or memory ran out.
+#[derive(Drop)]
+pub enum End {
+    Done(Kernel),
+    Full(Kernel),
+    Image(Errno),
+    HostFault,
+    Grant,
+    Memory,
+}
+
+/// An opening and a run.
+#[derive(Drop)]
+pub struct Played {
+    pub end: End,
+    pub opening: Opening,
+    pub trace: Trace,
+}
+
+/// The record of an opening that did not come to be.
+pub fn no_opening(alloc: Global) -> Opening
+    ensures { result ≡ nothing_opened }
+{
+    Opening {
+        mounts: List::new(alloc),
+        roots: List::new(alloc),
+        tasks: List::new(alloc),
+    }
+}
+
+/// An end before anything ran.
+#[tactic(auto, using(crate::proofs::Endings::gapless_nothing))]
+pub fn stopped(alloc: Global, end: End) -> Played
+    ensures numbers { IsGapless (numbers_opened result.opening) }
+    ensures end { result.end ≡ end }
+    ensures opening { result.opening ≡ nothing_opened }
+    ensures trace { result.trace ≡ [] }
+{
+    Played {
+        end,
+        opening: no_opening(alloc),
+        trace: List::new(alloc),
+    }
+}
+
+fn copied_mount(alloc: Global, mount: &Mount) -> Result<Mount, Memory>
+    ensures { IfOk result (λ m. m ≡ mount.now) }
+{
+    let at = match &mount.at {
+        Some(name) => Some(name.copy(alloc)?),
+        None => None,
+    };
+    Ok(Mount {
+        at,
+        folder: mount.folder.copy(alloc)?,
+        write: mount.write,
+    })
+}
+
+fn copied_mounts(alloc: Global, mounts: &[Mount]) -> Result<List<Mount>, Memory>
+    ensures { IfOk result (λ ms. ms ≡ mounts.now) }
+{
+    let mut copies = List::new(alloc);
+    for mount in mounts {
+        copies.push(copied_mount(alloc, mount)?)?;
+    }
+    Ok(copies)
+}
+
+fn copied_words(alloc: Global, words: &[Text]) -> Result<List<Text>, Memory>
+    ensures { IfOk result (λ ws. ws ≡ words.now) }
+{
+    let mut copies = List::new(alloc);
+    for word in words {
+        copies.push(word.copy(alloc)?)?;
+    }
+    Ok(copies)
+}
+
+/// The record of the opening of one mount and one task.
+fn opening_record(
+    alloc: Global,
+    mounts: &Mounts,
+    program: &Program,
+    name: &Name,
+    met: Met,
+) -> Result<Opening, Memory>
+    ensures { IfOk result (λ o. o ≡ record_of mounts.now program.now (given_by name.now met)) }
+{
+    let mut roots = List::new(alloc);
+    roots.push(1)?;
+    let mut tasks = List::new(alloc);
+    tasks.push(Opened {
+        words: copied_words(alloc, program.args.as_slice())?,
+        given: given(alloc, name, met)?,
+    })?;
+    Ok(Opening {
+        mounts: copied_mounts(alloc, mounts.mounts.as_slice())?,
+        roots,
+        tasks,
+    })
+}
+
+/// Runs an image from its opening on.
+fn run_image(alloc: Global, entries: u64, image: &Image, opening: Opening) -> Played
+    ensures ran { (nodes : Nodes) → RanFrom nodes (kernel_with (task_of_image image.now) (space_of image.now) [] nodes map.empty 0) entries result.end result.trace }
+    ensures opening { result.opening ≡ opening }
+    ensures drawn { flat_map numbers_in result.trace ≡ [] }
+    ensures inner { IsInner result.end }
+    ensures trace { TraceOf entries result.end result.trace }
+    ensures bound { length result.trace ≤ entries }
+{
+    let machine = match Machine::start(alloc, image) {
+        Ok(machine) => machine,
+        Err(Memory) => {
+            return Played {
+                end: End::Memory,
+                opening,
+                trace: List::new(alloc),
+            };
+        }
+    };
+    finished(alloc, run_machine(alloc, machine, entries), opening)
+}
+
+/// How a run has ended.
+fn finished(alloc: Global, ran: Ran, opening: Opening) -> Played
+    ensures end { FinishesAs ran.machine (length ran.trace) result.end }
+    ensures inner { IsInner result.end }
+    ensures trace { result.trace ≡ ran.trace }
+    ensures opening { result.opening ≡ opening }
+{
+    let Ran { machine, trace } = ran;
+    let end = match machine {
+        Some(machine) => ended(alloc, machine, trace.len() as u64),
+        None => End::Memory,
+    };
+    Played {
+        end,
+        opening,
+        trace,
+    }
+}
+
+/// How a machine that stopped there has ended.
+fn ended(alloc: Global, machine: Machine, entries: u64) -> End
+    ensures as_stands { EndsAs machine entries result }
+    ensures inner { IsInner result }
+{
+    let live = machine.is_live();
+    match machine.into_kernel(alloc, entries) {
+        Err(Memory) => End::Memory,
+        Ok(kernel) => {
+            if live {
+                End::Full(kernel)
+            } else {
+                End::Done(kernel)
+            }
+        }
+    }
+}
+
+/// Opens and runs the one task of a mount file, from what the walk to its program gave.
+pub fn play_loaded(alloc: Global, mounts: &Mounts, name: &Name, loaded: Loaded) -> Played
+    requires { NamesTask mounts.now name.now }
+    ensures ended { (t : Shape) → faults_of t < 2 ^ 64 → Fits t name.now loaded.met loaded.answer →
+        Ended mounts.now t (given_back t name.now loaded.met) result.opening result.trace result.end }
+    ensures inner { IsInner result.end }
+    ensures drawn { flat_map numbers_in result.trace ≡ [] }
+    ensures trace { TraceOf mounts.now.entries result.end result.trace }
+    ensures numbers { IsGapless (numbers_opened result.opening) }
+    ensures bound { length result.trace ≤ mounts.now.entries }
+{
+    let program = mounts.tasks.at(0);
+    let Loaded { met, answer } = loaded;
+    let opening = match opening_record(alloc, mounts, program, name, met) {
+        Ok(opening) => opening,
+        Err(Memory) => return stopped(alloc, End::Memory),
+    };
+    match answer {
+        Answer::Starts(image) => run_image(alloc, mounts.entries, &image, opening),
+        Answer::Refuses(errno) => Played {
+            end: End::Image(errno),
+            opening,
+            trace: List::new(alloc),
+        },
+        Answer::Memory => Played {
+            end: End::Memory,
+            opening,
+            trace: List::new(alloc),
+        },
+    }
+}

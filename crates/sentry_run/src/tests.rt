@@ -1,0 +1,463 @@
+ghost use Rattle.std.specs.Prelude.{◌≡◌, true};
+ghost use Rattle.host_node.specs.Tree.{none_lent};
+
+mod cases;
+mod guests;
+mod narrow;
+
+use crate::host_memory::Op;
+use crate::outcome::Fault;
+use cases::{
+    Case, Ended, MOUNTS, SHORT_MOUNTS, case_of, faults_at, grants, planned, run_case, run_into,
+};
+use guests::words::*;
+use guests::{
+    ADDS_NOTHING, HELLO, NO_ROW, WRITES_NOTHING, add_words, guest, guest_with, longer_guest,
+};
+use host_node::Tree;
+use kernel_model::{Entry, Rise};
+use narrow::NarrowSink;
+use sn_base::List;
+use sn_edge::{MemSink, Source};
+use sn_errno::Errno;
+use sn_text::Text;
+use std::test::Fail;
+
+/// The text of the guest that writes nothing and exits, with its trace.
+const TEXT: &[u8] = b"group 1 exit 0\n2 1 write 1 0 0 0 0 0 = 0\n4 1 exit_group 0 0 0 0 0 0 = ?\n";
+
+/// The words of a run that prints its trace.
+const TRACED: [&str; 3] = ["run", "m", "--trace"];
+
+/// A case of the guest that writes nothing and exits.
+fn quiet_case(rt: HostRuntime) -> Result<Case, Fail> {
+    case_of(
+        rt,
+        MOUNTS,
+        Tree::file(0o755, guest(rt.alloc(), &WRITES_NOTHING)?),
+    )
+}
+
+/// The answer of a run whose `/init` is that node.
+fn answer_over(rt: HostRuntime, program: Tree) -> Result<Fault, Fail>
+    requires { none_lent program ≡ true }
+{
+    let case = case_of(rt, MOUNTS, program)?;
+    Ok(run_case(rt, case, &TRACED)?.outcome.fault)
+}
+
+/// The answer of a run whose `/init` has these bytes.
+fn answer_to(rt: HostRuntime, image: List<u8>) -> Result<Fault, Fail> {
+    answer_over(rt, Tree::file(0o755, image))
+}
+
+/// Whether an entry is a run of so many instructions of task 1.
+fn is_run(entry: Option<&Entry>, count: u32) -> bool {
+    match entry {
+        Some(Entry::Run { task, n }) => *task == 1 && *n == count,
+        _ => false,
+    }
+}
+
+/// Whether an entry is a call of task 1 by that number, with that reply.
+fn is_call(entry: Option<&Entry>, number: u64, value: i64) -> bool {
+    match entry {
+        Some(
+            Entry::Call {
+                task,
+                no,
+                reply,
+                ..
+            },
+        ) => *task == 1 && *no == number && *reply == value,
+        _ => false,
+    }
+}
+
+#[test]
+fn a_guest_that_writes_nothing_and_exits_has_its_two_calls_in_the_trace(
+    rt: HostRuntime,
+) -> Result<(), Fail> {
+    let Ended { outcome, out, .. } = run_case(rt, quiet_case(rt)?, &TRACED)?;
+    assert_eq!(rt; outcome.status, 0);
+    assert_eq!(rt; out.bytes(), TEXT);
+    let trace = outcome.trace.as_slice();
+    assert_eq!(rt; trace.len(), 4);
+    assert!(rt; is_run(trace.get(0), 4));
+    assert!(rt; is_call(trace.get(1), 64, 0));
+    assert!(rt; is_run(trace.get(2), 2));
+    assert!(rt; is_call(trace.get(3), 94, 0));
+    Ok(())
+}
+
+#[test]
+fn a_trace_with_room_for_one_entry_is_full_after_the_first_run(
+    rt: HostRuntime,
+) -> Result<(), Fail> {
+    let program = Tree::file(0o755, guest(rt.alloc(), &WRITES_NOTHING)?);
+    let Ended { outcome, out, .. } = run_case(
+        rt,
+        case_of(rt, SHORT_MOUNTS, program)?,
+        &["run", "m"],
+    )?;
+    assert_eq!(rt; outcome.status, 8);
+    assert_eq!(rt; out.bytes(), b"group 1 live\n".as_slice());
+    assert_eq!(rt; outcome.trace.len(), 1);
+    assert!(rt; is_run(outcome.trace.as_slice().get(0), 4));
+    Ok(())
+}
+
+/// Whether these words have the status of words that are no command, write nothing and open no source.
+fn are_refused(rt: HostRuntime, words: &[&str]) -> Result<bool, Fail> {
+    let Ended {
+        outcome,
+        out,
+        files,
+        ..
+    } = run_case(rt, quiet_case(rt)?, words)?;
+    Ok(outcome.status == 2 && out.bytes().is_empty() && files.faults() == 0)
+}
+
+#[test]
+fn words_that_are_no_command_open_no_source(rt: HostRuntime) -> Result<(), Fail> {
+    assert!(rt; are_refused(rt, &[])?);
+    assert!(rt; are_refused(rt, &["run"])?);
+    assert!(rt; are_refused(rt, &["run", "m", "--workers", "0"])?);
+    assert!(rt; are_refused(rt, &["run", "m", "--workers", "17"])?);
+    assert!(rt; are_refused(rt, &["gen", "0"])?);
+    Ok(())
+}
+
+#[test]
+fn a_source_that_fails_in_its_open_or_a_read_is_a_source_fault(
+    rt: HostRuntime,
+) -> Result<(), Fail> {
+    for call in 1..=3 {
+        let mut case = quiet_case(rt)?;
+        case.files.fail(call)?;
+        let Ended {
+            outcome,
+            out,
+            files,
+            ..
+        } = run_case(rt, case, &TRACED)?;
+        assert_eq!(rt; outcome.status, 5);
+        assert!(rt; outcome.trace.is_empty() && out.bytes().is_empty());
+        assert_eq!(rt; files.faults(), 1);
+    }
+    Ok(())
+}
+
+#[test]
+fn a_sink_that_fails_at_a_write_has_the_text_before_it(rt: HostRuntime) -> Result<(), Fail> {
+    // The text has 72 bytes: five writes of at most 16.
+    for write in 0..5 {
+        let mut out = NarrowSink {
+            inner: MemSink::new(rt.alloc()),
+        };
+        out.inner.fail(write + 1)?;
+        let outcome = run_into(rt, quiet_case(rt)?, &TRACED, &mut out)?;
+        assert_eq!(rt; outcome.status, 6);
+        assert_eq!(rt; outcome.trace.len(), 4);
+        assert!(rt; TEXT.starts_with(out.inner.bytes()));
+        assert_eq!(rt; out.inner.bytes().len() as u64, 16 * write);
+    }
+    Ok(())
+}
+
+#[test]
+fn a_sink_that_takes_a_piece_at_a_time_takes_the_whole_text(rt: HostRuntime) -> Result<(), Fail> {
+    let mut out = NarrowSink {
+        inner: MemSink::new(rt.alloc()),
+    };
+    out.inner.fail(6)?;
+    let outcome = run_into(rt, quiet_case(rt)?, &TRACED, &mut out)?;
+    assert_eq!(rt; outcome.status, 0);
+    assert_eq!(rt; out.inner.bytes(), TEXT);
+    Ok(())
+}
+
+#[test]
+fn another_form_of_mount_file_is_refused(rt: HostRuntime) -> Result<(), Fail> {
+    let program = Tree::file(0o755, guest(rt.alloc(), &WRITES_NOTHING)?);
+    let Ended { outcome, .. } = run_case(rt, case_of(rt, b"entries = 1", program)?, &TRACED)?;
+    assert_eq!(rt; outcome.status, 3);
+    Ok(())
+}
+
+#[test]
+fn a_grant_that_fails_is_a_host_fault(rt: HostRuntime) -> Result<(), Fail> {
+    let case = grants(quiet_case(rt)?, 1)?;
+    let Ended { outcome, .. } = run_case(rt, case, &TRACED)?;
+    assert_eq!(rt; outcome.status, 10);
+    Ok(())
+}
+
+#[test]
+fn a_grant_that_is_not_made_fails_nothing(rt: HostRuntime) -> Result<(), Fail> {
+    let case = grants(quiet_case(rt)?, 2)?;
+    let Ended { outcome, .. } = run_case(rt, case, &TRACED)?;
+    assert_eq!(rt; outcome.status, 0);
+    Ok(())
+}
+
+#[test]
+fn a_folder_that_is_not_there_is_named_by_its_number(rt: HostRuntime) -> Result<(), Fail> {
+    let Ended { outcome, .. } = run_case(rt, cases::empty_case(rt, MOUNTS)?, &TRACED)?;
+    assert_eq!(rt; outcome.fault, Fault::Grant { mount: 1 });
+    assert_eq!(rt; outcome.status, 11);
+    Ok(())
+}
+
+/// Whether the opening answers EIO, with one rise of that node and a count of one failure at it, where the first call of
+/// a method of the node fails.
+fn rises_at(rt: HostRuntime, names: &[&str], op: Op, ino: u64) -> Result<bool, Fail> {
+    let case = planned(rt.alloc(), quiet_case(rt)?, names, op, 1)?;
+    let Ended { outcome, world, .. } = run_case(rt, case, &TRACED)?;
+    let [opened] = outcome.opening.tasks.as_slice() else {
+        return Ok(false);
+    };
+    let rises = opened.given.rises.as_slice();
+    Ok(
+        outcome.fault
+            == Fault::Image {
+                task: 1,
+                errno: Errno::EIO,
+            }
+            && rises == [Rise { ino, count: 1 }].as_slice()
+            && faults_at(rt.alloc(), &world, names)? == Some(1),
+    )
+}
+
+/// Whether the run comes to its end, with no failure at that node, where the second call of a method of the node is to
+/// fail.
+fn calls_once(rt: HostRuntime, names: &[&str], op: Op) -> Result<bool, Fail> {
+    let case = planned(rt.alloc(), quiet_case(rt)?, names, op, 2)?;
+    let Ended { outcome, world, .. } = run_case(rt, case, &TRACED)?;
+    Ok(outcome.fault == Fault::Done && faults_at(rt.alloc(), &world, names)? == Some(0))
+}
+
+#[test]
+fn a_host_call_that_fails_is_an_error_of_the_opening_with_its_rise(
+    rt: HostRuntime,
+) -> Result<(), Fail> {
+    assert!(rt; rises_at(rt, &["root"], Op::Stat, 1)?);
+    assert!(rt; rises_at(rt, &["root"], Op::Lend, 1)?);
+    assert!(rt; rises_at(rt, &["root", "init"], Op::Stat, 2)?);
+    assert!(rt; rises_at(rt, &["root", "init"], Op::Open, 2)?);
+    assert!(rt; rises_at(rt, &["root", "init"], Op::ReadAt, 2)?);
+    Ok(())
+}
+
+#[test]
+fn each_host_call_of_the_opening_is_made_once(rt: HostRuntime) -> Result<(), Fail> {
+    assert!(rt; calls_once(rt, &["root"], Op::Stat)?);
+    assert!(rt; calls_once(rt, &["root"], Op::Lend)?);
+    assert!(rt; calls_once(rt, &["root", "init"], Op::Stat)?);
+    assert!(rt; calls_once(rt, &["root", "init"], Op::Open)?);
+    assert!(rt; calls_once(rt, &["root", "init"], Op::ReadAt)?);
+    Ok(())
+}
+
+#[test]
+fn a_program_that_is_no_executable_file_is_refused(rt: HostRuntime) -> Result<(), Fail> {
+    let alloc = rt.alloc();
+    let shut = Tree::file(0o644, guest(alloc, &WRITES_NOTHING)?);
+    assert_eq!(rt;
+        answer_over(rt, shut)?,
+        Fault::Image {
+            task: 1,
+            errno: Errno::EACCES
+        }
+    );
+    let directory = Tree::directory(alloc, 0o755);
+    assert_eq!(rt;
+        answer_over(rt, directory)?,
+        Fault::Image {
+            task: 1,
+            errno: Errno::EACCES
+        }
+    );
+    let link = Tree::link(Text::from_slice(alloc, b"init")?);
+    assert_eq!(rt;
+        answer_over(rt, link)?,
+        Fault::Image {
+            task: 1,
+            errno: Errno::ELOOP
+        }
+    );
+    let missing = cases::bare_case(rt, MOUNTS)?;
+    assert_eq!(rt;
+        run_case(rt, missing, &TRACED)?.outcome.fault,
+        Fault::Image {
+            task: 1,
+            errno: Errno::ENOENT
+        }
+    );
+    Ok(())
+}
+
+#[test]
+fn an_image_of_another_form_is_refused(rt: HostRuntime) -> Result<(), Fail> {
+    let alloc = rt.alloc();
+    let refused = Fault::Image {
+        task: 1,
+        errno: Errno::ENOEXEC,
+    };
+    assert_eq!(rt; answer_to(rt, List::new(alloc))?, refused);
+    // The first byte of its magic number, its machine, and how many program headers it has.
+    for place in [0, 18, 56] {
+        assert_eq!(rt;
+            answer_to(rt, guest_with(alloc, &WRITES_NOTHING, &[(place, 2)])?)?,
+            refused
+        );
+    }
+    Ok(())
+}
+
+#[test]
+fn flags_of_the_low_four_are_refused_and_others_pass(rt: HostRuntime) -> Result<(), Fail> {
+    let alloc = rt.alloc();
+    let compressed = guest_with(alloc, &WRITES_NOTHING, &[(48, 1)])?;
+    assert_eq!(rt;
+        answer_to(rt, compressed)?,
+        Fault::Image {
+            task: 1,
+            errno: Errno::ENOEXEC
+        }
+    );
+    let other = guest_with(alloc, &WRITES_NOTHING, &[(48, 16)])?;
+    assert_eq!(rt; answer_to(rt, other)?, Fault::Done);
+    Ok(())
+}
+
+#[test]
+fn an_image_of_too_many_pages_is_refused(rt: HostRuntime) -> Result<(), Fail> {
+    // Its segment has 0x0400_0098 bytes in memory: 16,385 pages beside those of the stack.
+    let image = guest_with(rt.alloc(), &WRITES_NOTHING, &[(107, 4)])?;
+    assert_eq!(rt;
+        answer_to(rt, image)?,
+        Fault::Image {
+            task: 1,
+            errno: Errno::ENOMEM
+        }
+    );
+    Ok(())
+}
+
+#[test]
+fn a_word_without_a_row_ends_the_guest_by_signal_4(rt: HostRuntime) -> Result<(), Fail> {
+    let case = case_of(rt, MOUNTS, Tree::file(0o755, guest(rt.alloc(), &NO_ROW)?))?;
+    let Ended { outcome, out, .. } = run_case(rt, case, &TRACED)?;
+    assert_eq!(rt; outcome.status, 0);
+    assert_eq!(rt; out.bytes(), b"group 1 signal 4\n1 1 signal 4\n".as_slice());
+    Ok(())
+}
+
+#[test]
+fn code_without_the_right_to_run_ends_the_guest_by_signal_11(rt: HostRuntime) -> Result<(), Fail> {
+    // The eight instructions are the last of their page: loaded at 0x10f68, entered at 0x10fe0.
+    let moved = [(24, 0xe0), (25, 0x0f), (80, 0x68), (81, 0x0f)];
+    let image = guest_with(rt.alloc(), &ADDS_NOTHING, &moved)?;
+    let Ended { outcome, out, .. } = run_case(
+        rt,
+        case_of(rt, MOUNTS, Tree::file(0o755, image))?,
+        &TRACED,
+    )?;
+    assert_eq!(rt; outcome.status, 0);
+    assert_eq!(rt;
+        out.bytes(),
+        b"group 1 signal 11\n2 1 signal 11\n".as_slice()
+    );
+    Ok(())
+}
+
+/// The end of a guest: it exits with 0.
+const EXIT: [u32; 3] = [LI_A0_0, LI_A7_EXIT_GROUP, ECALL];
+
+/// A run of a guest with these instructions.
+fn run_words(rt: HostRuntime, words: &[u32]) -> Result<Ended, Fail> {
+    let mut code = List::new(rt.alloc());
+    add_words(&mut code, words)?;
+    add_words(&mut code, &EXIT)?;
+    let image = longer_guest(rt.alloc(), code.as_slice())?;
+    run_case(rt, case_of(rt, MOUNTS, Tree::file(0o755, image))?, &TRACED)
+}
+
+#[test]
+fn a_guest_prints_a_line(rt: HostRuntime) -> Result<(), Fail> {
+    let image = List::from_slice(rt.alloc(), HELLO.as_slice())?;
+    let case = case_of(rt, MOUNTS, Tree::file(0o755, image))?;
+    let Ended { outcome, out, .. } = run_case(rt, case, &["run", "m"])?;
+    assert_eq!(rt; outcome.status, 0);
+    assert_eq!(rt; out.bytes(), b"Hello, world!\ngroup 1 exit 0\n".as_slice());
+    Ok(())
+}
+
+#[test]
+fn descriptors_1_and_2_alone_are_open_for_writing(rt: HostRuntime) -> Result<(), Fail> {
+    // Eight bytes of the stack, which are zeros.
+    let words = [
+        MV_A1_SP,
+        ADDI_A1_A1_MINUS_2048,
+        LI_A2_8,
+        LI_A7_WRITE,
+        LI_A0_0,
+        ECALL,
+        LI_A0_1,
+        ECALL,
+        LI_A0_2,
+        ECALL,
+        LI_A0_3,
+        ECALL,
+    ];
+    let Ended { outcome, out, .. } = run_words(rt, &words)?;
+    let trace = outcome.trace.as_slice();
+    assert!(rt; is_call(trace.get(1), 64, -9) && is_call(trace.get(3), 64, 8));
+    assert!(rt; is_call(trace.get(5), 64, 8) && is_call(trace.get(7), 64, -9));
+    // The sixteen bytes do not end with a newline.
+    assert!(rt;
+        out.bytes()
+            .starts_with(b"\0\0\0\0\0\0\0\0\0\0\0\0\0\0\0\0\ngroup 1 exit 0\n")
+    );
+    Ok(())
+}
+
+#[test]
+fn a_buffer_that_ends_outside_memory_is_refused_whole(rt: HostRuntime) -> Result<(), Fail> {
+    // The last four bytes of the stack, and four behind it.
+    let words = [
+        MV_A1_SP,
+        ADDI_A1_A1_MINUS_4,
+        LI_A2_8,
+        LI_A7_WRITE,
+        LI_A0_1,
+        ECALL,
+    ];
+    let Ended { outcome, out, .. } = run_words(rt, &words)?;
+    assert!(rt; is_call(outcome.trace.as_slice().get(1), 64, -14));
+    assert!(rt; out.bytes().starts_with(b"group 1 exit 0\n"));
+    Ok(())
+}
+
+#[test]
+fn a_write_past_the_room_of_the_console_takes_nothing(rt: HostRuntime) -> Result<(), Fail> {
+    let alloc = rt.alloc();
+    // From 65,536 bytes below the end of the stack: each write has more than 65,536 to take, and takes that many.
+    let mut code = List::new(alloc);
+    add_words(&mut code, &[MV_A1_SP, LI_A2_MINUS_1, LI_A7_WRITE])?;
+    for _ in 0..32 {
+        add_words(&mut code, &[ADDI_A1_A1_MINUS_2048])?;
+    }
+    for _ in 0..17 {
+        add_words(&mut code, &[LI_A0_1, ECALL])?;
+    }
+    add_words(&mut code, &EXIT)?;
+    let image = longer_guest(alloc, code.as_slice())?;
+    let case = case_of(rt, MOUNTS, Tree::file(0o755, image))?;
+    let Ended { outcome, out, .. } = run_case(rt, case, &["run", "m"])?;
+    let trace = outcome.trace.as_slice();
+    assert!(rt; is_call(trace.get(31), 64, 65_536) && is_call(trace.get(33), 64, -28));
+    assert_eq!(rt; out.bytes().len(), 1_048_576 + 16);
+    Ok(())
+}
