@@ -6,9 +6,10 @@ mod guests;
 mod narrow;
 
 use crate::host_memory::Op;
-use crate::outcome::Fault;
+use crate::outcome::{Fault, Outcome};
 use cases::{
-    Case, Ended, MOUNTS, SHORT_MOUNTS, case_of, faults_at, grants, planned, run_case, run_into,
+    Case, Ended, MOUNTS, SHORT_MOUNTS, case_of, case_under, faults_at, grants, planned, run_case,
+    run_into,
 };
 use guests::words::*;
 use guests::{
@@ -294,6 +295,49 @@ fn a_program_that_is_no_executable_file_is_refused(rt: HostRuntime) -> Result<()
             errno: Errno::ENOENT
         }
     );
+    Ok(())
+}
+
+/// How many numbers the opening of the first task drew.
+fn fresh_at(outcome: &Outcome) -> Option<usize> {
+    let opened = outcome.opening.tasks.get(0)?;
+    Some(opened.given.fresh.len())
+}
+
+#[test]
+fn a_root_without_the_right_to_search_is_refused(rt: HostRuntime) -> Result<(), Fail> {
+    let program = Tree::file(0o755, guest(rt.alloc(), &WRITES_NOTHING)?);
+    let Ended { outcome, .. } = run_case(rt, case_under(rt, 0o677, program)?, &TRACED)?;
+    assert_eq!(rt;
+        outcome.fault,
+        Fault::Image {
+            task: 1,
+            errno: Errno::EACCES
+        }
+    );
+    // Nothing below the root was walked to.
+    assert_eq!(rt; fresh_at(&outcome), Some(0));
+    Ok(())
+}
+
+#[test]
+fn a_file_above_the_greatest_size_of_an_image_is_refused_unread(
+    rt: HostRuntime,
+) -> Result<(), Fail> {
+    let mut bytes = Vec::new(rt.alloc());
+    bytes.resize(67_108_865, 0)?;
+    let case = case_of(rt, MOUNTS, Tree::file(0o755, List::from_vec(bytes)))?;
+    let case = planned(rt.alloc(), case, &["root", "init"], Op::Open, 1)?;
+    let Ended { outcome, world, .. } = run_case(rt, case, &TRACED)?;
+    assert_eq!(rt;
+        outcome.fault,
+        Fault::Image {
+            task: 1,
+            errno: Errno::ENOEXEC
+        }
+    );
+    // Its first open would have failed.
+    assert_eq!(rt; faults_at(rt.alloc(), &world, &["root", "init"])?, Some(0));
     Ok(())
 }
 

@@ -1,4 +1,4 @@
-ghost use Rattle.std.specs.Prelude.{◌≡◌, ◌+◌, ◌<◌, None, IfOk, option_map};
+ghost use Rattle.std.specs.Prelude.{◌≡◌, ◌+◌, ◌<◌, [], ◌∷◌, None, IfOk, option_map};
 ghost use Rattle.host_node.specs.Faults.{has_failed};
 ghost use Rattle.sn_base.specs.Faults.{Rose, HasCause};
 ghost use Rattle.host_node.specs.Told.{CanLend, kept};
@@ -202,7 +202,10 @@ struct Routes {
     program: Route,
 }
 
-fn make_routes(alloc: Global, name: &Name) -> Result<Routes, Memory> {
+/// The routes for a program of that name in the root.
+fn make_routes(alloc: Global, name: &Name) -> Result<Routes, Memory>
+    ensures { IfOk result (λ routes. (routes.root ≡ []) × (routes.program ≡ name.now ∷ [])) }
+{
     let mut program = Route::new(alloc);
     program.push(name.copy(alloc)?)?;
     Ok(Routes {

@@ -1,4 +1,4 @@
-ghost use Rattle.std.specs.Prelude.{◌≡◌, true, IfOk};
+ghost use Rattle.std.specs.Prelude.{◌≡◌, ◌≤◌, true, IfOk};
 ghost use Rattle.host_node.specs.Tree.{none_lent};
 
 use crate::host_memory::{Op, World};
@@ -113,6 +113,22 @@ fn rooted(alloc: Global) -> Result<World, Fail>
 /// A case whose folder has nothing in it.
 pub fn bare_case(rt: HostRuntime, mounts: &[u8]) -> Result<Case, Fail> {
     case_over(rt, mounts, rooted(rt.alloc())?)
+}
+
+/// A case with this node as `init` in a root of that mode.
+pub fn case_under(rt: HostRuntime, mode: u32, program: Tree) -> Result<Case, Fail>
+    requires mode { mode ≤ 511 }
+    requires program { none_lent program ≡ true }
+{
+    let alloc = rt.alloc();
+    let world = put(
+        alloc,
+        nothing(alloc),
+        &["root"],
+        Tree::directory(alloc, mode),
+    )?;
+    let world = put(alloc, world, &["root", "init"], program)?;
+    case_over(rt, MOUNTS, world)
 }
 
 /// A case with this node as `/init`.
