@@ -3,15 +3,15 @@ use Rattle.std.proofs.Common.{◌≡◌, ℕ, ◌+◌, ◌-◌, ◌<◌, ◌≤�
 use Rattle.std.proofs.lemmas.List.{drop_more, drop_all}
 use Rattle.sn_errno.specs.declared.errno.Errno.{Errno}
 use Rattle.kernel_model.specs.declared.kernel.Kernel.{Kernel}
-use Rattle.kernel_model.specs.declared.mounts.Mounts.{Mounts}
-use Rattle.kernel_model.specs.declared.mounts.Program.{Program}
+use Rattle.mount_file.specs.declared.mounts.Mounts.{Mounts}
+use Rattle.mount_file.specs.declared.mounts.Program.{Program}
 use Rattle.kernel_model.specs.declared.opening.Opening.{Opening}
 use Rattle.kernel_model.specs.declared.opening.Opened.{Opened}
 use Rattle.kernel_model.specs.declared.plain.OpeningErr.{OpeningErr}
 use Rattle.kernel_model.specs.declared.walking.Execved.{Execved}
 use Rattle.kernel_model.specs.declared.walking.Execved.TheVariants as answers
 use Rattle.host_node.specs.Tree.{Shape}
-use Rattle.kernel_model.specs.Opening.{Executed, execve, name_in_path, bare, Begun, Refuses, Misfits, task_begun, tasks_begun, is_of, opening_of}
+use Rattle.kernel_model.specs.Opening.{Executed, execve_of, bare, Begun, Refuses, Misfits, task_begun, tasks_begun, is_of, opening_of}
 use Rattle.kernel_model.specs.Parts.{parts, run, changed}
 use Rattle.kernel_model.specs.Beginnings.{Executes, IsRefusedBy}
 
@@ -33,7 +33,7 @@ module _ (n : ℕ) (programs : List Program) (opened : List Opened) (k : Kernel)
 
   -- the next program, by its execve
   pub next_begun : (p : Program) (o : Opened) → i < length programs → p ≡ get_or programs i p → i < length opened → o ≡ get_or opened i o
-      → tasks_begun n (drop i programs) (drop i opened) k ≡ task_begun (tasks_begun (n + 1) (drop (i + 1) programs) (drop (i + 1) opened)) n k (run (parts k) (execve (name_in_path p.path) o.given))
+      → tasks_begun n (drop i programs) (drop i opened) k ≡ task_begun (tasks_begun (n + 1) (drop (i + 1) programs) (drop (i + 1) opened)) n k (run (parts k) (execve_of p o.given))
   next_begun p o inside program within record_of =
       ap (λ ps. tasks_begun n ps (drop i opened) k) (drop_more programs i p inside ∙ ap (λ q. q ∷ drop (i + 1) programs) (sym program))
       ∙ ap (λ os. tasks_begun n (p ∷ drop (i + 1) programs) os k) (drop_more opened i o within ∙ ap (λ q. q ∷ drop (i + 1) opened) (sym record_of))

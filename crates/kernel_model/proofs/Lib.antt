@@ -15,4 +15,5 @@ pub mod RanShort
 pub mod Readings
 pub mod Runs
 pub mod StepLemmas
+pub mod Strings
 pub mod WalkLemmas

@@ -11,7 +11,7 @@ use Rattle.sn_base.proofs.Maps.{get_of_empty, get-insert_same, get-insert_other}
 use Rattle.sn_base.specs.Sums.{capped}
 use Rattle.host_node.specs.Tree.{Shape, child_of}
 use Rattle.sn_errno.specs.declared.errno.Errno.{Errno}
-use Rattle.sn_errno.specs.declared.errno.Errno.TheVariants.{EIO, EACCES, ENFILE}
+use Rattle.sn_errno.specs.declared.errno.Errno.TheVariants.{EIO, E2BIG, EACCES, ENFILE}
 use Rattle.elf_image.specs.declared.image.Image.{Image}
 use Rattle.kernel_model.specs.declared.kernel.Node.{Node}
 use Rattle.kernel_model.specs.declared.kernel.Part.TheVariants.{OfNode, OfFaults}
@@ -20,8 +20,10 @@ use Rattle.kernel_model.specs.FileTree.{root_node, child_node, numbered_in, owne
 use Rattle.kernel_model.specs.Parts.{Parts, parts, Prog, run, done, look, ◌>>=◌}
 use Rattle.kernel_model.specs.declared.opening.Fresh.{Fresh}
 use Rattle.kernel_model.specs.Faulted.{Nodes_so_far, has_any, is_in_order, number_all, number_at, number_next, given_number, met, all_known_in, faulted, node_changes}
+use Rattle.mount_file.specs.declared.mounts.Program.{Program}
+use Rattle.kernel_model.specs.Arguments.{is_too_long}
 use Rattle.kernel_model.specs.WalkedIn.{walked_by, walked_in}
-use Rattle.kernel_model.specs.Opening.{Walked, walk_of, walked_from, walked_to, executed, rooted, bare, execve, by_walk, by_image, by_numbers, failed_by, draws_just, above_last, Fails, Unfit}
+use Rattle.kernel_model.specs.Opening.{Walked, walk_of, walked_from, walked_to, executed, rooted, bare, execve, execve_of, unwalked, name_in_path, by_walk, by_image, by_numbers, failed_by, draws_just, above_last, Fails, Unfit}
 
 -- what was met: nothing, a fault of the root, a number drawn, or a fault of the node that has it
 abbrev pub nothing_given : Given
@@ -64,6 +66,14 @@ execve_by t name given = run_bind (one t) (walk_of name) (by_walk name given) �
 -- with nothing drawn and nothing met
 pub execve_nothing : (t : Shape) (name : List ℕ) (image : Result Image Errno) → walked_in t name ≡ record { draws = false; image = image } → run (one t) (execve name nothing_given) ≡ by_image image []
 execve_nothing t name image e = execve_by t name nothing_given ∙ ap (λ w. run (one t) (by_walk name nothing_given w)) e
+
+-- an execve that is not refused before it walks
+pub execve_short : (t : Shape) (program : Program) (given : Given) → is_too_long program.args program.env ≡ false → run (one t) (execve_of program given) ≡ run (one t) (execve (name_in_path program.path) given)
+execve_short t program given short = ap (λ b. run (one t) (if b then by_walk (name_in_path program.path) given unwalked else execve (name_in_path program.path) given)) short
+
+-- and one that is
+pub execve_long : (t : Shape) (program : Program) → is_too_long program.args program.env ≡ true → run (one t) (execve_of program nothing_given) ≡ Fails E2BIG []
+execve_long t program long = ap (λ b. run (one t) (if b then by_walk (name_in_path program.path) nothing_given unwalked else execve (name_in_path program.path) nothing_given)) long
 
 -- what is left of a failed call, by its parts
 pub faulted_is : (s : Parts) (given : Given) → run s (faulted given) ≡ met given (run s (number_all given.fresh [])) (run s (all_known_in given.rises (run s (number_all given.fresh [])))) (s OfFaults)

@@ -5,15 +5,15 @@ use Rattle.std.specs.Str.{bytes_eq}
 use Rattle.std.specs.FinMap as finite
 use Rattle.sn_text.specs.Folders.{FolderPath}
 use Rattle.host_node.specs.Tree.{Shape, faults_of, with_faults, with_child, lend_child}
-use Rattle.kernel_model.specs.declared.mounts.Mounts.{Mounts}
-use Rattle.kernel_model.specs.declared.mounts.Mount.{Mount}
-use Rattle.kernel_model.specs.declared.mounts.Program.{Program}
+use Rattle.mount_file.specs.declared.mounts.Mounts.{Mounts}
+use Rattle.mount_file.specs.declared.mounts.Mount.{Mount}
+use Rattle.mount_file.specs.declared.mounts.Program.{Program}
 use Rattle.kernel_model.specs.declared.opening.Opening.{Opening}
 use Rattle.kernel_model.specs.declared.opening.Given.{Given}
 use Rattle.kernel_model.specs.Parts.{run}
 use Rattle.kernel_model.specs.Image.{count_up}
 use Rattle.kernel_model.specs.FileTree.{Nodes, plain, plain_node, root_node, child_node, numbered_in}
-use Rattle.kernel_model.specs.Opening.{opening_of, is_of, same_list, same_mount, same_place, same_folder, same_flag, begins, tasks_begun, task_begun, bare, execve, name_in_path, Opens, Misfits}
+use Rattle.kernel_model.specs.Opening.{opening_of, is_of, same_list, same_mount, same_place, same_folder, same_flag, begins, tasks_begun, task_begun, bare, execve_of, Opens, Misfits}
 use Rattle.kernel_model.proofs.OneRoot.{one, same_bytes}
 
 -- ---- the record of one task
@@ -54,8 +54,8 @@ record_fits m p given e f =
     words : begins (same_list bytes_eq) (p.args ∷ []) (map (λ (q : Program). q.args) m.tasks) ≡ true
     words = ap (λ ps. begins (same_list bytes_eq) (p.args ∷ []) (map (λ (q : Program). q.args) ps)) f ∙ both (same_lists bytes_eq same_bytes p.args) refl
 
--- the opening of one mount and one task is the task's execve
-pub opening_by : (m : Mounts) (t : Shape) (p : Program) (given : Given) → length m.mounts ≡ 1 → m.tasks ≡ p ∷ [] → opening_of m (t ∷ []) (record_of m p given) ≡ task_begun (λ k. Opens k) 1 (bare (t ∷ [])) (run (one t) (execve (name_in_path p.path) given))
+-- the opening of one mount and one task is the execve of the task's program
+pub opening_by : (m : Mounts) (t : Shape) (p : Program) (given : Given) → length m.mounts ≡ 1 → m.tasks ≡ p ∷ [] → opening_of m (t ∷ []) (record_of m p given) ≡ task_begun (λ k. Opens k) 1 (bare (t ∷ [])) (run (one t) (execve_of p given))
 unfolding opening_of
 opening_by m t p given e f =
     ap (λ b. if b then tasks_begun 1 m.tasks (record { words = p.args; given = given } ∷ []) (bare (t ∷ [])) else Misfits 0) (record_fits m p given e f)

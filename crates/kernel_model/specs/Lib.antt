@@ -13,7 +13,7 @@ pub mod Words
 pub mod InPlace
 pub mod Beginnings
 pub mod Printed
-pub mod MountFile
+pub mod Arguments
 pub mod Opening
 pub mod Settled
 pub mod Numbers

@@ -6,19 +6,20 @@ use Rattle.std.specs.FinMap as map
 use Rattle.host_node.specs.Tree.{Shape, directory, file, link, lent}
 use Rattle.sn_text.specs.Folders.{FolderPath}
 use Rattle.sn_errno.specs.declared.errno.Errno.{Errno}
-use Rattle.sn_errno.specs.declared.errno.Errno.TheVariants.{EIO, ENOENT, EACCES, ENOEXEC, ENOMEM, ENFILE, ELOOP}
+use Rattle.sn_errno.specs.declared.errno.Errno.TheVariants.{EIO, ENOENT, E2BIG, EACCES, ENOEXEC, ENOMEM, ENFILE, ELOOP}
 use Rattle.elf_image.specs.declared.image.Image.{Image}
 use Rattle.kernel_model.specs.declared.kernel.Kernel.{Kernel}
 use Rattle.kernel_model.specs.declared.kernel.Node.{Node}
 use Rattle.kernel_model.specs.declared.kernel.Life.TheVariants.{Live}
 use Rattle.kernel_model.specs.declared.kernel.Part.TheVariants.{OfNode}
-use Rattle.kernel_model.specs.declared.mounts.Mounts.{Mounts}
-use Rattle.kernel_model.specs.declared.mounts.Mount.{Mount}
-use Rattle.kernel_model.specs.declared.mounts.Program.{Program}
+use Rattle.mount_file.specs.declared.mounts.Mounts.{Mounts}
+use Rattle.mount_file.specs.declared.mounts.Mount.{Mount}
+use Rattle.mount_file.specs.declared.mounts.Program.{Program}
 use Rattle.kernel_model.specs.declared.opening.Opening.{Opening}
 use Rattle.kernel_model.specs.declared.opening.Opened.{Opened}
 use Rattle.kernel_model.specs.declared.opening.Given.{Given}
 use Rattle.kernel_model.specs.declared.opening.Fresh.{Fresh}
+use Rattle.kernel_model.specs.Arguments.{is_too_long}
 use Rattle.kernel_model.specs.Image.{image_of, pages_mapped, space_of, registers_of, count_up}
 use Rattle.kernel_model.specs.FileTree.{Nodes, last_number, Child, Missing, Known, Unnumbered, child_at, root_node, owner_executes}
 use Rattle.kernel_model.specs.Faulted.{has_any, is_in_order, Nodes_so_far, number_all, node_changes, faulted}
@@ -102,11 +103,29 @@ by_walk name given walked =
     else if list_any above_last given.fresh then done (Fails ENFILE [])
     else (number_all given.fresh [] >>= λ nodes. done (by_numbers walked.image nodes))
 
--- an opening execve of a name, with what it drew and met: with a rise it answers EIO, with a number above the greatest
--- ENFILE, else what the image is
+-- an execve of a name, with what it drew and met: with a rise it answers EIO, with a number above the greatest ENFILE,
+-- else what the image is
 -- execve(2)
 abbrev pub execve : List ℕ → Given → Prog Executed
 execve name given = walk_of name >>= by_walk name given
+
+-- the name in a path of `/` and one name
+-- path_resolution(7)
+abbrev pub name_in_path : List ℕ → List ℕ
+name_in_path path = drop 1 path
+
+-- what comes of it where its strings are too long: nothing is walked to
+-- execve(2), E2BIG
+abbrev pub unwalked : Walked
+unwalked = record { draws = false; image = Err E2BIG }
+
+-- an opening execve of a program
+-- execve(2); that E2BIG goes before the errors of the walk: profile
+abbrev pub execve_of : Program → Given → Prog Executed
+execve_of program given =
+    if is_too_long program.args program.env
+    then by_walk (name_in_path program.path) given unwalked
+    else execve (name_in_path program.path) given
 
 -- the nodes of the roots, numbered in order of the mounts
 -- profile
@@ -135,11 +154,6 @@ pub data Begun : Type 0 where
   Refuses : Kernel → (task : ℕ) → Errno → Begun
   Misfits : (task : ℕ) → Begun
 
--- the name in a path of `/` and one name
--- path_resolution(7)
-abbrev pub name_in_path : List ℕ → List ℕ
-name_in_path path = drop 1 path
-
 -- the opening tasks in order, the first of them with that number
 -- profile
 abbrev pub task_begun : (Kernel → Begun) → ℕ → Kernel → Executed → Begun
@@ -151,7 +165,7 @@ abbrev pub tasks_begun : ℕ → List Program → List Opened → Kernel → Beg
 tasks_begun number [] opened k = Opens k
 tasks_begun number (p ∷ ps) [] k = Misfits number
 tasks_begun number (p ∷ ps) (o ∷ os) k =
-    task_begun (tasks_begun (number + 1) ps os) number k (run (parts k) (execve (name_in_path p.path) o.given))
+    task_begun (tasks_begun (number + 1) ps os) number k (run (parts k) (execve_of p o.given))
 
 -- two lists have the same items, by a test of two items; and the first is a beginning of the second
 -- profile

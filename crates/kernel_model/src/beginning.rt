@@ -2,27 +2,17 @@
 
 ghost use Rattle.std.specs.Prelude.{◌≡◌, ◌+◌, ◌<◌, ◌≤◌, ◌^◌, length, IfOk, OnOk, IfErr};
 ghost use Rattle.kernel_model.specs.declared.kernel.Kernel.{Kernel as AKernel};
-ghost use Rattle.kernel_model.specs.Opening.{Begun, Opens, rooted, bare, with_task, name_in_path, execve, task_begun, tasks_begun};
+ghost use Rattle.kernel_model.specs.Opening.{Begun, Opens, rooted, bare, with_task, execve_of, task_begun, tasks_begun};
 ghost use Rattle.kernel_model.specs.Parts.{parts, run as outcome};
 ghost use Rattle.kernel_model.specs.Beginnings.{IsRefusedBy};
 
 use crate::walking::Execved;
-use crate::{Given, Kernel, Life, Node, Opened, OpeningErr, Program, Registers, Space, Task};
+use crate::{Given, Kernel, Life, Node, Opened, OpeningErr, Registers, Space, Task};
 use elf_image::Image;
 use host_node::Tree;
+use mount_file::Program;
 use sn_base::{List, Map, Memory};
-use sn_text::Text;
 use std::alloc::Global;
-
-/// The name in a path of `/` and one name.
-fn name_in_path(path: &Text) -> &[u8]
-    ensures { result.now ≡ name_in_path path.now }
-{
-    match path.as_bytes() {
-        [] => &[],
-        [_, name @ ..] => name,
-    }
-}
 
 /// The nodes of the roots, numbered in order of the mounts.
 fn number_roots(alloc: Global, trees: &[Tree]) -> Result<Map<Node>, Memory>
@@ -82,10 +72,10 @@ impl Kernel {
         program: &Program,
         given: &Given,
     ) -> Result<(), OpeningErr>
-        ensures ok { OnOk result ((rest : AKernel → Begun) → task_begun rest number self.old (outcome (parts self.old) (execve (name_in_path program.now.path) given.now)) ≡ rest self.new) }
-        ensures refused { IfErr result (λ e. (rest : AKernel → Begun) → IsRefusedBy (task_begun rest number self.old (outcome (parts self.old) (execve (name_in_path program.now.path) given.now))) e) }
+        ensures ok { OnOk result ((rest : AKernel → Begun) → task_begun rest number self.old (outcome (parts self.old) (execve_of program.now given.now)) ≡ rest self.new) }
+        ensures refused { IfErr result (λ e. (rest : AKernel → Begun) → IsRefusedBy (task_begun rest number self.old (outcome (parts self.old) (execve_of program.now given.now))) e) }
     {
-        match self.execve(alloc, name_in_path(&program.path), given)? {
+        match self.execve(alloc, program, given)? {
             Execved::Starts(image) => {
                 self.add_task(alloc, number, &image)?;
                 Ok(())

@@ -1,10 +1,10 @@
 //! The one-thread kernel that the Sentry is held against: its definitions, and a plain kernel that obeys them.
 //!
-//! A caller sees plain data: a mount file's `Mounts`, an `Opening`, a `Trace` of `Entry`s, and a `Kernel`, the state.
+//! A caller sees plain data: an `Opening`, a `Trace` of `Entry`s, and a `Kernel`, the state.
 //! `specs/` says what each of them means: `Instructions` (the RV64 rows), `Image` (what an image begins with), `Memory`,
 //! `FileTree`, `Rows` (the system calls, as decision trees over the state's parts), `Step` (what an entry does),
-//! `History` (a list of entries each of whose steps is defined), `Opening`, `Printed` (the text of a run), `Words` (the
-//! command line) and `MountFile`.
+//! `History` (a list of entries each of whose steps is defined), `Opening`, `Printed` (the text of a run) and `Words` (the
+//! command line).
 //!
 //! Proved: `Plain::opening` and `Plain::step` are the definitions (`ok`, `refused`, `fits`), a refused step or one out
 //! of memory changes nothing (`ok`, `err`), and an entry reads the parts that it uses and changes those that it touches,
@@ -15,6 +15,7 @@
 //! Standards: RISC-V Unprivileged ISA 20191213, ELF-64 Object File Format, Linux man-pages sections 2 and 7.
 #![tactic(auto)]
 
+mod arguments;
 mod beginning;
 mod calls;
 mod entry;
@@ -23,7 +24,6 @@ mod faults;
 mod instructions;
 mod kernel;
 mod loading;
-mod mounts;
 mod nodes;
 mod numbering;
 mod opened;
@@ -36,12 +36,12 @@ mod space;
 mod step;
 mod walking;
 
+pub use arguments::is_too_long;
 pub use calls::{Outcome, call};
 pub use entry::{Args, Entry, Trace};
 pub use executable::read_executable;
 pub use instructions::{decode, next, run};
 pub use kernel::{Kernel, Life, Node, Numbered, Part, Task};
-pub use mounts::{Mount, MountFault, Mounts, Program};
 pub use opening::{Fresh, Given, Left, LeftRise, Opened, Opening, Rise};
 pub use plain::{OpeningErr, Plain};
 pub use registers::{Instruction, Next, Registers};

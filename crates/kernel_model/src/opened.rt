@@ -2,12 +2,13 @@
 
 ghost use Rattle.std.specs.Prelude.{◌≡◌, ◌+◌, ◌<◌, ◌^◌, nat_eq, map};
 ghost use Rattle.std.specs.Str.{bytes_eq};
-ghost use Rattle.kernel_model.specs.declared.mounts.Program.{Program as AProgram};
+ghost use Rattle.mount_file.specs.declared.mounts.Program.{Program as AProgram};
 ghost use Rattle.kernel_model.specs.declared.opening.Opened.{Opened as AnOpened};
 ghost use Rattle.kernel_model.specs.Image.{count_up};
 ghost use Rattle.kernel_model.specs.Opening.{same_list, begins, same_flag, same_place, same_folder, same_mount, is_of};
 
-use crate::{Mount, Mounts, Opened, Opening, Program};
+use crate::{Opened, Opening};
+use mount_file::{Mount, Mounts, Program};
 use sn_text::{Folder, Name, Text};
 
 impl Opening {

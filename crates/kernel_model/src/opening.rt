@@ -1,4 +1,4 @@
-use crate::Mount;
+use mount_file::Mount;
 use sn_base::List;
 use sn_text::{Name, Text};
 

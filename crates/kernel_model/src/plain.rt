@@ -5,8 +5,9 @@ ghost use Rattle.kernel_model.specs.Opening.{opening_of, Opens};
 ghost use Rattle.kernel_model.specs.Beginnings.{IsRefusedBy};
 ghost use Rattle.kernel_model.specs.Step.{step};
 
-use crate::{Entry, Kernel, Mounts, Opening};
+use crate::{Entry, Kernel, Opening};
 use host_node::Tree;
+use mount_file::Mounts;
 use sn_base::{List, Memory};
 use sn_errno::Errno;
 use std::alloc::Global;

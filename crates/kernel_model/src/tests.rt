@@ -1,4 +1,5 @@
 //! Tests against values from outside: files and words put together by hand from the manuals.
 
+mod arguments;
 mod machine;
 mod plain;

@@ -5,16 +5,18 @@ ghost use Rattle.std.specs.FinMap as map;
 ghost use Rattle.std.specs.List.{list_any};
 ghost use Rattle.kernel_model.specs.FileTree.{owner_executes};
 ghost use Rattle.kernel_model.specs.Faulted.{has_any};
-ghost use Rattle.kernel_model.specs.Opening.{image_in, executed, numbered_image, walk_of, draws_just, above_last, execve};
+ghost use Rattle.kernel_model.specs.Opening.{image_in, executed, numbered_image, walk_of, draws_just, above_last, by_walk, name_in_path, execve_of};
 ghost use Rattle.kernel_model.specs.Parts.{parts, run as outcome};
 ghost use Rattle.kernel_model.specs.Beginnings.{Executes};
 
 use crate::numbering::LAST_NUMBER;
-use crate::{Fresh, Given, Kernel, read_executable};
+use crate::{Fresh, Given, Kernel, is_too_long, read_executable};
 use elf_image::Image;
 use host_node::{Kind, Tree};
+use mount_file::Program;
 use sn_base::Memory;
 use sn_errno::Errno;
+use sn_text::Text;
 use std::alloc::Global;
 
 /// The greatest size of an image's file, in bytes.
@@ -103,6 +105,16 @@ fn draws_just(draws: bool, name: &[u8], fresh: &[Fresh]) -> bool
     }
 }
 
+/// The name in a path of `/` and one name.
+fn name_in_path(path: &Text) -> &[u8]
+    ensures { result.now ≡ name_in_path path.now }
+{
+    match path.as_bytes() {
+        [] => &[],
+        [_, name @ ..] => name,
+    }
+}
+
 fn any_above_last(fresh: &[Fresh]) -> bool
     ensures { result ≡ list_any above_last fresh.now }
 {
@@ -146,17 +158,36 @@ impl Kernel {
         }
     }
 
-    /// Does an opening execve of a name with what it drew and met: with a rise it answers EIO.
+    /// Does the opening execve of a program with what it drew and met.
+    #[tactic(auto, using(crate::proofs::WalkLemmas::as_refused, crate::proofs::WalkLemmas::as_walked))]
     pub(crate) fn execve(
+        &mut self,
+        alloc: Global,
+        program: &Program,
+        given: &Given,
+    ) -> Result<Execved, Memory>
+        ensures { IfOk result (Executes (outcome (parts self.old) (execve_of program.now given.now)) self.old self.new) }
+    {
+        let name = name_in_path(&program.path);
+        if is_too_long(program) {
+            return self.execve_walked(alloc, name, given, Walk::refused(Errno::E2BIG));
+        }
+        let walk = self.walk(alloc, name)?;
+        self.execve_walked(alloc, name, given, walk)
+    }
+
+    /// Does an execve of a name that walked there: with a rise it answers EIO.
+    fn execve_walked(
         &mut self,
         alloc: Global,
         name: &[u8],
         given: &Given,
+        walk: Walk,
     ) -> Result<Execved, Memory>
-        ensures { IfOk result (Executes (outcome (parts self.old) (execve name.now given.now)) self.old self.new) }
+        ensures { IfOk result (Executes (outcome (parts self.old) (by_walk name.now given.now (record { draws = walk.draws; image = walk.image }))) self.old self.new) }
     {
         if given.rises.is_empty() {
-            return self.execve_walked(alloc, name, given);
+            return self.execve_unfailed(alloc, name, given, walk);
         }
         if !given.is_in_order() {
             return Ok(Execved::Unfit);
@@ -167,19 +198,20 @@ impl Kernel {
         Ok(Execved::Fails(Errno::EIO))
     }
 
-    /// Does an opening execve that met no rise: its image, where the numbers are just those that its walk draws.
-    fn execve_walked(
+    /// Does an execve that met no rise: its image, where the numbers are just those that its walk draws.
+    fn execve_unfailed(
         &mut self,
         alloc: Global,
         name: &[u8],
         given: &Given,
+        walk: Walk,
     ) -> Result<Execved, Memory>
         requires { has_any given.now.rises ≡ false }
-        ensures { IfOk result (Executes (outcome (parts self.old) (execve name.now given.now)) self.old self.new) }
+        ensures { IfOk result (Executes (outcome (parts self.old) (by_walk name.now given.now (record { draws = walk.draws; image = walk.image }))) self.old self.new) }
     {
-        let walk = self.walk(alloc, name)?;
+        let Walk { draws, image } = walk;
         let fresh = given.fresh.as_slice();
-        if !draws_just(walk.draws, name, fresh) {
+        if !draws_just(draws, name, fresh) {
             return Ok(Execved::Unfit);
         }
         if any_above_last(fresh) {
@@ -188,6 +220,6 @@ impl Kernel {
         if !self.number_all(alloc, fresh)? {
             return Ok(Execved::Unfit);
         }
-        Ok(Execved::by_image(walk.image))
+        Ok(Execved::by_image(image))
     }
 }

@@ -10,9 +10,8 @@ use Rattle.sn_edge.specs.Reading.{ReadsWithin}
 use Rattle.sn_errno.specs.declared.errno.Errno.{Errno}
 use Rattle.kernel_model.specs.declared.entry.Entry.{Entry}
 use Rattle.kernel_model.specs.declared.kernel.Kernel.{Kernel}
-use Rattle.kernel_model.specs.declared.mounts.Mounts.{Mounts}
-use Rattle.kernel_model.specs.declared.mounts.MountFault.{MountFault}
-use Rattle.kernel_model.specs.declared.mounts.MountFault.TheVariants.{Field}
+use Rattle.mount_file.specs.declared.mounts.Mounts.{Mounts}
+use Rattle.mount_file.specs.declared.mounts.MountFault.{MountFault}
 use Rattle.kernel_model.specs.declared.opening.Opening.{Opening}
 use Rattle.kernel_model.specs.Opening.{Refuses}
 use Rattle.kernel_model.specs.Words.{Command}
@@ -21,7 +20,7 @@ use Rattle.sentry_run.specs.declared.outcome.Fault.TheVariants as faults
 use Rattle.sentry_run.specs.declared.outcome.Outcome.{Outcome}
 use Rattle.sentry_run.specs.Ran.{ReadsAs, FailsToRead}
 use Rattle.sentry_run.specs.Status.{status_of}
-use Rattle.sentry_run.specs.Outcome.{ReadsMounts, ReadsNoMounts, granted, begun, state_after, world_after, WhereRead, RefusesAs, refused_kernel, IsUnread}
+use Rattle.sentry_run.specs.Outcome.{ReadsMounts, HasMountFault, granted, begun, state_after, world_after, WhereRead, RefusesAs, refused_kernel, IsUnread}
 use Rattle.sentry_run.proofs.Courses.{Began, state_of}
 use Rattle.sentry_run.proofs.RunFacts.{AnyFacts, ToldFacts}
 use Rattle.sentry_run.proofs.Ways.{Sides, Over, Way, Misused, Unread, Over_file}
@@ -154,14 +153,9 @@ unread_world s r (Misused e n) h = n.same_world
 unread_world s r (Unread command e w u) h = u.same_world
 unread_world s r (Over_file command e w m d o) h = let f : None ≡ Some m = sym h ∙ o.read in cc
 
-pub mounts_kind : (s : Sides) (r : Outcome) → Way s r → (f : MountFault) → r.fault ≡ faults.Mounts f → f ≡ Field
-mounts_kind s r (Misused e n) f h = let g = usage_is (faults.Mounts f) r n.refused.fault h in cc
-mounts_kind s r (Unread command e w u) f h = (fails_as s command r (faults.Mounts f) u.fails h).0
-mounts_kind s r (Over_file command e w m d o) f h = absurd (any_as s command m r (faults.Mounts f) o h)
-
-pub mounts_bytes : (s : Sides) (r : Outcome) → Way s r → (f : MountFault) → r.fault ≡ faults.Mounts f → ReadsNoMounts s.words s.shelf
+pub mounts_bytes : (s : Sides) (r : Outcome) → Way s r → (f : MountFault) → r.fault ≡ faults.Mounts f → HasMountFault s.words s.shelf f
 mounts_bytes s r (Misused e n) f h = let g = usage_is (faults.Mounts f) r n.refused.fault h in cc
-mounts_bytes s r (Unread command e w u) f h = subst (λ (c : Option Command). ReadsNoMounts c s.shelf) (sym e) (fails_as s command r (faults.Mounts f) u.fails h).1
+mounts_bytes s r (Unread command e w u) f h = subst (λ (c : Option Command). HasMountFault c s.shelf f) (sym e) (fails_as s command r (faults.Mounts f) u.fails h)
 mounts_bytes s r (Over_file command e w m d o) f h = absurd (any_as s command m r (faults.Mounts f) o h)
 
 -- ---- grant and image

@@ -1,5 +1,5 @@
 -- How the opening and the run of one task end, from what the walk to its program gave.
-use Rattle.std.proofs.Common.{◌≡◌, ◌≢◌, inr, ℕ, ◌+◌, ◌-◌, ◌<◌, ◌^◌, true, List, [], ◌∷◌, refl, ap, sym, ◌∙◌, subst, arith}
+use Rattle.std.proofs.Common.{◌≡◌, ◌≢◌, inr, ℕ, ◌+◌, ◌-◌, ◌<◌, ◌^◌, Bool, true, false, List, [], ◌∷◌, refl, ap, sym, ◌∙◌, subst, arith}
 use Rattle.std.specs.Prelude.{Option, Some, None, Ok, Err, unwrap_or, min, slice_get}
 use Rattle.std.specs.Option.{option_map_or}
 use Rattle.std.specs.Ordering.{nat_cmp}
@@ -13,19 +13,21 @@ use Rattle.sn_errno.specs.declared.errno.Errno.{Errno}
 use Rattle.elf_image.specs.declared.image.Image.{Image}
 use Rattle.kernel_model.specs.declared.entry.Entry.{Entry}
 use Rattle.kernel_model.specs.declared.kernel.Kernel.{Kernel}
-use Rattle.kernel_model.specs.declared.mounts.Mounts.{Mounts}
-use Rattle.kernel_model.specs.declared.mounts.Program.{Program}
+use Rattle.mount_file.specs.declared.mounts.Mounts.{Mounts}
+use Rattle.mount_file.specs.declared.mounts.Program.{Program}
 use Rattle.kernel_model.specs.declared.opening.Opening.{Opening}
 use Rattle.kernel_model.specs.declared.opening.Given.{Given}
 use Rattle.kernel_model.specs.Parts.{changed, run}
 use Rattle.kernel_model.specs.Image.{space_of, count_up}
 use Rattle.kernel_model.specs.FileTree.{Nodes, owner_executes, root_node, child_node, numbered_in}
 use Rattle.kernel_model.specs.Faulted.{node_changes}
-use Rattle.kernel_model.specs.Opening.{opening_of, Opens, Refuses, Executed, Fails, executed, by_image, bare, execve, task_begun, rooted}
+use Rattle.kernel_model.specs.Opening.{opening_of, Opens, Refuses, Executed, Fails, executed, by_image, bare, execve, execve_of, name_in_path, task_begun, rooted}
+use Rattle.kernel_model.specs.Arguments.{is_too_long}
+use Rattle.sn_errno.specs.declared.errno.Errno.TheVariants.{E2BIG}
 use Rattle.kernel_model.specs.History.{replay, each_whole}
 use Rattle.kernel_model.specs.Settled.{tree_now, count_now}
 use Rattle.kernel_model.specs.Numbers.{IsGapless, numbers_opened}
-use Rattle.kernel_model.proofs.OneRoot.{one, root_of, drawn_nodes, execve_nothing, execve_drawn, execve_root_failed, execve_child_failed}
+use Rattle.kernel_model.proofs.OneRoot.{one, root_of, drawn_nodes, execve_short, execve_long, execve_nothing, execve_drawn, execve_root_failed, execve_child_failed}
 use Rattle.kernel_model.proofs.OneTask.{opening_by, plain_root, plain_child}
 use Rattle.sentry_run.specs.declared.walk.Met.{Met}
 use Rattle.sentry_run.specs.declared.walk.Met.TheVariants.{Nothing, RootFailed, Drawn, ChildFailed}
@@ -34,7 +36,7 @@ use Rattle.sentry_run.specs.declared.play.End.{End}
 use Rattle.sentry_run.specs.declared.play.End.TheVariants as ends
 use Rattle.sentry_run.specs.Machine.{kernel_with, task_of_image, Leaves}
 use Rattle.sentry_run.specs.Walk.{given_by, faulted_by}
-use Rattle.sentry_run.specs.Played.{no_left, task_named, NamesTask, record_of, Fits, given_back, Runs, Failed, Ended, RanFrom, over, nothing_opened}
+use Rattle.sentry_run.specs.Played.{no_left, NamesTask, first_is_too_long, record_of, Fits, FitsFor, given_back, Runs, Failed, Ended, RanFrom, over, nothing_opened}
 
 -- ---- counts
 
@@ -117,38 +119,50 @@ tree_root_failed t d =
 
 -- ---- the opening
 
-opened_by : (m : Mounts) (t : Shape) (name : List ℕ) (met : Met) (opening : Opening) (e : Executed) → NamesTask m name → opening ≡ record_of m (task_named name) (given_by name met)
-    → run (one t) (execve name (given_by name met)) ≡ e → opening_of m (t ∷ []) opening ≡ task_begun (λ k. Opens k) 1 (bare (t ∷ [])) e
+opened_by : (m : Mounts) (t : Shape) (name : List ℕ) (met : Met) (opening : Opening) (e : Executed) → (n : NamesTask m name) → opening ≡ record_of m n.program (given_by name met)
+    → run (one t) (execve_of n.program (given_by name met)) ≡ e → opening_of m (t ∷ []) opening ≡ task_begun (λ k. Opens k) 1 (bare (t ∷ [])) e
 opened_by m t name met opening e n o x =
     ap (opening_of m (t ∷ [])) o
-    ∙ opening_by m t (task_named name) (given_by name met) n.one_mount n.tasks
+    ∙ opening_by m t n.program (given_by name met) n.one_mount n.tasks
     ∙ ap (task_begun (λ k. Opens k) 1 (bare (t ∷ []))) x
+
+-- an execve that walks, by the name in its path
+walked_by_name : (t : Shape) (p : Program) (name : List ℕ) (given : Given) → is_too_long p.args p.env ≡ false → p.path ≡ 47 ∷ name → run (one t) (execve_of p given) ≡ run (one t) (execve name given)
+walked_by_name t p name given short path = execve_short t p given short ∙ ap (λ (ns : List ℕ). run (one t) (execve (name_in_path ns) given)) path
+
+short_task : (m : Mounts) (p : Program) (b : Bool) → m.tasks ≡ p ∷ [] → first_is_too_long m.tasks ≡ b → is_too_long p.args p.env ≡ b
+short_task m p b tasks is = sym (ap first_is_too_long tasks) ∙ is
+
+opened_walking : (m : Mounts) (t : Shape) (name : List ℕ) (met : Met) (opening : Opening) (e : Executed) → (n : NamesTask m name) → first_is_too_long m.tasks ≡ false → opening ≡ record_of m n.program (given_by name met)
+    → run (one t) (execve name (given_by name met)) ≡ e → opening_of m (t ∷ []) opening ≡ task_begun (λ k. Opens k) 1 (bare (t ∷ [])) e
+opened_walking m t name met opening e n short o x =
+    opened_by m t name met opening e n o (walked_by_name t n.program name (given_by name met) (short_task m n.program false n.tasks short) n.path ∙ x)
 
 -- the kernel that an image's opening starts
 abbrev pub started : Shape → List ℕ → Shape → Image → Kernel
 started t name s image = kernel_with (task_of_image image) (space_of image) [] (nodes_drawn t name s) map.empty 0
 
-pub opens_image : (m : Mounts) (t : Shape) (name : List ℕ) (s : Shape) (image : Image) (opening : Opening) → NamesTask m name → opening ≡ record_of m (task_named name) (given_by name Drawn)
+pub opens_image : (m : Mounts) (t : Shape) (name : List ℕ) (s : Shape) (image : Image) (opening : Opening) → (n : NamesTask m name) → first_is_too_long m.tasks ≡ false → opening ≡ record_of m n.program (given_by name Drawn)
     → owner_executes t ≡ true → child_of name t ≡ Some s → executed s ≡ Ok image → opening_of m (t ∷ []) opening ≡ Opens (started t name s image)
-opens_image m t name s image opening n o x c i =
-    opened_by m t name Drawn opening (by_image (Ok image) (node_changes (drawn_nodes t name s))) n o (execve_drawn t name s x c ∙ ap (λ r. by_image r (node_changes (drawn_nodes t name s))) i)
+opens_image m t name s image opening n short o x c i =
+    opened_walking m t name Drawn opening (by_image (Ok image) (node_changes (drawn_nodes t name s))) n short o (execve_drawn t name s x c ∙ ap (λ r. by_image r (node_changes (drawn_nodes t name s))) i)
 
 -- ---- how it ends
 
 -- an image that began
 pub ended_starts : (m : Mounts) (t : Shape) (name : List ℕ) (met : Met) (image : Image) (opening : Opening) (trace : List Entry) (end : End)
-    → NamesTask m name → opening ≡ record_of m (task_named name) (given_by name met) → faults_of t < 2 ^ 64 → Fits t name met (answers.Starts image)
+    → (n : NamesTask m name) → first_is_too_long m.tasks ≡ false → opening ≡ record_of m n.program (given_by name met) → faults_of t < 2 ^ 64 → Fits t name met (answers.Starts image)
     → ((nodes : Nodes) → RanFrom nodes (kernel_with (task_of_image image) (space_of image) [] nodes map.empty 0) m.entries end trace)
     → Ended m t (given_back t name met) opening trace end
-ended_starts m t name Nothing image opening trace end n o h f ran = absurd f
-ended_starts m t name (RootFailed d) image opening trace end n o h f ran = absurd f
-ended_starts m t name (ChildFailed d) image opening trace end n o h f ran = absurd f
-ended_starts m t name Drawn image opening trace end n o h f ran = by_end end (ran (nodes_drawn t name f.0))
+ended_starts m t name Nothing image opening trace end n short o h f ran = absurd f
+ended_starts m t name (RootFailed d) image opening trace end n short o h f ran = absurd f
+ended_starts m t name (ChildFailed d) image opening trace end n short o h f ran = absurd f
+ended_starts m t name Drawn image opening trace end n short o h f ran = by_end end (ran (nodes_drawn t name f.0))
   where
     runs : (state : Kernel) → replay (started t name f.0 image) trace ≡ Some state → each_whole (started t name f.0 image) trace ≡ true → state.nodes ≡ nodes_drawn t name f.0 → state.failed ≡ map.empty → Runs m t t opening trace state
     runs state r w e g = record {
       start = started t name f.0 image;
-      opens = opens_image m t name f.0 image opening n o f.1 f.2 f.3;
+      opens = opens_image m t name f.0 image opening n short o f.1 f.2 f.3;
       replayed = r;
       whole = w;
       settles = tree_drawn state t name f.0 e g f.2 h f.4;
@@ -168,36 +182,63 @@ ended_starts m t name Drawn image opening trace end n o h f ran = by_end end (ra
 
 -- an execve that failed
 pub failed_refuses : (m : Mounts) (t : Shape) (name : List ℕ) (met : Met) (errno : Errno) (opening : Opening)
-    → NamesTask m name → opening ≡ record_of m (task_named name) (given_by name met) → faults_of t < 2 ^ 64 → Fits t name met (answers.Refuses errno) → Failed m t (given_back t name met) opening errno
-failed_refuses m t name Nothing errno opening n o h f = record {
+    → (n : NamesTask m name) → first_is_too_long m.tasks ≡ false → opening ≡ record_of m n.program (given_by name met) → faults_of t < 2 ^ 64 → Fits t name met (answers.Refuses errno) → Failed m t (given_back t name met) opening errno
+failed_refuses m t name Nothing errno opening n short o h f = record {
   left = bare (t ∷ []);
-  refuses = opened_by m t name Nothing opening (Fails errno []) n o (execve_nothing t name (Err errno) f);
+  refuses = opened_walking m t name Nothing opening (Fails errno []) n short o (execve_nothing t name (Err errno) f);
   settles = tree_bare t h;
 }
-failed_refuses m t name (RootFailed d) errno opening n o h f = record {
+failed_refuses m t name (RootFailed d) errno opening n short o h f = record {
   left = root_risen t d;
-  refuses = opened_by m t name (RootFailed d) opening _ n o (execve_root_failed t name d f.1) ∙ ap (Refuses (root_risen t d) 1) (sym f.0);
+  refuses = opened_walking m t name (RootFailed d) opening _ n short o (execve_root_failed t name d f.1) ∙ ap (Refuses (root_risen t d) 1) (sym f.0);
   settles = tree_root_failed t d;
 }
-failed_refuses m t name Drawn errno opening n o h f = record {
+failed_refuses m t name Drawn errno opening n short o h f = record {
   left = changed (node_changes (drawn_nodes t name f.0)) (bare (t ∷ []));
-  refuses = opened_by m t name Drawn opening (by_image (Err errno) (node_changes (drawn_nodes t name f.0))) n o (execve_drawn t name f.0 f.1 f.2 ∙ ap (λ r. by_image r (node_changes (drawn_nodes t name f.0))) f.3);
+  refuses = opened_walking m t name Drawn opening (by_image (Err errno) (node_changes (drawn_nodes t name f.0))) n short o (execve_drawn t name f.0 f.1 f.2 ∙ ap (λ r. by_image r (node_changes (drawn_nodes t name f.0))) f.3);
   settles = tree_drawn (changed (node_changes (drawn_nodes t name f.0)) (bare (t ∷ []))) t name f.0 refl refl f.2 h f.4;
 }
-failed_refuses m t name (ChildFailed d) errno opening n o h f =
+failed_refuses m t name (ChildFailed d) errno opening n short o h f =
     let k : Kernel = record (changed (node_changes (drawn_nodes t name f.0)) (bare (t ∷ []))) { failed = map.insert map.empty 2 (capped (0 + d)) } in
     record {
       left = k;
-      refuses = opened_by m t name (ChildFailed d) opening _ n o (execve_child_failed t name f.0 d f.3 f.1) ∙ ap (Refuses k 1) (sym f.2);
+      refuses = opened_walking m t name (ChildFailed d) opening _ n short o (execve_child_failed t name f.0 d f.3 f.1) ∙ ap (Refuses k 1) (sym f.2);
       settles = tree_child_failed k t name f.0 d refl refl h ∙ ap (λ c. Some (option_map_or (λ s. with_child name (faulted_by d s) (lend_child name t)) c t)) (sym f.1);
     }
 
+-- an execve whose strings are too long
+long_refuses : (m : Mounts) (t : Shape) (name : List ℕ) (opening : Opening) → (n : NamesTask m name) → first_is_too_long m.tasks ≡ true → opening ≡ record_of m n.program (given_by name Nothing) → faults_of t < 2 ^ 64
+    → Failed m t t opening E2BIG
+long_refuses m t name opening n long o h = record {
+  left = bare (t ∷ []);
+  refuses = opened_by m t name Nothing opening (Fails E2BIG []) n o (execve_long t n.program (short_task m n.program true n.tasks long));
+  settles = tree_bare t h;
+}
+
+-- ---- the same, whether the strings are too long or not
+
+pub starts_for : (b : Bool) (m : Mounts) (t : Shape) (name : List ℕ) (met : Met) (image : Image) (opening : Opening) (trace : List Entry) (end : End)
+    → (n : NamesTask m name) → first_is_too_long m.tasks ≡ b → opening ≡ record_of m n.program (given_by name met) → faults_of t < 2 ^ 64 → FitsFor b t name met (answers.Starts image)
+    → ((nodes : Nodes) → RanFrom nodes (kernel_with (task_of_image image) (space_of image) [] nodes map.empty 0) m.entries end trace)
+    → Ended m t (given_back t name met) opening trace end
+starts_for true m t name met image opening trace end n is o h f ran = absurd (let e = f.1 in cc)
+starts_for false m t name met image opening trace end n is o h f ran = ended_starts m t name met image opening trace end n is o h f ran
+
+pub refuses_for : (b : Bool) (m : Mounts) (t : Shape) (name : List ℕ) (met : Met) (errno : Errno) (opening : Opening)
+    → (n : NamesTask m name) → first_is_too_long m.tasks ≡ b → opening ≡ record_of m n.program (given_by name met) → faults_of t < 2 ^ 64 → FitsFor b t name met (answers.Refuses errno)
+    → Failed m t (given_back t name met) opening errno
+refuses_for true m t name met errno opening n is o h f =
+    let errno_is : E2BIG ≡ errno = let e = f.1 in cc in
+    let as_nothing : opening ≡ record_of m n.program (given_by name Nothing) = o ∙ ap (λ (x : Met). record_of m n.program (given_by name x)) f.0 in
+    subst (λ (x : Met). Failed m t (given_back t name x) opening errno) (sym f.0) (subst (λ (x : Errno). Failed m t t opening x) errno_is (long_refuses m t name opening n is as_nothing h))
+refuses_for false m t name met errno opening n is o h f = failed_refuses m t name met errno opening n is o h f
+
 -- the numbers of an opening
-pub gapless : (m : Mounts) (name : List ℕ) (met : Met) (opening : Opening) → opening ≡ record_of m (task_named name) (given_by name met) → IsGapless (numbers_opened opening)
+pub gapless : (m : Mounts) (program : Program) (name : List ℕ) (met : Met) (opening : Opening) → opening ≡ record_of m program (given_by name met) → IsGapless (numbers_opened opening)
 unfolding count_up
-gapless m name met opening o = subst (λ (x : Opening). IsGapless (numbers_opened x)) (sym o) (by_met met)
+gapless m program name met opening o = subst (λ (x : Opening). IsGapless (numbers_opened x)) (sym o) (by_met met)
   where
-    by_met : (met : Met) → IsGapless (numbers_opened (record_of m (task_named name) (given_by name met)))
+    by_met : (met : Met) → IsGapless (numbers_opened (record_of m program (given_by name met)))
     by_met Nothing = refl
     by_met (RootFailed d) = refl
     by_met Drawn = refl
@@ -209,8 +250,13 @@ unfolding count_up
 gapless_nothing opening o = subst (λ (x : Opening). IsGapless (numbers_opened x)) (sym o) refl
 
 -- the program that stands first is the one task
-pub first_task : (m : Mounts) (name : List ℕ) (p : Program) (given : Given) (opening : Opening) → NamesTask m name → slice_get m.tasks 0 ≡ Some p → opening ≡ record_of m p given → opening ≡ record_of m (task_named name) given
+pub first_task : (m : Mounts) (name : List ℕ) (p : Program) (given : Given) (opening : Opening) → (n : NamesTask m name) → slice_get m.tasks 0 ≡ Some p → opening ≡ record_of m p given → opening ≡ record_of m n.program given
 first_task m name p given opening n e o =
-    let same : Some (task_named name) ≡ Some p = ap (λ ps. slice_get ps 0) (sym n.tasks) ∙ e in
-    let program : task_named name ≡ p = cc in
+    let same : Some n.program ≡ Some p = ap (λ ps. slice_get ps 0) (sym n.tasks) ∙ e in
+    let program : n.program ≡ p = cc in
     o ∙ ap (λ (q : Program). record_of m q given) (sym program)
+
+-- the strings of the program that stands first
+pub first_long : (ps : List Program) (p : Program) → slice_get ps 0 ≡ Some p → first_is_too_long ps ≡ is_too_long p.args p.env
+first_long [] p e = cc
+first_long (q ∷ qs) p e = let same : q ≡ p = cc in ap (λ (x : Program). is_too_long x.args x.env) same

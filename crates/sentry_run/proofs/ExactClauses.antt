@@ -9,20 +9,22 @@ use Rattle.sn_edge.specs.Shelf.{Shelf}
 use Rattle.sn_errno.specs.declared.errno.Errno.{Errno}
 use Rattle.kernel_model.specs.declared.entry.Entry.{Entry}
 use Rattle.kernel_model.specs.declared.kernel.Kernel.{Kernel}
-use Rattle.kernel_model.specs.declared.mounts.Mounts.{Mounts}
-use Rattle.kernel_model.specs.declared.mounts.Mount.{Mount}
+use Rattle.mount_file.specs.declared.mounts.Mounts.{Mounts}
+use Rattle.mount_file.specs.declared.mounts.Mount.{Mount}
 use Rattle.kernel_model.specs.declared.opening.Opening.{Opening}
-use Rattle.kernel_model.specs.MountFile.{IsMountFile, IsNoMountFile, mounts_in}
+use Rattle.mount_file.specs.MountFile.{IsMountFile, IsFaultOf}
+use Rattle.mount_file.specs.declared.mounts.MountFault.{MountFault}
+use Rattle.mount_file.proofs.Faults.{mounts_same, fault_same, no_fault}
 use Rattle.kernel_model.specs.Opening.{Opens, Refuses, Misfits, opening_of, is_of, tasks_begun, bare, same_list, same_mount, begins}
 use Rattle.kernel_model.specs.Image.{count_up}
-use Rattle.kernel_model.specs.declared.mounts.Program.{Program}
+use Rattle.mount_file.specs.declared.mounts.Program.{Program}
 use Rattle.kernel_model.specs.Words.{Command}
 use Rattle.sentry_run.specs.declared.outcome.Fault.{Fault}
 use Rattle.sentry_run.specs.declared.outcome.Fault.TheVariants as faults
 use Rattle.sentry_run.specs.declared.outcome.Outcome.{Outcome}
 use Rattle.sentry_run.specs.Played.{nothing_opened}
 use Rattle.sentry_run.specs.Ran.{ReadsAs, FailsToRead}
-use Rattle.sentry_run.specs.Outcome.{WhereTold, bytes_read, granted, begun, begun_over, WhereRead, MayFailToGrant, MayFailToStart, IsAccepted, HasEnded}
+use Rattle.sentry_run.specs.Outcome.{WhereTold, bytes_read, MeetsFault, MayFailToRead, granted, begun, begun_over, WhereRead, MayFailToGrant, MayFailToStart, IsAccepted, HasEnded}
 use Rattle.sentry_run.proofs.RunFacts.{ToldFacts}
 use Rattle.sentry_run.proofs.Ways.{Sides, Over, Way, Misused, Unread, Over_file}
 use Rattle.sentry_run.proofs.Clauses.{any_as, told_as, where_none, where_read}
@@ -100,7 +102,7 @@ image_exact s r (Over_file command e w m d o) =
     where_read r.mounts s.world (λ m w. (k : Kernel) (task : ℕ) (errno : Errno) → begun m w r.opening ≡ Refuses k task errno → MayFailToStart task errno r.fault) m o.read
     (λ v told k task errno b. image_by m v s.world' r.opening r.trace command.trace s.sink s.sink' r.fault o.one_mount (o.told v told) k task errno b)
 
--- ---- a run of what is accepted comes to its end
+-- ---- from the bytes of a mount file to the answer
 
 told_file : (shelf : Option Shelf) (files : Shelf) (F : Shelf → Type 0) → shelf ≡ Some files → WhereTold shelf F → F files
 told_file shelf files F e h = of (subst (λ (o : Option Shelf). WhereTold o F) e h)
@@ -108,16 +110,51 @@ told_file shelf files F e h = of (subst (λ (o : Option Shelf). WhereTold o F) e
     of : WhereTold (Some files) F → F files
     of h = h
 
-same_mounts : (bytes : List ℕ) (m n : Mounts) → IsMountFile bytes m → IsMountFile bytes n → m ≡ n
-same_mounts bytes m n a b =
-    let document : a.document ≡ b.document = same_Some _ _ (sym a.parsed ∙ b.parsed) in
-    same_Some m n (sym a.fits ∙ ap mounts_in document ∙ b.fits)
+read_by : (s : Sides) (command : Command) (shelf : Shelf) (fault : MountFault) (f : Fault) → s.shelf ≡ Some shelf → IsFaultOf (bytes_read command shelf) fault → FailsToRead command s.shelf s.count s.now f → MayFailToRead fault f
+read_by s command shelf fault faults.SourceFault e is h = tt
+read_by s command shelf fault (faults.Mounts f) e is h = fault_same (bytes_read command shelf) f fault (told_file s.shelf shelf (λ x. IsFaultOf (bytes_read command x) f) e h) is
+read_by s command shelf fault faults.Memory e is h = tt
+read_by s command shelf fault faults.Done e is h = absurd h
+read_by s command shelf fault faults.Full e is h = absurd h
+read_by s command shelf fault faults.Usage e is h = absurd h
+read_by s command shelf fault (faults.Image task errno) e is h = absurd h
+read_by s command shelf fault faults.SinkFault e is h = absurd h
+read_by s command shelf fault faults.Stuck e is h = absurd h
+read_by s command shelf fault faults.HostFault e is h = absurd h
+read_by s command shelf fault (faults.Grant n) e is h = absurd h
+
+-- the command and the shelf of a fault that is met
+pub record Met (s : Sides) (fault : MountFault) : Type 0 where
+  pub command : Command
+  pub shelf : Shelf
+  pub words_are : s.words ≡ Some command
+  pub shelf_is : s.shelf ≡ Some shelf
+  pub fault_is : IsFaultOf (bytes_read command shelf) fault
+
+met_by : (s : Sides) (fault : MountFault) (words : Option Command) (shelf : Option Shelf) → s.words ≡ words → s.shelf ≡ shelf → MeetsFault words shelf fault → Met s fault
+met_by s fault None shelf e f meets = absurd meets
+met_by s fault (Some command) None e f meets = absurd meets
+met_by s fault (Some command) (Some shelf) e f meets = record { command = command; shelf = shelf; words_are = e; shelf_is = f; fault_is = meets }
+
+pub mounts_exact : (s : Sides) (r : Outcome) → Way s r → (fault : MountFault) → MeetsFault s.words s.shelf fault → MayFailToRead fault r.fault
+mounts_exact s r way fault meets = by way (met_by s fault s.words s.shelf refl refl meets)
+  where
+    by : Way s r → Met s fault → MayFailToRead fault r.fault
+    by (Misused e n) m = let f : None ≡ Some m.command = sym e ∙ m.words_are in cc
+    by (Unread command e w u) m =
+        let same : m.command ≡ command = same_Some _ _ (sym m.words_are ∙ e) in
+        read_by s command m.shelf fault r.fault m.shelf_is (subst (λ (c : Command). IsFaultOf (bytes_read c m.shelf) fault) same m.fault_is) u.fails
+    by (Over_file command e w mounts d o) m =
+        let same : m.command ≡ command = same_Some _ _ (sym m.words_are ∙ e) in
+        absurd (no_fault (bytes_read command m.shelf) mounts fault (told_file s.shelf m.shelf (λ x. IsMountFile (bytes_read command x) mounts) m.shelf_is d) (subst (λ (c : Command). IsFaultOf (bytes_read c m.shelf) fault) same m.fault_is))
+
+-- ---- a run of what is accepted comes to its end
 
 unread_end : (s : Sides) (command : Command) (o : Opening) (f : Fault) → s.words ≡ Some command → IsAccepted s.words s.shelf s.world o → (Rose s.count s.now → ⊥) → FailsToRead command s.shelf s.count s.now f → HasEnded f
 unread_end s command o faults.SourceFault e a no_rise h = absurd (no_rise h)
 unread_end s command o (faults.Mounts f) e a no_rise h =
     let same : a.command ≡ command = same_Some _ _ (sym a.words_are ∙ e) in
-    absurd (told_file s.shelf a.files (λ x. IsNoMountFile (bytes_read command x)) a.files_are h.1 a.mounts (subst (λ (c : Command). IsMountFile (bytes_read c a.files) a.mounts) same a.file))
+    no_fault (bytes_read command a.files) a.mounts f (subst (λ (c : Command). IsMountFile (bytes_read c a.files) a.mounts) same a.file) (told_file s.shelf a.files (λ x. IsFaultOf (bytes_read command x) f) a.files_are h)
 unread_end s command o faults.Memory e a no_rise h = tt
 unread_end s command o faults.Done e a no_rise h = tt
 unread_end s command o faults.Full e a no_rise h = tt
@@ -136,7 +173,7 @@ not_none (Some x) h e = cc
 file_is : (s : Sides) (command : Command) (m : Mounts) (r : Outcome) → s.words ≡ Some command → ReadsAs command s.shelf m → (a : IsAccepted s.words s.shelf s.world r.opening) → a.mounts ≡ m
 file_is s command m r e d a =
     let same : a.command ≡ command = same_Some _ _ (sym a.words_are ∙ e) in
-    same_mounts (bytes_read command a.files) a.mounts m (subst (λ (c : Command). IsMountFile (bytes_read c a.files) a.mounts) same a.file) (told_file s.shelf a.files (λ x. IsMountFile (bytes_read command x) m) a.files_are d)
+    mounts_same (bytes_read command a.files) a.mounts m (subst (λ (c : Command). IsMountFile (bytes_read c a.files) a.mounts) same a.file) (told_file s.shelf a.files (λ x. IsMountFile (bytes_read command x) m) a.files_are d)
 
 over_end : (s : Sides) (command : Command) (m : Mounts) (r : Outcome) (f : Fault) → s.words ≡ Some command → ReadsAs command s.shelf m → Over s command m r → r.fault ≡ f → IsAccepted s.words s.shelf s.world r.opening
     → (Rose s.hosts s.hosts' → ⊥) → (Rose s.sinks s.sinks' → ⊥) → HasEnded f

@@ -1,5 +1,5 @@
 -- What a root tells once the program's node is back in its place.
-use Rattle.std.proofs.Common.{◌≡◌, inl, inr, ℕ, ◌<◌, ◌^◌, true, false, List, [], ◌∷◌, refl, ap, sym, ◌∙◌, subst}
+use Rattle.std.proofs.Common.{◌≡◌, inl, inr, ℕ, ◌<◌, ◌^◌, Bool, true, false, List, [], ◌∷◌, refl, ap, sym, ◌∙◌, subst}
 use Rattle.std.specs.Prelude.{Option, Some, None, Err, IfSome, IsSomeAnd, option_map, slice_get, if◌then◌else◌}
 use Rattle.std.specs.Option.{option_map_or}
 use Rattle.host_node.specs.declared.kind.Kind.{Kind}
@@ -12,8 +12,8 @@ use Rattle.host_node.proofs.RouteLemmas.{put-put_subtree, none_lent-subtree, is_
 use Rattle.sn_errno.specs.declared.errno.Errno.{Errno}
 use Rattle.sn_errno.specs.declared.errno.Errno.TheVariants.{ENOENT, EACCES}
 use Rattle.kernel_model.specs.declared.entry.Entry.{Entry}
-use Rattle.kernel_model.specs.declared.mounts.Mounts.{Mounts}
-use Rattle.kernel_model.specs.declared.mounts.Mount.{Mount}
+use Rattle.mount_file.specs.declared.mounts.Mounts.{Mounts}
+use Rattle.mount_file.specs.declared.mounts.Mount.{Mount}
 use Rattle.kernel_model.specs.declared.opening.Opening.{Opening}
 use Rattle.kernel_model.specs.FileTree.{owner_executes}
 use Rattle.kernel_model.specs.WalkedIn.{walked_in, walked_by}
@@ -23,8 +23,8 @@ use Rattle.sentry_run.specs.declared.walk.Answer.{Answer}
 use Rattle.sentry_run.specs.declared.walk.Answer.TheVariants.{Starts, Refuses, Memory}
 use Rattle.sentry_run.specs.declared.play.End.{End}
 use Rattle.sentry_run.specs.declared.play.End.TheVariants as ends
-use Rattle.sentry_run.specs.Walk.{faulted_by, Loads, LendsFrom, Walks, WalksTo}
-use Rattle.sentry_run.specs.Played.{Fits, given_back, Ended}
+use Rattle.sentry_run.specs.Walk.{faulted_by, Loads, LendsFrom, WalksTo, Unwalked, Execves}
+use Rattle.sentry_run.specs.Played.{Fits, FitsFor, given_back, Ended}
 use Rattle.sentry_run.specs.PlayedMachine.{IsInner}
 use Rattle.sentry_run.specs.Granted.{PlaysRoot, IsUngranted, first_names, Plays, PlaysIn, PlaysOver}
 
@@ -149,24 +149,33 @@ walked_alone t name root met answer (inr (inr (inr h))) = h.2 ∙ ap (λ m. Some
 -- ---- a run over a root, where it tells
 
 -- what was shown of each tree that fits
-abbrev pub EndsForAll : Mounts → List ℕ → Met → Answer → Opening → List Entry → End → Type 0
-EndsForAll mounts name met answer opening trace end = (t : Shape) → faults_of t < 2 ^ 64 → Fits t name met answer → Ended mounts t (given_back t name met) opening trace end
+abbrev pub EndsForAll : Bool → Mounts → List ℕ → Met → Answer → Opening → List Entry → End → Type 0
+EndsForAll is_long mounts name met answer opening trace end = (t : Shape) → faults_of t < 2 ^ 64 → FitsFor is_long t name met answer → Ended mounts t (given_back t name met) opening trace end
 
-pub plays_back : (mounts : Mounts) (name : List ℕ) (told root : Option Shape) (child : Option Shape) (met : Met) (answer : Answer) (after : Option Shape) (opening : Opening) (trace : List Entry) (end : End)
-    → Walks told name root (Some child) met answer → TakesBack name root child after → EndsForAll mounts name met answer opening trace end → PlaysRoot mounts told after opening trace end
-plays_back mounts name None root child met answer after opening trace end w b ends = subst (λ (o : Option Shape). TakesBack name o child after) w b
-plays_back mounts name (Some t) root child met answer after opening trace end w b ends =
+-- nothing that was not walked to has a child
+unwalked_child : (told root : Option Shape) (child : Option Shape) (met : Met) (answer : Answer) → Unwalked told root (Some child) met answer → ⊥
+unwalked_child told root child met answer u = let e = u.2 in cc
+
+pub plays_back : (b : Bool) (mounts : Mounts) (name : List ℕ) (told root : Option Shape) (child : Option Shape) (met : Met) (answer : Answer) (after : Option Shape) (opening : Opening) (trace : List Entry) (end : End)
+    → Execves b told name root (Some child) met answer → TakesBack name root child after → EndsForAll b mounts name met answer opening trace end → PlaysRoot mounts told after opening trace end
+plays_back true mounts name told root child met answer after opening trace end w b ends = absurd (unwalked_child told root child met answer w)
+plays_back false mounts name None root child met answer after opening trace end w b ends = subst (λ (o : Option Shape). TakesBack name o child after) w b
+plays_back false mounts name (Some t) root child met answer after opening trace end w b ends =
     (given_back t name met, walked_back t name root child met answer after w.1 b, ends t w.0 (walked_fits t name root (Some child) met answer w.1))
 
-pub plays_alone : (mounts : Mounts) (name : List ℕ) (told root : Option Shape) (met : Met) (answer : Answer) (opening : Opening) (trace : List Entry) (end : End)
-    → Walks told name root None met answer → EndsForAll mounts name met answer opening trace end → PlaysRoot mounts told root opening trace end
-plays_alone mounts name None root met answer opening trace end w ends = w
-plays_alone mounts name (Some t) root met answer opening trace end w ends =
+pub plays_alone : (b : Bool) (mounts : Mounts) (name : List ℕ) (told root : Option Shape) (met : Met) (answer : Answer) (opening : Opening) (trace : List Entry) (end : End)
+    → Execves b told name root None met answer → EndsForAll b mounts name met answer opening trace end → PlaysRoot mounts told root opening trace end
+plays_alone true mounts name None root met answer opening trace end w ends = w.1
+plays_alone true mounts name (Some t) root met answer opening trace end w ends =
+    (t, w.1, subst (λ (x : Shape). Ended mounts t x opening trace end) (ap (given_back t name) w.3) (ends t w.0 (w.3, w.4)))
+plays_alone false mounts name None root met answer opening trace end w ends = w
+plays_alone false mounts name (Some t) root met answer opening trace end w ends =
     (given_back t name met, walked_alone t name root met answer w.1, ends t w.0 (walked_fits t name root None met answer w.1))
 
-pub takes_back : (name : List ℕ) (told root : Option Shape) (child : Option Shape) (met : Met) (answer : Answer) → Walks told name root (Some child) met answer → CanTakeBack name root
-takes_back name None root child met answer w = subst (λ (o : Option Shape). CanTakeBack name o) (sym w) tt
-takes_back name (Some t) root child met answer w = can_take_back t name root child met answer w.1
+pub takes_back : (b : Bool) (name : List ℕ) (told root : Option Shape) (child : Option Shape) (met : Met) (answer : Answer) → Execves b told name root (Some child) met answer → CanTakeBack name root
+takes_back true name told root child met answer w = absurd (unwalked_child told root child met answer w)
+takes_back false name None root child met answer w = subst (λ (o : Option Shape). CanTakeBack name o) (sym w) tt
+takes_back false name (Some t) root child met answer w = can_take_back t name root child met answer w.1
 
 -- an option that is no `Some`
 pub not_some : {A : Type 0} (o : Option A) → ((x : A) → o ≡ Some x → ⊥) → o ≡ None

@@ -1,9 +1,6 @@
 pub mod MachineRows
 pub mod Walks
 pub mod Histories
-pub mod Views
-pub mod Hex
-pub mod MountFiles
 pub mod Closed
 pub mod Groups
 pub mod Lines
@@ -17,9 +14,3 @@ pub mod Ways
 pub mod Clauses
 pub mod TraceClauses
 pub mod ExactClauses
-pub mod MemoryPlaceLemmas
-pub mod MemoryPlanLaws
-pub mod MemoryWorlds
-pub mod FolderOrder
-pub mod FolderPaths
-pub mod FolderReads

@@ -8,7 +8,7 @@ use Rattle.sn_base.specs.Faults.{Rose}
 use Rattle.sn_edge.specs.Taken.{with_taken}
 use Rattle.kernel_model.specs.declared.entry.Entry.{Entry}
 use Rattle.kernel_model.specs.declared.kernel.Kernel.{Kernel}
-use Rattle.kernel_model.specs.declared.mounts.Mounts.{Mounts}
+use Rattle.mount_file.specs.declared.mounts.Mounts.{Mounts}
 use Rattle.kernel_model.specs.declared.opening.Opening.{Opening}
 use Rattle.kernel_model.specs.History.{any_live}
 use Rattle.kernel_model.specs.Printed.{printed}

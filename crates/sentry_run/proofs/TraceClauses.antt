@@ -7,7 +7,7 @@ use Rattle.host_node.specs.Tree.{Shape}
 use Rattle.sn_edge.specs.Taken.{with_taken}
 use Rattle.kernel_model.specs.declared.entry.Entry.{Entry}
 use Rattle.kernel_model.specs.declared.kernel.Kernel.{Kernel}
-use Rattle.kernel_model.specs.declared.mounts.Mounts.{Mounts}
+use Rattle.mount_file.specs.declared.mounts.Mounts.{Mounts}
 use Rattle.kernel_model.specs.declared.opening.Opening.{Opening}
 use Rattle.kernel_model.specs.declared.opening.Left.{Left}
 use Rattle.kernel_model.specs.Faulted.{numbers_of}

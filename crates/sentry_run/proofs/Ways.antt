@@ -1,11 +1,11 @@
 -- The three ways of a run: no command, no mount file, or a run over an accepted one.
-use Rattle.std.proofs.Common.{◌≡◌, ◌⊎◌, inl, inr, ℕ, ◌≤◌, List, [], length, refl, subst}
+use Rattle.std.proofs.Common.{◌≡◌, ◌⊎◌, inl, inr, ℕ, ◌≤◌, List, [], length, refl, ap, subst}
 use Rattle.std.specs.Prelude.{Option, Some, None}
 use Rattle.std.specs.List.{flat_map}
 use Rattle.host_node.specs.Tree.{Shape}
 use Rattle.sn_edge.specs.Shelf.{Shelf}
 use Rattle.sn_edge.specs.Reading.{ReadsWithin}
-use Rattle.kernel_model.specs.declared.mounts.Mounts.{Mounts}
+use Rattle.mount_file.specs.declared.mounts.Mounts.{Mounts}
 use Rattle.kernel_model.specs.Numbers.{IsGapless, numbers_opened, numbers_in}
 use Rattle.kernel_model.specs.Words.{Command}
 use Rattle.sentry_run.specs.declared.outcome.Outcome.{Outcome}
@@ -55,13 +55,13 @@ over_of s command m r ran = record {
   status = ran.status;
   read = ran.read;
   left = ran.left;
-  one_mount = ran.one.one_mount;
+  one_mount = ap length ran.one.mounts_are;
   drawn = ran.drawn;
   numbers = ran.numbers;
   bound = ran.bound;
   any = any_facts m.entries r.trace command.trace s.sink s.sink' s.sinks s.sinks' s.hosts s.hosts' r.fault ran.end ran.trace ran.host ran.concludes;
-  told = λ w e. told_facts m w s.world' r.opening r.trace command.trace s.sink s.sink' s.sinks s.sinks' r.fault ran.one.one_mount
-      (course m w s.world' r.opening r.trace command.trace s.sink s.sink' s.sinks s.sinks' r.fault ran.end ran.one.one_mount
+  told = λ w e. told_facts m w s.world' r.opening r.trace command.trace s.sink s.sink' s.sinks s.sinks' r.fault (ap length ran.one.mounts_are)
+      (course m w s.world' r.opening r.trace command.trace s.sink s.sink' s.sinks s.sinks' r.fault ran.end (ap length ran.one.mounts_are)
       (subst (λ (o : Option Shape). PlaysIn m o s.world' r.opening r.trace ran.end) e ran.plays) ran.concludes);
   untold = λ e. subst (λ (o : Option Shape). PlaysIn m o s.world' r.opening r.trace ran.end) e ran.plays;
 }

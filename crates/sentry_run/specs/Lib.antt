@@ -2,7 +2,6 @@ pub mod Machine
 pub mod MachineKernel
 pub mod Walk
 pub mod Command
-pub mod MountRead
 pub mod Played
 pub mod PlayedMachine
 pub mod Granted
@@ -10,8 +9,3 @@ pub mod Status
 pub mod Outcome
 pub mod Concluded
 pub mod Ran
-pub mod MemoryAccess
-pub mod MemoryPlaces
-pub mod MemoryLines
-pub mod MemoryPlans
-pub mod HostFolder

@@ -6,12 +6,13 @@ use Rattle.sn_edge.specs.Shelf.{Shelf, content_at}
 use Rattle.sn_errno.specs.declared.errno.Errno.{Errno}
 use Rattle.kernel_model.specs.declared.entry.Entry.{Entry}
 use Rattle.kernel_model.specs.declared.kernel.Kernel.{Kernel}
-use Rattle.kernel_model.specs.declared.mounts.Mounts.{Mounts}
-use Rattle.kernel_model.specs.declared.mounts.Mount.{Mount}
+use Rattle.mount_file.specs.declared.mounts.Mounts.{Mounts}
+use Rattle.mount_file.specs.declared.mounts.Mount.{Mount}
 use Rattle.kernel_model.specs.declared.opening.Opening.{Opening}
 use Rattle.kernel_model.specs.declared.opening.Left.{Left}
 use Rattle.kernel_model.specs.Words.{Command}
-use Rattle.kernel_model.specs.MountFile.{IsMountFile, IsNoMountFile}
+use Rattle.mount_file.specs.MountFile.{IsMountFile, IsFaultOf}
+use Rattle.mount_file.specs.declared.mounts.MountFault.{MountFault}
 use Rattle.kernel_model.specs.Opening.{Begun, Opens, Refuses, Misfits, opening_of}
 use Rattle.kernel_model.specs.History.{replay, each_whole, any_live}
 use Rattle.kernel_model.specs.Printed.{printed}
@@ -43,11 +44,25 @@ abbrev pub ReadsMounts : Option Command → Option Shelf → Option Mounts → T
 ReadsMounts None shelf mounts = mounts ≡ None
 ReadsMounts (Some command) shelf mounts = WhereTold shelf (λ s. IfSome mounts (IsMountFile (bytes_read command s)))
 
--- the file that a command names is no mount file
+-- this is the first fault of what was read of the file that a command names
 -- profile
-abbrev pub ReadsNoMounts : Option Command → Option Shelf → Type 0
-ReadsNoMounts None shelf = ⊥
-ReadsNoMounts (Some command) shelf = WhereTold shelf (λ s. IsNoMountFile (bytes_read command s))
+abbrev pub HasMountFault : Option Command → Option Shelf → MountFault → Type 0
+HasMountFault None shelf fault = ⊥
+HasMountFault (Some command) shelf fault = WhereTold shelf (λ s. IsFaultOf (bytes_read command s) fault)
+
+-- a command names a file whose bytes are told, and this is their first fault
+-- profile
+abbrev pub MeetsFault : Option Command → Option Shelf → MountFault → Type 0
+MeetsFault (Some command) (Some shelf) fault = IsFaultOf (bytes_read command shelf) fault
+MeetsFault _ _ fault = ⊥
+
+-- an answer of a run whose mount file has that fault
+-- profile
+abbrev pub MayFailToRead : MountFault → Fault → Type 0
+MayFailToRead fault (MountsRefused told) = told ≡ fault
+MayFailToRead fault SourceFault = ⊤
+MayFailToRead fault Memory = ⊤
+MayFailToRead fault _ = ⊥
 
 -- ---- the opening and the state
 

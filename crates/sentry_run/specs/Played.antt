@@ -1,17 +1,18 @@
 -- What the opening and the run of one task over one mount come to.
-use Rattle.std.specs.Prelude.{◌≡◌, ◌⊎◌, ℕ, ◌<◌, ◌^◌, List, [], ◌∷◌, length, true, false, Some, Ok, Err}
+use Rattle.std.specs.Prelude.{◌≡◌, ◌⊎◌, ℕ, ◌<◌, ◌^◌, List, [], ◌∷◌, length, Bool, true, false, Some, Ok, Err}
 use Rattle.std.specs.Option.{option_map_or}
 use Rattle.std.specs.FinMap as map
 use Rattle.host_node.specs.Tree.{Shape, faults_of, child_of, with_child, lend_child}
 use Rattle.sn_errno.specs.declared.errno.Errno.{Errno}
-use Rattle.sn_errno.specs.declared.errno.Errno.TheVariants.{EIO}
+use Rattle.sn_errno.specs.declared.errno.Errno.TheVariants.{EIO, E2BIG}
 use Rattle.kernel_model.specs.declared.entry.Entry.{Entry}
 use Rattle.kernel_model.specs.declared.kernel.Kernel.{Kernel}
-use Rattle.kernel_model.specs.declared.mounts.Mounts.{Mounts}
-use Rattle.kernel_model.specs.declared.mounts.Program.{Program}
+use Rattle.mount_file.specs.declared.mounts.Mounts.{Mounts}
+use Rattle.mount_file.specs.declared.mounts.Program.{Program}
 use Rattle.kernel_model.specs.declared.opening.Opening.{Opening}
 use Rattle.kernel_model.specs.declared.opening.Given.{Given}
 use Rattle.kernel_model.specs.declared.opening.Left.{Left}
+use Rattle.kernel_model.specs.Arguments.{is_too_long}
 use Rattle.kernel_model.specs.FileTree.{Nodes, owner_executes}
 use Rattle.kernel_model.specs.Opening.{opening_of, Opens, Refuses, executed}
 use Rattle.kernel_model.specs.History.{replay, each_whole, any_live}
@@ -31,16 +32,19 @@ use Rattle.sentry_run.specs.Walk.{faulted_by}
 abbrev pub no_left : Left
 no_left = record { rises = []; lent = [] }
 
--- the task of a path of `/` and a name, whose argument is the path
--- profile
-abbrev pub task_named : List ℕ → Program
-task_named name = record { path = 47 ∷ name; args = (47 ∷ name) ∷ []; env = [] }
-
--- a mount file of one mount, and one task of that name
+-- a mount file of one mount, and one task, whose path is `/` and that name
 -- profile
 pub record NamesTask (mounts : Mounts) (name : List ℕ) : Type 0 where
   pub one_mount : length mounts.mounts ≡ 1
-  pub tasks : mounts.tasks ≡ task_named name ∷ []
+  pub program : Program
+  pub tasks : mounts.tasks ≡ program ∷ []
+  pub path : program.path ≡ 47 ∷ name
+
+-- the strings of the first task are too many or too long
+-- execve(2), E2BIG
+abbrev pub first_is_too_long : List Program → Bool
+first_is_too_long [] = false
+first_is_too_long (program ∷ programs) = is_too_long program.args program.env
 
 -- the record of an opening with one mount and one task
 -- profile
@@ -57,6 +61,12 @@ Fits t name Drawn (answers.Refuses errno) = (s : Shape) × (owner_executes t ≡
 Fits t name (ChildFailed d) (answers.Refuses errno) = (s : Shape) × (child_of name t ≡ Some s) × (errno ≡ EIO) × (0 < d)
 Fits t name Drawn (answers.Starts image) = (s : Shape) × (owner_executes t ≡ true) × (child_of name t ≡ Some s) × (executed s ≡ Ok image) × (faults_of s < 2 ^ 64)
 Fits t name _ _ = ⊥
+
+-- the same, where nothing is walked to if the strings are too long
+-- execve(2), E2BIG
+abbrev pub FitsFor : (is_long : Bool) → Shape → List ℕ → Met → Answer → Type 0
+FitsFor true t name met answer = (met ≡ Nothing) × (answer ≡ answers.Refuses E2BIG)
+FitsFor false t name met answer = Fits t name met answer
 
 -- the tree that a grant has once all its nodes are back in their places
 -- profile

@@ -5,9 +5,8 @@ use Rattle.host_node.specs.Tree.{Shape}
 use Rattle.sn_base.specs.Faults.{Rose}
 use Rattle.sn_edge.specs.Reading.{ReadsWithin}
 use Rattle.sn_edge.specs.Shelf.{Shelf}
-use Rattle.kernel_model.specs.declared.mounts.Mounts.{Mounts}
-use Rattle.kernel_model.specs.declared.mounts.MountFault.TheVariants.{Field}
-use Rattle.kernel_model.specs.MountFile.{IsMountFile, IsNoMountFile}
+use Rattle.mount_file.specs.declared.mounts.Mounts.{Mounts}
+use Rattle.mount_file.specs.MountFile.{IsMountFile, IsFaultOf}
 use Rattle.kernel_model.specs.Numbers.{IsGapless, numbers_opened, numbers_in}
 use Rattle.kernel_model.specs.Words.{Command}
 use Rattle.sentry_run.specs.declared.outcome.Fault.{Fault}
@@ -15,7 +14,7 @@ use Rattle.sentry_run.specs.declared.outcome.Fault.TheVariants as faults
 use Rattle.sentry_run.specs.declared.outcome.Outcome.{Outcome}
 use Rattle.sentry_run.specs.declared.play.End.{End}
 use Rattle.sentry_run.specs.declared.play.End.TheVariants as ends
-use Rattle.sentry_run.specs.MountRead.{HasOneTask}
+use Rattle.mount_file.specs.Form.{HasOneTask}
 use Rattle.sentry_run.specs.Played.{nothing_opened, no_left, TraceOf}
 use Rattle.sentry_run.specs.Granted.{PlaysIn}
 use Rattle.sentry_run.specs.Concluded.{Concludes}
@@ -41,7 +40,7 @@ ReadsAs command shelf mounts = WhereTold shelf (λ s. IsMountFile (bytes_read co
 -- profile
 abbrev pub FailsToRead : Command → Option Shelf → (count now : ℕ) → Fault → Type 0
 FailsToRead command shelf count now faults.SourceFault = Rose count now
-FailsToRead command shelf count now (faults.Mounts fault) = (fault ≡ Field) × WhereTold shelf (λ s. IsNoMountFile (bytes_read command s))
+FailsToRead command shelf count now (faults.Mounts fault) = WhereTold shelf (λ s. IsFaultOf (bytes_read command s) fault)
 FailsToRead command shelf count now faults.Memory = ⊤
 FailsToRead command shelf count now _ = ⊥
 

@@ -1,11 +1,11 @@
 -- The walk of an opening execve over a host's nodes.
-use Rattle.std.specs.Prelude.{◌≡◌, ◌⊎◌, ℕ, ◌+◌, ◌/◌, ◌%◌, ◌<◌, ◌≤◌, ◌^◌, List, [], ◌∷◌, length, true, false, Option, Some, None, Ok, Err}
+use Rattle.std.specs.Prelude.{◌≡◌, ◌⊎◌, ℕ, ◌+◌, ◌/◌, ◌%◌, ◌<◌, ◌≤◌, ◌^◌, List, [], ◌∷◌, length, Bool, true, false, Option, Some, None, Ok, Err}
 use Rattle.host_node.specs.Tree.{Shape, kind_of, faults_of, with_faults, bytes_of, attr_of, is_lent, child_of, lend_child}
 use Rattle.host_node.specs.declared.kind.Kind.TheVariants.{File}
 use Rattle.host_node.specs.declared.kind.Attr.{Attr}
 use Rattle.sn_base.specs.Sums.{capped}
 use Rattle.sn_errno.specs.declared.errno.Errno.{Errno}
-use Rattle.sn_errno.specs.declared.errno.Errno.TheVariants.{EIO, ENOENT, EACCES, ENOEXEC}
+use Rattle.sn_errno.specs.declared.errno.Errno.TheVariants.{EIO, ENOENT, E2BIG, EACCES, ENOEXEC}
 use Rattle.kernel_model.specs.declared.opening.Given.{Given}
 use Rattle.kernel_model.specs.Image.{image_of}
 use Rattle.kernel_model.specs.FileTree.{owner_executes}
@@ -41,6 +41,12 @@ IsHere (Some s) = is_lent s ≡ false
 abbrev pub IsFileOf : ℕ → Option Shape → Type 0
 IsFileOf size None = Unit {0}
 IsFileOf size (Some s) = (kind_of s ≡ File) × (is_lent s ≡ false) × (length (bytes_of s) ≡ size)
+
+-- a node that is told has a count that a machine can hold
+-- profile
+abbrev pub IsCounted : Option Shape → Type 0
+IsCounted None = Unit {0}
+IsCounted (Some s) = faults_of s < 2 ^ 64
 
 -- what was read is all that a node tells
 -- read(2)
@@ -118,3 +124,12 @@ WalksTo t name root child met answer =
 abbrev pub Walks : Option Shape → List ℕ → Option Shape → Option (Option Shape) → Met → Answer → Type 0
 Walks None name root child met answer = root ≡ None
 Walks (Some t) name root child met answer = (faults_of t < 2 ^ 64) × WalksTo t name root child met answer
+
+-- what an opening execve gave: where its strings are too long nothing is walked to
+-- execve(2), E2BIG
+abbrev pub Unwalked : Option Shape → Option Shape → Option (Option Shape) → Met → Answer → Type 0
+Unwalked told root child met answer = IsCounted told × (root ≡ told) × (child ≡ None) × (met ≡ Nothing) × (answer ≡ Refuses E2BIG)
+
+abbrev pub Execves : (is_long : Bool) → Option Shape → List ℕ → Option Shape → Option (Option Shape) → Met → Answer → Type 0
+Execves true told name root child met answer = Unwalked told root child met answer
+Execves false told name root child met answer = Walks told name root child met answer

@@ -3,17 +3,17 @@ ghost use Rattle.std.specs.List.{flat_map};
 ghost use Rattle.sn_base.specs.Faults.{Rose};
 ghost use Rattle.host_node.specs.Told.{CanLend};
 ghost use Rattle.kernel_model.specs.Numbers.{IsGapless, numbers_opened, numbers_in};
-ghost use Rattle.sentry_run.specs.MountRead.{HasOneTask};
+ghost use Rattle.mount_file.specs.Form.{HasOneTask};
 ghost use Rattle.sentry_run.specs.Played.{NamesTask, TraceOf};
 ghost use Rattle.sentry_run.specs.PlayedMachine.{IsInner};
 ghost use Rattle.sentry_run.specs.Granted.{PlaysRoot, IsUngranted, PlaysIn};
 
 use crate::play::{End, Played, play_loaded, stopped};
-use crate::walk::{Walk, walk_to_program};
+use crate::walk::{Walk, execve};
 use host_node::{HostErr, HostNode, HostWorld};
-use kernel_model::Mounts;
+use mount_file::Mounts;
 use sn_base::Memory;
-use sn_text::{Name, NameFault, name_of};
+use sn_text::{Name, name_of};
 use std::alloc::Global;
 
 /// Opens and runs the one task over a granted root, and gives its nodes back to it.
@@ -27,7 +27,7 @@ fn play_root<N: HostNode>(alloc: Global, mounts: &Mounts, name: &Name, root: &mu
     ensures numbers { IsGapless (numbers_opened result.opening) }
     ensures bound { length result.trace ≤ mounts.now.entries }
 {
-    let Walk { child, loaded } = walk_to_program(alloc, root, name);
+    let Walk { child, loaded } = execve(alloc, root, mounts.tasks.at(0), name);
     let played = play_loaded(alloc, mounts, name, loaded);
     if let Some(child) = child {
         root.take_back(name, child);

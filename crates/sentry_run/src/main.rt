@@ -20,10 +20,7 @@
 mod conclude;
 mod engine;
 mod grants;
-mod host_folder;
-mod host_memory;
 mod machine;
-mod mount_file;
 mod outcome;
 mod play;
 mod report;

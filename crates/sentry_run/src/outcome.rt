@@ -1,7 +1,8 @@
 ghost use Rattle.std.specs.Prelude.{◌≡◌};
 ghost use Rattle.sentry_run.specs.Status.{status_of};
 
-use kernel_model::{Left, MountFault, Mounts, Opening, Trace};
+use kernel_model::{Left, Opening, Trace};
+use mount_file::{MountFault, Mounts};
 use sn_errno::Errno;
 
 /// How a run came out.

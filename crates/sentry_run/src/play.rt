@@ -7,14 +7,15 @@ ghost use Rattle.kernel_model.specs.Image.{space_of};
 ghost use Rattle.kernel_model.specs.Numbers.{IsGapless, numbers_opened, numbers_in};
 ghost use Rattle.sentry_run.specs.Machine.{kernel_with, task_of_image};
 ghost use Rattle.sentry_run.specs.Walk.{given_by};
-ghost use Rattle.sentry_run.specs.Played.{nothing_opened, record_of, NamesTask, Fits, given_back, Ended, RanFrom, TraceOf};
+ghost use Rattle.sentry_run.specs.Played.{nothing_opened, record_of, NamesTask, first_is_too_long, FitsFor, given_back, Ended, RanFrom, TraceOf};
 ghost use Rattle.sentry_run.specs.PlayedMachine.{EndsAs, FinishesAs, IsInner};
 
 use crate::engine::{Ran, run_machine};
 use crate::machine::Machine;
 use crate::walk::{Answer, Loaded, Met, given};
 use elf_image::Image;
-use kernel_model::{Kernel, Mount, Mounts, Opened, Opening, Program, Trace};
+use kernel_model::{Kernel, Opened, Opening, Trace};
+use mount_file::{Mount, Mounts, Program};
 use sn_base::{List, Memory};
 use sn_errno::Errno;
 use sn_text::{Name, Text};
@@ -186,7 +187,7 @@ fn ended(alloc: Global, machine: Machine, entries: u64) -> End
 /// Opens and runs the one task of a mount file, from what the walk to its program gave.
 pub fn play_loaded(alloc: Global, mounts: &Mounts, name: &Name, loaded: Loaded) -> Played
     requires { NamesTask mounts.now name.now }
-    ensures ended { (t : Shape) → faults_of t < 2 ^ 64 → Fits t name.now loaded.met loaded.answer →
+    ensures ended { (t : Shape) → faults_of t < 2 ^ 64 → FitsFor (first_is_too_long mounts.now.tasks) t name.now loaded.met loaded.answer →
         Ended mounts.now t (given_back t name.now loaded.met) result.opening result.trace result.end }
     ensures inner { IsInner result.end }
     ensures drawn { flat_map numbers_in result.trace ≡ [] }

@@ -10,8 +10,8 @@ ghost use Rattle.kernel_model.specs.Words.{accepted};
 ghost use Rattle.sentry_run.specs.Command.{command_of};
 ghost use Rattle.sentry_run.specs.Concluded.{Fronts};
 ghost use Rattle.sentry_run.specs.Granted.{IsUngranted};
-ghost use Rattle.sentry_run.specs.MountRead.{HasOneTask};
-ghost use Rattle.sentry_run.specs.Outcome.{ReadsMounts, ReadsNoMounts, granted, begun, state_after, WhereRead, WhereState, IsHistory, RefusesAs, refused_kernel};
+ghost use Rattle.mount_file.specs.Form.{HasOneTask};
+ghost use Rattle.sentry_run.specs.Outcome.{ReadsMounts, HasMountFault, MeetsFault, MayFailToRead, granted, begun, state_after, WhereRead, WhereState, IsHistory, RefusesAs, refused_kernel};
 ghost use Rattle.sentry_run.specs.Outcome.{IsUnread, HasRun, HasNotBegun, HasNoTrace, IsOver, MayFailToGrant, MayFailToStart, asks_trace, HasText, HasFront, text_of};
 ghost use Rattle.sentry_run.specs.Outcome.{IsLeftOver, IsAccepted, HasEnded, world_after, KeepsOutside};
 ghost use Rattle.sentry_run.specs.Played.{no_left};
@@ -20,12 +20,12 @@ ghost use Rattle.sentry_run.specs.Status.{status_of};
 
 use crate::conclude::{conclude, outcome};
 use crate::grants::play;
-use crate::mount_file::{ReadFault, read_mounts};
 use crate::outcome::{Fault, Outcome};
 use crate::play::no_opening;
 use crate::words::{Command, read_words};
 use host_node::HostWorld;
-use kernel_model::{Kernel, MountFault, Mounts};
+use kernel_model::Kernel;
+use mount_file::{MountFault, Mounts, read_mounts};
 use sn_base::List;
 use sn_edge::{EdgeErr, Sink, Source, read_all};
 use sn_errno::Errno;
@@ -59,8 +59,8 @@ fn load_mounts<S: Source>(
     };
     match read_mounts(alloc, bytes.as_slice()) {
         Ok(mounts) => Ok(mounts),
-        Err(ReadFault::Fault(fault)) => Err(Fault::Mounts(fault)),
-        Err(ReadFault::Memory) => Err(Fault::Memory),
+        Err(MountFault::Memory) => Err(Fault::Memory),
+        Err(fault) => Err(Fault::Mounts(fault)),
     }
 }
 
@@ -139,8 +139,8 @@ pub fn run_sentry<S: Source, W: HostWorld, K: Sink>(
     ensures source_fault { result.fault ≡ Fault.SourceFault → Rose (S.count files.old) (S.count files.new) }
     // The source is read at most to its 65,537th byte, and each read takes a byte or is the last.
     ensures source_read { ReadsWithin (S.told files.old) (S.told files.new) 65537 }
-    ensures mounts { (fault : MountFault) → result.fault ≡ Fault.Mounts fault → ReadsNoMounts (accepted (map string_bytes words.now)) (S.told files.old) }
-    ensures mounts_kind { (fault : MountFault) → result.fault ≡ Fault.Mounts fault → fault ≡ MountFault.Field }
+    ensures mounts { (fault : MountFault) → result.fault ≡ Fault.Mounts fault → HasMountFault (accepted (map string_bytes words.now)) (S.told files.old) fault }
+    ensures mounts_exact { (fault : MountFault) → MeetsFault (accepted (map string_bytes words.now)) (S.told files.old) fault → MayFailToRead fault result.fault }
     // The mount file that the outcome holds is what the bytes say.
     ensures read { ReadsMounts (accepted (map string_bytes words.now)) (S.told files.old) result.mounts }
     ensures unread { result.mounts ≡ None → IsUnread result.fault }

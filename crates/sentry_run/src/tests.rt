@@ -3,20 +3,21 @@ ghost use Rattle.host_node.specs.Tree.{none_lent};
 
 mod cases;
 mod guests;
+mod hosts;
+mod mounts;
 mod narrow;
 
-use crate::host_memory::Op;
 use crate::outcome::{Fault, Outcome};
 use cases::{
-    Case, Ended, MOUNTS, SHORT_MOUNTS, case_of, case_under, faults_at, grants, planned, run_case,
-    run_into,
+    Case, Ended, MOUNTS, SHORT_MOUNTS, case_of, case_under, faults_at, planned, run_case, run_into,
 };
 use guests::words::*;
 use guests::{
     ADDS_NOTHING, HELLO, NO_ROW, WRITES_NOTHING, add_words, guest, guest_with, longer_guest,
 };
+use host_memory::Op;
 use host_node::Tree;
-use kernel_model::{Entry, Rise};
+use kernel_model::Entry;
 use narrow::NarrowSink;
 use sn_base::List;
 use sn_edge::{MemSink, Source};
@@ -175,88 +176,6 @@ fn a_sink_that_takes_a_piece_at_a_time_takes_the_whole_text(rt: HostRuntime) -> 
     let outcome = run_into(rt, quiet_case(rt)?, &TRACED, &mut out)?;
     assert_eq!(rt; outcome.status, 0);
     assert_eq!(rt; out.inner.bytes(), TEXT);
-    Ok(())
-}
-
-#[test]
-fn another_form_of_mount_file_is_refused(rt: HostRuntime) -> Result<(), Fail> {
-    let program = Tree::file(0o755, guest(rt.alloc(), &WRITES_NOTHING)?);
-    let Ended { outcome, .. } = run_case(rt, case_of(rt, b"entries = 1", program)?, &TRACED)?;
-    assert_eq!(rt; outcome.status, 3);
-    Ok(())
-}
-
-#[test]
-fn a_grant_that_fails_is_a_host_fault(rt: HostRuntime) -> Result<(), Fail> {
-    let case = grants(quiet_case(rt)?, 1)?;
-    let Ended { outcome, .. } = run_case(rt, case, &TRACED)?;
-    assert_eq!(rt; outcome.status, 10);
-    Ok(())
-}
-
-#[test]
-fn a_grant_that_is_not_made_fails_nothing(rt: HostRuntime) -> Result<(), Fail> {
-    let case = grants(quiet_case(rt)?, 2)?;
-    let Ended { outcome, .. } = run_case(rt, case, &TRACED)?;
-    assert_eq!(rt; outcome.status, 0);
-    Ok(())
-}
-
-#[test]
-fn a_folder_that_is_not_there_is_named_by_its_number(rt: HostRuntime) -> Result<(), Fail> {
-    let Ended { outcome, .. } = run_case(rt, cases::empty_case(rt, MOUNTS)?, &TRACED)?;
-    assert_eq!(rt; outcome.fault, Fault::Grant { mount: 1 });
-    assert_eq!(rt; outcome.status, 11);
-    Ok(())
-}
-
-/// Whether the opening answers EIO, with one rise of that node and a count of one failure at it, where the first call of
-/// a method of the node fails.
-fn rises_at(rt: HostRuntime, names: &[&str], op: Op, ino: u64) -> Result<bool, Fail> {
-    let case = planned(rt.alloc(), quiet_case(rt)?, names, op, 1)?;
-    let Ended { outcome, world, .. } = run_case(rt, case, &TRACED)?;
-    let [opened] = outcome.opening.tasks.as_slice() else {
-        return Ok(false);
-    };
-    let rises = opened.given.rises.as_slice();
-    Ok(
-        outcome.fault
-            == Fault::Image {
-                task: 1,
-                errno: Errno::EIO,
-            }
-            && rises == [Rise { ino, count: 1 }].as_slice()
-            && faults_at(rt.alloc(), &world, names)? == Some(1),
-    )
-}
-
-/// Whether the run comes to its end, with no failure at that node, where the second call of a method of the node is to
-/// fail.
-fn calls_once(rt: HostRuntime, names: &[&str], op: Op) -> Result<bool, Fail> {
-    let case = planned(rt.alloc(), quiet_case(rt)?, names, op, 2)?;
-    let Ended { outcome, world, .. } = run_case(rt, case, &TRACED)?;
-    Ok(outcome.fault == Fault::Done && faults_at(rt.alloc(), &world, names)? == Some(0))
-}
-
-#[test]
-fn a_host_call_that_fails_is_an_error_of_the_opening_with_its_rise(
-    rt: HostRuntime,
-) -> Result<(), Fail> {
-    assert!(rt; rises_at(rt, &["root"], Op::Stat, 1)?);
-    assert!(rt; rises_at(rt, &["root"], Op::Lend, 1)?);
-    assert!(rt; rises_at(rt, &["root", "init"], Op::Stat, 2)?);
-    assert!(rt; rises_at(rt, &["root", "init"], Op::Open, 2)?);
-    assert!(rt; rises_at(rt, &["root", "init"], Op::ReadAt, 2)?);
-    Ok(())
-}
-
-#[test]
-fn each_host_call_of_the_opening_is_made_once(rt: HostRuntime) -> Result<(), Fail> {
-    assert!(rt; calls_once(rt, &["root"], Op::Stat)?);
-    assert!(rt; calls_once(rt, &["root"], Op::Lend)?);
-    assert!(rt; calls_once(rt, &["root", "init"], Op::Stat)?);
-    assert!(rt; calls_once(rt, &["root", "init"], Op::Open)?);
-    assert!(rt; calls_once(rt, &["root", "init"], Op::ReadAt)?);
     Ok(())
 }
 

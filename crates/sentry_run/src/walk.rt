@@ -3,11 +3,13 @@ ghost use Rattle.host_node.specs.Faults.{has_failed};
 ghost use Rattle.sn_base.specs.Faults.{Rose, HasCause};
 ghost use Rattle.host_node.specs.Told.{CanLend, kept};
 ghost use Rattle.sn_base.specs.Sums.{capped};
-ghost use Rattle.sentry_run.specs.Walk.{Refusal, FileRefusal, Classified, given_by, IsHere, IsFileOf, ReadsFile, FailedBy, RootFailedBy, LoadsWhere, LendsTo, Walks};
+ghost use Rattle.sentry_run.specs.Walk.{Refusal, FileRefusal, Classified, given_by, IsHere, IsFileOf, ReadsFile, FailedBy, RootFailedBy, LoadsWhere, LendsTo, Walks, Execves};
+ghost use Rattle.kernel_model.specs.Arguments.{is_too_long};
 
 use elf_image::Image;
 use host_node::{Attr, HostErr, HostNode, Kind};
-use kernel_model::{Fresh, Given, Rise, read_executable};
+use kernel_model::{Fresh, Given, Rise, is_too_long, read_executable};
+use mount_file::Program;
 use sn_base::{List, Memory};
 use sn_errno::Errno;
 use sn_text::{Name, Route};
@@ -214,12 +216,13 @@ fn make_routes(alloc: Global, name: &Name) -> Result<Routes, Memory>
     })
 }
 
-/// Walks from a granted root to the program of that name, and loads its image (execve(2)).
-pub fn walk_to_program<N: HostNode>(alloc: Global, root: &mut N, name: &Name) -> Walk<N>
-    requires { CanLend name.now (N.told root.old) }
+/// Walks from a granted root to the program of that name, and loads its image. So many calls of the root had failed
+/// before.
+fn walk_to_program<N: HostNode>(alloc: Global, root: &mut N, name: &Name, before: u64) -> Walk<N>
+    requires lends { CanLend name.now (N.told root.old) }
+    requires before { before ≡ N.count root.old }
     ensures { Walks (N.told root.old) name.now (N.told root.new) (option_map N.told result.child) result.loaded.met result.loaded.answer }
 {
-    let before = root.faults();
     let routes = match make_routes(alloc, name) {
         Ok(routes) => routes,
         Err(Memory) => return without_child(Met::Nothing, Answer::Memory),
@@ -234,6 +237,19 @@ pub fn walk_to_program<N: HostNode>(alloc: Global, root: &mut N, name: &Name) ->
         Err(HostErr::Failed) => root_failed(before, root),
         Err(HostErr::Memory) => without_child(Met::Nothing, Answer::Memory),
     }
+}
+
+/// Does the opening execve of a program over a granted root: where its strings are too long it walks to nothing, else it
+/// walks to the program's name, and loads the image (execve(2)).
+pub fn execve<N: HostNode>(alloc: Global, root: &mut N, program: &Program, name: &Name) -> Walk<N>
+    requires { CanLend name.now (N.told root.old) }
+    ensures { Execves (is_too_long program.now.args program.now.env) (N.told root.old) name.now (N.told root.new) (option_map N.told result.child) result.loaded.met result.loaded.answer }
+{
+    let before = root.faults();
+    if is_too_long(program) {
+        return without_child(Met::Nothing, Answer::Refuses(Errno::E2BIG));
+    }
+    walk_to_program(alloc, root, name, before)
 }
 
 /// The record of what an opening execve drew and met.

@@ -1,11 +1,9 @@
 ghost use Rattle.std.specs.Prelude.{◌≡◌, length, IfOk};
 
 use super::machine::GUEST;
-use crate::{
-    Args, Entry, Fresh, Given, Life, Mount, Mounts, Opened, Opening, OpeningErr, Plain, Program,
-    Rise, locality,
-};
+use crate::{Args, Entry, Fresh, Given, Life, Opened, Opening, OpeningErr, Plain, Rise, locality};
 use host_node::Tree;
+use mount_file::{Mount, Mounts, Program};
 use sn_base::{List, Memory};
 use sn_errno::Errno;
 use sn_text::{Folder, Route, Text, name_of};
@@ -269,6 +267,45 @@ fn an_opening_is_refused_by_its_first_misfit(rt: HostRuntime) -> Result<(), Fail
     for (drawn, want) in cases {
         assert_eq!(rt; open(alloc, guest(alloc)?, drawn)?.err(), Some(want));
     }
+    Ok(())
+}
+
+/// The opening of a program with an environment string of that many bytes, which draws nothing.
+fn open_with(alloc: Global, length: usize) -> Result<Option<OpeningErr>, Fail> {
+    let mut letters = Vec::new(alloc);
+    letters.resize(length, b'a')?;
+    let mut env = List::new(alloc);
+    env.push(Text::from_slice(alloc, letters.as_slice())?)?;
+    let mut tasks = List::new(alloc);
+    tasks.push(Program {
+        path: Text::from_slice(alloc, b"/init")?,
+        args: words(alloc)?,
+        env,
+    })?;
+    let mounts = Mounts {
+        entries: 100,
+        seed: List::new(alloc),
+        mounts: mount_list(alloc)?,
+        tasks,
+    };
+    let trees = root_of(alloc, guest(alloc)?)?;
+    let drawn = Drawn { name: b"", ..DRAWN };
+    Ok(Plain::opening(alloc, &mounts, &trees, &record(alloc, drawn)?).err())
+}
+
+#[test]
+fn strings_that_are_too_long_are_refused_before_the_walk(rt: HostRuntime) -> Result<(), Fail> {
+    let alloc = rt.alloc();
+    let too_long = OpeningErr::Image {
+        task: 1,
+        errno: Errno::E2BIG,
+    };
+    // `/init` takes 14 bytes. A walk would draw a number.
+    assert_eq!(rt; open_with(alloc, 65_514)?, Some(too_long));
+    assert_eq!(rt;
+        open_with(alloc, 65_513)?,
+        Some(OpeningErr::Misfit { task: 1 })
+    );
     Ok(())
 }
 

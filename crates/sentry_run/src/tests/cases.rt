@@ -1,10 +1,10 @@
 ghost use Rattle.std.specs.Prelude.{◌≡◌, ◌≤◌, true, IfOk};
 ghost use Rattle.host_node.specs.Tree.{none_lent};
 
-use crate::host_memory::{Op, World};
 use crate::outcome::Outcome;
 use crate::run::run_sentry;
 use crate::tests::narrow::NarrowSink;
+use host_memory::{Op, World};
 use host_node::Tree;
 use sn_edge::{MemSink, MemSource};
 use sn_text::{Folder, Route, name_of};
@@ -69,7 +69,7 @@ fn nothing(alloc: Global) -> World
 }
 
 /// A node put where names lead.
-#[tactic(auto, using(crate::proofs::MemoryWorlds::none_lent_put))]
+#[tactic(auto, using(host_memory::proofs::Worlds::none_lent_put))]
 fn put(alloc: Global, world: World, names: &[&str], tree: Tree) -> Result<World, Fail>
     requires world { none_lent world.tree ≡ true }
     requires tree { none_lent tree ≡ true }

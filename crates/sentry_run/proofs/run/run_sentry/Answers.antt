@@ -25,8 +25,8 @@ returns-clause-source_read g c = clauses.source_read (sides_of c.run_words.ensur
 pub returns-clause-mounts : goal.returns-clause-mounts
 returns-clause-mounts g c = clauses.mounts_bytes (sides_of c.run_words.ensures) c.run_words.result (way_from c.run_words.ensures)
 
-pub returns-clause-mounts_kind : goal.returns-clause-mounts_kind
-returns-clause-mounts_kind g c = clauses.mounts_kind (sides_of c.run_words.ensures) c.run_words.result (way_from c.run_words.ensures)
+pub returns-clause-mounts_exact : goal.returns-clause-mounts_exact
+returns-clause-mounts_exact g c = exact.mounts_exact (sides_of c.run_words.ensures) c.run_words.result (way_from c.run_words.ensures)
 
 pub returns-clause-read : goal.returns-clause-read
 returns-clause-read g c = clauses.read (sides_of c.run_words.ensures) c.run_words.result (way_from c.run_words.ensures)

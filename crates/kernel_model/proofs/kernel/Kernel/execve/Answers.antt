@@ -1,16 +1,8 @@
-use Rattle.std.proofs.Common.{ap, sym, ◌∙◌}
-use Rattle.std.specs.Prelude.{not}
-use Rattle.kernel_model.specs.Faulted.{faulted}
-use Rattle.kernel_model.specs.Parts.{parts}
-use Rattle.kernel_model.specs.Parts.{run as outcome}
-use Rattle.kernel_model.proofs.StepLemmas.{has_any_not, done_all, done_nothing}
-use Rattle.kernel_model.proofs.WalkLemmas.{rises_unfit, rises_fail}
+use Rattle.std.proofs.Common.{sym}
+use Rattle.kernel_model.proofs.WalkLemmas.{as_walked}
 use Rattle.kernel_model.proofs.kernel.Kernel.execve.Goals as goal
-
-pub returns-then-not-branch : goal.returns-then-not-branch
-returns-then-not-branch c =
-    rises_unfit c.args.self.now c.args.name.now c.args.given.now (has_any_not c.args.given.now.rises c.is_empty.result c.is_empty.ensures ∙ ap not c.if-is_empty.false) (sym c.is_in_order.ensures ∙ c.if-not-is_in_order.false) (done_nothing (outcome (parts c.args.self.now) (faulted c.args.given.now)) c.in_ok-faulted.field-0 c.args.self.now c.faulted.new.self c.in_ok-faulted.ensures.fits c.in_ok-faulted.ensures.ok c.if-not-branch.true).0
 
 pub returns : goal.returns
 returns c =
-    rises_fail c.args.self.now c.args.name.now c.args.given.now (has_any_not c.args.given.now.rises c.is_empty.result c.is_empty.ensures ∙ ap not c.if-is_empty.false) (sym c.is_in_order.ensures ∙ c.if-not-is_in_order.false) c.faulted.new.self (done_all (outcome (parts c.args.self.now) (faulted c.args.given.now)) c.in_ok-faulted.field-0 c.args.self.now c.faulted.new.self c.in_ok-faulted.ensures.fits c.in_ok-faulted.ensures.ok c.if-not-branch.false)
+    as_walked c.args.self.now c.execve_walked-2.new.self c.args.program.now c.name_in_path-name.result.now c.args.given.now c.in_ok-walk.walk.draws c.in_ok-walk.walk.image c.execve_walked-2.result
+    (sym c.if-is_too_long.ensures) c.name_in_path-name.ensures c.in_ok-walk.ensures c.execve_walked-2.ensures

@@ -1,20 +1,16 @@
 use Rattle.std.proofs.Common.{ap, sym, ◌∙◌}
-use Rattle.std.specs.List.{list_any}
-use Rattle.kernel_model.specs.Opening.{draws_just, above_last, execve}
+use Rattle.std.specs.Prelude.{not}
+use Rattle.kernel_model.specs.Faulted.{faulted}
 use Rattle.kernel_model.specs.Parts.{parts}
 use Rattle.kernel_model.specs.Parts.{run as outcome}
-use Rattle.kernel_model.specs.InPlace.{numbered}
-use Rattle.kernel_model.proofs.NumberRuns.{taken_by, refused_by}
-use Rattle.kernel_model.proofs.WalkLemmas.{numbers_unfit, numbers_fit, executes_by}
+use Rattle.kernel_model.proofs.StepLemmas.{has_any_not, done_all, done_nothing}
+use Rattle.kernel_model.proofs.WalkLemmas.{rises_unfit, rises_fail}
 use Rattle.kernel_model.proofs.kernel.Kernel.execve_walked.Goals as goal
 
 pub returns-then-not-branch : goal.returns-then-not-branch
 returns-then-not-branch c =
-    numbers_unfit c.args.self.now c.args.name.now c.args.given.now c.requires c.in_ok-walk.walk.draws c.in_ok-walk.walk.image c.in_ok-walk.ensures (ap (draws_just c.in_ok-walk.walk.draws c.args.name.now) (sym c.as_slice-fresh.ensures) ∙ sym c.draws_just.ensures ∙ c.if-not-draws_just.false) (ap (list_any above_last) (sym c.as_slice-fresh.ensures) ∙ sym c.any_above_last.ensures ∙ c.if-any_above_last.false)
-    (ap (λ fs. numbered fs c.args.self.now) (sym c.as_slice-fresh.ensures) ∙ (refused_by (numbered c.as_slice-fresh.result.now c.args.self.now) c.in_ok-number_all.field-0 c.args.self.now c.number_all.new.self c.in_ok-number_all.ensures.fits c.in_ok-number_all.ensures.ok c.if-not-branch.true).0)
+    rises_unfit c.args.self.now c.args.name.now c.args.given.now c.args.walk.draws c.args.walk.image (has_any_not c.args.given.now.rises c.is_empty.result c.is_empty.ensures ∙ ap not c.if-is_empty.false) (sym c.is_in_order.ensures ∙ c.if-not-is_in_order.false) (done_nothing (outcome (parts c.args.self.now) (faulted c.args.given.now)) c.in_ok-faulted.field-0 c.args.self.now c.faulted.new.self c.in_ok-faulted.ensures.fits c.in_ok-faulted.ensures.ok c.if-not-branch.true).0
 
 pub returns : goal.returns
 returns c =
-    executes_by (outcome (parts c.args.self.now) (execve c.args.name.now c.args.given.now)) c.args.self.now c.number_all.new.self c.in_ok-walk.walk.image c.by_image.result c.by_image.ensures
-    (numbers_fit c.args.self.now c.args.name.now c.args.given.now c.requires c.in_ok-walk.walk.draws c.in_ok-walk.walk.image c.in_ok-walk.ensures (ap (draws_just c.in_ok-walk.walk.draws c.args.name.now) (sym c.as_slice-fresh.ensures) ∙ sym c.draws_just.ensures ∙ c.if-not-draws_just.false) (ap (list_any above_last) (sym c.as_slice-fresh.ensures) ∙ sym c.any_above_last.ensures ∙ c.if-any_above_last.false) c.number_all.new.self
-    (ap (λ fs. numbered fs c.args.self.now) (sym c.as_slice-fresh.ensures) ∙ taken_by (numbered c.as_slice-fresh.result.now c.args.self.now) c.in_ok-number_all.field-0 c.args.self.now c.number_all.new.self c.in_ok-number_all.ensures.fits c.in_ok-number_all.ensures.ok c.if-not-branch.false))
+    rises_fail c.args.self.now c.args.name.now c.args.given.now c.args.walk.draws c.args.walk.image (has_any_not c.args.given.now.rises c.is_empty.result c.is_empty.ensures ∙ ap not c.if-is_empty.false) (sym c.is_in_order.ensures ∙ c.if-not-is_in_order.false) c.faulted.new.self (done_all (outcome (parts c.args.self.now) (faulted c.args.given.now)) c.in_ok-faulted.field-0 c.args.self.now c.faulted.new.self c.in_ok-faulted.ensures.fits c.in_ok-faulted.ensures.ok c.if-not-branch.false)

@@ -1,0 +1,5 @@
+pub mod Paths
+pub mod Kinds
+pub mod Failures
+pub mod Access
+pub mod Offsets

@@ -1,0 +1,14 @@
+-- Where the files of a granted folder lie on the machine.
+use Rattle.std.specs.Prelude.{ℕ, Bool, true, false, List, [], ◌∷◌, ◌++◌}
+
+-- names, each behind a slash
+-- POSIX.1-2017, Base Definitions, Pathname
+abbrev pub slashed : List (List ℕ) → List ℕ
+slashed [] = []
+slashed (name ∷ names) = 47 ∷ name ++ slashed names
+
+-- where a folder's path begins: at the root, which needs no byte before the slash, or at `.`, byte 46
+-- POSIX.1-2017, Base Definitions, Absolute Pathname and Relative Pathname
+abbrev pub start_of : Bool → List ℕ
+start_of true = []
+start_of false = 46 ∷ []

@@ -1,0 +1,3 @@
+pub mod PlaceLemmas
+pub mod PlanLaws
+pub mod Worlds

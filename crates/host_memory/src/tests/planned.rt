@@ -1,0 +1,148 @@
+ghost use Rattle.std.specs.Prelude.{◌≡◌, true, IfOk};
+ghost use Rattle.host_node.specs.Tree.{directory as dir, no_children, faults_of, none_lent};
+
+use super::{file_node, folder_of, granted, is_failure, world_of};
+use crate::plan::{Line, Plan};
+use crate::*;
+use host_node::{HostErr, HostNode, HostWorld, Listing, Tree};
+use sn_text::{Folder, Route, name_of};
+use std::alloc::Global;
+use std::test::Fail;
+
+/// The count of failed calls after a number of calls of which the k-th failed.
+fn count_after(call: u64, k: u64) -> u64 {
+    if call < k { 0 } else { 1 }
+}
+
+/// The node of an empty directory of which a call is to fail.
+fn directory_node(alloc: Global, op: Op, k: u64) -> Result<MemoryNode, Fail>
+    ensures { IfOk result (λ node. node.tree ≡ dir 448 (faults_of node.tree) no_children) }
+{
+    let mut plan = Plan::new();
+    let place = Route::new(alloc);
+    plan.add(alloc, Line { place, op, left: k })?;
+    let tree = Tree::directory(alloc, 0o700);
+    Ok(MemoryNode::new(alloc, tree, Route::new(alloc), plan))
+}
+
+/// Whether a call of an empty directory fails.
+fn fails(alloc: Global, node: &mut MemoryNode, op: Op) -> Result<bool, Fail>
+    requires { node.old.tree ≡ dir 448 (faults_of node.old.tree) no_children }
+    ensures { node.new.tree ≡ dir 448 (faults_of node.new.tree) no_children }
+{
+    let route = Route::new(alloc);
+    let name = name_of(alloc, b"f")?;
+    match op {
+        Op::Stat => is_failure(node.stat(&route)),
+        Op::List => is_failure(node.list(&route, &mut Listing::new(alloc))),
+        Op::Lend => is_failure(node.lend(&route, &name)),
+        _ => Err(Fail::from("no call of a directory")),
+    }
+}
+
+/// Whether of four calls of a directory the k-th alone fails and is counted.
+fn fails_once(alloc: Global, op: Op, k: u64) -> Result<bool, Fail> {
+    let mut node = directory_node(alloc, op, k)?;
+    for call in 1..=4 {
+        let failed = fails(alloc, &mut node, op)?;
+        if failed != (call == k) || node.faults() != count_after(call, k) {
+            return Ok(false);
+        }
+    }
+    Ok(true)
+}
+
+#[test]
+fn a_call_of_a_directory_fails_where_it_was_planned(rt: HostRuntime) -> Result<(), Fail> {
+    for op in [Op::Stat, Op::List, Op::Lend] {
+        for k in 1..=3 {
+            assert!(rt; fails_once(rt.alloc(), op, k)?);
+        }
+    }
+    Ok(())
+}
+
+/// Whether of four opens of a file the k-th alone fails and is counted.
+fn open_fails_once(alloc: Global, k: u64) -> Result<bool, Fail> {
+    let mut node = file_node(alloc, b"hello", Op::Open, k)?;
+    let route = Route::new(alloc);
+    for call in 1..=4 {
+        let failed = is_failure(node.open(&route, call == 2))?;
+        if failed != (call == k) || node.faults() != count_after(call, k) {
+            return Ok(false);
+        }
+    }
+    Ok(true)
+}
+
+/// Whether of four reads of an open file the k-th alone fails and is counted.
+fn read_fails_once(alloc: Global, k: u64) -> Result<bool, Fail> {
+    let mut node = file_node(alloc, b"hello", Op::ReadAt, k)?;
+    node.open(&Route::new(alloc), false)?;
+    let mut buf = [0; 3];
+    for call in 1..=4 {
+        let failed = is_failure(node.read_at(1, &mut buf))?;
+        if failed != (call == k) || node.faults() != count_after(call, k) {
+            return Ok(false);
+        }
+    }
+    Ok(true)
+}
+
+#[test]
+fn a_call_of_a_file_fails_where_it_was_planned(rt: HostRuntime) -> Result<(), Fail> {
+    for k in 1..=3 {
+        assert!(rt; open_fails_once(rt.alloc(), k)?);
+        assert!(rt; read_fails_once(rt.alloc(), k)?);
+    }
+    Ok(())
+}
+
+/// Whether a grant fails, of a folder that is settled where it is granted.
+fn grant_fails(world: &mut World, folder: &Folder) -> Result<bool, Fail>
+    requires { none_lent world.old.tree ≡ true }
+    ensures { none_lent world.new.tree ≡ true }
+{
+    match world.grant(folder) {
+        Ok(Some(node)) => {
+            world.settle(folder, node);
+            Ok(false)
+        }
+        Ok(None) => Err(Fail::from("nothing granted")),
+        Err(HostErr::Failed) => Ok(true),
+        Err(e) => Err(Fail::from(e)),
+    }
+}
+
+/// Whether of four grants the k-th alone fails and is counted.
+fn grant_fails_once(alloc: Global, k: u64) -> Result<bool, Fail> {
+    let folder = folder_of(alloc, &["d"])?;
+    let mut world = world_of(alloc)?;
+    world.plan_grant(k)?;
+    for call in 1..=4 {
+        let failed = grant_fails(&mut world, &folder)?;
+        if failed != (call == k) || world.faults() != count_after(call, k) {
+            return Ok(false);
+        }
+    }
+    Ok(true)
+}
+
+#[test]
+fn a_grant_fails_where_it_was_planned(rt: HostRuntime) -> Result<(), Fail> {
+    for k in 1..=3 {
+        assert!(rt; grant_fails_once(rt.alloc(), k)?);
+    }
+    Ok(())
+}
+
+#[test]
+fn a_plan_for_no_call_fails_none(rt: HostRuntime) -> Result<(), Fail> {
+    let folder = folder_of(rt.alloc(), &["d"])?;
+    let mut world = world_of(rt.alloc())?;
+    world.plan(&folder, Op::Stat, 0)?;
+    let mut node = granted(&mut world, &folder)?;
+    assert!(rt; !is_failure(node.stat(&Route::new(rt.alloc())))?);
+    assert_eq!(rt; node.faults(), 0);
+    Ok(())
+}

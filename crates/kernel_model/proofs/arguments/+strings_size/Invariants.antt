@@ -1,0 +1,5 @@
+use Rattle.std.proofs.Common.{length}
+use Rattle.kernel_model.proofs.arguments.+strings_size.Given as goal
+
+abbrev pub decreases-strings_size : goal.decreases-strings_size
+decreases-strings_size l = length l.strings.now

@@ -1,0 +1,212 @@
+-- A mount file that is read has one mount, at `/`, and one task, whose path is `/` and a name.
+use Rattle.std.proofs.Common.{◌≡◌, ℕ, ℤ, pos, negsuc, ◌≤◌, nat_le, List, [], ◌∷◌, length, Bool, true}
+use Rattle.std.proofs.Common.{false, ◌&&◌, ◌||◌, ◌==◌, not, Option, Some, None, option_map, option_and_then, is_none}
+use Rattle.std.proofs.Common.{inl, inr, Result, Ok, Err, IfOk, refl, ap, sym, subst, ◌∙◌, arith}
+use Rattle.std.specs.Prelude.{if◌then◌else◌, codes}
+use Rattle.std.specs.Option.{option_map_or}
+use Rattle.std.proofs.lemmas.Option.{same_Some, option_and_then_some}
+use Rattle.std.proofs.lemmas.Bool.{and_parts, eqb-true, leb-true}
+use Rattle.std.proofs.lemmas.Bool.Decides.{nat_tests}
+use Rattle.sn_text.specs.Names.{name_fault_of, IsName}
+use Rattle.sn_text.specs.declared.fault.NameFault.{NameFault}
+use Rattle.toml.specs.Data.{Members, Items, no_items, item, as_str, as_integer, as_array, as_table, get_member}
+use Rattle.mount_file.specs.Form.{HasOneTask}
+use Rattle.mount_file.specs.Keys.{has_keys}
+use Rattle.mount_file.specs.MountFile.{ruled, document_read, IsMountFile}
+use Rattle.mount_file.specs.Read.{Reads}
+use Rattle.mount_file.specs.Rules.{has_root, has_clash, has_too_many, rule_broken}
+use Rattle.mount_file.specs.Tables.{each_in, some_tasks, texts_at, mount_in, task_in, mounts_in}
+use Rattle.mount_file.specs.Values.{entries_in, seed_in, hex_bytes, path_in, is_name}
+use Rattle.mount_file.specs.declared.mounts.Mount.{Mount}
+use Rattle.mount_file.specs.declared.mounts.MountFault.{MountFault}
+use Rattle.mount_file.specs.declared.mounts.MountFault.TheVariants.{Field, Range, NoRoot, Twice, TooMany}
+use Rattle.mount_file.specs.declared.mounts.Mounts.{Mounts}
+use Rattle.mount_file.specs.declared.mounts.Program.{Program}
+use Rattle.mount_file.proofs.Hex.{hex_bytes_length}
+
+-- the value of a choice that may be none
+chosen : {A : Type 0} (b : Bool) (o : Option A) (x : A) → (if b then o else None) ≡ Some x → (b ≡ true) × (o ≡ Some x)
+chosen true o x is = (refl, is)
+chosen false o x is = cc
+
+-- what a map makes is of a value
+mapped : {A B P : Type 0} (f : A → B) (o : Option A) (y : B) → option_map f o ≡ Some y
+    → ((x : A) → o ≡ Some x → f x ≡ y → P) → P
+mapped f None y is next = cc
+mapped f (Some x) y is next = next x refl (same_Some _ _ is)
+
+entries_few : (z : ℤ) (n : ℕ) → entries_in z ≡ Some n → (1 ≤ n) × (n ≤ 1048576)
+entries_few (negsuc k) n is = cc
+entries_few (pos k) n is =
+    let (tests, same) = chosen (nat_le 1 k && nat_le k 1048576) (Some k) n is in
+    let (low, high) = and_parts (nat_le 1 k) (nat_le k 1048576) tests in
+    rw (← same_Some _ _ same) (leb-true 1 k low, leb-true k 1048576 high)
+
+seed_long : (digits bytes : List ℕ) → seed_in digits ≡ Some bytes → length bytes ≡ 32
+seed_long digits bytes is =
+    let (test, found) = chosen (length digits == 64) (hex_bytes digits) bytes is in
+    omega (arith, eqb-true (length digits) 64 test, hex_bytes_length digits bytes found)
+
+-- a path of `/` and a name
+abbrev OfName : List ℕ → Type 0
+OfName path = (name : List ℕ) × IsName name × (path ≡ 47 ∷ name)
+
+named : (o : Option NameFault) → is_none o ≡ true → o ≡ None
+named None is = refl
+named (Some e) is = cc
+
+path_of_name : (bytes path : List ℕ) → path_in bytes ≡ Some path → OfName path
+path_of_name [] path is = cc
+path_of_name (slash ∷ name) path is =
+    let (tests, same) = chosen ((slash == 47) && is_name name) (Some (slash ∷ name)) path is in
+    let (first, rest) = and_parts (slash == 47) (is_name name) tests in
+    (name, named (name_fault_of name) rest, sym (same_Some _ _ same) ∙ ap (λ s. s ∷ name) (eqb-true slash 47 first))
+
+-- a program with a path of `/` and a name
+record Named (program : Program) : Type 0 where
+  pub name : List ℕ
+  pub is_name : IsName name
+  pub args : List (List ℕ)
+  pub env : List (List ℕ)
+  pub program_is : program ≡ record { path = 47 ∷ name; args = args; env = env }
+
+task_named : (members : Members) (program : Program) → task_in members ≡ Some program → Named program
+task_named members program is =
+    option_and_then_some _ (option_and_then path_in (option_and_then as_str (get_member (codes "path") members)))
+    program is (λ path found more.
+    option_and_then_some _ (texts_at (codes "args") (path ∷ []) members) program more (λ args _ rest.
+    mapped _ (texts_at (codes "env") [] members) program rest (λ env _ same.
+    option_and_then_some path_in (option_and_then as_str (get_member (codes "path") members)) path found
+    (λ bytes _ is_path.
+    let (name, is_name, path_is) = path_of_name bytes path is_path in
+    record {
+      name = name;
+      is_name = is_name;
+      args = args;
+      env = env;
+      program_is = sym same ∙ ap (λ (p : List ℕ). record { path = p; args = args; env = env }) path_is;
+    }))))
+
+empty : {A : Type 0} (xs : List A) → length xs ≡ 0 → xs ≡ []
+empty [] is = refl
+empty (x ∷ xs) is = absurd (omega arith)
+
+-- where each of an array's tables is read, and there is one, it is that one
+each_one : {A P : Type 0} (read : Members → Option A) (items : Items) (xs : List A) → each_in read items ≡ Some xs
+    → length xs ≡ 1
+    → ((members : Members) (x : A) → read members ≡ Some x → xs ≡ x ∷ [] → P) → P
+each_one read no_items xs is one next = let none : [] ≡ xs = same_Some _ _ is in absurd (omega (arith, ap length none))
+each_one read (item value rest) xs is one next =
+    option_and_then_some _ (option_and_then read (as_table value)) xs is (λ x found more.
+    mapped _ (each_in read rest) xs more (λ others _ same.
+    option_and_then_some read (as_table value) x found (λ members _ is_x.
+    let others_are : others ≡ [] = empty others (omega (arith, one, ap length same)) in
+    next members x is_x (sym same ∙ ap (λ ys. x ∷ ys) others_are))))
+
+some_long : (ts us : List Program) → some_tasks ts ≡ Some us → (ts ≡ us) × (1 ≤ length us)
+some_long [] us is = cc
+some_long (t ∷ ts) us is = let same : (t ∷ ts) ≡ us = same_Some _ _ is in (same, omega (arith, ap length same))
+
+-- what a document says, part by part
+record Parts (m : Mounts) : Type 0 where
+  pub entries : (1 ≤ m.entries) × (m.entries ≤ 1048576)
+  pub seed : length m.seed ≡ 32
+  pub items : Items
+  pub tasks : each_in task_in items ≡ Some m.tasks
+  pub some : 1 ≤ length m.tasks
+
+parts : (d : Members) (m : Mounts) → mounts_in d ≡ Some m → Parts m
+parts d m is =
+    option_and_then_some _ (option_and_then entries_in (option_and_then as_integer (get_member (codes "entries") d))) m
+    is (λ entries e more.
+    option_and_then_some entries_in (option_and_then as_integer (get_member (codes "entries") d)) entries e (λ z _ few.
+    option_and_then_some _ (option_and_then seed_in (option_and_then as_str (get_member (codes "seed") d))) m more
+    (λ seed s more'.
+    option_and_then_some seed_in (option_and_then as_str (get_member (codes "seed") d)) seed s (λ digits _ long.
+    option_and_then_some _ (option_and_then (each_in mount_in)
+    (option_and_then as_array (get_member (codes "mount") d))) m more' (λ mounts _ more''.
+    mapped _ (option_and_then some_tasks
+    (option_and_then (each_in task_in) (option_and_then as_array (get_member (codes "task") d)))) m more''
+    (λ tasks t same.
+    option_and_then_some some_tasks (option_and_then (each_in task_in)
+    (option_and_then as_array (get_member (codes "task") d))) tasks t (λ all a kept.
+    option_and_then_some (each_in task_in) (option_and_then as_array (get_member (codes "task") d)) all a
+    (λ items _ each.
+    let (all_are, one) = some_long all tasks kept in
+    subst Parts same (record {
+      entries = entries_few z entries few;
+      seed = seed_long digits seed long;
+      items = items;
+      tasks = each ∙ ap Some all_are;
+      some = one;
+    })))))))))
+
+-- mounts that are answered break no rule
+kept : (o : Option MountFault) (n m : Mounts) → option_map_or Err o (Ok n) ≡ Ok m → (o ≡ None) × (n ≡ m)
+kept None n m is = (refl, let same : n ≡ m = cc in same)
+kept (Some f) n m is = cc
+
+answered : (has : Bool) (o : Option Mounts) (m : Mounts)
+    → (if has then option_map_or ruled o (Err Range) else Err Field) ≡ Ok m → (o ≡ Some m) × (rule_broken m ≡ None)
+answered false o m is = cc
+answered true None m is = cc
+answered true (Some n) m is =
+    let (unbroken, same) = kept (rule_broken n) n m is in
+    (ap Some same, subst (λ x. rule_broken x ≡ None) same unbroken)
+
+unbroken : (root clash many : Bool) → ◌≡◌ {A = Option MountFault}
+    (if not root then Some NoRoot else if clash then Some Twice else if many then Some TooMany else None) None
+    → (root ≡ true) × (many ≡ false)
+unbroken false clash many is = cc
+unbroken true true many is = cc
+unbroken true false true is = cc
+unbroken true false false is = (refl, refl)
+
+few : (m : Mounts) → has_too_many m ≡ false → (length m.mounts ≤ 1) × (length m.tasks ≤ 1)
+few m is = grind (arith, nat_tests)
+
+either : (b : Bool) → (b || false) ≡ true → b ≡ true
+either true is = refl
+either false is = cc
+
+at_none : (o : Option (List ℕ)) → is_none o ≡ true → o ≡ None
+at_none None is = refl
+at_none (Some x) is = cc
+
+one_mount : (ms : List Mount) → has_root ms ≡ true → length ms ≤ 1
+    → (mount : Mount) × (ms ≡ mount ∷ []) × (mount.at ≡ None)
+one_mount [] root few = cc
+one_mount (mount ∷ []) root few = (mount, refl, at_none mount.at (either (is_none mount.at) root))
+one_mount (mount ∷ other ∷ ms) root few = absurd (omega arith)
+
+one_task_in : (d : Members) (m : Mounts) → document_read d ≡ Ok m → HasOneTask m
+one_task_in d m is =
+    let (says, no_rule) = answered (has_keys d) (mounts_in d) m is in
+    let (root, not_many) = unbroken (has_root m.mounts) (has_clash m.mounts) (has_too_many m) no_rule in
+    let (few_mounts, few_tasks) = few m not_many in
+    let p = parts d m says in
+    let (mount, mounts_are, at_root) = one_mount m.mounts root few_mounts in
+    each_one task_in p.items m.tasks p.tasks (omega (arith, few_tasks, p.some)) (λ members task task_is tasks_are.
+    let t = task_named members task task_is in
+    record {
+      some_entries = p.entries.0;
+      few_entries = p.entries.1;
+      seed = p.seed;
+      mount = mount;
+      mounts_are = mounts_are;
+      at_root = at_root;
+      name = t.name;
+      is_name = t.is_name;
+      args = t.args;
+      env = t.env;
+      tasks_are = tasks_are ∙ ap (λ (x : Program). x ∷ []) t.program_is;
+    })
+
+pub one_task_of : (bytes : List ℕ) (m : Mounts) → IsMountFile bytes m → HasOneTask m
+one_task_of bytes m is = one_task_in is.document m is.read
+
+-- so has what a read of a document answers
+pub one_task_read : (d : Members) (r : Result Mounts MountFault) → Reads (document_read d) r → IfOk r HasOneTask
+one_task_read d (Ok m) (inl same) = one_task_in d m (sym same)
+one_task_read d (Ok m) (inr memory) = cc
+one_task_read d (Err f) reads = tt

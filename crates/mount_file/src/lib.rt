@@ -1,0 +1,27 @@
+//! The mount file: what it says of a run, or its first fault.
+//!
+//! A caller sees a `Mounts`: how long the trace may be, the seed of the random bytes, and the mounts and tasks in the
+//! file's order, as records and lists.
+//!
+//! Proved: `read_mounts` answers what the bytes say (`ok`), or their first fault and no other (`fault`, `faulty`), or
+//! want of memory; what it answers so far has one mount, at `/`, and one task, whose path is `/` and a name (`form`).
+//! Bytes say one thing at most and have one first fault at most (`mounts_same`, `fault_same`, `no_fault` in `proofs/`).
+//!
+//! Not said: whether the folders and images are there, and when memory runs out.
+//!
+//! Standard: TOML 1.1; Linux man-pages, path_resolution(7), execve(2). The keys and the order of the faults are this
+//! project's own.
+#![tactic(auto)]
+
+mod fields;
+mod keys;
+mod mounts;
+mod read;
+mod rules;
+mod tables;
+#[cfg(test)]
+mod tests;
+mod values;
+
+pub use mounts::{Mount, MountFault, Mounts, Program};
+pub use read::read_mounts;

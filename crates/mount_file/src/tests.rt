@@ -1,0 +1,38 @@
+use super::*;
+use sn_base::List;
+use sn_text::Text;
+use std::alloc::Global;
+use std::test::Fail;
+
+mod cut;
+mod keys;
+mod long;
+mod order;
+mod rules;
+mod values;
+mod whole;
+
+const ENTRIES: &str = "entries = 4096\n";
+
+const SEED: &str = "seed = \"0000000000000000000000000000000000000000000000000000000000000000\"\n";
+
+const MOUNT: &str = "[[mount]]\nat = \"/\"\nfolder = \"root\"\n";
+
+const TASK: &str = "[[task]]\npath = \"/init\"\n";
+
+/// The fault of a file of these parts, or `None` where it is read.
+fn fault_of(alloc: Global, parts: [&str; 4]) -> Result<Option<MountFault>, Fail> {
+    let [entries, seed, mounts, tasks] = parts;
+    let text = format!(in alloc; "{entries}{seed}{mounts}{tasks}")?;
+    Ok(read_mounts(alloc, text.as_bytes()).err())
+}
+
+/// Whether texts are these.
+fn are(texts: &List<Text>, expected: &[&str]) -> bool {
+    texts.len() == expected.len()
+        && texts
+            .as_slice()
+            .iter()
+            .zip(expected.iter())
+            .all(|(text, bytes)| text.as_bytes() == bytes.as_bytes())
+}

@@ -1,0 +1,80 @@
+use super::*;
+
+/// How a file of bytes is refused.
+fn refused(alloc: Global, bytes: &[u8]) -> Option<MountFault> {
+    read_mounts(alloc, bytes).err()
+}
+
+#[test]
+fn bytes_that_are_no_document_are_long_utf8_or_toml(rt: HostRuntime) -> Result<(), Fail> {
+    let alloc = rt.alloc();
+    assert_eq!(rt; refused(alloc, b"\xff"), Some(MountFault::Utf8));
+    assert_eq!(rt; refused(alloc, b"entries =\n"), Some(MountFault::Toml));
+    assert_eq!(rt;
+        refused(alloc, b"entries = 1\nentries = 1\n"),
+        Some(MountFault::Toml)
+    );
+    let mut spaces = vec![in alloc; b' '; 65_536]?;
+    assert_eq!(rt; refused(alloc, spaces.as_slice()), Some(MountFault::Field));
+    spaces.push(b' ')?;
+    assert_eq!(rt; refused(alloc, spaces.as_slice()), Some(MountFault::Long));
+    Ok(())
+}
+
+#[test]
+fn of_two_faults_of_the_bytes_the_first_in_order_is_told(rt: HostRuntime) -> Result<(), Fail> {
+    let alloc = rt.alloc();
+    assert_eq!(rt; refused(alloc, b"entries =\n\xff"), Some(MountFault::Utf8));
+    assert_eq!(rt;
+        refused(alloc, b"x = 1\nentries =\n"),
+        Some(MountFault::Toml)
+    );
+    let mut bytes = vec![in alloc; 0xff; 65_536]?;
+    assert_eq!(rt; refused(alloc, bytes.as_slice()), Some(MountFault::Utf8));
+    bytes.push(0xff)?;
+    assert_eq!(rt; refused(alloc, bytes.as_slice()), Some(MountFault::Long));
+    Ok(())
+}
+
+#[test]
+fn of_two_faults_of_a_document_the_first_in_order_is_told(rt: HostRuntime) -> Result<(), Fail> {
+    let alloc = rt.alloc();
+    let at_d = "[[mount]]\nat = \"/d\"\nfolder = \"a\"\n[[mount]]\nat = \"/d\"\nfolder = \"b\"\n";
+    let roots = "[[mount]]\nat = \"/\"\nfolder = \"a\"\n[[mount]]\nat = \"/\"\nfolder = \"b\"\n";
+    let tasks = "[[task]]\npath = \"/init\"\n[[task]]\npath = \"/init\"\n";
+    let files = [
+        (
+            ["entries = 0\nx = 1\n", SEED, MOUNT, TASK],
+            MountFault::Field,
+        ),
+        (
+            [
+                "entries = 0\n",
+                SEED,
+                MOUNT,
+                "[[task]]\npath = \"/init\"\nx = 1\n",
+            ],
+            MountFault::Field,
+        ),
+        (["entries = 0\n", SEED, roots, TASK], MountFault::Range),
+        (
+            [ENTRIES, SEED, at_d, "[[task]]\npath = \"init\"\n"],
+            MountFault::Range,
+        ),
+        ([ENTRIES, SEED, at_d, TASK], MountFault::NoRoot),
+        ([ENTRIES, SEED, "mount = []\n", tasks], MountFault::NoRoot),
+        ([ENTRIES, SEED, roots, tasks], MountFault::Twice),
+    ];
+    for (parts, fault) in files {
+        assert_eq!(rt;
+            fault_of(alloc, parts)?,
+            Some(fault),
+            "{}{}{}{}",
+            parts[0],
+            parts[1],
+            parts[2],
+            parts[3]
+        );
+    }
+    Ok(())
+}

@@ -1,0 +1,82 @@
+use super::*;
+
+#[test]
+fn without_a_mount_at_the_root_it_is_no_root(rt: HostRuntime) -> Result<(), Fail> {
+    let alloc = rt.alloc();
+    let mount = "[[mount]]\nat = \"/d\"\nfolder = \"root\"\n";
+    assert_eq!(rt;
+        fault_of(alloc, [ENTRIES, SEED, mount, TASK])?,
+        Some(MountFault::NoRoot)
+    );
+    assert_eq!(rt;
+        fault_of(alloc, [ENTRIES, SEED, "mount = []\n", TASK])?,
+        Some(MountFault::NoRoot)
+    );
+    Ok(())
+}
+
+#[test]
+fn two_mounts_at_one_place_or_of_one_folder_are_twice(rt: HostRuntime) -> Result<(), Fail> {
+    let alloc = rt.alloc();
+    let seconds = [
+        ("/", "b"),
+        ("/d", "root"),
+        ("/d", "root/a"),
+        ("/d", "/root/a"),
+        ("/d", "/root"),
+        ("/", "root"),
+    ];
+    for (at, folder) in seconds {
+        let mounts = format!(in alloc; "{MOUNT}[[mount]]\nat = \"{at}\"\nfolder = \"{folder}\"\n")?;
+        assert_eq!(rt;
+            fault_of(alloc, [ENTRIES, SEED, mounts.as_str(), TASK])?,
+            Some(MountFault::Twice),
+            "{at} {folder}"
+        );
+        let turned = format!(in alloc; "[[mount]]\nat = \"{at}\"\nfolder = \"{folder}\"\n{MOUNT}")?;
+        assert_eq!(rt;
+            fault_of(alloc, [ENTRIES, SEED, turned.as_str(), TASK])?,
+            Some(MountFault::Twice),
+            "{at} {folder}"
+        );
+    }
+    Ok(())
+}
+
+#[test]
+fn two_mounts_that_share_no_place_and_no_folder_are_too_many_so_far(
+    rt: HostRuntime,
+) -> Result<(), Fail> {
+    let alloc = rt.alloc();
+    for (at, folder) in [("/d", "rootx"), ("/d", "a/root"), ("/root", "b")] {
+        let mounts = format!(in alloc; "{MOUNT}[[mount]]\nat = \"{at}\"\nfolder = \"{folder}\"\n")?;
+        assert_eq!(rt;
+            fault_of(alloc, [ENTRIES, SEED, mounts.as_str(), TASK])?,
+            Some(MountFault::TooMany),
+            "{at} {folder}"
+        );
+    }
+    Ok(())
+}
+
+#[test]
+fn seventeen_mounts_and_two_tasks_are_too_many(rt: HostRuntime) -> Result<(), Fail> {
+    let alloc = rt.alloc();
+    let mut mounts = format!(in alloc; "{MOUNT}")?;
+    for name in [
+        "a", "b", "c", "d", "e", "f", "g", "h", "i", "j", "k", "l", "m", "n", "o", "p",
+    ] {
+        let mount = format!(in alloc; "[[mount]]\nat = \"/{name}\"\nfolder = \"{name}\"\n")?;
+        mounts.push_str(mount.as_str())?;
+    }
+    assert_eq!(rt;
+        fault_of(alloc, [ENTRIES, SEED, mounts.as_str(), TASK])?,
+        Some(MountFault::TooMany)
+    );
+    let tasks = format!(in alloc; "{TASK}[[task]]\npath = \"/second\"\n")?;
+    assert_eq!(rt;
+        fault_of(alloc, [ENTRIES, SEED, MOUNT, tasks.as_str()])?,
+        Some(MountFault::TooMany)
+    );
+    Ok(())
+}

@@ -1,9 +1,0 @@
-use Rattle.std.proofs.Common.{◌≤◌, ◌-◌, length, take}
-use Rattle.std.specs.Io.KnownBytes.{Consumes}
-use Rattle.sentry_run.proofs.host_folder.reading.fill.Given as goal
-
-abbrev pub invariant-loop-done : goal.invariant-loop-done
-invariant-loop-done g l = (l.done ≤ length l.buf) × Consumes (g.F.Read.remaining l.initial.file) (g.F.Read.remaining l.file) (take l.done l.buf)
-
-abbrev pub decreases-loop-done : goal.decreases-loop-done
-decreases-loop-done g l = length l.initial.buf - l.done

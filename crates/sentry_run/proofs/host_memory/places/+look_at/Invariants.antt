@@ -1,5 +1,0 @@
-use Rattle.std.proofs.Common.{length}
-use Rattle.sentry_run.proofs.host_memory.places.+look_at.Given as goal
-
-abbrev pub decreases-look_at : goal.decreases-look_at
-decreases-look_at l = length l.names.now

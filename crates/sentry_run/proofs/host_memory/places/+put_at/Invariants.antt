@@ -1,5 +1,0 @@
-use Rattle.std.proofs.Common.{length}
-use Rattle.sentry_run.proofs.host_memory.places.+put_at.Given as goal
-
-abbrev pub decreases-put_at : goal.decreases-put_at
-decreases-put_at l = length l.names.now

@@ -1,5 +1,0 @@
-use Rattle.std.proofs.Common.{length}
-use Rattle.sentry_run.proofs.host_memory.places.+swap_at.Given as goal
-
-abbrev pub decreases-swap_at : goal.decreases-swap_at
-decreases-swap_at l = length l.names.now
