@@ -1,0 +1,120 @@
+-- Memory byte by byte, as accesses see it.
+use Rattle.std.specs.Prelude.{◌≡◌, ◌⊎◌, ⊤, ℕ, zero, suc, ◌+◌, ◌*◌, ◌-◌, ◌/◌, ◌%◌, ◌^◌, ◌<◌, nat_lt, Option, Some, None, Result, Ok, Err, if◌then◌else◌}
+use Rattle.rv_table.specs.declared.error.Area.{Area}
+use Rattle.rv_table.specs.declared.error.MemErr.{MemErr}
+use Rattle.rv_table.specs.declared.error.MemErr.TheVariants as refusals
+
+-- what a byte is to an access: it has a value, it may not be accessed, or it lies in a shared area that is not handed in
+-- mmap(2), PROT_READ, PROT_WRITE and PROT_EXEC; shared areas: profile
+pub data Byte : Type 0 where
+  Holds : ℕ → Byte
+  Barred : Byte
+  InArea : Area → Byte
+
+-- memory: what the byte at each address is to a fetch, to a load and to a store
+-- RISC-V Unprivileged ISA 20191213, 1.4, Memory
+pub record Memory : Type 0 where
+  pub code : ℕ → Byte
+  pub data_ : ℕ → Byte
+  pub room : ℕ → Byte
+
+-- the address behind another: addresses go round at 2^64
+-- RISC-V Unprivileged ISA 20191213, 1.4, Memory
+abbrev pub behind : ℕ → ℕ
+behind address = (address + 1) % 2 ^ 64
+
+-- the first of so many bytes from an address on that may not be accessed
+-- profile
+abbrev pub or_barred : Byte → ℕ → Option ℕ → Option ℕ
+or_barred Barred address rest = Some address
+or_barred (Holds value) address rest = rest
+or_barred (InArea area) address rest = rest
+
+unfoldable pub first_barred : (ℕ → Byte) → (address count : ℕ) → Option ℕ
+first_barred byte address zero = None
+first_barred byte address (suc n) = or_barred (byte address) address (first_barred byte (behind address) n)
+
+-- the area of the first of so many bytes that lie in one
+-- profile
+abbrev pub or_area : Byte → Option Area → Option Area
+or_area (InArea area) rest = Some area
+or_area Barred rest = rest
+or_area (Holds value) rest = rest
+
+unfoldable pub first_area : (ℕ → Byte) → (address count : ℕ) → Option Area
+first_area byte address zero = None
+first_area byte address (suc n) = or_area (byte address) (first_area byte (behind address) n)
+
+-- the number of so many bytes, the lowest first
+-- RISC-V Unprivileged ISA 20191213, 1.4: little-endian
+abbrev pub value_in : Byte → ℕ
+value_in (Holds value) = value
+value_in Barred = 0
+value_in (InArea area) = 0
+
+unfoldable pub number_from : (ℕ → Byte) → (address count : ℕ) → ℕ
+number_from byte address zero = 0
+number_from byte address (suc n) = value_in (byte address) + 256 * number_from byte (behind address) n
+
+-- what an access to so many bytes comes to: each of them is tested before any is looked at
+-- RISC-V Unprivileged ISA 20191213, 2.6, Load and Store Instructions; that a byte without the right goes first: profile
+pub data Accessed : Type 0 where
+  Value : ℕ → Accessed
+  Fault : ℕ → Accessed
+  Shared : Area → Accessed
+
+abbrev pub by_area : Option Area → ℕ → Accessed
+by_area None value = Value value
+by_area (Some area) value = Shared area
+
+abbrev pub by_barred : Option ℕ → Accessed → Accessed
+by_barred None accessed = accessed
+by_barred (Some address) accessed = Fault address
+
+unfoldable pub loaded : (ℕ → Byte) → (address width : ℕ) → Accessed
+loaded byte address width = by_barred (first_barred byte address width) (by_area (first_area byte address width) (number_from byte address width))
+
+-- an answer of memory is what the access comes to, or want of memory
+-- profile
+abbrev pub AnswersAs : Accessed → Result ℕ MemErr → Type 0
+AnswersAs accessed (Ok value) = accessed ≡ Value value
+AnswersAs accessed (Err (refusals.Fault address)) = accessed ≡ Fault address
+AnswersAs accessed (Err (refusals.Shared area)) = accessed ≡ Shared area
+AnswersAs accessed (Err refusals.Memory) = ⊤
+
+-- so many bytes are one, two, four or eight
+-- RISC-V Unprivileged ISA 20191213, 2.6 and 5.3, Load and Store Instructions
+abbrev pub IsWidth : ℕ → Type 0
+IsWidth width = (width ≡ 1) ⊎ (width ≡ 2) ⊎ (width ≡ 4) ⊎ (width ≡ 8)
+
+-- how far an address lies behind another, going round at 2^64
+-- RISC-V Unprivileged ISA 20191213, 1.4, Memory
+abbrev pub distance : (from to : ℕ) → ℕ
+distance from to = (to + (2 ^ 64 - from)) % 2 ^ 64
+
+-- a byte after a store of a number's bytes, the lowest first, to so many addresses: what may not be accessed stays so
+-- RISC-V Unprivileged ISA 20191213, 1.4: little-endian; 2.6, Load and Store Instructions
+abbrev pub with_value : Byte → ℕ → Byte
+with_value (Holds old) value = Holds value
+with_value Barred value = Barred
+with_value (InArea area) value = InArea area
+
+abbrev pub stored_byte : (at width value address : ℕ) → Byte → Byte
+stored_byte at width value address byte =
+    if nat_lt (distance at address) width then with_value byte (value / 256 ^ distance at address % 256) else byte
+
+-- the bytes after a store, for each kind of access
+-- RISC-V Unprivileged ISA 20191213, 2.6 and 5.3, Load and Store Instructions
+pub record Stored (at width value : ℕ) (before after : Memory) : Type 0 where
+  pub code : (address : ℕ) → address < 2 ^ 64 → after.code address ≡ stored_byte at width value address (before.code address)
+  pub data_ : (address : ℕ) → address < 2 ^ 64 → after.data_ address ≡ stored_byte at width value address (before.data_ address)
+  pub room : (address : ℕ) → address < 2 ^ 64 → after.room address ≡ stored_byte at width value address (before.room address)
+
+-- a store's answer is what the access comes to, or want of memory
+-- profile
+abbrev pub StoresAs : Accessed → Result ⊤ MemErr → Type 0
+StoresAs (Value value) (Ok done) = ⊤
+StoresAs (Fault address) (Err (refusals.Fault told)) = told ≡ address
+StoresAs (Shared area) (Err (refusals.Shared told)) = told ≡ area
+StoresAs accessed (Err refusals.Memory) = ⊤
+StoresAs _ _ = ⊥

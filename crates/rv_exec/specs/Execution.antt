@@ -1,0 +1,102 @@
+-- What one instruction of a task does, a row a line in the manual's order.
+use Rattle.std.specs.Prelude.{◌≡◌, ℕ, ◌+◌, ◌%◌, ◌^◌, nat_eq, List, [], ◌∷◌, if◌then◌else◌}
+use Rattle.rv_table.specs.declared.error.Area.{Area}
+use Rattle.rv_table.specs.declared.instr.Instr.{Instr}
+use Rattle.rv_table.specs.declared.instr.Instr.TheVariants as instr
+use Rattle.rv_table.specs.declared.regs.Regs.{Regs}
+use Rattle.rv_table.specs.Fields.{sign_extend}
+use Rattle.rv_table.specs.Registers.{reg, with_reg, at_pc, gone_on}
+use Rattle.rv_table.specs.Table.{rows_so_far}
+use Rattle.rv_alu.specs.Words.{sum}
+use Rattle.rv_alu.specs.Values.{value_of}
+use Rattle.rv_exec.specs.Bytes.{Memory, Accessed, Value, Fault, Shared, loaded}
+use Rattle.rv_exec.specs.declared.outcome.Step.{Step}
+use Rattle.rv_exec.specs.declared.outcome.Step.TheVariants as steps
+
+-- what an instruction comes to: the task goes on with these registers, calls the system, traps with a signal, or touches
+-- a shared area that is not handed in
+-- RISC-V Unprivileged ISA 20191213, 1.6, Exceptions, Traps, and Interrupts; signal(7)
+pub data Done : Type 0 where
+  Goes : Regs → Done
+  Calls : Done
+  Traps : ℕ → Done
+  Touches : Area → Done
+
+-- on to the next instruction, with a value in a register
+-- RISC-V Unprivileged ISA 20191213, 2.4
+abbrev pub valued : Regs → (rd value : ℕ) → Done
+valued r rd value = Goes (gone_on (with_reg r rd value))
+
+-- a jump, with the next instruction's address in a register; one to an address that is no multiple of 4 changes nothing
+-- RISC-V Unprivileged ISA 20191213, 2.5, Control Transfer Instructions; signal(7), SIGBUS 7
+abbrev pub jumped : Regs → (rd target : ℕ) → Done
+jumped r rd target = if nat_eq (target % 4) 0 then Goes (at_pc (with_reg r rd (sum r.pc 4)) target) else Traps 7
+
+-- the low bits of a number, the highest of them with that place, with their sign carried on to 64 bits
+-- RISC-V Unprivileged ISA 20191213, 2.6: sign-extension
+abbrev pub extended : (top value : ℕ) → ℕ
+extended top value = sign_extend top (value % 2 ^ (top + 1))
+
+-- a load of so many bytes, extended to 64 bits; plain loads need no alignment
+-- RISC-V Unprivileged ISA 20191213, 2.6 and 5.3, Load and Store Instructions; signal(7), SIGSEGV 11
+abbrev pub by_value : Regs → (rd : ℕ) → (ℕ → ℕ) → Accessed → Done
+by_value r rd extend (Value value) = valued r rd (extend value)
+by_value r rd extend (Fault address) = Traps 11
+by_value r rd extend (Shared area) = Touches area
+
+abbrev pub loads : Memory → Regs → (rd address width : ℕ) → (ℕ → ℕ) → Done
+loads m r rd address width extend = by_value r rd extend (loaded m.data_ address width)
+
+-- what an instruction does; a row that the kernel does not have so far is an illegal instruction
+-- RISC-V Unprivileged ISA 20191213, 2.4 to 2.8 and 5.2 to 5.3; signal(7), SIGILL 4 and SIGTRAP 5
+unfoldable pub done_by : Memory → Regs → Instr → Done
+done_by m r (instr.Lui rd imm) = valued r rd (value_of (instr.Lui rd imm) 0 0)
+done_by m r (instr.Auipc rd imm) = valued r rd (value_of (instr.Auipc rd imm) r.pc 0)
+done_by m r (instr.Jal rd imm) = jumped r rd (sum r.pc imm)
+done_by m r (instr.Lb rd rs1 imm) = loads m r rd (sum (reg r rs1) imm) 1 (extended 7)
+done_by m r (instr.Lh rd rs1 imm) = loads m r rd (sum (reg r rs1) imm) 2 (extended 15)
+done_by m r (instr.Lw rd rs1 imm) = loads m r rd (sum (reg r rs1) imm) 4 (extended 31)
+done_by m r (instr.Ld rd rs1 imm) = loads m r rd (sum (reg r rs1) imm) 8 (λ value. value)
+done_by m r (instr.Lbu rd rs1 imm) = loads m r rd (sum (reg r rs1) imm) 1 (λ value. value)
+done_by m r (instr.Lhu rd rs1 imm) = loads m r rd (sum (reg r rs1) imm) 2 (λ value. value)
+done_by m r (instr.Lwu rd rs1 imm) = loads m r rd (sum (reg r rs1) imm) 4 (λ value. value)
+done_by m r (instr.Addi rd rs1 imm) = valued r rd (value_of (instr.Addi rd rs1 imm) (reg r rs1) 0)
+done_by m r (instr.Slti rd rs1 imm) = valued r rd (value_of (instr.Slti rd rs1 imm) (reg r rs1) 0)
+done_by m r (instr.Sltiu rd rs1 imm) = valued r rd (value_of (instr.Sltiu rd rs1 imm) (reg r rs1) 0)
+done_by m r (instr.Xori rd rs1 imm) = valued r rd (value_of (instr.Xori rd rs1 imm) (reg r rs1) 0)
+done_by m r (instr.Ori rd rs1 imm) = valued r rd (value_of (instr.Ori rd rs1 imm) (reg r rs1) 0)
+done_by m r (instr.Andi rd rs1 imm) = valued r rd (value_of (instr.Andi rd rs1 imm) (reg r rs1) 0)
+done_by m r (instr.Slli rd rs1 shamt) = valued r rd (value_of (instr.Slli rd rs1 shamt) (reg r rs1) 0)
+done_by m r (instr.Srli rd rs1 shamt) = valued r rd (value_of (instr.Srli rd rs1 shamt) (reg r rs1) 0)
+done_by m r (instr.Srai rd rs1 shamt) = valued r rd (value_of (instr.Srai rd rs1 shamt) (reg r rs1) 0)
+done_by m r instr.Ecall = Calls
+done_by m r instr.Ebreak = Traps 5
+done_by m r _ = Traps 4
+
+-- what a word does, by the rows that make an instruction of it
+-- signal(7), SIGILL 4
+abbrev pub by_rows : Memory → Regs → List Instr → Done
+by_rows m r [] = Traps 4
+by_rows m r (i ∷ is) = done_by m r i
+
+-- what the bytes at pc do: where they may not be executed it is a segmentation violation
+-- signal(7), SIGSEGV 11; that it goes first: profile
+abbrev pub by_word : Memory → Regs → Accessed → Done
+by_word m r (Value word) = by_rows m r (rows_so_far word)
+by_word m r (Fault address) = Traps 11
+by_word m r (Shared area) = Touches area
+
+-- what the next instruction of a task does
+-- RISC-V Unprivileged ISA 20191213, 1.2 and 1.5
+unfoldable pub exec : Memory → Regs → Done
+exec m r = by_word m r (loaded m.code r.pc 4)
+
+-- a step did as the instruction does; what traps, calls or touches an area changes nothing, nor does want of memory
+-- RISC-V Unprivileged ISA 20191213, 1.6
+abbrev pub StepsAs : Done → (before after : Regs) → Step → Type 0
+StepsAs (Goes r) before after steps.Next = after ≡ r
+StepsAs Calls before after steps.Call = after ≡ before
+StepsAs (Traps signal) before after (steps.Trap told) = (told ≡ signal) × (after ≡ before)
+StepsAs (Touches area) before after (steps.Shared told) = (told ≡ area) × (after ≡ before)
+StepsAs done before after steps.Memory = after ≡ before
+StepsAs done before after _ = ⊥

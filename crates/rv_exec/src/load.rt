@@ -1,0 +1,110 @@
+//! Loads.
+
+ghost use Rattle.std.specs.Prelude.{◌≡◌, ◌≢◌, false};
+ghost use Rattle.rv_exec.specs.Bytes.{loaded, IsWidth};
+ghost use Rattle.rv_exec.specs.Execution.{extended};
+ghost use Rattle.rv_exec.specs.Loads.{width_of, extend_of, refused_by, AccessesAs};
+
+use crate::{Mem, Step};
+use rv_table::MemErr;
+
+/// A kind of load, by the manual's names: bytes, half-words, words and double words, with their sign or without.
+#[derive(Clone, Copy, Debug, PartialEq, Eq)]
+pub(crate) enum Load {
+    Byte,
+    Half,
+    Word,
+    Double,
+    UnsignedByte,
+    UnsignedHalf,
+    UnsignedWord,
+}
+
+impl Load {
+    /// How many bytes it takes.
+    fn width(self) -> u8
+        ensures width { result ≡ width_of self }
+        ensures is_width { IsWidth result }
+    {
+        match self {
+            Load::Byte => 1,
+            Load::Half => 2,
+            Load::Word => 4,
+            Load::Double => 8,
+            Load::UnsignedByte => 1,
+            Load::UnsignedHalf => 2,
+            Load::UnsignedWord => 4,
+        }
+    }
+
+    /// What a register gets of its number.
+    pub(crate) fn extend(self, value: u64) -> u64
+        ensures { result ≡ extend_of self value }
+    {
+        match self {
+            Load::Byte => extended_byte(value),
+            Load::Half => extended_half(value),
+            Load::Word => extended_word(value),
+            Load::Double => value,
+            Load::UnsignedByte => value,
+            Load::UnsignedHalf => value,
+            Load::UnsignedWord => value,
+        }
+    }
+
+    /// The number at an address, or why there is none.
+    pub(crate) fn number<M: Mem>(self, mem: &mut M, at: u64) -> Result<u64, Step>
+        ensures number { AccessesAs (loaded (M.told mem.old).data_ at (width_of self)) result }
+        ensures lean { M.takes_memory ≡ false → result ≢ Err Step.Memory }
+        ensures same { M.told mem.new ≡ M.told mem.old }
+    {
+        match mem.load(at, self.width()) {
+            Ok(value) => Ok(value),
+            Err(refusal) => Err(refused(refusal)),
+        }
+    }
+}
+
+/// What a refused access ends a step with.
+pub(crate) fn refused(refusal: MemErr) -> Step
+    ensures { result ≡ refused_by refusal }
+{
+    match refusal {
+        MemErr::Fault { .. } => Step::Trap(11),
+        MemErr::Shared(area) => Step::Shared(area),
+        MemErr::Memory => Step::Memory,
+    }
+}
+
+fn extended_byte(value: u64) -> u64
+    ensures { result ≡ extended 7 value }
+{
+    let low = value % 256;
+    if low < 128 {
+        low
+    } else {
+        low + (u64::MAX - 255)
+    }
+}
+
+fn extended_half(value: u64) -> u64
+    ensures { result ≡ extended 15 value }
+{
+    let low = value % 65_536;
+    if low < 32_768 {
+        low
+    } else {
+        low + (u64::MAX - 65_535)
+    }
+}
+
+fn extended_word(value: u64) -> u64
+    ensures { result ≡ extended 31 value }
+{
+    let low = value % 4_294_967_296;
+    if low < 2_147_483_648 {
+        low
+    } else {
+        low + (u64::MAX - 4_294_967_295)
+    }
+}

@@ -1,0 +1,83 @@
+//! Single steps of a task: what its registers are before and after, and what the step comes to. An assembler made the
+//! words, and an emulator of the RISC-V ran them; what lies round the end of the addresses, and what traps and with which
+//! signal, goes by the manual.
+
+use super::*;
+use memory::{Memory, Run};
+use rv_table::Regs;
+use std::process::Abort;
+
+mod jumps;
+mod loads;
+mod memory;
+mod refusals;
+mod traps;
+mod values;
+
+/// Where a task stands in these tests, unless they say otherwise.
+const PC: u64 = 0x4_0000;
+
+/// Where its sixteen bytes lie that can be read.
+const DATA: u64 = 0x2_0000;
+
+/// Sixteen bytes of zero.
+const ZEROS: Run<16> = Run {
+    from: DATA,
+    bytes: [0; 16],
+    area: None,
+};
+
+/// The registers of a task: each but x0 holds a number of its own.
+fn regs_at(pc: u64) -> Regs {
+    let mut regs = Regs { pc, x: [0; 32] };
+    let mut number = 0_u64;
+    for place in 0..32 {
+        regs.x[place] = number;
+        number = number.wrapping_add(0x0101_0101_0101_0101);
+    }
+    regs
+}
+
+/// A memory in which that word stands at an address, with these bytes to be read.
+fn memory_of(at: u64, word: u32, data: Run<16>) -> Memory {
+    Memory {
+        code: Run {
+            from: at,
+            bytes: word.to_le_bytes(),
+            area: None,
+        },
+        data,
+        accesses: 2,
+    }
+}
+
+/// That a step comes to what it should, and leaves the registers that it should.
+fn expect(rt: &impl Abort, before: Regs, memory: Memory, step_wanted: Step, after: Regs) {
+    let mut regs = before;
+    let mut memory = memory;
+    let word = u32::from_le_bytes(memory.code.bytes);
+    assert_eq!(rt; step(&mut regs, &mut memory), step_wanted, "{word:08x}");
+    assert_eq!(rt; regs, after, "{word:08x}");
+}
+
+/// That a step changes nothing, and comes to what it should.
+fn expect_unmoved(rt: &impl Abort, regs: Regs, memory: Memory, step_wanted: Step) {
+    expect(rt, regs, memory, step_wanted, regs);
+}
+
+/// An instruction's word; the register that it reads and what that holds; the one that it writes and what that holds
+/// then.
+type Row = (u32, usize, u64, usize, u64);
+
+/// That the instructions of rows write that one register, and move on to the next instruction.
+fn expect_values(rt: &impl Abort, data: Run<16>, rows: &[Row]) {
+    for &(word, rs1, before, rd, value) in rows {
+        assert!(rt; rs1 < 32 && rd < 32);
+        let mut regs = regs_at(PC);
+        regs.x[rs1] = before;
+        let mut after = regs;
+        after.x[rd] = value;
+        after.pc = PC + 4;
+        expect(rt, regs, memory_of(PC, word, data), Step::Next, after);
+    }
+}

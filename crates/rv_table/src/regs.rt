@@ -1,0 +1,42 @@
+//! The registers of a task.
+
+ghost use Rattle.std.specs.Prelude.{◌≡◌};
+ghost use Rattle.rv_table.specs.Registers.{reg, with_reg, at_pc, gone_on};
+
+use crate::Reg;
+
+/// The state of a hardware thread: the program counter and the integer registers x0 to x31, of which x0 is 0.
+///
+/// RISC-V Unprivileged ISA 20191213, 2.1, Programmers' Model for Base Integer ISA.
+#[derive(Clone, Copy, Debug, PartialEq, Eq)]
+pub struct Regs {
+    pub pc: u64,
+    pub x: [u64; 32],
+}
+
+impl Regs {
+    /// What a register holds. x0 holds 0.
+    pub fn read(&self, register: Reg) -> u64
+        ensures { result ≡ reg self.now register }
+    {
+        let number = register.number();
+        if number == 0 { 0 } else { self.x[number] }
+    }
+
+    /// Puts a value into a register. A write to x0 does nothing.
+    pub fn write(&mut self, register: Reg, value: u64)
+        ensures { self.new ≡ with_reg self.old register value }
+    {
+        let number = register.number();
+        if number != 0 {
+            self.x[number] = value;
+        }
+    }
+
+    /// Moves on to the next instruction, 4 bytes further.
+    pub fn go_on(&mut self)
+        ensures { self.new ≡ gone_on self.old }
+    {
+        self.pc = self.pc.wrapping_add(4);
+    }
+}

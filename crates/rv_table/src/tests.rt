@@ -1,0 +1,213 @@
+//! That words are what an assembler makes of the instructions by the manual's names.
+use super::*;
+use std::process::Abort;
+
+/// A row's name, and the number of rd, that of rs1, and the immediate or the shift that it takes from a word.
+type Parts = (&'static str, usize, usize, i64);
+
+fn parts(name: &'static str, rd: Reg, rs1: Reg, imm: u64) -> Option<Parts> {
+    Some((name, rd.number(), rs1.number(), imm.cast_signed()))
+}
+
+/// The parts of an instruction without rs1.
+fn upper(word: u32) -> Option<(&'static str, usize, i64)> {
+    match decode(word)? {
+        Instr::Lui { rd, imm } => Some(("Lui", rd.number(), imm.cast_signed())),
+        Instr::Auipc { rd, imm } => Some(("Auipc", rd.number(), imm.cast_signed())),
+        Instr::Jal { rd, imm } => Some(("Jal", rd.number(), imm.cast_signed())),
+        _ => None,
+    }
+}
+
+fn load(word: u32) -> Option<Parts> {
+    match decode(word)? {
+        Instr::Lb { rd, rs1, imm } => parts("Lb", rd, rs1, imm),
+        Instr::Lh { rd, rs1, imm } => parts("Lh", rd, rs1, imm),
+        Instr::Lw { rd, rs1, imm } => parts("Lw", rd, rs1, imm),
+        Instr::Ld { rd, rs1, imm } => parts("Ld", rd, rs1, imm),
+        Instr::Lbu { rd, rs1, imm } => parts("Lbu", rd, rs1, imm),
+        Instr::Lhu { rd, rs1, imm } => parts("Lhu", rd, rs1, imm),
+        Instr::Lwu { rd, rs1, imm } => parts("Lwu", rd, rs1, imm),
+        _ => None,
+    }
+}
+
+fn immediate(word: u32) -> Option<Parts> {
+    match decode(word)? {
+        Instr::Addi { rd, rs1, imm } => parts("Addi", rd, rs1, imm),
+        Instr::Slti { rd, rs1, imm } => parts("Slti", rd, rs1, imm),
+        Instr::Sltiu { rd, rs1, imm } => parts("Sltiu", rd, rs1, imm),
+        Instr::Xori { rd, rs1, imm } => parts("Xori", rd, rs1, imm),
+        Instr::Ori { rd, rs1, imm } => parts("Ori", rd, rs1, imm),
+        Instr::Andi { rd, rs1, imm } => parts("Andi", rd, rs1, imm),
+        _ => None,
+    }
+}
+
+fn shift(word: u32) -> Option<Parts> {
+    match decode(word)? {
+        Instr::Slli { rd, rs1, shamt } => parts("Slli", rd, rs1, u64::from(shamt)),
+        Instr::Srli { rd, rs1, shamt } => parts("Srli", rd, rs1, u64::from(shamt)),
+        Instr::Srai { rd, rs1, shamt } => parts("Srai", rd, rs1, u64::from(shamt)),
+        _ => None,
+    }
+}
+
+fn assert_none(rt: &impl Abort, words: &[u32]) {
+    for word in words {
+        assert!(rt; decode(*word).is_none(), "{word:#x}");
+    }
+}
+
+#[test]
+fn upper_immediates_carry_their_top_bit_on(rt: HostRuntime) {
+    for (name, word, rd, imm) in [
+        ("Lui", 0x000000b7, 1, 0),
+        ("Lui", 0x7ffff2b7, 5, 0x7ffff000),
+        ("Lui", 0x80000fb7, 31, -0x80000000),
+        ("Lui", 0xffffffb7, 31, -0x1000),
+        ("Auipc", 0x12345017, 0, 0x12345000),
+        ("Auipc", 0x7ffff517, 10, 0x7ffff000),
+        ("Auipc", 0x80000f97, 31, -0x80000000),
+    ] {
+        assert_eq!(rt; upper(word), Some((name, rd, imm)), "{word:#x}");
+    }
+}
+
+#[test]
+fn jumps_have_each_bit_in_its_place(rt: HostRuntime) {
+    for (name, word, rd, imm) in [
+        ("Jal", 0x000000ef, 1, 0),
+        ("Jal", 0x8000006f, 0, -1048576),
+        ("Jal", 0x7fffffef, 31, 1048574),
+        ("Jal", 0x002002ef, 5, 2),
+        ("Jal", 0x4000036f, 6, 1024),
+        ("Jal", 0x001003ef, 7, 2048),
+        ("Jal", 0x0000146f, 8, 4096),
+        ("Jal", 0x000804ef, 9, 524288),
+        ("Jal", 0xfffff56f, 10, -2),
+        ("Jal", 0x6aaaa5ef, 11, 698026),
+        ("Jal", 0x9555566f, 12, -698028),
+    ] {
+        assert_eq!(rt; upper(word), Some((name, rd, imm)), "{word:#x}");
+    }
+}
+
+#[test]
+fn loads_are_told_apart_by_funct3(rt: HostRuntime) {
+    for (name, word, rd, rs1, imm) in [
+        ("Lb", 0x80010083, 1, 2, -2048),
+        ("Lh", 0xfff21183, 3, 4, -1),
+        ("Lw", 0x00032283, 5, 6, 0),
+        ("Ld", 0x00843383, 7, 8, 8),
+        ("Lbu", 0x7ff54483, 9, 10, 2047),
+        ("Lhu", 0x555f5f83, 31, 30, 1365),
+        ("Lwu", 0xaaafe003, 0, 31, -1366),
+    ] {
+        assert_eq!(rt; load(word), Some((name, rd, rs1, imm)), "{word:#x}");
+    }
+}
+
+#[test]
+fn immediates_are_told_apart_by_funct3(rt: HostRuntime) {
+    for (name, word, rd, rs1, imm) in [
+        ("Addi", 0x80010093, 1, 2, -2048),
+        ("Slti", 0xfff22193, 3, 4, -1),
+        ("Sltiu", 0x00033293, 5, 6, 0),
+        ("Xori", 0x00144393, 7, 8, 1),
+        ("Ori", 0x7ff56493, 9, 10, 2047),
+        ("Andi", 0x555f7f93, 31, 30, 1365),
+        ("Addi", 0xaaaf8013, 0, 31, -1366),
+    ] {
+        assert_eq!(rt; immediate(word), Some((name, rd, rs1, imm)), "{word:#x}");
+    }
+}
+
+#[test]
+fn shifts_go_up_to_63_places(rt: HostRuntime) {
+    for (name, word, rd, rs1, imm) in [
+        ("Slli", 0x00011093, 1, 2, 0),
+        ("Slli", 0x01f21193, 3, 4, 31),
+        ("Slli", 0x02031293, 5, 6, 32),
+        ("Slli", 0x03f41393, 7, 8, 63),
+        ("Srli", 0x00055493, 9, 10, 0),
+        ("Srli", 0x01f65593, 11, 12, 31),
+        ("Srli", 0x02075693, 13, 14, 32),
+        ("Srli", 0x03f85793, 15, 16, 63),
+        ("Srai", 0x40095893, 17, 18, 0),
+        ("Srai", 0x41fa5993, 19, 20, 31),
+        ("Srai", 0x420b5a93, 21, 22, 32),
+        ("Srai", 0x43fc5b93, 23, 24, 63),
+    ] {
+        assert_eq!(rt; shift(word), Some((name, rd, rs1, imm)), "{word:#x}");
+    }
+}
+
+#[test]
+fn ecall_and_ebreak_are_one_word_each(rt: HostRuntime) {
+    assert!(rt; matches!(decode(0x00000073), Some(Instr::Ecall)));
+    assert!(rt; matches!(decode(0x00100073), Some(Instr::Ebreak)));
+}
+
+#[test]
+fn a_word_one_bit_off_a_row_is_none(rt: HostRuntime) {
+    let ecall_with_rd_1 = 0x000000f3;
+    let ebreak_with_another_bit = 0x00300073;
+    let wfi = 0x10500073;
+    let csrrw = 0xc00110f3;
+    let load_of_funct3_7 = 0x00017083;
+    assert_none(
+        &rt,
+        &[
+            ecall_with_rd_1,
+            ebreak_with_another_bit,
+            wfi,
+            csrrw,
+            load_of_funct3_7,
+        ],
+    );
+    let slli_with_bit_26 = 0x04011093;
+    let slli_with_bit_30 = 0x40011093;
+    let srli_with_bit_26 = 0x04055493;
+    let srli_with_bit_31 = 0x80055493;
+    let srai_with_bit_31 = 0xc0095893;
+    assert_none(
+        &rt,
+        &[
+            slli_with_bit_26,
+            slli_with_bit_30,
+            srli_with_bit_26,
+            srli_with_bit_31,
+            srai_with_bit_31,
+        ],
+    );
+}
+
+#[test]
+fn words_of_other_opcodes_are_none(rt: HostRuntime) {
+    let jalr = 0x000100e7;
+    let beq = 0x00208063;
+    let sb = 0x00110023;
+    let add = 0x003100b3;
+    let mul = 0x023100b3;
+    let fence = 0x0ff0000f;
+    let fence_i = 0x0000100f;
+    assert_none(&rt, &[jalr, beq, sb, add, mul, fence, fence_i]);
+    let addiw = 0x0031009b;
+    let addw = 0x003100bb;
+    let divw = 0x027342bb;
+    let amoadd_w = 0x0021a0af;
+    let lr_w = 0x100120af;
+    assert_none(&rt, &[addiw, addw, divw, amoadd_w, lr_w]);
+}
+
+#[test]
+fn zeros_and_ones_are_none(rt: HostRuntime) {
+    assert_none(&rt, &[0x00000000, 0xffffffff]);
+}
+
+#[test]
+fn a_register_keeps_its_number(rt: HostRuntime) {
+    assert_eq!(rt; Reg::new(31).number(), 31);
+    assert!(rt; Reg::new(0) != Reg::new(1));
+}
