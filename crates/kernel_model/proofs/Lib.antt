@@ -1,9 +1,11 @@
+pub mod Accesses
 pub mod BeginLemmas
 pub mod CountLemmas
 pub mod FaultLemmas
 pub mod Executables
 pub mod ImagePages
 pub mod LocalityLaws
+pub mod NearWords
 pub mod NodeLemmas
 pub mod Numberings
 pub mod NumberRuns

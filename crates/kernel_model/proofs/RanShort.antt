@@ -1,7 +1,7 @@
 -- Runs that stop before their end.
 use Rattle.std.proofs.Common.{◌≡◌, ◌≢◌, ℕ, zero, suc, ◌+◌, ◌-◌, ◌≤◌, Bool, true, false, cond, List, [], ◌∷◌, Option, Some, None, option_map, refl, sym, ap, ◌∙◌, ◌⊎◌, inl, inr, arith, add-zero}
 use Rattle.std.specs.Prelude.{option_and_then, nat_le, ◌&&◌}
-use Rattle.kernel_model.specs.declared.registers.Registers.{Registers}
+use Rattle.rv_table.specs.declared.regs.Regs.{Regs}
 use Rattle.kernel_model.specs.declared.space.Space.{Space}
 use Rattle.kernel_model.specs.Instructions.{next_of, went, ran}
 use Rattle.kernel_model.specs.Parts.{Change}
@@ -9,14 +9,14 @@ use Rattle.kernel_model.specs.Step.{Running, run_row, task_change, with_register
 use Rattle.kernel_model.proofs.Runs.{one_more, ran_last}
 
 -- behind an instruction that does not go on, none goes on
-none_goes_on : (n j : ℕ) (space : Space) (r : Registers) → ran n space r ≡ None → ran (n + j) space r ≡ None
+none_goes_on : (n j : ℕ) (space : Space) (r : Regs) → ran n space r ≡ None → ran (n + j) space r ≡ None
 none_goes_on n zero space r e = ap (λ m. ran m space r) (add-zero n) ∙ e
 none_goes_on n (suc j) space r e =
     let further : n + suc j ≡ n + j + 1 = omega arith in
     ap (λ m. ran m space r) further ∙ ran_last (n + j) space r ∙ ap (option_and_then (one_more space)) (none_goes_on n j space r e)
 
 -- a run that stopped early is none of so many instructions
-pub ran_short : (n count : ℕ) (space : Space) (r q : Registers) → ran n space r ≡ Some q → n ≤ count → (n ≡ count) ⊎ (went (next_of space q) ≡ None) → n ≢ count → ran count space r ≡ None
+pub ran_short : (n count : ℕ) (space : Space) (r q : Regs) → ran n space r ≡ Some q → n ≤ count → (n ≡ count) ⊎ (went (next_of space q) ≡ None) → n ≢ count → ran count space r ≡ None
 ran_short n count space r q so_far within (inl all) apart = absurd (apart all)
 ran_short n count space r q so_far within (inr stopped) apart =
     let further : n + 1 + (count - (n + 1)) ≡ count = omega arith in

@@ -14,9 +14,9 @@ use Rattle.kernel_model.specs.declared.kernel.Part.{Part}
 use Rattle.kernel_model.specs.declared.kernel.Part.TheVariants.{OfTask, OfSpace, OfNode, OfConsole, OfFaults}
 use Rattle.kernel_model.specs.declared.opening.Given.{Given}
 use Rattle.kernel_model.specs.declared.opening.Fresh.{Fresh}
-use Rattle.kernel_model.specs.declared.registers.Next.{Next}
+use Rattle.kernel_model.specs.declared.traps.Next.{Next}
 use Rattle.kernel_model.specs.declared.space.Space.{Space}
-use Rattle.kernel_model.specs.declared.registers.Next.TheVariants.{Goes, Calls, Traps}
+use Rattle.kernel_model.specs.declared.traps.Next.TheVariants.{Goes, Calls, Traps}
 use Rattle.sn_errno.specs.Errors.{reply_of}
 use Rattle.kernel_model.specs.Registers.{replied}
 use Rattle.kernel_model.specs.Faulted.{has_any, is_in_order, Nodes_so_far, faulted, risen, number_all, all_known}

@@ -8,8 +8,8 @@ use Rattle.kernel_model.specs.declared.kernel.Kernel.{Kernel}
 use Rattle.kernel_model.specs.declared.kernel.Task.{Task}
 use Rattle.kernel_model.specs.declared.kernel.Life.{Life}
 use Rattle.kernel_model.specs.declared.kernel.Life.TheVariants.{Live, Exited, Killed}
-use Rattle.kernel_model.specs.declared.registers.Next.{Next}
-use Rattle.kernel_model.specs.declared.registers.Next.TheVariants.{Goes, Calls, Traps}
+use Rattle.kernel_model.specs.declared.traps.Next.{Next}
+use Rattle.kernel_model.specs.declared.traps.Next.TheVariants.{Goes, Calls, Traps}
 use Rattle.kernel_model.specs.Instructions.{next_of}
 use Rattle.kernel_model.specs.Parts.{parts, run}
 use Rattle.kernel_model.specs.Step.{Running, live, step}

@@ -10,7 +10,7 @@ use Rattle.elf_image.specs.Images.{image_in}
 use Rattle.elf_image.specs.Loadable.{first_page, page_count}
 use Rattle.kernel_model.specs.declared.space.Space.{Space}
 use Rattle.kernel_model.specs.declared.space.Page.{Page}
-use Rattle.kernel_model.specs.declared.registers.Registers.{Registers}
+use Rattle.rv_table.specs.declared.regs.Regs.{Regs}
 
 -- the image that the bytes are, or None where they are none
 -- ELF-64 Object File Format
@@ -83,5 +83,5 @@ pages_mapped image = map.len (space_of image).pages
 
 -- the registers that an image begins with: at its entry, with the stack pointer at the stack's end, the others 0
 -- execve(2); RISC-V ELF psABI, sp is x2
-abbrev pub registers_of : Image → Registers
+abbrev pub registers_of : Image → Regs
 registers_of image = record { pc = image.entry; x = 0 ∷ 0 ∷ 2 ^ 38 ∷ replicate 29 0 }

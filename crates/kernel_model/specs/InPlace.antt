@@ -10,8 +10,8 @@ use Rattle.kernel_model.specs.declared.kernel.Node.{Node}
 use Rattle.kernel_model.specs.declared.kernel.Task.{Task}
 use Rattle.kernel_model.specs.declared.opening.Fresh.{Fresh}
 use Rattle.kernel_model.specs.declared.opening.Given.{Given}
-use Rattle.kernel_model.specs.declared.registers.Next.{Next}
-use Rattle.kernel_model.specs.declared.registers.Next.TheVariants.{Goes, Calls, Traps}
+use Rattle.kernel_model.specs.declared.traps.Next.{Next}
+use Rattle.kernel_model.specs.declared.traps.Next.TheVariants.{Goes, Calls, Traps}
 use Rattle.kernel_model.specs.Registers.{args_of, call_of}
 use Rattle.kernel_model.specs.FileTree.{number_in}
 use Rattle.kernel_model.specs.Faulted.{has_any, Nodes_so_far, number_all, node_changes}

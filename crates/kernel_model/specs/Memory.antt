@@ -1,6 +1,7 @@
 -- Memory as a finite map of pages, read by bytes.
-use Rattle.std.specs.Prelude.{ℕ, zero, suc, ◌+◌, ◌*◌, ◌/◌, ◌%◌, ◌^◌, Bool, List, [], ◌∷◌, Option, Some, None, if◌then◌else◌, slice_index, option_and_then, option_map}
+use Rattle.std.specs.Prelude.{◌≡◌, Result, Ok, Err, ℕ, zero, suc, ◌+◌, ◌*◌, ◌/◌, ◌%◌, ◌^◌, Bool, List, [], ◌∷◌, Option, Some, None, if◌then◌else◌, slice_index, option_and_then, option_map}
 use Rattle.std.specs.FinMap as map
+use Rattle.rv_exec.specs.Bytes.{Byte, Holds, Barred, Memory}
 use Rattle.kernel_model.specs.declared.space.Space.{Space}
 use Rattle.kernel_model.specs.declared.space.Page.{Page}
 use Rattle.elf_image.specs.declared.image.Rights.{Rights}
@@ -32,13 +33,24 @@ readable space address (suc n) = option_and_then (λ b. option_map (λ bs. b ∷
 abbrev pub code_at : Space → ℕ → Option ℕ
 code_at space address = byte_at (λ (r : Rights). r.execute) space address
 
--- four bytes as a word, the lowest first
--- RISC-V Unprivileged ISA 20191213, 1.5, Base Instruction-Length Encoding
-abbrev pub word_of : Option ℕ → Option ℕ → Option ℕ → Option ℕ → Option ℕ
-word_of (Some b0) (Some b1) (Some b2) (Some b3) = Some (b0 + 256 * b1 + 65536 * b2 + 16777216 * b3)
-word_of _ _ _ _ = None
+-- a byte as an access sees it
+-- RISC-V Unprivileged ISA 20191213, 1.4, Memory
+abbrev pub as_byte : Option ℕ → Byte
+as_byte None = Barred
+as_byte (Some value) = Holds value
 
--- the word at an address, where each of its bytes may be executed
--- RISC-V Unprivileged ISA 20191213, 1.5
-abbrev pub fetched : Space → ℕ → Option ℕ
-fetched space pc = word_of (code_at space pc) (code_at space (pc + 1)) (code_at space (pc + 2)) (code_at space (pc + 3))
+-- an address space as instructions use it; none of the rows so far stores, so that no byte may be stored to
+-- RISC-V Unprivileged ISA 20191213, 1.4, Memory
+abbrev pub memory_of : Space → Memory
+memory_of space = record {
+  code = λ address. as_byte (code_at space address);
+  data_ = λ address. as_byte (data_at space address);
+  room = λ address. Barred;
+}
+
+-- a number of bytes, or the first of their addresses that may not be accessed
+-- RISC-V Unprivileged ISA 20191213, 2.6, Load and Store Instructions
+abbrev pub NumberAs : Option ℕ → ℕ → Result ℕ ℕ → Type 0
+NumberAs None number (Ok value) = value ≡ number
+NumberAs (Some address) number (Err told) = told ≡ address
+NumberAs _ number _ = ⊥

@@ -12,9 +12,9 @@ use Rattle.kernel_model.specs.declared.kernel.Life.{Life}
 use Rattle.kernel_model.specs.declared.kernel.Life.TheVariants.{Live, Exited, Killed}
 use Rattle.kernel_model.specs.declared.kernel.Part.{Part}
 use Rattle.kernel_model.specs.declared.kernel.Part.TheVariants.{OfTask, OfSpace, OfConsole}
-use Rattle.kernel_model.specs.declared.registers.Next.{Next}
-use Rattle.kernel_model.specs.declared.registers.Next.TheVariants.{Goes, Calls, Traps}
-use Rattle.kernel_model.specs.declared.registers.Registers.{Registers}
+use Rattle.kernel_model.specs.declared.traps.Next.{Next}
+use Rattle.kernel_model.specs.declared.traps.Next.TheVariants.{Goes, Calls, Traps}
+use Rattle.rv_table.specs.declared.regs.Regs.{Regs}
 use Rattle.kernel_model.specs.declared.space.Space.{Space}
 use Rattle.sn_errno.specs.Errors.{reply_of}
 use Rattle.kernel_model.specs.Registers.{args_of, call_of, replied}
@@ -51,7 +51,7 @@ live task = look (OfTask task) found
 
 -- a task with other registers, and one that ended
 -- profile
-abbrev pub with_registers : Task → Registers → Task
+abbrev pub with_registers : Task → Regs → Task
 with_registers task registers = record { group = task.group; space = task.space; registers = registers; life = task.life }
 
 abbrev pub ended : Task → Life → Task

@@ -7,7 +7,7 @@ ghost use Rattle.kernel_model.specs.Parts.{parts, run as outcome};
 ghost use Rattle.kernel_model.specs.Beginnings.{IsRefusedBy};
 
 use crate::walking::Execved;
-use crate::{Given, Kernel, Life, Node, Opened, OpeningErr, Registers, Space, Task};
+use crate::{Given, Kernel, Life, Node, Opened, OpeningErr, Space, Task, registers_of};
 use elf_image::Image;
 use host_node::Tree;
 use mount_file::Program;
@@ -96,7 +96,7 @@ impl Kernel {
         let task = Task {
             group: number,
             space: key,
-            registers: Registers::of_image(image),
+            registers: registers_of(image),
             life: Life::Live,
         };
         let space = Space::of_image(alloc, image)?;

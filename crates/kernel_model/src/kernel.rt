@@ -1,5 +1,6 @@
-use crate::{Registers, Space};
+use crate::Space;
 use host_node::Tree;
+use rv_table::Regs;
 use sn_base::{List, Map};
 use sn_text::Name;
 
@@ -16,7 +17,7 @@ pub enum Life {
 pub struct Task {
     pub group: u32,
     pub space: u64,
-    pub registers: Registers,
+    pub registers: Regs,
     pub life: Life,
 }
 

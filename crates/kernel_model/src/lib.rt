@@ -1,10 +1,10 @@
 //! The one-thread kernel that the Sentry is held against: its definitions, and a plain kernel that obeys them.
 //!
-//! A caller sees plain data: an `Opening`, a `Trace` of `Entry`s, and a `Kernel`, the state.
-//! `specs/` says what each of them means: `Instructions` (the RV64 rows), `Image` (what an image begins with), `Memory`,
-//! `FileTree`, `Rows` (the system calls, as decision trees over the state's parts), `Step` (what an entry does),
-//! `History` (a list of entries each of whose steps is defined), `Opening`, `Printed` (the text of a run) and `Words` (the
-//! command line).
+//! A caller sees plain data: an `Opening`, a `Trace` of `Entry`s, and a `Kernel`, the state. `specs/` says what each of
+//! them means: `Image` (what an image begins with), `Memory` (an address space as instructions see it), `Instructions`
+//! (the next one of a task, and runs of them, by `rv_exec`), `FileTree`, `Rows` (the system calls, as decision trees over
+//! the state's parts), `Step` (what an entry does), `History` (a list of entries each of whose steps is defined),
+//! `Opening`, `Printed` (the text of a run) and `Words` (the command line).
 //!
 //! Proved: `Plain::opening` and `Plain::step` are the definitions (`ok`, `refused`, `fits`), a refused step or one out
 //! of memory changes nothing (`ok`, `err`), and an entry reads the parts that it uses and changes those that it touches,
@@ -24,6 +24,7 @@ mod faults;
 mod instructions;
 mod kernel;
 mod loading;
+mod memory;
 mod nodes;
 mod numbering;
 mod opened;
@@ -34,19 +35,22 @@ mod registers;
 mod rows;
 mod space;
 mod step;
+mod traps;
 mod walking;
 
 pub use arguments::is_too_long;
 pub use calls::{Outcome, call};
 pub use entry::{Args, Entry, Trace};
 pub use executable::read_executable;
-pub use instructions::{decode, next, run};
+pub use instructions::{next, run};
 pub use kernel::{Kernel, Life, Node, Numbered, Part, Task};
+pub use loading::registers_of;
 pub use opening::{Fresh, Given, Left, LeftRise, Opened, Opening, Rise};
 pub use plain::{OpeningErr, Plain};
-pub use registers::{Instruction, Next, Registers};
+pub use registers::{args_of, call_of, reply};
 pub use space::{Page, Space};
 pub use step::locality;
+pub use traps::Next;
 
 #[cfg(test)]
 mod tests;

@@ -5,8 +5,9 @@ ghost use Rattle.std.specs.FinMap as map;
 ghost use Rattle.elf_image.specs.Loadable.{first_page, page_count};
 ghost use Rattle.kernel_model.specs.Image.{is_in_file, byte_of, count_up, is_met, rights_at, page_of, stack_page, mapped, segments_mapped, space_of, registers_of};
 
-use crate::{Page, Registers, Space};
+use crate::{Page, Space};
 use elf_image::{Image, Rights, Segment};
+use rv_table::Regs;
 use sn_base::{List, Map, Memory};
 use std::alloc::Global;
 
@@ -37,18 +38,16 @@ impl Space {
     }
 }
 
-impl Registers {
-    /// The registers that an image begins with: at its entry, with the stack pointer x2 at the end of the stack, and 0
-    /// in the others.
-    ///
-    /// execve(2); RISC-V ELF psABI.
-    pub fn of_image(image: &Image) -> Registers
-        ensures { result ≡ registers_of image.now }
-    {
-        let mut x = [0; 32];
-        x[2] = STACK_END;
-        Registers { pc: image.entry, x }
-    }
+/// The registers that an image begins with: at its entry, with the stack pointer x2 at the end of the stack, and 0 in the
+/// others.
+///
+/// execve(2); RISC-V ELF psABI.
+pub fn registers_of(image: &Image) -> Regs
+    ensures { result ≡ registers_of image.now }
+{
+    let mut x = [0; 32];
+    x[2] = STACK_END;
+    Regs { pc: image.entry, x }
 }
 
 /// The number of the first page of a segment.

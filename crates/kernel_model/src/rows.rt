@@ -7,7 +7,7 @@ ghost use Rattle.kernel_model.specs.Step.{run_row, end_row, answered, same_args,
 ghost use Rattle.kernel_model.specs.Registers.{replied};
 ghost use Rattle.kernel_model.specs.InPlace.{one_task};
 
-use crate::{Args, Life, Next, Outcome, Space, Task, next, run};
+use crate::{Args, Life, Next, Outcome, Space, Task, next, reply, run};
 
 /// The most instructions of one entry.
 const QUANTUM: u32 = 10_000;
@@ -78,7 +78,7 @@ pub(crate) fn replied(task: Task, value: i64) -> Task
     ensures { result ≡ with_registers task (replied task.registers value) }
 {
     let mut after = task;
-    after.registers.reply(value);
+    reply(&mut after.registers, value);
     after
 }
 

@@ -1,5 +1,5 @@
-ghost use Rattle.std.specs.Prelude.{◌≡◌, ℕ, ◌+◌, ◌%◌, ◌<◌, length, Some, IfOk, IfSome, slice_index};
-ghost use Rattle.kernel_model.specs.Memory.{data_at, readable, code_at, word_of, fetched};
+ghost use Rattle.std.specs.Prelude.{◌≡◌, ℕ, ◌+◌, ◌*◌, ◌%◌, ◌<◌, length, Some, IfOk, IfSome, slice_index};
+ghost use Rattle.kernel_model.specs.Memory.{data_at, readable, code_at};
 
 use elf_image::Rights;
 use sn_base::{List, Map, Memory};
@@ -19,38 +19,6 @@ pub struct Space {
 }
 
 impl Space {
-    /// The word of four bytes at an address, the lowest first, where each of its bytes may be executed.
-    pub fn fetch(&self, pc: u64) -> Option<u32>
-        ensures { result ≡ fetched self.now pc }
-    {
-        if pc % 4096 + 3 < 4096 {
-            self.fetch_in_page(pc)
-        } else {
-            self.fetch_across(pc)
-        }
-    }
-
-    fn fetch_in_page(&self, pc: u64) -> Option<u32>
-        requires { pc % 4096 + 3 < 4096 }
-        ensures { result ≡ fetched self.now pc }
-    {
-        let page = self.pages.get(pc / 4096)?;
-        if !page.rights.execute {
-            return None;
-        }
-        Some(page.word_at(pc % 4096))
-    }
-
-    fn fetch_across(&self, pc: u64) -> Option<u32>
-        ensures { result ≡ fetched self.now pc }
-    {
-        let first = self.code_at(pc)?;
-        let second = self.code_at(pc.wrapping_add(1))?;
-        let third = self.code_at(pc.wrapping_add(2))?;
-        let fourth = self.code_at(pc.wrapping_add(3))?;
-        Some(u32::from_le_bytes([first, second, third, fourth]))
-    }
-
     /// So many bytes from an address on, or `None` where one of them may not be read. Addresses go round at 2^64.
     #[tactic(auto, using(crate::proofs::Readings::front_none, crate::proofs::Readings::front_more, crate::proofs::Readings::front_stop, crate::proofs::Readings::front_all))]
     pub fn read(&self, alloc: Global, address: u64, count: u64) -> Result<Option<List<u8>>, Memory>
@@ -67,7 +35,7 @@ impl Space {
         Ok(Some(bytes))
     }
 
-    fn data_at(&self, address: u64) -> Option<u8>
+    pub(crate) fn data_at(&self, address: u64) -> Option<u8>
         ensures { result ≡ data_at self.now address }
     {
         let page = self.pages.get(address / 4096)?;
@@ -78,7 +46,7 @@ impl Space {
         }
     }
 
-    fn code_at(&self, address: u64) -> Option<u8>
+    pub(crate) fn code_at(&self, address: u64) -> Option<u8>
         ensures { result ≡ code_at self.now address }
     {
         let page = self.pages.get(address / 4096)?;
@@ -91,10 +59,10 @@ impl Space {
 }
 
 impl Page {
-    fn word_at(&self, offset: u64) -> u32
+    /// The word of four bytes from an offset on, the lowest first.
+    pub(crate) fn word_at(&self, offset: u64) -> u32
         requires { offset + 3 < 4096 }
-        ensures { let byte = λ (k : ℕ). Some (slice_index self.now.bytes k) in
-            Some result ≡ word_of (byte offset) (byte (offset + 1)) (byte (offset + 2)) (byte (offset + 3)) }
+        ensures { result ≡ slice_index self.now.bytes offset + 256 * slice_index self.now.bytes (offset + 1) + 65536 * slice_index self.now.bytes (offset + 2) + 16777216 * slice_index self.now.bytes (offset + 3) }
     {
         u32::from_le_bytes([
             self.byte_at(offset),

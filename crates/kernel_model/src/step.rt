@@ -17,7 +17,9 @@ ghost use Rattle.kernel_model.specs.InPlace.{changed_by, is_quiet, one_task, sta
 ghost use Rattle.kernel_model.specs.Instructions.{next_of};
 
 use crate::rows::{end_row, exited, is_count, replied, returned, run_row, same_args};
-use crate::{Args, Entry, Given, Kernel, Life, Next, Outcome, Space, Task, call, next};
+use crate::{
+    Args, Entry, Given, Kernel, Life, Next, Outcome, Space, Task, args_of, call, call_of, next,
+};
 use sn_base::Memory;
 use sn_errno::{Errno, Reply};
 use std::alloc::Global;
@@ -56,7 +58,7 @@ fn stands_at(running: &Running, no: u64, args: &Args) -> bool
 {
     let registers = &running.task.registers;
     match next(registers, running.space) {
-        Next::Calls => registers.call() == no && same_args(&registers.args(), args),
+        Next::Calls => call_of(registers) == no && same_args(&args_of(registers), args),
         Next::Goes(_) => false,
         Next::Traps(_) => false,
     }

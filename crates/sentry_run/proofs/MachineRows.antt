@@ -11,9 +11,9 @@ use Rattle.kernel_model.specs.declared.entry.Entry.TheVariants.{Run, Call, Sleep
 use Rattle.kernel_model.specs.declared.kernel.Kernel.{Kernel}
 use Rattle.kernel_model.specs.declared.kernel.Life.TheVariants.{Live}
 use Rattle.kernel_model.specs.declared.kernel.Task.{Task}
-use Rattle.kernel_model.specs.declared.registers.Registers.{Registers}
-use Rattle.kernel_model.specs.declared.registers.Next.{Next}
-use Rattle.kernel_model.specs.declared.registers.Next.TheVariants.{Goes, Calls, Traps}
+use Rattle.rv_table.specs.declared.regs.Regs.{Regs}
+use Rattle.kernel_model.specs.declared.traps.Next.{Next}
+use Rattle.kernel_model.specs.declared.traps.Next.TheVariants.{Goes, Calls, Traps}
 use Rattle.kernel_model.specs.declared.entry.Args.{Args}
 use Rattle.kernel_model.specs.declared.space.Space.{Space}
 use Rattle.kernel_model.specs.Instructions.{next_of, went, ran}
@@ -44,13 +44,13 @@ goes_went Calls g w = cc
 goes_went (Traps signal) g w = cc
 
 -- a run from an instruction that goes on has one at least
-pub ran_one : (n : ℕ) (space : Space) (r r' : Registers) → goes_on (next_of space r) ≡ true → ran n space r ≡ Some r' → (n ≡ 10000) ⊎ (went (next_of space r') ≡ None) → 1 ≤ n
+pub ran_one : (n : ℕ) (space : Space) (r r' : Regs) → goes_on (next_of space r) ≡ true → ran n space r ≡ Some r' → (n ≡ 10000) ⊎ (went (next_of space r') ≡ None) → 1 ≤ n
 unfolding ran
 ran_one zero space r r' g e (inl h) = absurd (omega arith)
-ran_one zero space r r' g e (inr h) = absurd (goes_went (next_of space r) g (let same : r ≡ r' = cc in subst (λ (q : Registers). went (next_of space q) ≡ None) (sym same) h))
+ran_one zero space r r' g e (inr h) = absurd (goes_went (next_of space r) g (let same : r ≡ r' = cc in subst (λ (q : Regs). went (next_of space q) ≡ None) (sym same) h))
 ran_one (suc n) space r r' g e h = omega arith
 
-pub run_is : (n : ℕ) (space : Space) (task : Task) (r : Registers) → ran n space task.registers ≡ Some r → 1 ≤ n → n ≤ 10000 → run_row 1 n (record { task = task; space = space }) ≡ Some (task_change 1 (with_registers task r) ∷ [])
+pub run_is : (n : ℕ) (space : Space) (task : Task) (r : Regs) → ran n space task.registers ≡ Some r → 1 ≤ n → n ≤ 10000 → run_row 1 n (record { task = task; space = space }) ≡ Some (task_change 1 (with_registers task r) ∷ [])
 run_is n space task r e low high =
     ap (λ b. if b && nat_le n 10000 then option_map (λ registers. task_change 1 (with_registers task registers) ∷ []) (ran n space task.registers) else None) (le-leb 1 n low)
     ∙ ap (λ b. if b then option_map (λ registers. task_change 1 (with_registers task registers) ∷ []) (ran n space task.registers) else None) (le-leb n 10000 high)

@@ -14,7 +14,9 @@ ghost use Rattle.kernel_model.specs.Image.{space_of};
 ghost use Rattle.sentry_run.specs.Machine.{task_of_image, Changes, IsWholeRun};
 
 use elf_image::Image;
-use kernel_model::{Entry, Given, Kernel, Life, Next, Outcome, Registers, Space, Task};
+use kernel_model::{
+    Entry, Given, Kernel, Life, Next, Outcome, Space, Task, args_of, call_of, registers_of, reply,
+};
 use sn_base::{List, Map, Memory};
 use std::alloc::Global;
 
@@ -54,7 +56,7 @@ fn reply_to(task: &mut Task, value: i64)
     ensures { task.new ≡ with_registers task.old (replied task.old.registers value) }
 {
     let mut registers = task.registers;
-    registers.reply(value);
+    reply(&mut registers, value);
     task.registers = registers;
 }
 
@@ -102,8 +104,8 @@ fn call_entry(
     ensures err { OnErr result (task.new ≡ task.old) }
     ensures err_console { OnErr result (console.new ≡ console.old) }
 {
-    let no = task.registers.call();
-    let args = task.registers.args();
+    let no = call_of(&task.registers);
+    let args = args_of(&task.registers);
     let outcome = kernel_model::call(alloc, no, &args, space, console.len())?;
     let reply = apply(task, console, outcome)?;
     Ok(Entry::Call {
@@ -144,7 +146,7 @@ impl Machine {
         let task = Task {
             group: TASK,
             space: u64::from(TASK),
-            registers: Registers::of_image(image),
+            registers: registers_of(image),
             life: Life::Live,
         };
         Ok(Machine {

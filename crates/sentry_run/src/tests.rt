@@ -9,7 +9,8 @@ mod narrow;
 
 use crate::outcome::{Fault, Outcome};
 use cases::{
-    Case, Ended, MOUNTS, SHORT_MOUNTS, case_of, case_under, faults_at, planned, run_case, run_into,
+    Case, EIGHT_ENTRIES, Ended, MOUNTS, SHORT_MOUNTS, case_of, case_under, faults_at, planned,
+    run_case, run_into,
 };
 use guests::words::*;
 use guests::{
@@ -332,6 +333,61 @@ fn code_without_the_right_to_run_ends_the_guest_by_signal_11(rt: HostRuntime) ->
         out.bytes(),
         b"group 1 signal 11\n2 1 signal 11\n".as_slice()
     );
+    Ok(())
+}
+
+/// The answer, the number of entries and the text of a run of a guest whose first word is that one, before seven words of
+/// zeros.
+fn run_first(rt: HostRuntime, word: u32) -> Result<(Fault, usize, List<u8>), Fail> {
+    let alloc = rt.alloc();
+    let mut code = List::new(alloc);
+    add_words(&mut code, &[word, 0, 0, 0, 0, 0, 0, 0])?;
+    let image = guest(alloc, code.as_slice())?;
+    let case = case_of(rt, MOUNTS, Tree::file(0o755, image))?;
+    let Ended { outcome, out, .. } = run_case(rt, case, &["run", "m"])?;
+    Ok((
+        outcome.fault,
+        outcome.trace.len(),
+        List::from_slice(alloc, out.bytes())?,
+    ))
+}
+
+#[test]
+fn a_first_instruction_that_traps_ends_the_guest_by_its_signal(
+    rt: HostRuntime,
+) -> Result<(), Fail> {
+    // No instruction, EBREAK, a load from address 0, a jump to the middle of the next word.
+    let cases = [
+        (0x0000_0000, "group 1 signal 4\n"),
+        (0x0010_0073, "group 1 signal 5\n"),
+        (0x0000_3503, "group 1 signal 11\n"),
+        (0x0020_006f, "group 1 signal 7\n"),
+    ];
+    for (word, text) in cases {
+        let (fault, entries, out) = run_first(rt, word)?;
+        assert_eq!(rt; fault, Fault::Done);
+        assert_eq!(rt; entries, 1);
+        assert_eq!(rt; out.as_slice(), text.as_bytes());
+    }
+    Ok(())
+}
+
+#[test]
+fn a_guest_that_jumps_to_itself_fills_its_trace_with_whole_runs(
+    rt: HostRuntime,
+) -> Result<(), Fail> {
+    let alloc = rt.alloc();
+    let mut code = List::new(alloc);
+    add_words(&mut code, &[0x0000_006f, 0, 0, 0, 0, 0, 0, 0])?;
+    let program = Tree::file(0o755, guest(alloc, code.as_slice())?);
+    let case = case_of(rt, EIGHT_ENTRIES, program)?;
+    let Ended { outcome, out, .. } = run_case(rt, case, &TRACED)?;
+    assert_eq!(rt; outcome.status, 8);
+    assert_eq!(rt; outcome.trace.len(), 8);
+    for entry in outcome.trace.as_slice() {
+        assert!(rt; is_run(Some(entry), 10_000));
+    }
+    assert_eq!(rt; out.bytes(), b"group 1 live\n".as_slice());
     Ok(())
 }
 

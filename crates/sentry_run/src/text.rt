@@ -61,7 +61,8 @@ fn written(outcome: io::Result<()>) -> Result<(), Memory>
 #[cfg(test)]
 mod tests {
     use super::*;
-    use kernel_model::{Args, Entry, Given, Life, Registers, Task};
+    use kernel_model::{Args, Entry, Given, Life, Task};
+    use rv_table::Regs;
     use sn_base::Map;
     use std::test::Fail;
 
@@ -69,7 +70,7 @@ mod tests {
         let mut tasks = Map::new(alloc);
         let mut number = 0;
         for life in lives {
-            let registers = Registers { pc: 0, x: [0; 32] };
+            let registers = Regs { pc: 0, x: [0; 32] };
             let task = Task {
                 group: number,
                 space: 0,

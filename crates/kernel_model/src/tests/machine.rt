@@ -1,5 +1,6 @@
-use crate::{Args, Instruction, Next, Registers, Space, decode, next, read_executable, run};
+use crate::{Args, Next, Space, args_of, call_of, next, read_executable, registers_of, reply, run};
 use elf_image::{Image, Rights};
+use rv_table::Reg;
 use std::alloc::Global;
 use std::test::Fail;
 
@@ -83,11 +84,11 @@ fn a_page_of_two_segments_has_the_bytes_and_rights_of_both(rt: HostRuntime) -> R
 fn a_guest_runs_to_its_two_calls(rt: HostRuntime) -> Result<(), Fail> {
     let image = image_in(rt.alloc(), &GUEST)?;
     let space = Space::of_image(rt.alloc(), &image)?;
-    let mut registers = Registers::of_image(&image);
-    assert_eq!(rt; registers.read(2), 274_877_906_944);
+    let mut registers = registers_of(&image);
+    assert_eq!(rt; registers.read(Reg::new(2)), 274_877_906_944);
     assert_eq!(rt; run(&mut registers, &space, 10_000), 4);
     assert_eq!(rt; next(&registers, &space), Next::Calls);
-    assert_eq!(rt; registers.call(), 64);
+    assert_eq!(rt; call_of(&registers), 64);
     let args = Args {
         a0: 1,
         a1: 0,
@@ -96,12 +97,12 @@ fn a_guest_runs_to_its_two_calls(rt: HostRuntime) -> Result<(), Fail> {
         a4: 0,
         a5: 0,
     };
-    assert_eq!(rt; registers.args(), args);
-    registers.reply(-9);
-    assert_eq!(rt; registers.read(10), 18_446_744_073_709_551_607);
+    assert_eq!(rt; args_of(&registers), args);
+    reply(&mut registers, -9);
+    assert_eq!(rt; registers.read(Reg::new(10)), 18_446_744_073_709_551_607);
     assert_eq!(rt; run(&mut registers, &space, 10_000), 2);
-    assert_eq!(rt; registers.call(), 94);
-    assert_eq!(rt; registers.read(10), 0);
+    assert_eq!(rt; call_of(&registers), 94);
+    assert_eq!(rt; registers.read(Reg::new(10)), 0);
     Ok(())
 }
 
@@ -109,26 +110,10 @@ fn a_guest_runs_to_its_two_calls(rt: HostRuntime) -> Result<(), Fail> {
 fn what_may_not_be_executed_traps_with_signal_11(rt: HostRuntime) -> Result<(), Fail> {
     let image = image_in(rt.alloc(), &GUEST)?;
     let space = Space::of_image(rt.alloc(), &image)?;
-    let mut registers = Registers::of_image(&image);
+    let mut registers = registers_of(&image);
     registers.pc = 274_877_906_944 - 4;
     assert_eq!(rt; next(&registers, &space), Next::Traps(11));
     registers.pc = 65_536 + 152;
     assert_eq!(rt; next(&registers, &space), Next::Traps(4));
-    Ok(())
-}
-
-#[test]
-fn words_decode_as_the_manual_lists_them(rt: HostRuntime) -> Result<(), Fail> {
-    assert_eq!(rt; decode(0x0000_0073), Some(Instruction::Ecall));
-    assert_eq!(rt;
-        decode(0xfff1_8f93),
-        Some(Instruction::Addi {
-            rd: 31,
-            rs1: 3,
-            imm: 4095
-        })
-    );
-    assert_eq!(rt; decode(0x0000_0000), None);
-    assert_eq!(rt; decode(0x0010_0073), None);
     Ok(())
 }

@@ -31,6 +31,16 @@ folder = \"root\"
 path = \"/init\"
 ";
 
+/// The same with room for eight.
+pub const EIGHT_ENTRIES: &[u8] = b"entries = 8
+seed = \"0000000000000000000000000000000000000000000000000000000000000000\"
+[[mount]]
+at = \"/\"
+folder = \"root\"
+[[task]]
+path = \"/init\"
+";
+
 /// What a run goes over: a file `m`, a host and a sink.
 #[derive(Drop)]
 pub struct Case {
