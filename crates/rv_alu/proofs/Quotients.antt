@@ -1,7 +1,7 @@
 -- The low 32 bits of a quotient of words are those of the quotient in 64 bits.
 use Rattle.std.proofs.Common.{◌≡◌, refl, sym, ap, ℕ, zero, suc, ◌/◌, ◌%◌, ◌^◌, ◌≤◌, ℤ, pos, negsuc, neg_ℤ, arith, unsigned_abs, int_div, FitsSigned}
 use Rattle.std.specs.Int.{cast_unsigned, cast_signed, int_wrapping_div, w32, w64}
-use Rattle.rv_alu.specs.Words.{bits_of, word}
+use Rattle.rv_table.specs.Words.{bits_of, word}
 use native.Mathlib.Nat.{div-le_self}
 
 -- the same of a number from -2^31 to 2^31

@@ -4,7 +4,7 @@ use Rattle.std.specs.Prelude.{ℕ, ◌+◌, ◌-◌, ◌*◌, ◌/◌, ◌%◌, 
 use Rattle.std.specs.Int.{int_shr}
 use Rattle.rv_table.specs.declared.instr.Instr.{Instr}
 use Rattle.rv_table.specs.declared.instr.Instr.TheVariants as instr
-use Rattle.rv_alu.specs.Words.{signed, bits_of, low_word, signed_word, word, flag, sum, difference, product, shifted_left, shifted_right}
+use Rattle.rv_table.specs.Words.{signed, bits_of, low_word, signed_word, word, flag, sum, difference, product, shifted_left, shifted_right}
 
 -- quotient and remainder, towards 0; what a division by 0 gives
 -- 7.2, Division Operations, table 7.1

@@ -2,7 +2,7 @@
 
 ghost use Rattle.std.specs.Prelude.{◌≡◌, ◌^◌, ◌-◌, ◌/◌, ◌%◌, nat_eq, int_div, if◌then◌else◌};
 ghost use Rattle.std.specs.Int.{IsNonZero, w32};
-ghost use Rattle.rv_alu.specs.Words.{signed, bits_of, low_word, signed_word, word};
+ghost use Rattle.rv_table.specs.Words.{signed, bits_of, low_word, signed_word, word};
 ghost use Rattle.rv_alu.specs.Values.{quotient, remainder};
 
 use crate::words::{carried, low_word, signed_word, word};

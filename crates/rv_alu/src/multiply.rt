@@ -3,7 +3,7 @@
 ghost use Rattle.std.specs.Prelude.{◌≡◌, ◌^◌, ◌*◌, ◌/◌, ◌*ℤ◌, pos};
 ghost use Rattle.std.specs.Int.{int_shr, w64};
 ghost use Rattle.std.specs.Int.RustNames.{FitsSigned};
-ghost use Rattle.rv_alu.specs.Words.{signed, bits_of};
+ghost use Rattle.rv_table.specs.Words.{signed, bits_of};
 
 /// The product of two signed numbers, which always fits.
 #[inline]

@@ -1,7 +1,7 @@
 //! Numbers of 64 and of 32 bits, with and without a sign.
 
 ghost use Rattle.std.specs.Prelude.{◌≡◌, ◌^◌, ◌%◌, int_lt, nat_lt};
-ghost use Rattle.rv_alu.specs.Words.{signed, bits_of, low_word, signed_word, word, flag};
+ghost use Rattle.rv_table.specs.Words.{signed, bits_of, low_word, signed_word, word, flag};
 
 /// The low 32 bits of a register.
 #[inline]

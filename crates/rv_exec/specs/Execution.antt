@@ -7,7 +7,7 @@ use Rattle.rv_table.specs.declared.regs.Regs.{Regs}
 use Rattle.rv_table.specs.Fields.{sign_extend}
 use Rattle.rv_table.specs.Registers.{reg, with_reg, at_pc, gone_on}
 use Rattle.rv_table.specs.Table.{rows_so_far}
-use Rattle.rv_alu.specs.Words.{sum}
+use Rattle.rv_table.specs.Words.{sum}
 use Rattle.rv_alu.specs.Values.{value_of}
 use Rattle.rv_exec.specs.Bytes.{Memory, Accessed, Value, Fault, Shared, loaded}
 use Rattle.rv_exec.specs.declared.outcome.Step.{Step}

@@ -2,7 +2,7 @@
 
 ghost use Rattle.std.specs.Prelude.{◌≡◌, ◌≢◌, false};
 ghost use Rattle.rv_table.specs.Registers.{reg};
-ghost use Rattle.rv_alu.specs.Words.{sum};
+ghost use Rattle.rv_table.specs.Words.{sum};
 ghost use Rattle.rv_alu.specs.Values.{value_of};
 ghost use Rattle.rv_exec.specs.Execution.{valued, jumped, loads, done_by, StepsAs};
 ghost use Rattle.rv_exec.specs.Loads.{width_of, extend_of};

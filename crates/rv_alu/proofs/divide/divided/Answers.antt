@@ -1,7 +1,7 @@
 use Rattle.std.proofs.Common.{◌∙◌, ap, FitsSigned}
 use Rattle.std.proofs.lemmas.Int.{to_z-of_z}
 use Rattle.std.specs.Int.{int_wrapping_div, w32}
-use Rattle.rv_alu.specs.Words.{bits_of}
+use Rattle.rv_table.specs.Words.{bits_of}
 use Rattle.rv_alu.proofs.Quotients.{quotient_of_words}
 use Rattle.rv_alu.proofs.divide.divided.Goals as goal
 
