@@ -1,7 +1,7 @@
 -- The table of instructions: RV64I, M, A and Zifencei, a row a line in the manual's order.
 -- RISC-V Unprivileged ISA 20191213, chapter 24, RV32/64G Instruction Set Listings
-use Rattle.std.specs.Prelude.{ℕ, nat_eq, List, [], ◌∷◌, ◌++◌, map, filter, Bool, if◌then◌else◌}
-use Rattle.std.specs.List.{flat_map, list_any}
+use Rattle.std.specs.Prelude.{ℕ, nat_eq, List, [], ◌∷◌, ◌++◌, map, filter}
+use Rattle.std.specs.List.{flat_map}
 use Rattle.rv_table.specs.declared.instr.Instr.{Instr}
 use Rattle.rv_table.specs.declared.instr.Instr.TheVariants as instr
 use Rattle.rv_table.specs.Fields.{opcode_of, rd_of, funct3_of, rs1_of, rs2_of, funct7_of, funct6_of, funct5_of, shamt_of, word_shamt_of, i_immediate, s_immediate, b_immediate, u_immediate, j_immediate}
@@ -97,32 +97,35 @@ shifts =
 
 -- by funct7, and then by funct3
 -- chapter 24, RV32I and RV32M
+abbrev pub base_registers : Rows (ℕ → ℕ → ℕ → Instr)
+base_registers =
+    (0, instr.Add) ∷
+    (1, instr.Sll) ∷
+    (2, instr.Slt) ∷
+    (3, instr.Sltu) ∷
+    (4, instr.Xor) ∷
+    (5, instr.Srl) ∷
+    (6, instr.Or) ∷
+    (7, instr.And) ∷ []
+
+abbrev pub alternate_registers : Rows (ℕ → ℕ → ℕ → Instr)
+alternate_registers =
+    (0, instr.Sub) ∷
+    (5, instr.Sra) ∷ []
+
+abbrev pub multiply_registers : Rows (ℕ → ℕ → ℕ → Instr)
+multiply_registers =
+    (0, instr.Mul) ∷
+    (1, instr.Mulh) ∷
+    (2, instr.Mulhsu) ∷
+    (3, instr.Mulhu) ∷
+    (4, instr.Div) ∷
+    (5, instr.Divu) ∷
+    (6, instr.Rem) ∷
+    (7, instr.Remu) ∷ []
+
 abbrev pub registers : Rows (Rows (ℕ → ℕ → ℕ → Instr))
-registers = (
-  0,
-  (0, instr.Add) ∷
-      (1, instr.Sll) ∷
-      (2, instr.Slt) ∷
-      (3, instr.Sltu) ∷
-      (4, instr.Xor) ∷
-      (5, instr.Srl) ∷
-      (6, instr.Or) ∷
-      (7, instr.And) ∷ [],
-) ∷ (
-  32,
-  (0, instr.Sub) ∷
-      (5, instr.Sra) ∷ [],
-) ∷ (
-  1,
-  (0, instr.Mul) ∷
-      (1, instr.Mulh) ∷
-      (2, instr.Mulhsu) ∷
-      (3, instr.Mulhu) ∷
-      (4, instr.Div) ∷
-      (5, instr.Divu) ∷
-      (6, instr.Rem) ∷
-      (7, instr.Remu) ∷ [],
-) ∷ []
+registers = (0, base_registers) ∷ (32, alternate_registers) ∷ (1, multiply_registers) ∷ []
 
 -- by funct3
 -- chapter 24, RV64I
@@ -138,24 +141,27 @@ word_shifts =
 
 -- by funct7, and then by funct3
 -- chapter 24, RV64I and RV64M
+abbrev pub base_word_registers : Rows (ℕ → ℕ → ℕ → Instr)
+base_word_registers =
+    (0, instr.Addw) ∷
+    (1, instr.Sllw) ∷
+    (5, instr.Srlw) ∷ []
+
+abbrev pub alternate_word_registers : Rows (ℕ → ℕ → ℕ → Instr)
+alternate_word_registers =
+    (0, instr.Subw) ∷
+    (5, instr.Sraw) ∷ []
+
+abbrev pub multiply_word_registers : Rows (ℕ → ℕ → ℕ → Instr)
+multiply_word_registers =
+    (0, instr.Mulw) ∷
+    (4, instr.Divw) ∷
+    (5, instr.Divuw) ∷
+    (6, instr.Remw) ∷
+    (7, instr.Remuw) ∷ []
+
 abbrev pub word_registers : Rows (Rows (ℕ → ℕ → ℕ → Instr))
-word_registers = (
-  0,
-  (0, instr.Addw) ∷
-      (1, instr.Sllw) ∷
-      (5, instr.Srlw) ∷ [],
-) ∷ (
-  32,
-  (0, instr.Subw) ∷
-      (5, instr.Sraw) ∷ [],
-) ∷ (
-  1,
-  (0, instr.Mulw) ∷
-      (4, instr.Divw) ∷
-      (5, instr.Divuw) ∷
-      (6, instr.Remw) ∷
-      (7, instr.Remuw) ∷ [],
-) ∷ []
+word_registers = (0, base_word_registers) ∷ (32, alternate_word_registers) ∷ (1, multiply_word_registers) ∷ []
 
 -- by funct3, and then by funct5; LR by rs2 too, which is 0. The bits aq and rl are not looked at
 -- chapter 24, RV32A and RV64A
@@ -164,32 +170,34 @@ load_reserveds =
     (2, (2, (0, instr.LrW) ∷ []) ∷ []) ∷
     (3, (2, (0, instr.LrD) ∷ []) ∷ []) ∷ []
 
+abbrev pub word_atomics : Rows (ℕ → ℕ → ℕ → Instr)
+word_atomics =
+    (3, instr.ScW) ∷
+    (1, instr.AmoswapW) ∷
+    (0, instr.AmoaddW) ∷
+    (4, instr.AmoxorW) ∷
+    (12, instr.AmoandW) ∷
+    (8, instr.AmoorW) ∷
+    (16, instr.AmominW) ∷
+    (20, instr.AmomaxW) ∷
+    (24, instr.AmominuW) ∷
+    (28, instr.AmomaxuW) ∷ []
+
+abbrev pub double_atomics : Rows (ℕ → ℕ → ℕ → Instr)
+double_atomics =
+    (3, instr.ScD) ∷
+    (1, instr.AmoswapD) ∷
+    (0, instr.AmoaddD) ∷
+    (4, instr.AmoxorD) ∷
+    (12, instr.AmoandD) ∷
+    (8, instr.AmoorD) ∷
+    (16, instr.AmominD) ∷
+    (20, instr.AmomaxD) ∷
+    (24, instr.AmominuD) ∷
+    (28, instr.AmomaxuD) ∷ []
+
 abbrev pub atomics : Rows (Rows (ℕ → ℕ → ℕ → Instr))
-atomics = (
-  2,
-  (3, instr.ScW) ∷
-      (1, instr.AmoswapW) ∷
-      (0, instr.AmoaddW) ∷
-      (4, instr.AmoxorW) ∷
-      (12, instr.AmoandW) ∷
-      (8, instr.AmoorW) ∷
-      (16, instr.AmominW) ∷
-      (20, instr.AmomaxW) ∷
-      (24, instr.AmominuW) ∷
-      (28, instr.AmomaxuW) ∷ [],
-) ∷ (
-  3,
-  (3, instr.ScD) ∷
-      (1, instr.AmoswapD) ∷
-      (0, instr.AmoaddD) ∷
-      (4, instr.AmoxorD) ∷
-      (12, instr.AmoandD) ∷
-      (8, instr.AmoorD) ∷
-      (16, instr.AmominD) ∷
-      (20, instr.AmomaxD) ∷
-      (24, instr.AmominuD) ∷
-      (28, instr.AmomaxuD) ∷ [],
-) ∷ []
+atomics = (2, word_atomics) ∷ (3, double_atomics) ∷ []
 
 -- by funct3; no other field is looked at
 -- chapter 24, RV32I and Zifencei
@@ -242,18 +250,3 @@ opcodes =
 -- chapter 24, RV32/64G Instruction Set Listings
 unfoldable pub rows_of : ℕ → List Instr
 rows_of word = flat_map (λ make. make word) (rows_at (opcode_of word) opcodes)
-
--- ---- what the kernel has so far
-
--- the opcodes whose rows the kernel has so far
--- profile
-abbrev pub opcodes_so_far : List ℕ
-opcodes_so_far = 0x37 ∷ 0x17 ∷ 0x6f ∷ 0x03 ∷ 0x13 ∷ 0x73 ∷ []
-
-abbrev pub is_had : ℕ → Bool
-is_had word = list_any (nat_eq (opcode_of word)) opcodes_so_far
-
--- the instructions that the rows so far make of a word
--- profile
-abbrev pub rows_so_far : ℕ → List Instr
-rows_so_far word = if is_had word then rows_of word else []

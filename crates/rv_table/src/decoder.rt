@@ -1,17 +1,20 @@
 //! The decoder: a word to its instruction.
 
-ghost use Rattle.std.specs.Prelude.{◌≡◌, option_to_list, ◌++◌, false};
-ghost use Rattle.rv_table.specs.Fields.{funct3_of, funct6_of};
-ghost use Rattle.rv_table.specs.Table.{by_funct3, by_two, rows_at, i_format, shift_format, loads, immediates, shifts, systems, is_had, rows_so_far};
+ghost use Rattle.std.specs.Prelude.{◌≡◌, option_to_list, ◌++◌};
+ghost use Rattle.rv_table.specs.Fields.{funct3_of, funct5_of, funct6_of, funct7_of, rs2_of};
+ghost use Rattle.rv_table.specs.Table.{by_funct3, by_two, by_three, rows_at, r_format, i_format, s_format, b_format, shift_format, word_shift_format, load_reserved_format, jumps, branches, loads, stores, immediates, shifts, registers, word_immediates, word_shifts, word_registers, load_reserveds, atomics, fences, systems, rows_of};
 
 use crate::Instr;
-use crate::fields::{i_immediate, j_immediate, rd, rs1, shamt, u_immediate};
+use crate::atomics::atomic;
+use crate::fields::{
+    b_immediate, i_immediate, j_immediate, rd, rs1, rs2, s_immediate, shamt, u_immediate,
+};
+use crate::registers::{register, word_immediate, word_register};
 
-/// The instruction of a word, or `None` where the rows that the kernel has so far make none of it.
+/// The instruction of a word, or `None` where no row of the table makes one of it.
 #[tactic(auto, unfolding(crate::specs::Table::rows_of))]
 pub fn decode(word: u32) -> Option<Instr>
-    ensures row { rows_so_far word ≡ option_to_list result }
-    ensures had { is_had word ≡ false → result ≡ None }
+    ensures row { rows_of word ≡ option_to_list result }
 {
     match word % 128 {
         0x37 => Some(Instr::Lui {
@@ -26,9 +29,49 @@ pub fn decode(word: u32) -> Option<Instr>
             rd: rd(word),
             imm: j_immediate(word),
         }),
+        0x67 => jump(word),
+        0x63 => branch(word),
         0x03 => load(word),
+        0x23 => store(word),
         0x13 => immediate(word),
+        0x33 => register(word),
+        0x0f => fence(word),
         0x73 => system(word),
+        0x1b => word_immediate(word),
+        0x3b => word_register(word),
+        0x2f => atomic(word),
+        _ => None,
+    }
+}
+
+/// By funct3.
+fn jump(word: u32) -> Option<Instr>
+    ensures { by_funct3 i_format jumps word ≡ option_to_list result }
+{
+    match (word >> 12) % 8 {
+        0 => Some(Instr::Jalr {
+            rd: rd(word),
+            rs1: rs1(word),
+            imm: i_immediate(word),
+        }),
+        _ => None,
+    }
+}
+
+/// By funct3.
+fn branch(word: u32) -> Option<Instr>
+    ensures { by_funct3 b_format branches word ≡ option_to_list result }
+{
+    let rs1 = rs1(word);
+    let rs2 = rs2(word);
+    let imm = b_immediate(word);
+    match (word >> 12) % 8 {
+        0 => Some(Instr::Beq { rs1, rs2, imm }),
+        1 => Some(Instr::Bne { rs1, rs2, imm }),
+        4 => Some(Instr::Blt { rs1, rs2, imm }),
+        5 => Some(Instr::Bge { rs1, rs2, imm }),
+        6 => Some(Instr::Bltu { rs1, rs2, imm }),
+        7 => Some(Instr::Bgeu { rs1, rs2, imm }),
         _ => None,
     }
 }
@@ -48,6 +91,22 @@ fn load(word: u32) -> Option<Instr>
         4 => Some(Instr::Lbu { rd, rs1, imm }),
         5 => Some(Instr::Lhu { rd, rs1, imm }),
         6 => Some(Instr::Lwu { rd, rs1, imm }),
+        _ => None,
+    }
+}
+
+/// By funct3.
+fn store(word: u32) -> Option<Instr>
+    ensures { by_funct3 s_format stores word ≡ option_to_list result }
+{
+    let rs1 = rs1(word);
+    let rs2 = rs2(word);
+    let imm = s_immediate(word);
+    match (word >> 12) % 8 {
+        0 => Some(Instr::Sb { rs1, rs2, imm }),
+        1 => Some(Instr::Sh { rs1, rs2, imm }),
+        2 => Some(Instr::Sw { rs1, rs2, imm }),
+        3 => Some(Instr::Sd { rs1, rs2, imm }),
         _ => None,
     }
 }
@@ -81,6 +140,17 @@ fn shift(word: u32) -> Option<Instr>
         (1, 0) => Some(Instr::Slli { rd, rs1, shamt }),
         (5, 0) => Some(Instr::Srli { rd, rs1, shamt }),
         (5, 16) => Some(Instr::Srai { rd, rs1, shamt }),
+        _ => None,
+    }
+}
+
+/// By funct3 alone.
+fn fence(word: u32) -> Option<Instr>
+    ensures { rows_at (funct3_of word) fences ≡ option_to_list result }
+{
+    match (word >> 12) % 8 {
+        0 => Some(Instr::Fence),
+        1 => Some(Instr::FenceI),
         _ => None,
     }
 }

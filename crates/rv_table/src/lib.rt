@@ -3,25 +3,28 @@
 //! A caller sees an `Instr` as one of its variants, one for each row of the table, a `Reg` as its number, and an
 //! immediate with its sign carried on to 64 bits. The table stands in `specs/Table.antt`, a row a line in the manual's
 //! order, and the fields of a word in `specs/Fields.antt`. `rows_of word` is the list of all instructions that rows of
-//! the table make of a word, and `rows_so_far word` the same for the opcodes that the kernel has so far. The registers of a
-//! task are `Regs`, and why memory answers nothing is `MemErr`.
+//! the table make of a word. The registers of a task are `Regs`, and why memory answers nothing is `MemErr`. What the
+//! crates above say of numbers of 64 and of 32 bits stands in `specs/Words.antt`.
 //!
-//! Proved: `decode` gives exactly the rows so far (`row`): the one row that fits where it gives an instruction, no row
-//! where it gives `None`, so no two of these rows fit one word; it gives `None` at every other opcode (`had`). A
-//! register's number is kept (`number`) and below 32 (`below`).
+//! Proved: of every word, `decode` gives exactly the rows that fit it (`row`): the one that does where it gives an
+//! instruction, none where it gives `None`. So no two rows fit one word. A register's number is kept (`number`) and
+//! below 32 (`below`).
 //!
-//! Not said: what an instruction does, and how the rows of the other opcodes are decoded. What a row doesn't
-//! name is not looked at, and a word without a row is `None` whether the manual reserves it or an extension has it.
+//! Not said: what an instruction does. What a row doesn't name is not looked at, as aq and rl of an atomic instruction
+//! and all fields of a fence but funct3; a word without a row is `None` whether the manual reserves it or an extension
+//! has it.
 //!
 //! Standard: The RISC-V Instruction Set Manual, Volume I: Unprivileged ISA, version 20191213, chapter 24, RV32/64G
 //! Instruction Set Listings; fields of chapters 2 and 5.
 #![tactic(auto)]
 
+mod atomics;
 mod decoder;
 mod error;
 mod fields;
 mod instr;
 mod reg;
+mod registers;
 mod regs;
 #[cfg(test)]
 mod tests;

@@ -2,6 +2,10 @@
 use super::*;
 use std::process::Abort;
 
+mod atomics;
+mod flow;
+mod registers;
+
 /// A row's name, and the number of rd, that of rs1, and the immediate or the shift that it takes from a word.
 type Parts = (&'static str, usize, usize, i64);
 
@@ -185,20 +189,25 @@ fn a_word_one_bit_off_a_row_is_none(rt: HostRuntime) {
 
 #[test]
 fn words_of_other_opcodes_are_none(rt: HostRuntime) {
-    let jalr = 0x000100e7;
-    let beq = 0x00208063;
-    let sb = 0x00110023;
-    let add = 0x003100b3;
-    let mul = 0x023100b3;
-    let fence = 0x0ff0000f;
-    let fence_i = 0x0000100f;
-    assert_none(&rt, &[jalr, beq, sb, add, mul, fence, fence_i]);
-    let addiw = 0x0031009b;
-    let addw = 0x003100bb;
-    let divw = 0x027342bb;
-    let amoadd_w = 0x0021a0af;
-    let lr_w = 0x100120af;
-    assert_none(&rt, &[addiw, addw, divw, amoadd_w, lr_w]);
+    let compressed = 0x00004501;
+    let flw = 0x00052507;
+    let fsw = 0x00a52027;
+    let fadd = 0x00b50553;
+    let vadd = 0x02b50557;
+    let longer_than_32_bits = 0x0000001f;
+    let reserved = 0x0000006b;
+    assert_none(
+        &rt,
+        &[
+            compressed,
+            flw,
+            fsw,
+            fadd,
+            vadd,
+            longer_than_32_bits,
+            reserved,
+        ],
+    );
 }
 
 #[test]
