@@ -5,6 +5,7 @@ use super::*;
 use rv_table::{Instr, Reg};
 use std::process::Abort;
 
+mod branches;
 mod compare;
 mod divide;
 mod logic;
