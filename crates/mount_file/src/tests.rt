@@ -5,6 +5,7 @@ use std::alloc::Global;
 use std::test::Fail;
 
 mod cut;
+mod damaged;
 mod keys;
 mod long;
 mod order;

@@ -1,13 +1,8 @@
 use super::*;
 
 #[test]
-fn without_a_mount_at_the_root_it_is_no_root(rt: HostRuntime) -> Result<(), Fail> {
+fn without_mounts_it_is_no_root(rt: HostRuntime) -> Result<(), Fail> {
     let alloc = rt.alloc();
-    let mount = "[[mount]]\nat = \"/d\"\nfolder = \"root\"\n";
-    assert_eq!(rt;
-        fault_of(alloc, [ENTRIES, SEED, mount, TASK])?,
-        Some(MountFault::NoRoot)
-    );
     assert_eq!(rt;
         fault_of(alloc, [ENTRIES, SEED, "mount = []\n", TASK])?,
         Some(MountFault::NoRoot)
@@ -60,19 +55,8 @@ fn two_mounts_that_share_no_place_and_no_folder_are_too_many_so_far(
 }
 
 #[test]
-fn seventeen_mounts_and_two_tasks_are_too_many(rt: HostRuntime) -> Result<(), Fail> {
+fn two_tasks_are_too_many_so_far(rt: HostRuntime) -> Result<(), Fail> {
     let alloc = rt.alloc();
-    let mut mounts = format!(in alloc; "{MOUNT}")?;
-    for name in [
-        "a", "b", "c", "d", "e", "f", "g", "h", "i", "j", "k", "l", "m", "n", "o", "p",
-    ] {
-        let mount = format!(in alloc; "[[mount]]\nat = \"/{name}\"\nfolder = \"{name}\"\n")?;
-        mounts.push_str(mount.as_str())?;
-    }
-    assert_eq!(rt;
-        fault_of(alloc, [ENTRIES, SEED, mounts.as_str(), TASK])?,
-        Some(MountFault::TooMany)
-    );
     let tasks = format!(in alloc; "{TASK}[[task]]\npath = \"/second\"\n")?;
     assert_eq!(rt;
         fault_of(alloc, [ENTRIES, SEED, MOUNT, tasks.as_str()])?,
