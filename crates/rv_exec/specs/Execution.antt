@@ -1,13 +1,14 @@
 -- What one instruction of a task does, a row a line in the manual's order.
-use Rattle.std.specs.Prelude.{◌≡◌, ℕ, ◌+◌, ◌%◌, ◌^◌, nat_eq, List, [], ◌∷◌, if◌then◌else◌}
+use Rattle.std.specs.Prelude.{◌≡◌, ℕ, ◌+◌, ◌-◌, ◌%◌, ◌^◌, nat_eq, Bool, true, false, List, [], ◌∷◌, if◌then◌else◌}
 use Rattle.rv_table.specs.declared.error.Area.{Area}
 use Rattle.rv_table.specs.declared.instr.Instr.{Instr}
 use Rattle.rv_table.specs.declared.instr.Instr.TheVariants as instr
 use Rattle.rv_table.specs.declared.regs.Regs.{Regs}
 use Rattle.rv_table.specs.Fields.{sign_extend}
 use Rattle.rv_table.specs.Registers.{reg, with_reg, at_pc, gone_on}
-use Rattle.rv_table.specs.Table.{rows_so_far}
+use Rattle.rv_table.specs.Table.{rows_of}
 use Rattle.rv_table.specs.Words.{sum}
+use Rattle.rv_alu.specs.Branches.{is_taken}
 use Rattle.rv_alu.specs.Values.{value_of}
 use Rattle.rv_exec.specs.Bytes.{Memory, Accessed, Value, Fault, Shared, loaded}
 use Rattle.rv_exec.specs.declared.outcome.Step.{Step}
@@ -32,6 +33,17 @@ valued r rd value = Goes (gone_on (with_reg r rd value))
 abbrev pub jumped : Regs → (rd target : ℕ) → Done
 jumped r rd target = if nat_eq (target % 4) 0 then Goes (at_pc (with_reg r rd (sum r.pc 4)) target) else Traps 7
 
+-- an address with its lowest bit cleared
+-- RISC-V Unprivileged ISA 20191213, 2.5, JALR
+abbrev pub even : ℕ → ℕ
+even address = address - address % 2
+
+-- a branch: where it is taken, a jump without a register; else it goes on
+-- RISC-V Unprivileged ISA 20191213, 2.5, Conditional Branches; signal(7), SIGBUS 7
+abbrev pub branched : Regs → Bool → (target : ℕ) → Done
+branched r true target = if nat_eq (target % 4) 0 then Goes (at_pc r target) else Traps 7
+branched r false target = Goes (gone_on r)
+
 -- the low bits of a number, the highest of them with that place, with their sign carried on to 64 bits
 -- RISC-V Unprivileged ISA 20191213, 2.6: sign-extension
 abbrev pub extended : (top value : ℕ) → ℕ
@@ -47,12 +59,20 @@ by_value r rd extend (Shared area) = Touches area
 abbrev pub loads : Memory → Regs → (rd address width : ℕ) → (ℕ → ℕ) → Done
 loads m r rd address width extend = by_value r rd extend (loaded m.data_ address width)
 
--- what an instruction does; a row that the kernel does not have so far is an illegal instruction
--- RISC-V Unprivileged ISA 20191213, 2.4 to 2.8 and 5.2 to 5.3; signal(7), SIGILL 4 and SIGTRAP 5
+-- what an instruction does; fences do nothing, since a task's own accesses are in order. Rows that the kernel does not have
+-- so far, those that store, are illegal instructions
+-- RISC-V Unprivileged ISA 20191213, 2.4 to 2.8, 3.1, 5.2 to 5.3 and 7.1 to 7.2; signal(7), SIGILL 4 and SIGTRAP 5
 unfoldable pub done_by : Memory → Regs → Instr → Done
 done_by m r (instr.Lui rd imm) = valued r rd (value_of (instr.Lui rd imm) 0 0)
 done_by m r (instr.Auipc rd imm) = valued r rd (value_of (instr.Auipc rd imm) r.pc 0)
 done_by m r (instr.Jal rd imm) = jumped r rd (sum r.pc imm)
+done_by m r (instr.Jalr rd rs1 imm) = jumped r rd (even (sum (reg r rs1) imm))
+done_by m r (instr.Beq rs1 rs2 imm) = branched r (is_taken (instr.Beq rs1 rs2 imm) (reg r rs1) (reg r rs2)) (sum r.pc imm)
+done_by m r (instr.Bne rs1 rs2 imm) = branched r (is_taken (instr.Bne rs1 rs2 imm) (reg r rs1) (reg r rs2)) (sum r.pc imm)
+done_by m r (instr.Blt rs1 rs2 imm) = branched r (is_taken (instr.Blt rs1 rs2 imm) (reg r rs1) (reg r rs2)) (sum r.pc imm)
+done_by m r (instr.Bge rs1 rs2 imm) = branched r (is_taken (instr.Bge rs1 rs2 imm) (reg r rs1) (reg r rs2)) (sum r.pc imm)
+done_by m r (instr.Bltu rs1 rs2 imm) = branched r (is_taken (instr.Bltu rs1 rs2 imm) (reg r rs1) (reg r rs2)) (sum r.pc imm)
+done_by m r (instr.Bgeu rs1 rs2 imm) = branched r (is_taken (instr.Bgeu rs1 rs2 imm) (reg r rs1) (reg r rs2)) (sum r.pc imm)
 done_by m r (instr.Lb rd rs1 imm) = loads m r rd (sum (reg r rs1) imm) 1 (extended 7)
 done_by m r (instr.Lh rd rs1 imm) = loads m r rd (sum (reg r rs1) imm) 2 (extended 15)
 done_by m r (instr.Lw rd rs1 imm) = loads m r rd (sum (reg r rs1) imm) 4 (extended 31)
@@ -69,8 +89,42 @@ done_by m r (instr.Andi rd rs1 imm) = valued r rd (value_of (instr.Andi rd rs1 i
 done_by m r (instr.Slli rd rs1 shamt) = valued r rd (value_of (instr.Slli rd rs1 shamt) (reg r rs1) 0)
 done_by m r (instr.Srli rd rs1 shamt) = valued r rd (value_of (instr.Srli rd rs1 shamt) (reg r rs1) 0)
 done_by m r (instr.Srai rd rs1 shamt) = valued r rd (value_of (instr.Srai rd rs1 shamt) (reg r rs1) 0)
+done_by m r (instr.Add rd rs1 rs2) = valued r rd (value_of (instr.Add rd rs1 rs2) (reg r rs1) (reg r rs2))
+done_by m r (instr.Sub rd rs1 rs2) = valued r rd (value_of (instr.Sub rd rs1 rs2) (reg r rs1) (reg r rs2))
+done_by m r (instr.Sll rd rs1 rs2) = valued r rd (value_of (instr.Sll rd rs1 rs2) (reg r rs1) (reg r rs2))
+done_by m r (instr.Slt rd rs1 rs2) = valued r rd (value_of (instr.Slt rd rs1 rs2) (reg r rs1) (reg r rs2))
+done_by m r (instr.Sltu rd rs1 rs2) = valued r rd (value_of (instr.Sltu rd rs1 rs2) (reg r rs1) (reg r rs2))
+done_by m r (instr.Xor rd rs1 rs2) = valued r rd (value_of (instr.Xor rd rs1 rs2) (reg r rs1) (reg r rs2))
+done_by m r (instr.Srl rd rs1 rs2) = valued r rd (value_of (instr.Srl rd rs1 rs2) (reg r rs1) (reg r rs2))
+done_by m r (instr.Sra rd rs1 rs2) = valued r rd (value_of (instr.Sra rd rs1 rs2) (reg r rs1) (reg r rs2))
+done_by m r (instr.Or rd rs1 rs2) = valued r rd (value_of (instr.Or rd rs1 rs2) (reg r rs1) (reg r rs2))
+done_by m r (instr.And rd rs1 rs2) = valued r rd (value_of (instr.And rd rs1 rs2) (reg r rs1) (reg r rs2))
+done_by m r instr.Fence = Goes (gone_on r)
+done_by m r instr.FenceI = Goes (gone_on r)
 done_by m r instr.Ecall = Calls
 done_by m r instr.Ebreak = Traps 5
+done_by m r (instr.Addiw rd rs1 imm) = valued r rd (value_of (instr.Addiw rd rs1 imm) (reg r rs1) 0)
+done_by m r (instr.Slliw rd rs1 shamt) = valued r rd (value_of (instr.Slliw rd rs1 shamt) (reg r rs1) 0)
+done_by m r (instr.Srliw rd rs1 shamt) = valued r rd (value_of (instr.Srliw rd rs1 shamt) (reg r rs1) 0)
+done_by m r (instr.Sraiw rd rs1 shamt) = valued r rd (value_of (instr.Sraiw rd rs1 shamt) (reg r rs1) 0)
+done_by m r (instr.Addw rd rs1 rs2) = valued r rd (value_of (instr.Addw rd rs1 rs2) (reg r rs1) (reg r rs2))
+done_by m r (instr.Subw rd rs1 rs2) = valued r rd (value_of (instr.Subw rd rs1 rs2) (reg r rs1) (reg r rs2))
+done_by m r (instr.Sllw rd rs1 rs2) = valued r rd (value_of (instr.Sllw rd rs1 rs2) (reg r rs1) (reg r rs2))
+done_by m r (instr.Srlw rd rs1 rs2) = valued r rd (value_of (instr.Srlw rd rs1 rs2) (reg r rs1) (reg r rs2))
+done_by m r (instr.Sraw rd rs1 rs2) = valued r rd (value_of (instr.Sraw rd rs1 rs2) (reg r rs1) (reg r rs2))
+done_by m r (instr.Mul rd rs1 rs2) = valued r rd (value_of (instr.Mul rd rs1 rs2) (reg r rs1) (reg r rs2))
+done_by m r (instr.Mulh rd rs1 rs2) = valued r rd (value_of (instr.Mulh rd rs1 rs2) (reg r rs1) (reg r rs2))
+done_by m r (instr.Mulhsu rd rs1 rs2) = valued r rd (value_of (instr.Mulhsu rd rs1 rs2) (reg r rs1) (reg r rs2))
+done_by m r (instr.Mulhu rd rs1 rs2) = valued r rd (value_of (instr.Mulhu rd rs1 rs2) (reg r rs1) (reg r rs2))
+done_by m r (instr.Div rd rs1 rs2) = valued r rd (value_of (instr.Div rd rs1 rs2) (reg r rs1) (reg r rs2))
+done_by m r (instr.Divu rd rs1 rs2) = valued r rd (value_of (instr.Divu rd rs1 rs2) (reg r rs1) (reg r rs2))
+done_by m r (instr.Rem rd rs1 rs2) = valued r rd (value_of (instr.Rem rd rs1 rs2) (reg r rs1) (reg r rs2))
+done_by m r (instr.Remu rd rs1 rs2) = valued r rd (value_of (instr.Remu rd rs1 rs2) (reg r rs1) (reg r rs2))
+done_by m r (instr.Mulw rd rs1 rs2) = valued r rd (value_of (instr.Mulw rd rs1 rs2) (reg r rs1) (reg r rs2))
+done_by m r (instr.Divw rd rs1 rs2) = valued r rd (value_of (instr.Divw rd rs1 rs2) (reg r rs1) (reg r rs2))
+done_by m r (instr.Divuw rd rs1 rs2) = valued r rd (value_of (instr.Divuw rd rs1 rs2) (reg r rs1) (reg r rs2))
+done_by m r (instr.Remw rd rs1 rs2) = valued r rd (value_of (instr.Remw rd rs1 rs2) (reg r rs1) (reg r rs2))
+done_by m r (instr.Remuw rd rs1 rs2) = valued r rd (value_of (instr.Remuw rd rs1 rs2) (reg r rs1) (reg r rs2))
 done_by m r _ = Traps 4
 
 -- what a word does, by the rows that make an instruction of it
@@ -82,7 +136,7 @@ by_rows m r (i ∷ is) = done_by m r i
 -- what the bytes at pc do: where they may not be executed it is a segmentation violation
 -- signal(7), SIGSEGV 11; that it goes first: profile
 abbrev pub by_word : Memory → Regs → Accessed → Done
-by_word m r (Value word) = by_rows m r (rows_so_far word)
+by_word m r (Value word) = by_rows m r (rows_of word)
 by_word m r (Fault address) = Traps 11
 by_word m r (Shared area) = Touches area
 

@@ -2,7 +2,7 @@
 
 ghost use Rattle.std.specs.Prelude.{◌≡◌, ◌≢◌, false};
 ghost use Rattle.rv_exec.specs.Execution.{by_rows, exec, StepsAs};
-ghost use Rattle.rv_table.specs.Table.{rows_so_far};
+ghost use Rattle.rv_table.specs.Table.{rows_of};
 
 use crate::execute::execute;
 use crate::load::refused;
@@ -24,7 +24,7 @@ pub fn step<M: Mem>(regs: &mut Regs, mem: &mut M) -> Step
 
 /// Does the instruction of a word, if it has one.
 fn run_word<M: Mem>(regs: &mut Regs, mem: &mut M, word: u32) -> Step
-    ensures done { StepsAs (by_rows (M.told mem.old) regs.old (rows_so_far word)) regs.old regs.new result }
+    ensures done { StepsAs (by_rows (M.told mem.old) regs.old (rows_of word)) regs.old regs.new result }
     ensures lean { M.takes_memory ≡ false → result ≢ Step.Memory }
     ensures same { M.told mem.new ≡ M.told mem.old }
 {

@@ -15,10 +15,10 @@
 //!
 //! Not said: when memory is wanting, which an access may else answer at any time and which then ends the step as
 //! `Step::Memory`; what a system call does, and where the task goes on after it; which byte a `Trap` of 11 is about; what
-//! a step is to other threads. The rows that the decoder hasn't so far are illegal instructions.
+//! a step is to other threads. Stores and atomic instructions are illegal instructions so far.
 //!
-//! Standard: RISC-V Unprivileged ISA 20191213, chapters 1, Introduction, 2, RV32I, and 5, RV64I; signals by signal(7). No
-//! locks.
+//! Standard: RISC-V Unprivileged ISA 20191213, chapters 1, Introduction, 2, RV32I, 3, Zifencei, 5, RV64I, and 7, M; signals
+//! by signal(7). No locks.
 #![tactic(auto)]
 
 mod cycle;

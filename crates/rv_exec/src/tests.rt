@@ -7,10 +7,12 @@ use memory::{Memory, Run};
 use rv_table::Regs;
 use std::process::Abort;
 
+mod branches;
 mod jumps;
 mod loads;
 mod memory;
 mod refusals;
+mod registers;
 mod traps;
 mod values;
 

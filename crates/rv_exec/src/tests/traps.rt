@@ -24,16 +24,21 @@ fn zeros_and_ones_are_illegal(rt: HostRuntime) {
 }
 
 #[test]
-fn a_row_that_is_not_had_so_far_is_illegal(rt: HostRuntime) {
-    let add = 0x0073_02b3;
-    let jalr = 0x0001_00e7;
-    let beq = 0x0020_8063;
+fn a_row_that_stores_is_illegal_so_far(rt: HostRuntime) {
     let sb = 0x0011_0023;
-    let fence = 0x0ff0_000f;
-    expect_all(&rt, &[add, jalr, beq, sb, fence], Step::Trap(4));
-    let addiw = 0x0031_009b;
-    let mul = 0x0231_00b3;
+    let sd = 0x00c5_b423;
     let lr_w = 0x1001_20af;
+    let sc_d = 0x19ff_bfaf;
     let amoadd_d = 0x0021_b0af;
-    expect_all(&rt, &[addiw, mul, lr_w, amoadd_d], Step::Trap(4));
+    expect_all(&rt, &[sb, sd, lr_w, sc_d, amoadd_d], Step::Trap(4));
+}
+
+#[test]
+fn a_word_without_a_row_is_illegal(rt: HostRuntime) {
+    let compressed = 0x0000_4501;
+    let csrrw = 0xc001_10f3;
+    let wfi = 0x1050_0073;
+    let flw = 0x0005_2507;
+    let mulhw = 0x0231_10bb;
+    expect_all(&rt, &[compressed, csrrw, wfi, flw, mulhw], Step::Trap(4));
 }
