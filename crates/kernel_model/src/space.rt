@@ -72,7 +72,7 @@ impl Page {
         ])
     }
 
-    fn byte_at(&self, offset: u64) -> u8
+    pub(crate) fn byte_at(&self, offset: u64) -> u8
         requires { offset < 4096 }
         ensures { result ≡ slice_index self.now.bytes offset }
     {

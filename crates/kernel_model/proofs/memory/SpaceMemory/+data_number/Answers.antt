@@ -1,5 +1,5 @@
 use Rattle.kernel_model.proofs.Accesses.{grown, grown_fits, scaled_fits}
-use Rattle.kernel_model.proofs.memory.+data_number.Goals as goal
+use Rattle.kernel_model.proofs.memory.SpaceMemory.+data_number.Goals as goal
 
 pub overflow_mul-result : goal.overflow_mul-result
 overflow_mul-result n c =
