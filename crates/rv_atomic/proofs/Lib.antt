@@ -1,0 +1,2 @@
+pub mod Granules
+pub mod Singles

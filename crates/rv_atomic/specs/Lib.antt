@@ -1,0 +1,2 @@
+pub mod Atomics
+pub mod Reservations

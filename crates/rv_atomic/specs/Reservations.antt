@@ -1,0 +1,51 @@
+-- The reservations of one address space, what ends them, and when a store-conditional succeeds.
+-- RISC-V Unprivileged ISA 20191213, 8.2, Load-Reserved/Store-Conditional Instructions
+use Rattle.std.specs.Prelude.{◌≡◌, ◌≢◌, ◌⊎◌, ℕ, zero, suc, ◌+◌, ◌/◌, ◌%◌, ◌^◌, ◌==◌, ◌&&◌, ◌||◌, not, Bool, false, List, [], ◌∷◌, ◌++◌, filter, AllPairs}
+use Rattle.std.specs.List.{list_any}
+use Rattle.rv_atomic.specs.declared.reservations.Reservation.{Reservation}
+
+-- so many bytes are one, two, four or eight
+-- RISC-V Unprivileged ISA 20191213, 2.6 and 5.3, Load and Store Instructions
+abbrev pub IsWidth : ℕ → Type 0
+IsWidth width = (width ≡ 1) ⊎ (width ≡ 2) ⊎ (width ≡ 4) ⊎ (width ≡ 8)
+
+-- the number of the aligned eight bytes that hold an address
+-- 8.2: the reservation set; eight bytes: profile
+abbrev pub granule : ℕ → ℕ
+granule address = address / 8
+
+-- whether one of so many bytes from an address on lies in a granule; addresses go round at 2^64
+-- 8.2: a store to the reservation set; 1.4, Memory
+unfoldable pub meets : (number at width : ℕ) → Bool
+meets number at zero = false
+meets number at (suc k) = (granule ((at + k) % 2 ^ 64) == number) || meets number at k
+
+-- no task has two reservations
+-- 8.2: a hart has one reservation at most
+abbrev pub AtMostOneEach : List Reservation → Type 0
+AtMostOneEach rs = AllPairs (λ a b. a.task ≢ b.task) rs
+
+-- whether a task has a reservation
+-- 8.2: a hart holds a reservation, or none
+abbrev pub is_reserving : List Reservation → (task : ℕ) → Bool
+is_reserving rs task = list_any (λ r. r.task == task) rs
+
+-- the reservations of all tasks but one
+-- 8.2: SC ends the reservation, whether it succeeds or not
+abbrev pub without : List Reservation → (task : ℕ) → List Reservation
+without rs task = filter (λ r. not (r.task == task)) rs
+
+-- the reservations after a load-reserved: the task's new one stands last
+-- 8.2: LR puts a new reservation in the place of the old one
+abbrev pub reserved : List Reservation → (task address width : ℕ) → List Reservation
+reserved rs task address width = without rs task ++ (record { task = task; address = address; width = width }) ∷ []
+
+-- the reservations after a store: each ends that is another task's and whose granule the store meets
+-- 8.2: a store from another hart to the reservation set; a task's own stores end nothing: profile
+abbrev pub after_store : List Reservation → (task at width : ℕ) → List Reservation
+after_store rs task at width = filter (λ r. (r.task == task) || not (meets (granule r.address) at width)) rs
+
+-- whether a task has the reservation of just that address and width
+-- 8.2: SC pairs with the latest LR; an SC to another address or of another width fails: profile
+abbrev pub is_held : List Reservation → (task address width : ℕ) → Bool
+is_held rs task address width = list_any (λ r. (r.task == task) && ((r.address == address) && (r.width == width))) rs

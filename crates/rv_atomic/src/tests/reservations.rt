@@ -1,0 +1,111 @@
+//! What ends a reservation, and what a store-conditional answers.
+use super::*;
+use std::test::Fail;
+
+#[test]
+fn an_own_store_keeps_the_reservation(rt: HostRuntime) -> Result<(), Fail> {
+    let mut held = Reservations::new(rt.alloc());
+    held.reserve(1, 4, 4)?;
+    held.stored(1, 5, 1);
+    assert!(rt; held.take(1, 4, 4));
+    Ok(())
+}
+
+#[test]
+fn a_store_conditional_elsewhere_in_the_granule_fails_and_ends_the_reservation(
+    rt: HostRuntime,
+) -> Result<(), Fail> {
+    let mut held = Reservations::new(rt.alloc());
+    held.reserve(1, 4, 4)?;
+    assert!(rt; !held.take(1, 0, 4));
+    assert!(rt; held.is_empty());
+    assert!(rt; !held.take(1, 4, 4));
+    Ok(())
+}
+
+#[test]
+fn a_store_conditional_of_another_width_fails(rt: HostRuntime) -> Result<(), Fail> {
+    let mut held = Reservations::new(rt.alloc());
+    held.reserve(1, 8, 4)?;
+    assert!(rt; !held.holds(1, 8, 8));
+    assert!(rt; held.holds(1, 8, 4));
+    assert!(rt; !held.take(1, 8, 8));
+    assert!(rt; !held.holds(1, 8, 4));
+    Ok(())
+}
+
+#[rattlefmt::skip]
+const STORES: [(u64, u64, u8, bool); 12] = [
+    (0x1000, 0x1007, 1, false),
+    (0x1000, 0x1008, 1, true),
+    (0x1000, 0x0fff, 1, true),
+    (0x1000, 0x0fff, 8, false),
+    (0x1000, 0x0ff8, 8, true),
+    (0x1000, 0x1004, 4, false),
+    (0x1000, 0x1006, 2, false),
+    (0, u64::MAX, 8, false),
+    (0, u64::MAX, 1, true),
+    (0xffff_ffff_ffff_fff8, u64::MAX, 2, false),
+    (0xffff_ffff_ffff_fff8, 0, 8, true),
+    (8, u64::MAX, 8, true),
+];
+
+#[test]
+fn another_store_ends_the_reservation_of_each_granule_that_it_meets(
+    rt: HostRuntime,
+) -> Result<(), Fail> {
+    let mut held = Reservations::new(rt.alloc());
+    for (address, at, width, kept) in STORES {
+        held.reserve(1, address, 8)?;
+        match width {
+            1 => held.stored(2, at, 1),
+            2 => held.stored(2, at, 2),
+            4 => held.stored(2, at, 4),
+            _ => held.stored(2, at, 8),
+        }
+        assert_eq!(rt; held.take(1, address, 8), kept, "{width} bytes at {at:x}");
+    }
+    Ok(())
+}
+
+#[test]
+fn a_store_of_two_granules_ends_both_reservations(rt: HostRuntime) -> Result<(), Fail> {
+    let mut held = Reservations::new(rt.alloc());
+    held.reserve(1, 0x1004, 4)?;
+    held.reserve(2, 0x1008, 8)?;
+    held.reserve(3, 0x1010, 8)?;
+    held.stored(4, 0x1004, 8);
+    assert_eq!(rt; held.len(), 1);
+    assert!(rt; held.holds(3, 0x1010, 8));
+    Ok(())
+}
+
+#[test]
+fn a_second_load_replaces_the_first_reservation(rt: HostRuntime) -> Result<(), Fail> {
+    let mut held = Reservations::new(rt.alloc());
+    held.reserve(1, 0x1000, 8)?;
+    held.reserve(1, 0x2000, 4)?;
+    assert_eq!(rt; held.len(), 1);
+    assert!(rt; !held.holds(1, 0x1000, 8));
+    assert!(rt; held.take(1, 0x2000, 4));
+    Ok(())
+}
+
+#[test]
+fn a_store_ends_the_other_tasks_reservation_and_keeps_its_own(rt: HostRuntime) -> Result<(), Fail> {
+    let mut held = Reservations::new(rt.alloc());
+    held.reserve(1, 0x1000, 4)?;
+    held.reserve(2, 0x1004, 4)?;
+    held.stored(2, 0x1000, 4);
+    assert!(rt; !held.take(1, 0x1000, 4));
+    assert!(rt; held.take(2, 0x1004, 4));
+    Ok(())
+}
+
+#[test]
+fn a_store_without_reservations_does_nothing(rt: HostRuntime) {
+    let mut held = Reservations::new(rt.alloc());
+    held.stored(1, 0x1000, 8);
+    assert!(rt; held.is_empty());
+    assert!(rt; !held.take(1, 0x1000, 8));
+}

@@ -1,0 +1,65 @@
+//! Words and double words, with and without a sign.
+
+ghost use Rattle.std.specs.Prelude.{◌≡◌};
+ghost use Rattle.rv_table.specs.Words.{low_word, signed_word};
+ghost use Rattle.rv_atomic.specs.Atomics.{lesser, greater, lesser_word, greater_word};
+
+/// The low 32 bits of a register.
+#[inline]
+pub(crate) fn low_word(n: u64) -> u32
+    ensures { result ≡ low_word n }
+{
+    (n % 0x1_0000_0000) as u32
+}
+
+/// The low 32 bits of a register, as a signed number.
+#[inline]
+pub(crate) fn signed_word(n: u64) -> i32
+    ensures { result ≡ signed_word n }
+{
+    low_word(n).cast_signed()
+}
+
+/// The lesser of two double words, as signed numbers.
+pub(crate) fn lesser(a: u64, b: u64) -> u64
+    ensures { result ≡ lesser a b }
+{
+    if a.cast_signed() < b.cast_signed() {
+        a
+    } else {
+        b
+    }
+}
+
+/// The greater of two double words, as signed numbers.
+pub(crate) fn greater(a: u64, b: u64) -> u64
+    ensures { result ≡ greater a b }
+{
+    if a.cast_signed() < b.cast_signed() {
+        b
+    } else {
+        a
+    }
+}
+
+/// The lesser of two words, as signed numbers.
+pub(crate) fn lesser_word(a: u64, b: u64) -> u32
+    ensures { result ≡ lesser_word a b }
+{
+    if signed_word(a) < signed_word(b) {
+        low_word(a)
+    } else {
+        low_word(b)
+    }
+}
+
+/// The greater of two words, as signed numbers.
+pub(crate) fn greater_word(a: u64, b: u64) -> u32
+    ensures { result ≡ greater_word a b }
+{
+    if signed_word(a) < signed_word(b) {
+        low_word(b)
+    } else {
+        low_word(a)
+    }
+}
