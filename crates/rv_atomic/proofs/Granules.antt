@@ -3,7 +3,8 @@ use Rattle.std.proofs.Common.{◌≡◌, ◌≢◌, ◌⊎◌, refl, sym, ◌∙
 use Rattle.std.proofs.lemmas.Bool.{cases_lt}
 use Rattle.std.proofs.lemmas.Bool.Decides.{same_from_decides, Decides-eqb, Decides-not, Decides-and, Decides-like, Decides-below_or}
 use Rattle.std.specs.Bool.{Decides}
-use Rattle.rv_atomic.specs.Reservations.{IsWidth, granule, meets}
+use Rattle.rv_table.specs.Words.{IsWidth}
+use Rattle.rv_atomic.specs.Reservations.{granule, meets}
 
 -- the granule of a byte of a store
 abbrev granule_at : (at k : ℕ) → ℕ

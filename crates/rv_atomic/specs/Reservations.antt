@@ -1,13 +1,8 @@
 -- The reservations of one address space, what ends them, and when a store-conditional succeeds.
 -- RISC-V Unprivileged ISA 20191213, 8.2, Load-Reserved/Store-Conditional Instructions
-use Rattle.std.specs.Prelude.{◌≡◌, ◌≢◌, ◌⊎◌, ℕ, zero, suc, ◌+◌, ◌/◌, ◌%◌, ◌^◌, ◌==◌, ◌&&◌, ◌||◌, not, Bool, false, List, [], ◌∷◌, ◌++◌, filter, AllPairs}
+use Rattle.std.specs.Prelude.{◌≢◌, ℕ, zero, suc, ◌+◌, ◌/◌, ◌%◌, ◌^◌, ◌==◌, ◌&&◌, ◌||◌, not, Bool, false, List, [], ◌∷◌, ◌++◌, filter, AllPairs}
 use Rattle.std.specs.List.{list_any}
 use Rattle.rv_atomic.specs.declared.reservations.Reservation.{Reservation}
-
--- so many bytes are one, two, four or eight
--- RISC-V Unprivileged ISA 20191213, 2.6 and 5.3, Load and Store Instructions
-abbrev pub IsWidth : ℕ → Type 0
-IsWidth width = (width ≡ 1) ⊎ (width ≡ 2) ⊎ (width ≡ 4) ⊎ (width ≡ 8)
 
 -- the number of the aligned eight bytes that hold an address
 -- 8.2: the reservation set; eight bytes: profile

@@ -1,7 +1,8 @@
 //! The reservations of one address space.
 
 ghost use Rattle.std.specs.Prelude.{◌≡◌, ◌<◌, ◌↔◌, [], length, IsTrue, IsFalse, OnOk, OnErr, vec_len, vec_capacity};
-ghost use Rattle.rv_atomic.specs.Reservations.{IsWidth, AtMostOneEach, after_store, is_held, is_reserving, reserved, without};
+ghost use Rattle.rv_table.specs.Words.{IsWidth};
+ghost use Rattle.rv_atomic.specs.Reservations.{AtMostOneEach, after_store, is_held, is_reserving, reserved, without};
 
 use sn_base::Memory;
 use std::alloc::Global;

@@ -1,5 +1,5 @@
 -- Memory byte by byte, as accesses see it.
-use Rattle.std.specs.Prelude.{◌≡◌, ◌⊎◌, ⊤, ℕ, zero, suc, ◌+◌, ◌*◌, ◌-◌, ◌/◌, ◌%◌, ◌^◌, ◌<◌, nat_lt, Option, Some, None, Result, Ok, Err, if◌then◌else◌}
+use Rattle.std.specs.Prelude.{◌≡◌, ⊤, ℕ, zero, suc, ◌+◌, ◌*◌, ◌-◌, ◌/◌, ◌%◌, ◌^◌, ◌<◌, nat_lt, Option, Some, None, Result, Ok, Err, if◌then◌else◌}
 use Rattle.rv_table.specs.declared.error.Area.{Area}
 use Rattle.rv_table.specs.declared.error.MemErr.{MemErr}
 use Rattle.rv_table.specs.declared.error.MemErr.TheVariants as refusals
@@ -81,11 +81,6 @@ AnswersAs accessed (Ok value) = accessed ≡ Value value
 AnswersAs accessed (Err (refusals.Fault address)) = accessed ≡ Fault address
 AnswersAs accessed (Err (refusals.Shared area)) = accessed ≡ Shared area
 AnswersAs accessed (Err refusals.Memory) = ⊤
-
--- so many bytes are one, two, four or eight
--- RISC-V Unprivileged ISA 20191213, 2.6 and 5.3, Load and Store Instructions
-abbrev pub IsWidth : ℕ → Type 0
-IsWidth width = (width ≡ 1) ⊎ (width ≡ 2) ⊎ (width ≡ 4) ⊎ (width ≡ 8)
 
 -- how far an address lies behind another, going round at 2^64
 -- RISC-V Unprivileged ISA 20191213, 1.4, Memory

@@ -1,7 +1,8 @@
 //! Memory as instructions use it.
 
 ghost use Rattle.std.specs.Prelude.{◌≡◌, ◌≢◌, Bool, false, OnOk, OnErr};
-ghost use Rattle.rv_exec.specs.Bytes.{Memory, AnswersAs, StoresAs, Stored, IsWidth, loaded};
+ghost use Rattle.rv_table.specs.Words.{IsWidth};
+ghost use Rattle.rv_exec.specs.Bytes.{Memory, AnswersAs, StoresAs, Stored, loaded};
 
 use rv_table::MemErr;
 

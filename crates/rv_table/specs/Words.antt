@@ -1,5 +1,5 @@
 -- Numbers of 64 and of 32 bits, with and without a sign.
-use Rattle.std.specs.Prelude.{ℕ, ◌+◌, ◌-◌, ◌*◌, ◌/◌, ◌%◌, ◌^◌, ℤ, Bool, if◌then◌else◌}
+use Rattle.std.specs.Prelude.{◌≡◌, ◌⊎◌, ℕ, ◌+◌, ◌-◌, ◌*◌, ◌/◌, ◌%◌, ◌^◌, ℤ, Bool, if◌then◌else◌}
 use Rattle.std.specs.Int.{cast_signed, cast_unsigned, w32, w64}
 
 -- a register as a signed number, and a signed number as a register
@@ -46,3 +46,8 @@ shifted_left n places = n * 2 ^ places % 2 ^ 64
 
 abbrev pub shifted_right : ℕ → ℕ → ℕ
 shifted_right n places = n / 2 ^ places
+
+-- so many bytes are one, two, four or eight
+-- 2.6 and 5.3, Load and Store Instructions
+abbrev pub IsWidth : ℕ → Type 0
+IsWidth width = (width ≡ 1) ⊎ (width ≡ 2) ⊎ (width ≡ 4) ⊎ (width ≡ 8)
