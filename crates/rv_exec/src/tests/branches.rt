@@ -1,7 +1,7 @@
 //! Jumps to registers, and branches.
 use super::*;
 
-/// Where the task stands in x5 in these tests: a word further on.
+/// What x5 holds in these tests, unless they say otherwise.
 const FAR: u64 = 0x5_0000;
 
 /// The word of a jump, what x5 holds, the target, and the register that gets the next instruction's address, and that
