@@ -1,39 +1,6 @@
 use crate::{ImageFault, Rights, image_fault, read_image};
+use sn_vectors::images::{GUEST, TWO_SEGMENTS};
 use std::test::Fail;
-
-/// A program of eight instructions: file header, one program header, which loads the file whole, and the instructions.
-#[rattlefmt::skip]
-const GUEST: [u8; 152] = [
-    0x7f, 0x45, 0x4c, 0x46, 2, 1, 1, 0, 0, 0, 0, 0, 0, 0, 0, 0,
-    2, 0, 243, 0, 1, 0, 0, 0, 0x78, 0, 1, 0, 0, 0, 0, 0,
-    64, 0, 0, 0, 0, 0, 0, 0, 0, 0, 0, 0, 0, 0, 0, 0,
-    0, 0, 0, 0, 64, 0, 56, 0, 1, 0, 0, 0, 0, 0, 0, 0,
-    1, 0, 0, 0, 5, 0, 0, 0, 0, 0, 0, 0, 0, 0, 0, 0,
-    0, 0, 1, 0, 0, 0, 0, 0, 0, 0, 1, 0, 0, 0, 0, 0,
-    152, 0, 0, 0, 0, 0, 0, 0, 152, 0, 0, 0, 0, 0, 0, 0,
-    0, 16, 0, 0, 0, 0, 0, 0,
-    0x13, 0x05, 0x10, 0x00, 0x93, 0x05, 0x00, 0x00, 0x13, 0x06, 0x00, 0x00, 0x93, 0x08, 0x00, 0x04,
-    0x73, 0x00, 0x00, 0x00, 0x13, 0x05, 0x00, 0x00, 0x93, 0x08, 0xe0, 0x05, 0x73, 0x00, 0x00, 0x00,
-];
-
-/// A file of two segments: the first loads it whole, the second begins where the first ends, and has 8 bytes of the
-/// file and 4,096 of memory.
-#[rattlefmt::skip]
-const TWO: [u8; 184] = [
-    0x7f, 0x45, 0x4c, 0x46, 2, 1, 1, 0, 0, 0, 0, 0, 0, 0, 0, 0,
-    2, 0, 243, 0, 1, 0, 0, 0, 0xb0, 0, 1, 0, 0, 0, 0, 0,
-    64, 0, 0, 0, 0, 0, 0, 0, 0, 0, 0, 0, 0, 0, 0, 0,
-    0, 0, 0, 0, 64, 0, 56, 0, 2, 0, 0, 0, 0, 0, 0, 0,
-    1, 0, 0, 0, 5, 0, 0, 0, 0, 0, 0, 0, 0, 0, 0, 0,
-    0, 0, 1, 0, 0, 0, 0, 0, 0, 0, 1, 0, 0, 0, 0, 0,
-    184, 0, 0, 0, 0, 0, 0, 0, 184, 0, 0, 0, 0, 0, 0, 0,
-    0, 16, 0, 0, 0, 0, 0, 0,
-    1, 0, 0, 0, 6, 0, 0, 0, 176, 0, 0, 0, 0, 0, 0, 0,
-    0xb8, 0, 1, 0, 0, 0, 0, 0, 0xb8, 0, 1, 0, 0, 0, 0, 0,
-    8, 0, 0, 0, 0, 0, 0, 0, 0, 16, 0, 0, 0, 0, 0, 0,
-    0, 16, 0, 0, 0, 0, 0, 0,
-    0x73, 0x00, 0x00, 0x00, 0x6f, 0x00, 0x00, 0x00,
-];
 
 /// A byte of `GUEST` by its place, another value there, and the fault that it makes.
 const DAMAGES: [(usize, u8, ImageFault); 31] = [
@@ -168,7 +135,7 @@ fn flags_above_the_low_four_pass(rt: HostRuntime) {
 
 #[test]
 fn a_segment_may_begin_where_another_ends(rt: HostRuntime) -> Result<(), Fail> {
-    let image = read_image(rt.alloc(), &TWO)?;
+    let image = read_image(rt.alloc(), &TWO_SEGMENTS)?;
     assert_eq!(rt; image.segments.len(), 2);
     let second = image.segments.get(1).ok_or("no second segment")?;
     assert_eq!(rt; second.address, 65_720);
@@ -183,7 +150,7 @@ fn a_segment_may_begin_where_another_ends(rt: HostRuntime) -> Result<(), Fail> {
 
 #[test]
 fn segments_with_one_byte_in_common_overlap(rt: HostRuntime) {
-    let mut file = TWO;
+    let mut file = TWO_SEGMENTS;
     damage(&mut file, 136, 0xb7);
     assert_eq!(rt; image_fault(&file), Some(ImageFault::Overlap));
     damage(&mut file, 64, 3);
@@ -192,7 +159,7 @@ fn segments_with_one_byte_in_common_overlap(rt: HostRuntime) {
 
 #[test]
 fn a_segment_of_no_bytes_meets_none_and_is_left_out(rt: HostRuntime) -> Result<(), Fail> {
-    let mut file = TWO;
+    let mut file = TWO_SEGMENTS;
     damage(&mut file, 136, 0);
     damage(&mut file, 152, 0);
     damage(&mut file, 161, 0);

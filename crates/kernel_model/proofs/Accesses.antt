@@ -1,10 +1,9 @@
 -- Accesses to memory that has no shared areas.
-use Rattle.std.proofs.Common.{◌≡◌, ℕ, zero, suc, ◌+◌, ◌-◌, ◌*◌, ◌^◌, ◌<◌, ◌≤◌, Option, Some, None, Ok, Err, refl, arith, ap, sym, subst, inl, inr, ◌∙◌}
+use Rattle.std.proofs.Common.{◌≡◌, ℕ, zero, suc, ◌+◌, ◌-◌, ◌*◌, ◌^◌, ◌<◌, ◌≤◌, Option, Some, None, Ok, Err, refl, arith, ap, sym, subst, ◌∙◌}
 use Rattle.rv_table.specs.declared.error.MemErr.TheVariants as refusals
 use native.Mathlib.Numerals.{unary_clauses}
 use Rattle.rv_table.specs.declared.error.Area.{Area}
-use Rattle.rv_table.specs.Words.{IsWidth}
-use Rattle.rv_exec.specs.Bytes.{Byte, Holds, Barred, Value, Fault, behind, or_area, or_barred, first_barred, first_area, number_from, by_barred, by_area, Accessed, StoresAs, loaded}
+use Rattle.rv_exec.specs.Bytes.{Byte, Value, Fault, behind, or_area, first_barred, first_area, number_from, by_barred, by_area, Accessed, AllowsAs, loaded}
 use Rattle.kernel_model.specs.Memory.{as_byte, NumberAs}
 
 or_none : (o : Option ℕ) (rest : Option Area) → rest ≡ None → or_area (as_byte o) rest ≡ None
@@ -29,20 +28,14 @@ pub fault_there : (byte : ℕ → Byte) (at count address : ℕ) → first_barre
 unfolding loaded
 fault_there byte at count address barred = ap (λ o. by_barred o (by_area (first_area byte at count) (number_from byte at count))) barred
 
--- a store to memory of which no byte may be stored to fails at its first byte
-barred_at : (at count : ℕ) → first_barred (λ a. Barred) at (suc count) ≡ Some at
-unfolding first_barred
-barred_at at count = refl
+-- what an access that only tests bytes, or stores, may answer
+pub room_there : (f : ℕ → Option ℕ) (at count : ℕ) → first_barred (λ a. as_byte (f a)) at count ≡ None → AllowsAs (loaded (λ a. as_byte (f a)) at count) (Ok tt)
+room_there f at count free =
+    subst (λ (accessed : Accessed). AllowsAs accessed (Ok tt)) (sym (value_there f at count (number_from (λ a. as_byte (f a)) at count) free refl)) tt
 
-no_room_for : (at width n : ℕ) → width ≡ suc n → StoresAs (loaded (λ a. Barred) at width) (Err (refusals.Fault at))
-no_room_for at width n is =
-    subst (λ (accessed : Accessed). StoresAs accessed (Err (refusals.Fault at))) (sym (ap (λ w. loaded (λ a. Barred) at w) is ∙ fault_there (λ a. Barred) at (suc n) at (barred_at at n))) refl
-
-pub no_room : (at width : ℕ) → IsWidth width → StoresAs (loaded (λ a. Barred) at width) (Err (refusals.Fault at))
-no_room at width (inl one) = no_room_for at width 0 one
-no_room at width (inr (inl two)) = no_room_for at width 1 two
-no_room at width (inr (inr (inl four))) = no_room_for at width 3 four
-no_room at width (inr (inr (inr eight))) = no_room_for at width 7 eight
+pub no_room_there : (f : ℕ → Option ℕ) (at count address : ℕ) → first_barred (λ a. as_byte (f a)) at count ≡ Some address → AllowsAs (loaded (λ a. as_byte (f a)) at count) (Err (refusals.Fault address))
+no_room_there f at count address barred =
+    subst (λ (accessed : Accessed). AllowsAs accessed (Err (refusals.Fault address))) (sym (fault_there (λ a. as_byte (f a)) at count address barred)) refl
 
 -- the number that was found is what the access comes to
 pub number_there : (f : ℕ → Option ℕ) (at count value : ℕ) → NumberAs (first_barred (λ a. as_byte (f a)) at count) (number_from (λ a. as_byte (f a)) at count) (Ok value) → loaded (λ a. as_byte (f a)) at count ≡ Value value

@@ -7,6 +7,7 @@ use Rattle.std.proofs.lemmas.Bool.{cases_lt}
 use Rattle.std.proofs.lemmas.Bool.Decides.{nat_tests}
 use borrow.Rule.Slice.PartMut.{put_mid}
 use Rattle.std.proofs.lemmas.List.{get_or-replicate, get_or_append_left, get_or-append_right, get_or-take, get_or-drop, length-take-le}
+use Rattle.rv_atomic.specs.declared.reservations.Reservation.{Reservation}
 use Rattle.elf_image.specs.declared.image.Segment.{Segment}
 use Rattle.kernel_model.specs.declared.space.Page.{Page}
 use Rattle.elf_image.specs.declared.image.Rights.{Rights}
@@ -106,6 +107,7 @@ pub mapped_more : {V : Type 0} (page : ℕ → V) (first n : ℕ) (pages : map.F
 mapped_more page first n pages = ap (λ k. mapped page first k pages) (add-one n) ∙ mapped-suc page first n pages
 
 -- the space of an image, from its pages
-pub space_made : (image : Image) (pages : map.FinMap nat_cmp Page) → pages ≡ mapped stack_page (2 ^ 26 - 64) 64 (segments_mapped image.segments image.segments map.empty) → record { pages = pages } ≡ space_of image
+pub space_made : (image : Image) (pages : map.FinMap nat_cmp Page) (held : List Reservation) → pages ≡ mapped stack_page (2 ^ 26 - 64) 64 (segments_mapped image.segments image.segments map.empty) → held ≡ []
+    → record { pages = pages; reservations = held } ≡ space_of image
 unfolding space_of
-space_made image pages same i = record { pages = same i }
+space_made image pages held same none i = record { pages = same i; reservations = none i }

@@ -4,8 +4,10 @@ pub mod CountLemmas
 pub mod FaultLemmas
 pub mod Executables
 pub mod ImagePages
+pub mod LaidOver
 pub mod LocalityLaws
-pub mod NearWords
+pub mod NearNumbers
+pub mod NearStores
 pub mod NodeLemmas
 pub mod Numberings
 pub mod NumberRuns

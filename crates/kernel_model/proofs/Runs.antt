@@ -1,53 +1,57 @@
 -- Runs of instructions.
-use Rattle.std.proofs.Common.{◌≡◌, ℕ, zero, suc, ◌+◌, Option, Some, None, refl, ap, sym, ◌∙◌, ◌≢◌, add-one}
+use Rattle.std.proofs.Common.{◌≡◌, ℕ, suc, ◌+◌, false, List, [], ◌∷◌, Some, refl, ap, sym, ◌∙◌, ◌≢◌, add-one}
 use Rattle.std.specs.Prelude.{option_and_then}
 use Rattle.rv_table.specs.declared.regs.Regs.{Regs}
-use Rattle.kernel_model.specs.declared.traps.Next.{Next}
-use Rattle.kernel_model.specs.declared.traps.Next.TheVariants.{Goes, Calls, Traps}
+use Rattle.rv_exec.specs.Writes.{Write, all_after}
 use Rattle.rv_exec.specs.Execution.{Done, exec, StepsAs}
 use Rattle.rv_exec.specs.Execution as done
 use Rattle.rv_exec.specs.declared.outcome.Step.{Step}
 use Rattle.rv_exec.specs.declared.outcome.Step.TheVariants as steps
-use Rattle.kernel_model.specs.Memory.{memory_of}
+use Rattle.kernel_model.specs.declared.traps.Next.{Next}
+use Rattle.kernel_model.specs.declared.traps.Next.TheVariants.{Goes, Calls, Traps}
+use Rattle.kernel_model.specs.Memory.{Acting, Pages, acting_on, memory_of, after_write}
+use Rattle.rv_atomic.specs.declared.reservations.Reservation.{Reservation}
 use Rattle.kernel_model.specs.declared.space.Space.{Space}
-use Rattle.kernel_model.specs.Instructions.{next_by, next_as, next_of, went, ran}
+use Rattle.kernel_model.specs.Instructions.{Going, next_by, next_of, goes_on, went_by, one_more, ran}
+use Rattle.kernel_model.specs.Drafts.{Drafting, after_drafted, going, laid_over}
 
 -- no instruction changes nothing
-pub ran_none : (space : Space) (r : Regs) → ran 0 space r ≡ Some r
+pub ran_none : (g : Going) → ran 0 g ≡ Some g
 unfolding ran
-ran_none space r = refl
-
--- where the next instruction leads from these registers
-abbrev pub one_more : Space → Regs → Option Regs
-one_more space r = went (next_of space r)
-
-ran_suc : (n : ℕ) (space : Space) (r : Regs) → ran (suc n) space r ≡ option_and_then (one_more space) (ran n space r)
-unfolding ran
-ran_suc zero space r =
-    elim (went (next_of space r)) as (λ o. option_and_then (ran zero space) o ≡ o) [ None ↦ refl | Some q ↦ refl ]
-ran_suc (suc n) space r =
-    elim (went (next_of space r)) as (λ o. option_and_then (ran (suc n) space) o ≡ option_and_then (one_more space) (option_and_then (ran n space) o)) [
-      | None ↦ refl
-      | Some q ↦ ran_suc n space q
-    ]
+ran_none g = refl
 
 -- the last of so many instructions runs behind the others
-pub ran_last : (n : ℕ) (space : Space) (r : Regs) → ran (n + 1) space r ≡ option_and_then (one_more space) (ran n space r)
-ran_last n space r = ap (λ m. ran m space r) (add-one n) ∙ ran_suc n space r
+ran_suc : (n : ℕ) (g : Going) → ran (suc n) g ≡ option_and_then one_more (ran n g)
+unfolding ran
+ran_suc n g = refl
 
--- one more instruction runs behind those that ran
-pub ran_more : (n : ℕ) (space : Space) (r q after : Regs) → ran n space r ≡ Some q → next_of space q ≡ Goes after → ran (n + 1) space r ≡ Some after
-ran_more n space r q after so_far here = ran_last n space r ∙ ap (option_and_then (one_more space)) so_far ∙ ap went here
+pub ran_last : (n : ℕ) (g : Going) → ran (n + 1) g ≡ option_and_then one_more (ran n g)
+ran_last n g = ap (λ m. ran m g) (add-one n) ∙ ran_suc n g
+
+-- ---- what a step comes to, over a draft
+
+-- what a draft is told after some writes
+pub drafted : (ws : List Write) (d : Drafting) → all_after after_drafted ws d ≡ record { acting = all_after after_write ws d.acting; under = d.under }
+drafted [] d = refl
+drafted (w ∷ ws) d = drafted ws (after_drafted w d)
+
+-- the answer of a step, as that of the next instruction
+abbrev pub next_as : Step → Next
+next_as steps.Next = Goes
+next_as steps.Call = Calls
+next_as (steps.Trap signal) = Traps signal
+next_as (steps.Shared area) = Traps 11
+next_as steps.Memory = Traps 11
 
 -- the next instruction by what a step of it comes to
-pub next_is : (space : Space) (r after : Regs) (step : Step) → StepsAs (exec (memory_of space) r) r after step → step ≢ steps.Memory → next_of space r ≡ next_as after step
-next_is space r after step does lean = by (exec (memory_of space) r) step does lean
+pub next_is : (d d' : Drafting) (r r' : Regs) (step : Step) → StepsAs after_drafted (exec (memory_of d.acting) r) r r' d d' step → step ≢ steps.Memory → next_of d.acting r ≡ next_as step
+next_is d d' r r' step does lean = by (exec (memory_of d.acting) r) step does lean
   where
-    by : (done : Done) (step : Step) → StepsAs done r after step → step ≢ steps.Memory → next_by done ≡ next_as after step
-    by (done.Goes q) steps.Next e lean = ap Goes (sym e)
-    by (done.Goes q) steps.Call e lean = absurd e
-    by (done.Goes q) (steps.Trap t) e lean = absurd e
-    by (done.Goes q) (steps.Shared a) e lean = absurd e
+    by : (done : Done) (step : Step) → StepsAs after_drafted done r r' d d' step → step ≢ steps.Memory → next_by done ≡ next_as step
+    by (done.Goes q ws) steps.Next e lean = refl
+    by (done.Goes q ws) steps.Call e lean = absurd e
+    by (done.Goes q ws) (steps.Trap t) e lean = absurd e
+    by (done.Goes q ws) (steps.Shared a) e lean = absurd e
     by done.Calls steps.Next e lean = absurd e
     by done.Calls steps.Call e lean = refl
     by done.Calls (steps.Trap t) e lean = absurd e
@@ -62,42 +66,124 @@ next_is space r after step does lean = by (exec (memory_of space) r) step does l
     by (done.Touches b) (steps.Shared a) e lean = refl
     by done steps.Memory e lean = absurd (lean refl)
 
+-- the task of a draft stays, whatever is written
+same_task : (ws : List Write) (a : Acting) → (all_after after_write ws a).task ≡ a.task
+same_task [] a = refl
+same_task (w ∷ ws) a = same_task ws (after_write w a)
+
+pub task_stays : (d d' : Drafting) (r r' : Regs) (step : Step) → StepsAs after_drafted (exec (memory_of d.acting) r) r r' d d' step → d'.acting.task ≡ d.acting.task
+task_stays d d' r r' step does = by (exec (memory_of d.acting) r) step does
+  where
+    task_of : Drafting → ℕ
+    task_of x = x.acting.task
+
+    by : (done : Done) (step : Step) → StepsAs after_drafted done r r' d d' step → d'.acting.task ≡ d.acting.task
+    by (done.Goes q ws) steps.Next e = ap task_of (e.1 ∙ drafted ws d) ∙ same_task ws d.acting
+    by (done.Goes q ws) steps.Call e = absurd e
+    by (done.Goes q ws) (steps.Trap t) e = absurd e
+    by (done.Goes q ws) (steps.Shared a) e = absurd e
+    by (done.Goes q ws) steps.Memory e = ap task_of e.1
+    by done.Calls steps.Next e = absurd e
+    by done.Calls steps.Call e = ap task_of e.1
+    by done.Calls (steps.Trap t) e = absurd e
+    by done.Calls (steps.Shared a) e = absurd e
+    by done.Calls steps.Memory e = ap task_of e.1
+    by (done.Traps s) steps.Next e = absurd e
+    by (done.Traps s) steps.Call e = absurd e
+    by (done.Traps s) (steps.Trap t) e = ap task_of e.2
+    by (done.Traps s) (steps.Shared a) e = absurd e
+    by (done.Traps s) steps.Memory e = ap task_of e.1
+    by (done.Touches b) steps.Next e = absurd e
+    by (done.Touches b) steps.Call e = absurd e
+    by (done.Touches b) (steps.Trap t) e = absurd e
+    by (done.Touches b) (steps.Shared a) e = ap task_of e.2
+    by (done.Touches b) steps.Memory e = ap task_of e.1
+
+-- the address space under a draft stays, whatever a step comes to
+pub under_stays : (d d' : Drafting) (r r' : Regs) (step : Step) → StepsAs after_drafted (exec (memory_of d.acting) r) r r' d d' step → d'.under ≡ d.under
+under_stays d d' r r' step does = by (exec (memory_of d.acting) r) step does
+  where
+    by : (done : Done) (step : Step) → StepsAs after_drafted done r r' d d' step → d'.under ≡ d.under
+    by (done.Goes q ws) steps.Next e = ap (λ (x : Drafting). x.under) (e.1 ∙ drafted ws d)
+    by (done.Goes q ws) steps.Call e = absurd e
+    by (done.Goes q ws) (steps.Trap t) e = absurd e
+    by (done.Goes q ws) (steps.Shared a) e = absurd e
+    by (done.Goes q ws) steps.Memory e = ap (λ (x : Drafting). x.under) e.1
+    by done.Calls steps.Next e = absurd e
+    by done.Calls steps.Call e = ap (λ (x : Drafting). x.under) e.1
+    by done.Calls (steps.Trap t) e = absurd e
+    by done.Calls (steps.Shared a) e = absurd e
+    by done.Calls steps.Memory e = ap (λ (x : Drafting). x.under) e.1
+    by (done.Traps s) steps.Next e = absurd e
+    by (done.Traps s) steps.Call e = absurd e
+    by (done.Traps s) (steps.Trap t) e = ap (λ (x : Drafting). x.under) e.2
+    by (done.Traps s) (steps.Shared a) e = absurd e
+    by (done.Traps s) steps.Memory e = ap (λ (x : Drafting). x.under) e.1
+    by (done.Touches b) steps.Next e = absurd e
+    by (done.Touches b) steps.Call e = absurd e
+    by (done.Touches b) (steps.Trap t) e = absurd e
+    by (done.Touches b) (steps.Shared a) e = ap (λ (x : Drafting). x.under) e.2
+    by (done.Touches b) steps.Memory e = ap (λ (x : Drafting). x.under) e.1
+
 -- a step that goes on is one more instruction
-pub ran_on : (n : ℕ) (space : Space) (r q after : Regs) → ran n space r ≡ Some q → StepsAs (exec (memory_of space) q) q after steps.Next → ran (n + 1) space r ≡ Some after
-ran_on n space r q after so_far does = ran_more n space r q after so_far (next_is space q after steps.Next does (λ e. let f : steps.Next ≡ steps.Memory = e in cc))
+pub ran_on : (n : ℕ) (d0 d d' : Drafting) (r0 r r' : Regs) → ran n (going d0 r0) ≡ Some (going d r) → StepsAs after_drafted (exec (memory_of d.acting) r) r r' d d' steps.Next
+    → ran (n + 1) (going d0 r0) ≡ Some (going d' r')
+ran_on n d0 d d' r0 r r' so_far does =
+    ran_last n (going d0 r0) ∙ ap (option_and_then one_more) so_far ∙ by (exec (memory_of d.acting) r) does
+  where
+    by : (done : Done) → StepsAs after_drafted done r r' d d' steps.Next → went_by d.acting done ≡ Some (going d' r')
+    by (done.Goes q ws) e =
+        ap (λ (a : Acting). Some (record { acting = a; registers = q })) (sym (ap (λ (x : Drafting). x.acting) (e.1 ∙ drafted ws d)))
+        ∙ ap (λ q. Some (going d' q)) (sym e.0)
+    by done.Calls e = absurd e
+    by (done.Traps s) e = absurd e
+    by (done.Touches b) e = absurd e
 
-stopped_next : (r : Regs) (step : Step) → step ≢ steps.Next → went (next_as r step) ≡ None
-stopped_next r steps.Next apart = absurd (apart refl)
-stopped_next r steps.Call apart = refl
-stopped_next r (steps.Trap t) apart = refl
-stopped_next r (steps.Shared a) apart = refl
-stopped_next r steps.Memory apart = refl
+stopped_next : (step : Step) → step ≢ steps.Next → goes_on (next_as step) ≡ false
+stopped_next steps.Next apart = absurd (apart refl)
+stopped_next steps.Call apart = refl
+stopped_next (steps.Trap t) apart = refl
+stopped_next (steps.Shared a) apart = refl
+stopped_next steps.Memory apart = refl
 
-same_after : (done : Done) (r after : Regs) (step : Step) → StepsAs done r after step → step ≢ steps.Next → after ≡ r
-same_after (done.Goes q) r after steps.Next e apart = absurd (apart refl)
-same_after (done.Goes q) r after steps.Call e apart = absurd e
-same_after (done.Goes q) r after (steps.Trap t) e apart = absurd e
-same_after (done.Goes q) r after (steps.Shared a) e apart = absurd e
-same_after (done.Goes q) r after steps.Memory e apart = e
-same_after done.Calls r after steps.Next e apart = absurd (apart refl)
-same_after done.Calls r after steps.Call e apart = e
-same_after done.Calls r after (steps.Trap t) e apart = absurd e
-same_after done.Calls r after (steps.Shared a) e apart = absurd e
-same_after done.Calls r after steps.Memory e apart = e
-same_after (done.Traps s) r after steps.Next e apart = absurd (apart refl)
-same_after (done.Traps s) r after steps.Call e apart = absurd e
-same_after (done.Traps s) r after (steps.Trap t) e apart = e.1
-same_after (done.Traps s) r after (steps.Shared a) e apart = absurd e
-same_after (done.Traps s) r after steps.Memory e apart = e
-same_after (done.Touches b) r after steps.Next e apart = absurd (apart refl)
-same_after (done.Touches b) r after steps.Call e apart = absurd e
-same_after (done.Touches b) r after (steps.Trap t) e apart = absurd e
-same_after (done.Touches b) r after (steps.Shared a) e apart = e.1
-same_after (done.Touches b) r after steps.Memory e apart = e
+same_after : (done : Done) (d d' : Drafting) (r r' : Regs) (step : Step) → StepsAs after_drafted done r r' d d' step → step ≢ steps.Next → going d' r' ≡ going d r
+same_after (done.Goes q ws) d d' r r' steps.Next e apart = absurd (apart refl)
+same_after (done.Goes q ws) d d' r r' steps.Call e apart = absurd e
+same_after (done.Goes q ws) d d' r r' (steps.Trap t) e apart = absurd e
+same_after (done.Goes q ws) d d' r r' (steps.Shared a) e apart = absurd e
+same_after (done.Goes q ws) d d' r r' steps.Memory e apart = ap (going d') e.0 ∙ ap (λ (x : Drafting). going x r) e.1
+same_after done.Calls d d' r r' steps.Next e apart = absurd (apart refl)
+same_after done.Calls d d' r r' steps.Call e apart = ap (going d') e.0 ∙ ap (λ (x : Drafting). going x r) e.1
+same_after done.Calls d d' r r' (steps.Trap t) e apart = absurd e
+same_after done.Calls d d' r r' (steps.Shared a) e apart = absurd e
+same_after done.Calls d d' r r' steps.Memory e apart = ap (going d') e.0 ∙ ap (λ (x : Drafting). going x r) e.1
+same_after (done.Traps s) d d' r r' steps.Next e apart = absurd (apart refl)
+same_after (done.Traps s) d d' r r' steps.Call e apart = absurd e
+same_after (done.Traps s) d d' r r' (steps.Trap t) e apart = ap (going d') e.1 ∙ ap (λ (x : Drafting). going x r) e.2
+same_after (done.Traps s) d d' r r' (steps.Shared a) e apart = absurd e
+same_after (done.Traps s) d d' r r' steps.Memory e apart = ap (going d') e.0 ∙ ap (λ (x : Drafting). going x r) e.1
+same_after (done.Touches b) d d' r r' steps.Next e apart = absurd (apart refl)
+same_after (done.Touches b) d d' r r' steps.Call e apart = absurd e
+same_after (done.Touches b) d d' r r' (steps.Trap t) e apart = absurd e
+same_after (done.Touches b) d d' r r' (steps.Shared a) e apart = ap (going d') e.1 ∙ ap (λ (x : Drafting). going x r) e.2
+same_after (done.Touches b) d d' r r' steps.Memory e apart = ap (going d') e.0 ∙ ap (λ (x : Drafting). going x r) e.1
 
--- a step that does not go on leaves the registers, and what stands at them stops
-pub ran_stop : (n : ℕ) (space : Space) (r q after : Regs) (step : Step) → ran n space r ≡ Some q → StepsAs (exec (memory_of space) q) q after step → step ≢ steps.Next → step ≢ steps.Memory
-    → (ran n space r ≡ Some after) × (went (next_of space after) ≡ None)
-ran_stop n space r q after step so_far does apart lean =
-    let same : after ≡ q = same_after (exec (memory_of space) q) q after step does apart in
-    (so_far ∙ ap Some (sym same), ap (λ x. went (next_of space x)) same ∙ ap went (next_is space q after step does lean) ∙ stopped_next after step apart)
+-- a step that does not go on leaves registers and address space, and what stands at them stops
+pub ran_stop : (n : ℕ) (d0 d d' : Drafting) (r0 r r' : Regs) (step : Step) → ran n (going d0 r0) ≡ Some (going d r) → StepsAs after_drafted (exec (memory_of d.acting) r) r r' d d' step → step ≢ steps.Next → step ≢ steps.Memory
+    → (ran n (going d0 r0) ≡ Some (going d' r')) × (goes_on (next_of d'.acting r') ≡ false)
+ran_stop n d0 d d' r0 r r' step so_far does apart lean =
+    let same : going d' r' ≡ going d r = same_after (exec (memory_of d.acting) r) d d' r r' step does apart in (
+      so_far ∙ ap Some (sym same),
+      ap (λ (g : Going). goes_on (next_of g.acting g.registers)) same ∙ ap goes_on (next_is d d' r r' step does lean) ∙ stopped_next step apart,
+    )
+
+-- ---- what a run leaves to an address space
+
+-- the address space that takes over what was kept of a draft is the draft's
+pub kept_is : (d : Drafting) (task : ℕ) (upper kept : Pages) (held left : List Reservation) (space under : Space) → d ≡ record { acting = acting_on task (record { pages = laid_over upper under.pages; reservations = held }); under = under } → under ≡ space
+    → kept ≡ upper → left ≡ held → d.acting ≡ acting_on task (record { pages = laid_over kept space.pages; reservations = left })
+kept_is d task upper kept held left space under is same k l =
+    ap (λ (x : Drafting). x.acting) is
+    ∙ ap (λ (u : Space). acting_on task (record { pages = laid_over upper u.pages; reservations = held })) same
+    ∙ ap (λ pages. acting_on task (record { pages = laid_over pages space.pages; reservations = held })) (sym k)
+    ∙ ap (λ rs. acting_on task (record { pages = laid_over kept space.pages; reservations = rs })) (sym l)

@@ -6,6 +6,7 @@ use Rattle.std.specs.FinMap as map
 use Rattle.kernel_model.specs.declared.entry.Entry.{Entry}
 use Rattle.kernel_model.specs.declared.entry.Args.{Args}
 use Rattle.kernel_model.specs.declared.entry.Entry.TheVariants.{Call}
+use Rattle.kernel_model.specs.Memory.{acting_on}
 use Rattle.kernel_model.specs.Instructions.{next_of}
 use Rattle.sn_errno.specs.declared.errno.Errno.TheVariants.{EIO}
 use Rattle.kernel_model.specs.declared.kernel.Kernel.{Kernel}
@@ -44,13 +45,13 @@ when_live s e number r same some = run_entry s e ∙ ap (λ n. run s (if_running
 pub stands : (s : Parts) (number call : ℕ) (args : Args) (reply : ℤ) (given : Given) (task : Task) (space : Space) (next : Next) → stands_at call args task next ≡ true
     → run s (at_call number call args reply given task space next) ≡ run s (by_given number task space call args reply given)
 stands s number call args reply given task space Calls e = ap (λ b. run s (cond b (by_given number task space call args reply given) (done None))) e
-stands s number call args reply given task space (Goes registers) e = absurd (cc e)
+stands s number call args reply given task space Goes e = absurd (cc e)
 stands s number call args reply given task space (Traps signal) e = absurd (cc e)
 
 pub stands_not : (s : Parts) (number call : ℕ) (args : Args) (reply : ℤ) (given : Given) (task : Task) (space : Space) (next : Next) → stands_at call args task next ≡ false
     → run s (at_call number call args reply given task space next) ≡ None
 stands_not s number call args reply given task space Calls e = ap (λ b. run s (cond b (by_given number task space call args reply given) (done None))) e
-stands_not s number call args reply given task space (Goes registers) e = refl
+stands_not s number call args reply given task space Goes e = refl
 stands_not s number call args reply given task space (Traps signal) e = refl
 
 -- whether a list has an item, by whether it is empty
@@ -200,14 +201,18 @@ same_ok changes others k left same ok = ok ∙ sym (ap (λ o. unwrap_or (changed
 pub task_put : (k : Kernel) (number key : ℕ) (after task : Task) (tasks : map.FinMap nat_cmp Task) → tasks ≡ map.insert k.tasks key after → key ≡ number → after ≡ task → record k { tasks = tasks } ≡ put (OfTask number) (Some task) k
 task_put k number key after task tasks is same to = ap (λ m. record k { tasks = m }) (is ∙ ap (λ q. map.insert k.tasks q after) same ∙ ap (map.insert k.tasks number) to)
 
+-- a task that stands at a call, by the number that it was found under
+pub stands_as : (number n call : ℕ) (args : Args) (task : Task) (space : Space) (b : Bool) → n ≡ number → b ≡ stands_at call args task (next_of (acting_on n space) task.registers) → b ≡ true → stands_at call args task (next_of (acting_on number space) task.registers) ≡ true
+stands_as number n call args task space b same is holds = ap (λ x. stands_at call args task (next_of (acting_on x space) task.registers)) (sym same) ∙ sym is ∙ holds
+
 -- an entry of a call that its task stands at
 pub call_is : (s : Parts) (e : Entry) (number : ℕ) (r : Running) (task call : ℕ) (args : Args) (given : Given) (reply : ℤ) → number ≡ task_of e → run s (live number) ≡ Some r → e ≡ Call task call args given reply
-    → stands_at call args r.task (next_of r.space r.task.registers) ≡ true → run s (entry_row e) ≡ run s (by_given number r.task r.space call args reply given)
+    → stands_at call args r.task (next_of (acting_on number r.space) r.task.registers) ≡ true → run s (entry_row e) ≡ run s (by_given number r.task r.space call args reply given)
 call_is s e number r task call args given reply same some is at =
     when_live s e number r same some
     ∙ ap (λ x. run s (row_of x r)) is
-    ∙ stands s task call args reply given r.task r.space (next_of r.space r.task.registers) at
-    ∙ ap (λ n. run s (by_given n r.task r.space call args reply given)) (sym (same ∙ ap task_of is))
+    ∙ ap (λ n. run s (at_call n call args reply given r.task r.space (next_of (acting_on n r.space) r.task.registers))) (sym (same ∙ ap task_of is))
+    ∙ stands s number call args reply given r.task r.space (next_of (acting_on number r.space) r.task.registers) at
 
 -- ---- a whole step
 

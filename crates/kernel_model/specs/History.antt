@@ -1,5 +1,5 @@
 -- Histories: lists of entries each of whose steps is defined.
-use Rattle.std.specs.Prelude.{◌==◌, List, [], ◌∷◌, Bool, true, false, ◌&&◌, ◌||◌, not, Option, Some, None, option_and_then}
+use Rattle.std.specs.Prelude.{ℕ, ◌==◌, List, [], ◌∷◌, Bool, true, false, ◌&&◌, ◌||◌, not, Option, Some, None, option_and_then}
 use Rattle.std.specs.FinMap as map
 use Rattle.std.specs.List.{list_any}
 use Rattle.kernel_model.specs.declared.entry.Entry.{Entry}
@@ -8,9 +8,8 @@ use Rattle.kernel_model.specs.declared.kernel.Kernel.{Kernel}
 use Rattle.kernel_model.specs.declared.kernel.Task.{Task}
 use Rattle.kernel_model.specs.declared.kernel.Life.{Life}
 use Rattle.kernel_model.specs.declared.kernel.Life.TheVariants.{Live, Exited, Killed}
-use Rattle.kernel_model.specs.declared.traps.Next.{Next}
-use Rattle.kernel_model.specs.declared.traps.Next.TheVariants.{Goes, Calls, Traps}
-use Rattle.kernel_model.specs.Instructions.{next_of}
+use Rattle.kernel_model.specs.Memory.{acting_on}
+use Rattle.kernel_model.specs.Instructions.{next_of, goes_on}
 use Rattle.kernel_model.specs.Parts.{parts, run}
 use Rattle.kernel_model.specs.Step.{Running, live, step}
 
@@ -20,21 +19,16 @@ abbrev pub replay : Kernel → List Entry → Option Kernel
 replay k [] = Some k
 replay k (entry ∷ entries) = option_and_then (λ (next : Kernel). replay next entries) (step k entry)
 
--- an instruction neither traps nor calls
--- RISC-V Unprivileged ISA 20191213, 1.6
-abbrev pub goes_on : Next → Bool
-goes_on (Goes registers) = true
-goes_on Calls = false
-goes_on (Traps signal) = false
-
-abbrev pub has_next : Option Running → Bool
-has_next None = false
-has_next (Some r) = goes_on (next_of r.space r.task.registers)
+-- the next instruction of a running task neither traps nor calls
+-- RISC-V Unprivileged ISA 20191213, 1.6, Exceptions, Traps, and Interrupts
+abbrev pub has_next : ℕ → Option Running → Bool
+has_next task None = false
+has_next task (Some r) = goes_on (next_of (acting_on task r.space) r.task.registers)
 
 -- a Run is whole in the state that it leaves: it has 10,000 instructions, or the next one calls or traps
 -- profile
 abbrev pub is_whole : Entry → Kernel → Bool
-is_whole (Run task n) after = (n == 10000) || not (has_next (run (parts after) (live task)))
+is_whole (Run task n) after = (n == 10000) || not (has_next task (run (parts after) (live task)))
 is_whole (Call task call args given reply) after = true
 is_whole (Sleep task) after = true
 is_whole (End task signal) after = true

@@ -71,10 +71,10 @@ abbrev pub segments_mapped : List Segment → List Segment → map.FinMap nat_cm
 segments_mapped all [] pages = pages
 segments_mapped all (s ∷ ss) pages = segments_mapped all ss (mapped (page_of all) (first_page s) (page_count s) pages)
 
--- the address space that an image begins with: its segments, and 64 pages of stack below 2^38
+-- the address space that an image begins with: its segments, and 64 pages of stack below 2^38, and no reservations
 -- execve(2); the place of the stack: profile
 unfoldable pub space_of : Image → Space
-space_of image = record { pages = mapped stack_page (2 ^ 26 - 64) 64 (segments_mapped image.segments image.segments map.empty) }
+space_of image = record { pages = mapped stack_page (2 ^ 26 - 64) 64 (segments_mapped image.segments image.segments map.empty); reservations = [] }
 
 -- how many pages are mapped for an image and its stack: each page of the address space that it begins with
 -- getrlimit(2), RLIMIT_AS, RLIMIT_STACK

@@ -65,5 +65,5 @@ one_task number task = option_map (λ (t : Task). task_change number t ∷ []) t
 -- syscall(2), riscv; RISC-V Unprivileged ISA 20191213, 2.8
 abbrev pub stands_at : ℕ → Args → Task → Next → Bool
 stands_at call args task Calls = (call_of task.registers == call) && same_args (args_of task.registers) args
-stands_at call args task (Goes registers) = false
+stands_at call args task Goes = false
 stands_at call args task (Traps signal) = false

@@ -1,6 +1,11 @@
 pub mod Registers
 pub mod Memory
 pub mod Instructions
+pub mod Drafts
+pub mod Drafted
+pub mod PutLaws
+pub mod PageLaws
+pub mod WriteLaws
 pub mod Image
 pub mod PageNumbers
 pub mod FileTree
@@ -10,7 +15,9 @@ pub mod Faulted
 pub mod Step
 pub mod History
 pub mod Words
+pub mod InPage
 pub mod InPlace
+pub mod AfterRuns
 pub mod Beginnings
 pub mod Printed
 pub mod Arguments

@@ -18,7 +18,8 @@ use Rattle.rv_table.specs.declared.regs.Regs.{Regs}
 use Rattle.kernel_model.specs.declared.space.Space.{Space}
 use Rattle.sn_errno.specs.Errors.{reply_of}
 use Rattle.kernel_model.specs.Registers.{args_of, call_of, replied}
-use Rattle.kernel_model.specs.Instructions.{next_of, ran}
+use Rattle.kernel_model.specs.Memory.{acting_on}
+use Rattle.kernel_model.specs.Instructions.{Going, next_of, ran}
 use Rattle.kernel_model.specs.declared.calls.Outcome.{Outcome}
 use Rattle.kernel_model.specs.declared.calls.Outcome.TheVariants.{Returns, Exits, Writes}
 use Rattle.kernel_model.specs.Rows.{call_row}
@@ -60,23 +61,27 @@ ended task life = record { group = task.group; space = task.space; registers = t
 abbrev pub task_change : ℕ → Task → Change
 task_change number task = (OfTask number, Some task)
 
--- Run: the next n instructions, 1 to 10,000, none of which traps or calls
+-- Run: the next n instructions, 1 to 10,000, none of which traps or calls; the task and its address space change
 -- profile
+abbrev pub ran_changes : ℕ → Task → Going → List Change
+ran_changes number task g =
+    (OfSpace task.space, Some g.acting.space) ∷ task_change number (with_registers task g.registers) ∷ []
+
 abbrev pub run_row : ℕ → ℕ → Running → Option (List Change)
 run_row number n r =
     if nat_le 1 n && nat_le n 10000
-    then option_map (λ registers. task_change number (with_registers r.task registers) ∷ []) (ran n r.space r.task.registers)
+    then option_map (ran_changes number r.task) (ran n (record { acting = acting_on number r.space; registers = r.task.registers }))
     else None
 
 -- End: the next instruction traps with that signal, which ends the group
 -- signal(7), Term; profile
 abbrev pub end_at : ℕ → ℕ → Task → Next → Option (List Change)
 end_at number signal task (Traps s) = if s == signal then Some (task_change number (ended task (Killed signal)) ∷ []) else None
-end_at number signal task (Goes registers) = None
+end_at number signal task Goes = None
 end_at number signal task Calls = None
 
 abbrev pub end_row : ℕ → ℕ → Running → Option (List Change)
-end_row number signal r = end_at number signal r.task (next_of r.space r.task.registers)
+end_row number signal r = end_at number signal r.task (next_of (acting_on number r.space) r.task.registers)
 
 -- the entry's reply is the one that the row gives; bytes that are written come behind those of the console
 -- syscall(2); write(2)
@@ -118,14 +123,14 @@ same_args a b = (a.a0 == b.a0) && (a.a1 == b.a1) && (a.a2 == b.a2) && (a.a3 == b
 abbrev pub at_call : ℕ → ℕ → Args → ℤ → Given → Task → Space → Next → Prog (Option (List Change))
 at_call number call args reply given task space Calls =
     if (call_of task.registers == call) && same_args (args_of task.registers) args then by_given number task space call args reply given else done None
-at_call number call args reply given task space (Goes registers) = done None
+at_call number call args reply given task space Goes = done None
 at_call number call args reply given task space (Traps signal) = done None
 
 -- what an entry changes, or None where it does not fit
 -- profile
 abbrev pub row_of : Entry → Running → Prog (Option (List Change))
 row_of (Run task n) r = done (run_row task n r)
-row_of (Call task call args given reply) r = at_call task call args reply given r.task r.space (next_of r.space r.task.registers)
+row_of (Call task call args given reply) r = at_call task call args reply given r.task r.space (next_of (acting_on task r.space) r.task.registers)
 row_of (Sleep task) r = done None
 row_of (End task signal) r = done (end_row task signal r)
 

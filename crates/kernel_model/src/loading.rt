@@ -7,6 +7,7 @@ ghost use Rattle.kernel_model.specs.Image.{is_in_file, byte_of, count_up, is_met
 
 use crate::{Page, Space};
 use elf_image::{Image, Rights, Segment};
+use rv_atomic::Reservations;
 use rv_table::Regs;
 use sn_base::{List, Map, Memory};
 use std::alloc::Global;
@@ -34,7 +35,10 @@ impl Space {
     {
         let mut pages = map_segments(alloc, image.segments.as_slice())?;
         map_stack(alloc, &mut pages)?;
-        Ok(Space { pages })
+        Ok(Space {
+            pages,
+            reservations: Reservations::new(alloc),
+        })
     }
 }
 

@@ -1,46 +1,73 @@
 //! The rows of the entries that change their task alone.
 
-ghost use Rattle.std.specs.Prelude.{◌≡◌, ℕ, pos};
+ghost use Rattle.std.specs.Prelude.{◌≡◌, ℕ, pos, IfOk, IfSome};
 ghost use Rattle.std.specs.Ordering.{int_eq};
 ghost use Rattle.kernel_model.specs.Parts.{Parts, run as run_in};
 ghost use Rattle.kernel_model.specs.Step.{run_row, end_row, answered, same_args, with_registers, ended};
 ghost use Rattle.kernel_model.specs.Registers.{replied};
 ghost use Rattle.kernel_model.specs.InPlace.{one_task};
+ghost use Rattle.kernel_model.specs.AfterRuns.{IsRunOf, one_run};
 
-use crate::{Args, Life, Next, Outcome, Space, Task, next, reply, run};
+use crate::{Args, Kept, Life, Next, Outcome, Space, Task, next, reply, run};
+use sn_base::Memory;
+use std::alloc::Global;
 
 /// The most instructions of one entry.
 const QUANTUM: u32 = 10_000;
 
+/// A task after a run, and what the run has written to its address space.
+#[derive(Drop)]
+pub(crate) struct AfterRun {
+    pub(crate) task: Task,
+    pub(crate) kept: Kept,
+}
+
 /// Runs a task's next instructions, if so many of them neither trap nor call.
-pub(crate) fn run_row(task: Task, space: &Space, n: u32) -> Option<Task>
-    ensures { (number : ℕ) → run_row number n (record { task = task; space = space.now }) ≡ one_task number result }
+pub(crate) fn run_row(
+    alloc: Global,
+    number: u32,
+    task: Task,
+    space: &Space,
+    n: u32,
+) -> Result<Option<AfterRun>, Memory>
+    ensures row { IfOk result (λ after. run_row number n (record { task = task; space = space.now }) ≡ one_run number space.now after) }
+    ensures covered { IfOk result (λ after. IfSome after (λ a. IsRunOf task space.now a)) }
 {
     if n < 1 || QUANTUM < n {
-        return None;
+        return Ok(None);
     }
     let mut after = task;
-    if run(&mut after.registers, space, n) == n {
-        Some(after)
+    let ran = run(alloc, number, &mut after.registers, space, n)?;
+    if ran.count == n {
+        Ok(Some(AfterRun {
+            task: after,
+            kept: ran.kept,
+        }))
     } else {
-        None
+        Ok(None)
     }
 }
 
 /// Ends a task whose next instruction traps with that signal.
-pub(crate) fn end_row(task: Task, space: &Space, signal: u8) -> Option<Task>
-    ensures { (number : ℕ) → end_row number signal (record { task = task; space = space.now }) ≡ one_task number result }
+pub(crate) fn end_row(
+    alloc: Global,
+    number: u32,
+    task: Task,
+    space: &Space,
+    signal: u8,
+) -> Result<Option<Task>, Memory>
+    ensures { IfOk result (λ after. end_row number signal (record { task = task; space = space.now }) ≡ one_task number after) }
 {
-    match next(&task.registers, space) {
+    match next(alloc, number, &task.registers, space)? {
         Next::Traps(trap) => {
             if trap == signal {
-                Some(ended(task, Life::Killed(signal)))
+                Ok(Some(ended(task, Life::Killed(signal))))
             } else {
-                None
+                Ok(None)
             }
         }
-        Next::Goes(_) => None,
-        Next::Calls => None,
+        Next::Goes => Ok(None),
+        Next::Calls => Ok(None),
     }
 }
 

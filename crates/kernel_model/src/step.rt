@@ -1,6 +1,6 @@
 //! What an entry does to a kernel.
 
-ghost use Rattle.std.specs.Prelude.{◌≡◌, ℕ, false, None, Some, is_some, unwrap_or, IsTrue, IfOk, OnOk, OnErr, OnSome, MatchOption};
+ghost use Rattle.std.specs.Prelude.{◌≡◌, ℕ, false, None, Some, is_some, unwrap_or, IsTrue, IfOk, IfSome, OnOk, OnErr, OnSome, MatchOption};
 ghost use Rattle.std.specs.FinMap as map;
 ghost use Rattle.kernel_model.specs.declared.entry.Entry.{Entry as AnEntry};
 ghost use Rattle.kernel_model.specs.declared.calls.Outcome.TheVariants.{Writes};
@@ -8,7 +8,9 @@ ghost use Rattle.kernel_model.specs.declared.entry.Args.{Args as AnArgs};
 ghost use Rattle.kernel_model.specs.declared.kernel.Kernel.{Kernel as AKernel};
 ghost use Rattle.kernel_model.specs.declared.space.Space.{Space as ASpace};
 ghost use Rattle.kernel_model.specs.declared.kernel.Part.{Part as APart};
-ghost use Rattle.kernel_model.specs.Parts.{IsIn, AgreeOn, parts, run as outcome_in};
+ghost use Rattle.kernel_model.specs.Memory.{acting_on};
+ghost use Rattle.kernel_model.specs.AfterRuns.{IsPlaced, run_changes};
+ghost use Rattle.kernel_model.specs.Parts.{IsIn, AgreeOn, changed, parts, run as outcome_in};
 ghost use Rattle.kernel_model.specs.Step.{step, entry_row, used, touches, task_of, live, by_given, failing, answered};
 ghost use Rattle.std.specs.Ordering.{int_eq};
 ghost use Rattle.sn_errno.specs.Errors.{reply_of};
@@ -16,7 +18,7 @@ ghost use Rattle.sn_errno.specs.declared.errno.Errno.TheVariants.{EIO};
 ghost use Rattle.kernel_model.specs.InPlace.{changed_by, is_quiet, one_task, stands_at};
 ghost use Rattle.kernel_model.specs.Instructions.{next_of};
 
-use crate::rows::{end_row, exited, is_count, replied, returned, run_row, same_args};
+use crate::rows::{AfterRun, end_row, exited, is_count, replied, returned, run_row, same_args};
 use crate::{
     Args, Entry, Given, Kernel, Life, Next, Outcome, Space, Task, args_of, call, call_of, next,
 };
@@ -24,9 +26,10 @@ use sn_base::Memory;
 use sn_errno::{Errno, Reply};
 use std::alloc::Global;
 
-/// A task with its address space.
+/// A task with its number and its address space.
 #[derive(Clone, Copy)]
 struct Running<'a> {
+    number: u32,
     task: Task,
     space: &'a Space,
 }
@@ -53,14 +56,14 @@ impl Entry {
 }
 
 /// Whether a task stands at an ECALL, with that call's number and arguments in its registers.
-fn stands_at(running: &Running, no: u64, args: &Args) -> bool
-    ensures { result ≡ stands_at no args.now running.now.task (next_of running.now.space.now running.now.task.registers) }
+fn stands_at(alloc: Global, running: &Running, no: u64, args: &Args) -> Result<bool, Memory>
+    ensures { IfOk result (λ b. b ≡ stands_at no args.now running.now.task (next_of (acting_on running.now.number running.now.space.now) running.now.task.registers)) }
 {
     let registers = &running.task.registers;
-    match next(registers, running.space) {
-        Next::Calls => call_of(registers) == no && same_args(&args_of(registers), args),
-        Next::Goes(_) => false,
-        Next::Traps(_) => false,
+    match next(alloc, running.number, registers, running.space)? {
+        Next::Calls => Ok(call_of(registers) == no && same_args(&args_of(registers), args)),
+        Next::Goes => Ok(false),
+        Next::Traps(_) => Ok(false),
     }
 }
 
@@ -86,8 +89,13 @@ impl Kernel {
         let task = running.task;
         match entry {
             Entry::Run { n, .. } => {
-                let after = run_row(task, running.space, *n);
-                Ok(self.set_task(number, after))
+                match run_row(alloc, number, task, running.space, *n)? {
+                    Some(after) => {
+                        self.put_run(number, after);
+                        Ok(true)
+                    }
+                    None => Ok(false),
+                }
             }
             Entry::Call {
                 no,
@@ -96,7 +104,8 @@ impl Kernel {
                 reply,
                 ..
             } => {
-                if !stands_at(&running, *no, args) {
+                let stands = stands_at(alloc, &running, *no, args)?;
+                if !stands {
                     return Ok(false);
                 }
                 let caller = Caller { number, task };
@@ -108,7 +117,7 @@ impl Kernel {
             }
             Entry::Sleep { .. } => Ok(false),
             Entry::End { signal, .. } => {
-                let after = end_row(task, running.space, *signal);
+                let after = end_row(alloc, number, task, running.space, *signal)?;
                 Ok(self.set_task(number, after))
             }
         }
@@ -119,12 +128,18 @@ impl Kernel {
         ensures running { MatchOption result (outcome_in (parts self.now) (live number) ≡ None)
             (λ r. outcome_in (parts self.now) (live number) ≡ Some (record { task = r.task; space = r.space.now })) }
         ensures there { OnSome result (IsTrue (map.contains_key self.now.tasks number)) }
+        ensures number { IfSome result (λ r. r.number ≡ number) }
+        ensures space { IfSome result (λ r. map.get self.now.spaces r.task.space ≡ Some r.space.now) }
     {
         let task = self.tasks.get(u64::from(number))?;
         match task.life {
             Life::Live => {
                 let space = self.spaces.get(task.space)?;
-                Some(Running { task: *task, space })
+                Some(Running {
+                    number,
+                    task: *task,
+                    space,
+                })
             }
             Life::Exited(_) => None,
             Life::Killed(_) => None,
@@ -144,6 +159,19 @@ impl Kernel {
             }
             None => false,
         }
+    }
+
+    /// Puts what a run has left in the place of its task and its address space.
+    fn put_run(&mut self, number: u32, after: AfterRun)
+        requires there { IsTrue (map.contains_key self.old.tasks number) }
+        requires placed { IsPlaced self.old.spaces after }
+        ensures { (under : ASpace) → map.get self.old.spaces after.task.space ≡ Some under → self.new ≡ changed (run_changes number under after) self.old }
+    {
+        let AfterRun { task, kept } = after;
+        if let Some(space) = self.spaces.get_mut(task.space) {
+            space.take(kept);
+        }
+        self.tasks.replace(u64::from(number), task);
     }
 
     /// Answers a call by what it comes to, where the reply is that.

@@ -1,10 +1,10 @@
 //! The reservations of one address space.
 
-ghost use Rattle.std.specs.Prelude.{◌≡◌, ◌<◌, ◌↔◌, [], length, IsTrue, IsFalse, OnOk, OnErr, vec_len, vec_capacity};
+ghost use Rattle.std.specs.Prelude.{◌≡◌, ◌<◌, ◌↔◌, [], length, IsTrue, IsFalse, IfOk, OnOk, OnErr, vec_len, vec_capacity};
 ghost use Rattle.rv_table.specs.Words.{IsWidth};
 ghost use Rattle.rv_atomic.specs.Reservations.{AtMostOneEach, after_store, is_held, is_reserving, reserved, without};
 
-use sn_base::Memory;
+use sn_base::{List, Memory};
 use std::alloc::Global;
 use std::marker::Model;
 
@@ -42,6 +42,17 @@ impl Reservations {
         Reservations {
             items: Vec::new(alloc),
         }
+    }
+
+    /// The same reservations once more. An `Err` comes only where there are some.
+    pub fn copy(&self, alloc: Global) -> Result<Self, Memory>
+        ensures ok { IfOk result (λ copy. copy ≡ self.now) }
+        ensures err { OnErr result (0 < length self.now) }
+    {
+        let items = List::from_slice(alloc, &self.items)?;
+        Ok(Reservations {
+            items: items.into_vec(),
+        })
     }
 
     /// How many reservations there are.

@@ -1,1 +1,3 @@
 mod Accesses
+mod MovesOverMemory
+mod Stores

@@ -1,5 +1,5 @@
 -- Memory byte by byte, as accesses see it.
-use Rattle.std.specs.Prelude.{◌≡◌, ⊤, ℕ, zero, suc, ◌+◌, ◌*◌, ◌-◌, ◌/◌, ◌%◌, ◌^◌, ◌<◌, nat_lt, Option, Some, None, Result, Ok, Err, if◌then◌else◌}
+use Rattle.std.specs.Prelude.{◌≡◌, ⊤, ℕ, zero, suc, ◌+◌, ◌*◌, ◌%◌, ◌^◌, Bool, Option, Some, None, Result, Ok, Err}
 use Rattle.rv_table.specs.declared.error.Area.{Area}
 use Rattle.rv_table.specs.declared.error.MemErr.{MemErr}
 use Rattle.rv_table.specs.declared.error.MemErr.TheVariants as refusals
@@ -11,12 +11,14 @@ pub data Byte : Type 0 where
   Barred : Byte
   InArea : Area → Byte
 
--- memory: what the byte at each address is to a fetch, to a load and to a store
--- RISC-V Unprivileged ISA 20191213, 1.4, Memory
+-- memory as a task has it: what the byte at each address is to a fetch, to a load and to a store; and whether the task has a
+-- reservation of that address and so many bytes
+-- RISC-V Unprivileged ISA 20191213, 1.4, Memory; 8.2, Load-Reserved/Store-Conditional Instructions
 pub record Memory : Type 0 where
   pub code : ℕ → Byte
   pub data_ : ℕ → Byte
   pub room : ℕ → Byte
+  pub reserves : (address width : ℕ) → Bool
 
 -- the address behind another: addresses go round at 2^64
 -- RISC-V Unprivileged ISA 20191213, 1.4, Memory
@@ -82,34 +84,11 @@ AnswersAs accessed (Err (refusals.Fault address)) = accessed ≡ Fault address
 AnswersAs accessed (Err (refusals.Shared area)) = accessed ≡ Shared area
 AnswersAs accessed (Err refusals.Memory) = ⊤
 
--- how far an address lies behind another, going round at 2^64
--- RISC-V Unprivileged ISA 20191213, 1.4, Memory
-abbrev pub distance : (from to : ℕ) → ℕ
-distance from to = (to + (2 ^ 64 - from)) % 2 ^ 64
-
--- a byte after a store of a number's bytes, the lowest first, to so many addresses: what may not be accessed stays so
--- RISC-V Unprivileged ISA 20191213, 1.4: little-endian; 2.6, Load and Store Instructions
-abbrev pub with_value : Byte → ℕ → Byte
-with_value (Holds old) value = Holds value
-with_value Barred value = Barred
-with_value (InArea area) value = InArea area
-
-abbrev pub stored_byte : (at width value address : ℕ) → Byte → Byte
-stored_byte at width value address byte =
-    if nat_lt (distance at address) width then with_value byte (value / 256 ^ distance at address % 256) else byte
-
--- the bytes after a store, for each kind of access
--- RISC-V Unprivileged ISA 20191213, 2.6 and 5.3, Load and Store Instructions
-pub record Stored (at width value : ℕ) (before after : Memory) : Type 0 where
-  pub code : (address : ℕ) → address < 2 ^ 64 → after.code address ≡ stored_byte at width value address (before.code address)
-  pub data_ : (address : ℕ) → address < 2 ^ 64 → after.data_ address ≡ stored_byte at width value address (before.data_ address)
-  pub room : (address : ℕ) → address < 2 ^ 64 → after.room address ≡ stored_byte at width value address (before.room address)
-
--- a store's answer is what the access comes to, or want of memory
+-- the answer of an access that only tests bytes, or stores, is what the access comes to, or want of memory
 -- profile
-abbrev pub StoresAs : Accessed → Result ⊤ MemErr → Type 0
-StoresAs (Value value) (Ok done) = ⊤
-StoresAs (Fault address) (Err (refusals.Fault told)) = told ≡ address
-StoresAs (Shared area) (Err (refusals.Shared told)) = told ≡ area
-StoresAs accessed (Err refusals.Memory) = ⊤
-StoresAs _ _ = ⊥
+abbrev pub AllowsAs : Accessed → Result ⊤ MemErr → Type 0
+AllowsAs (Value value) (Ok done) = ⊤
+AllowsAs (Fault address) (Err (refusals.Fault told)) = told ≡ address
+AllowsAs (Shared area) (Err (refusals.Shared told)) = told ≡ area
+AllowsAs accessed (Err refusals.Memory) = ⊤
+AllowsAs _ _ = ⊥

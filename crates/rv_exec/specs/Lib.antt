@@ -1,3 +1,5 @@
 pub mod Bytes
 pub mod Execution
 pub mod Loads
+pub mod MemoryAfter
+pub mod Writes

@@ -12,9 +12,8 @@ use rv_table::{Regs, decode};
 /// Does the next instruction of a task. It takes no memory but what its memory's own calls take.
 #[tactic(auto, unfolding(crate::specs::Execution::exec))]
 pub fn step<M: Mem>(regs: &mut Regs, mem: &mut M) -> Step
-    ensures done { StepsAs (exec (M.told mem.old) regs.old) regs.old regs.new result }
+    ensures done { StepsAs M.after (exec (M.seen (M.told mem.old)) regs.old) regs.old regs.new (M.told mem.old) (M.told mem.new) result }
     ensures lean { M.takes_memory ≡ false → result ≢ Step.Memory }
-    ensures same { M.told mem.new ≡ M.told mem.old }
 {
     match mem.fetch(regs.pc) {
         Ok(word) => run_word(regs, mem, word),
@@ -24,12 +23,11 @@ pub fn step<M: Mem>(regs: &mut Regs, mem: &mut M) -> Step
 
 /// Does the instruction of a word, if it has one.
 fn run_word<M: Mem>(regs: &mut Regs, mem: &mut M, word: u32) -> Step
-    ensures done { StepsAs (by_rows (M.told mem.old) regs.old (rows_of word)) regs.old regs.new result }
+    ensures done { StepsAs M.after (by_rows (M.seen (M.told mem.old)) regs.old (rows_of word)) regs.old regs.new (M.told mem.old) (M.told mem.new) result }
     ensures lean { M.takes_memory ≡ false → result ≢ Step.Memory }
-    ensures same { M.told mem.new ≡ M.told mem.old }
 {
     match decode(word) {
-        Some(instr) => execute(regs, mem, instr),
+        Some(instr) => execute(regs, mem, &instr),
         None => Step::Trap(4),
     }
 }

@@ -1,4 +1,4 @@
-//! Loads.
+//! What loads take, and what a register gets of it.
 
 ghost use Rattle.std.specs.Prelude.{◌≡◌, ◌≢◌, false};
 ghost use Rattle.rv_table.specs.Words.{IsWidth};
@@ -23,7 +23,7 @@ pub(crate) enum Load {
 
 impl Load {
     /// How many bytes it takes.
-    fn width(self) -> u8
+    pub(crate) fn width(self) -> u8
         ensures width { result ≡ width_of self }
         ensures is_width { IsWidth result }
     {
@@ -55,7 +55,7 @@ impl Load {
 
     /// The number at an address, or why there is none.
     pub(crate) fn number<M: Mem>(self, mem: &mut M, at: u64) -> Result<u64, Step>
-        ensures number { AccessesAs (loaded (M.told mem.old).data_ at (width_of self)) result }
+        ensures number { AccessesAs (loaded (M.seen (M.told mem.old)).data_ at (width_of self)) result }
         ensures lean { M.takes_memory ≡ false → result ≢ Err Step.Memory }
         ensures same { M.told mem.new ≡ M.told mem.old }
     {

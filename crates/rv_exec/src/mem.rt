@@ -1,38 +1,77 @@
 //! Memory as instructions use it.
 
-ghost use Rattle.std.specs.Prelude.{◌≡◌, ◌≢◌, Bool, false, OnOk, OnErr};
+ghost use Rattle.std.specs.Prelude.{◌≡◌, ◌≢◌, ℕ, Bool, true, false, IsOk, OnOk, OnErr};
 ghost use Rattle.rv_table.specs.Words.{IsWidth};
-ghost use Rattle.rv_exec.specs.Bytes.{Memory, AnswersAs, StoresAs, Stored, loaded};
+ghost use Rattle.rv_exec.specs.Bytes.{Memory as Seen, AnswersAs, AllowsAs, loaded};
+ghost use Rattle.rv_exec.specs.Writes.{Write, Stores, Reserves, Releases, IsAfter};
 
 use rv_table::MemErr;
+use sn_base::Memory;
 
-/// The memory of a task.
+/// The memory of a task, with the task's reservation.
 pub trait Mem {
-    /// What each byte is to a fetch, a load and a store.
-    ghost told: { Self → Memory };
+    /// What contracts see of it.
+    ghost State: { Type 0 };
+
+    ghost told: { Self → State };
+
+    /// What each byte is then to a fetch, a load and a store, and what the task has reserved.
+    ghost seen: { State → Seen };
+
+    /// What is told of it after a write.
+    ghost after: { Write → State → State };
+
+    /// Whether a store of so many bytes there is sure not to want memory.
+    ghost is_ready: { Self → (at width : ℕ) → Bool };
 
     /// Whether a call may answer want of memory.
     ghost takes_memory: { Bool };
 
     /// The word of four bytes at an address, each of which may be executed.
     fn fetch(&mut self, at: u64) -> Result<u32, MemErr>
-        ensures word { AnswersAs (loaded (told self.old).code at 4) result }
+        ensures word { AnswersAs (loaded (seen (told self.old)).code at 4) result }
         ensures lean { takes_memory ≡ false → result ≢ Err MemErr.Memory }
         ensures same { told self.new ≡ told self.old };
 
     /// The number of so many bytes at an address, each of which may be read. It needs no alignment.
     fn load(&mut self, at: u64, width: u8) -> Result<u64, MemErr>
         requires { IsWidth width }
-        ensures number { AnswersAs (loaded (told self.old).data_ at width) result }
+        ensures number { AnswersAs (loaded (seen (told self.old)).data_ at width) result }
         ensures lean { takes_memory ≡ false → result ≢ Err MemErr.Memory }
         ensures same { told self.new ≡ told self.old };
 
-    /// Stores so many of a number's bytes, the lowest first, at an address, each of which may be written. It needs no
-    /// alignment. A refusal leaves all bytes as they were.
+    /// Whether each of so many bytes at an address may be written. Where it is so, a store there takes no memory.
+    fn writable(&mut self, at: u64, width: u8) -> Result<(), MemErr>
+        requires { IsWidth width }
+        ensures room { AllowsAs (loaded (seen (told self.old)).room at width) result }
+        ensures ready { OnOk result (is_ready self.new at width ≡ true) }
+        ensures lean { takes_memory ≡ false → result ≢ Err MemErr.Memory }
+        ensures same { told self.new ≡ told self.old };
+
+    /// Stores so many of a number's bytes, the lowest first, at an address, each of which may be written, and ends other
+    /// tasks' reservations of the granules that it meets. It needs no alignment. A refusal changes nothing.
     fn store(&mut self, at: u64, width: u8, value: u64) -> Result<(), MemErr>
         requires { IsWidth width }
-        ensures room { StoresAs (loaded (told self.old).room at width) result }
+        ensures room { AllowsAs (loaded (seen (told self.old)).room at width) result }
+        ensures ready { is_ready self.old at width ≡ true → result ≢ Err MemErr.Memory }
         ensures lean { takes_memory ≡ false → result ≢ Err MemErr.Memory }
-        ensures bytes { OnOk result (Stored at width value (told self.old) (told self.new)) }
+        ensures ok { OnOk result (told self.new ≡ after (Stores at width value) (told self.old)) }
         ensures err { OnErr result (told self.new ≡ told self.old) };
+
+    /// Puts the task's reservation of an address and so many bytes in the place of the one that it had. A refusal changes
+    /// nothing.
+    fn reserve(&mut self, at: u64, width: u8) -> Result<(), Memory>
+        requires { IsWidth width }
+        ensures lean { takes_memory ≡ false → IsOk result }
+        ensures ok { OnOk result (told self.new ≡ after (Reserves at width) (told self.old)) }
+        ensures err { OnErr result (told self.new ≡ told self.old) };
+
+    /// Ends the task's reservation, and answers whether it was of just that address and so many bytes.
+    fn take(&mut self, at: u64, width: u8) -> bool
+        ensures held { result ≡ (seen (told self.old)).reserves at width }
+        ensures ended { told self.new ≡ after Releases (told self.old) }
+        ensures ready { is_ready self.new at width ≡ is_ready self.old at width };
+
+    /// After a write, memory is what the write says.
+    ghost written: { (state : State) → (write : Write) → IsAfter write (seen state) (seen (after write state)) };
 }

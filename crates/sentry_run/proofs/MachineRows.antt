@@ -1,5 +1,5 @@
 -- What a row gives for the entry that the machine makes.
-use Rattle.std.proofs.Common.{◌≡◌, ◌⊎◌, inl, inr, ℕ, zero, suc, ◌+◌, ◌≤◌, Bool, true, false, List, [], ◌∷◌, refl, ap, sym, ◌∙◌, subst, arith, ℤ}
+use Rattle.std.proofs.Common.{◌≡◌, ◌⊎◌, inl, inr, ℕ, zero, suc, ◌+◌, ◌≤◌, Bool, true, false, List, [], ◌∷◌, refl, ap, sym, ◌∙◌, arith, ℤ}
 use Rattle.std.specs.Prelude.{Result, Ok, Err, IfOk, Some, None, if◌then◌else◌, ◌&&◌, ◌||◌, not, ◌==◌, nat_eq, nat_le, option_map}
 use Rattle.std.specs.Ordering.{int_eq, nat_cmp}
 use Rattle.std.specs.FinMap as map
@@ -11,25 +11,29 @@ use Rattle.kernel_model.specs.declared.entry.Entry.TheVariants.{Run, Call, Sleep
 use Rattle.kernel_model.specs.declared.kernel.Kernel.{Kernel}
 use Rattle.kernel_model.specs.declared.kernel.Life.TheVariants.{Live}
 use Rattle.kernel_model.specs.declared.kernel.Task.{Task}
-use Rattle.rv_table.specs.declared.regs.Regs.{Regs}
 use Rattle.kernel_model.specs.declared.traps.Next.{Next}
-use Rattle.kernel_model.specs.declared.traps.Next.TheVariants.{Goes, Calls, Traps}
+use Rattle.kernel_model.specs.declared.traps.Next.TheVariants.{Calls}
 use Rattle.kernel_model.specs.declared.entry.Args.{Args}
 use Rattle.kernel_model.specs.declared.space.Space.{Space}
-use Rattle.kernel_model.specs.Instructions.{next_of, went, ran}
+use Rattle.kernel_model.specs.declared.space.Kept.{Kept}
+use Rattle.rv_table.specs.declared.regs.Regs.{Regs}
+use Rattle.kernel_model.specs.Drafts.{laid_over}
+use Rattle.kernel_model.specs.Drafted.{taken}
+use Rattle.kernel_model.specs.Memory.{acting_on}
+use Rattle.kernel_model.specs.Instructions.{Going, goes_on, next_of, ran}
 use Rattle.kernel_model.specs.FileTree.{Nodes}
-use Rattle.kernel_model.specs.History.{goes_on, has_next, is_whole}
+use Rattle.kernel_model.specs.History.{has_next, is_whole}
 use Rattle.kernel_model.proofs.OneRoot.{run_bind}
 use Rattle.sentry_run.specs.Machine.{kernel_with, Changes, IsWholeRun}
 use Rattle.kernel_model.specs.declared.calls.Outcome.{Outcome}
-use Rattle.kernel_model.specs.declared.kernel.Part.TheVariants.{OfConsole}
+use Rattle.kernel_model.specs.declared.kernel.Part.TheVariants.{OfConsole, OfSpace}
 use Rattle.kernel_model.proofs.StepLemmas.{call_quiet}
 use Rattle.kernel_model.specs.declared.opening.Fresh.{Fresh}
 use Rattle.kernel_model.specs.declared.opening.Rise.{Rise}
 use Rattle.kernel_model.specs.Parts.{Parts, parts, run, done, ◌>>=◌}
 use Rattle.kernel_model.specs.Registers.{call_of, args_of}
 use Rattle.kernel_model.specs.Rows.{call_row}
-use Rattle.kernel_model.specs.Step.{run_row, with_registers, task_change, same_args, answered, by_given, at_call, step, stepped, live, found, if_live, in_space, if_running, row_of, task_of}
+use Rattle.kernel_model.specs.Step.{run_row, ran_changes, with_registers, task_change, same_args, answered, by_given, at_call, step, stepped, live, found, if_live, in_space, if_running, row_of, task_of}
 
 pub int_same : (z : ℤ) → int_eq z z ≡ true
 int_same z = (Decides-int_eq z z).1 refl
@@ -37,24 +41,40 @@ int_same z = (Decides-int_eq z z).1 refl
 pub nat_same : (n : ℕ) → nat_eq n n ≡ true
 nat_same n = (Decides-eqb n n).1 refl
 
--- an instruction that goes on isn't one that stops
-goes_went : (next : Next) → goes_on next ≡ true → went next ≡ None → ⊥
-goes_went (Goes r) g w = cc
-goes_went Calls g w = cc
-goes_went (Traps signal) g w = cc
-
 -- a run from an instruction that goes on has one at least
-pub ran_one : (n : ℕ) (space : Space) (r r' : Regs) → goes_on (next_of space r) ≡ true → ran n space r ≡ Some r' → (n ≡ 10000) ⊎ (went (next_of space r') ≡ None) → 1 ≤ n
+pub ran_one : (n : ℕ) (g h : Going) → goes_on (next_of g.acting g.registers) ≡ true → ran n g ≡ Some h → (n ≡ 10000) ⊎ (goes_on (next_of h.acting h.registers) ≡ false) → 1 ≤ n
 unfolding ran
-ran_one zero space r r' g e (inl h) = absurd (omega arith)
-ran_one zero space r r' g e (inr h) = absurd (goes_went (next_of space r) g (let same : r ≡ r' = cc in subst (λ (q : Regs). went (next_of space q) ≡ None) (sym same) h))
-ran_one (suc n) space r r' g e h = omega arith
+ran_one zero g h goes e (inl full) = absurd (omega arith)
+ran_one zero g h goes e (inr stopped) =
+    let same : g ≡ h = cc in
+    let stops : goes_on (next_of g.acting g.registers) ≡ false = ap (λ (x : Going). goes_on (next_of x.acting x.registers)) same ∙ stopped in
+    absurd (cc (goes, stops))
+ran_one (suc n) g h goes e stop = omega arith
 
-pub run_is : (n : ℕ) (space : Space) (task : Task) (r : Regs) → ran n space task.registers ≡ Some r → 1 ≤ n → n ≤ 10000 → run_row 1 n (record { task = task; space = space }) ≡ Some (task_change 1 (with_registers task r) ∷ [])
-run_is n space task r e low high =
-    ap (λ b. if b && nat_le n 10000 then option_map (λ registers. task_change 1 (with_registers task registers) ∷ []) (ran n space task.registers) else None) (le-leb 1 n low)
-    ∙ ap (λ b. if b then option_map (λ registers. task_change 1 (with_registers task registers) ∷ []) (ran n space task.registers) else None) (le-leb n 10000 high)
-    ∙ ap (option_map (λ registers. task_change 1 (with_registers task registers) ∷ [])) e
+-- the row of a run of so many instructions
+pub run_is : (n : ℕ) (space : Space) (task : Task) (g : Going) → ran n (record { acting = acting_on 1 space; registers = task.registers }) ≡ Some g → 1 ≤ n → n ≤ 10000
+    → run_row 1 n (record { task = task; space = space }) ≡ Some (ran_changes 1 task g)
+run_is n space task g e low high =
+    ap (λ b. if b && nat_le n 10000 then option_map (ran_changes 1 task) (ran n (record { acting = acting_on 1 space; registers = task.registers })) else None) (le-leb 1 n low)
+    ∙ ap (λ b. if b then option_map (ran_changes 1 task) (ran n (record { acting = acting_on 1 space; registers = task.registers })) else None) (le-leb n 10000 high)
+    ∙ ap (option_map (ran_changes 1 task)) e
+
+-- an address space that has taken over what a run has written
+pub taken_is : (kept : Kept) (space after : Space) → after.pages ≡ laid_over kept.pages space.pages → after.reservations ≡ kept.reservations → after ≡ taken kept space
+taken_is kept space after pages reservations i = record { pages = pages i; reservations = reservations i }
+
+-- what such a run changes
+pub row_taken : (n : ℕ) (kept : Kept) (space after : Space) (task : Task) (r : Regs) → ran n (record { acting = acting_on 1 space; registers = task.registers }) ≡ Some (record { acting = acting_on 1 (taken kept space); registers = r })
+    → 1 ≤ n → n ≤ 10000 → after ≡ taken kept space → run_row 1 n (record { task = task; space = space }) ≡ Some ((OfSpace task.space, Some after) ∷ task_change 1 (with_registers task r) ∷ [])
+row_taken n kept space after task r e low high is =
+    run_is n space task (record { acting = acting_on 1 (taken kept space); registers = r }) e low high
+    ∙ ap (λ (s : Space). Some ((OfSpace task.space, Some s) ∷ task_change 1 (with_registers task r) ∷ [])) (sym is)
+
+-- and that it is whole
+pub stop_taken : (n : ℕ) (kept : Kept) (space after : Space) (r : Regs) → (n ≡ 10000) ⊎ (goes_on (next_of (acting_on 1 (taken kept space)) r) ≡ false) → after ≡ taken kept space
+    → (n ≡ 10000) ⊎ (goes_on (next_of (acting_on 1 after) r) ≡ false)
+stop_taken n kept space after r (inl full) is = inl full
+stop_taken n kept space after r (inr stopped) is = inr (ap (λ (s : Space). goes_on (next_of (acting_on 1 s) r)) is ∙ stopped)
 
 pub args_same : (args : Args) → same_args args args ≡ true
 args_same args = simp nat_same
@@ -118,10 +138,26 @@ pub step_of : (entry : Entry) (task task' : Task) (space : Space) (console : Lis
 step_of entry task task' space console nodes failed n l e t row =
     step_changes entry task task' space console console nodes failed n l e t (λ s same. inl (refl, row s))
 
-stopped_next : (next : Next) → went next ≡ None → goes_on next ≡ false
-stopped_next (Goes r) e = cc
-stopped_next Calls e = refl
-stopped_next (Traps signal) e = refl
+-- an entry that changes its task and its address space
+pub step_run : (entry : Entry) (task task' : Task) (space space' : Space) (console : List ℕ) (nodes : Nodes) (failed : map.FinMap nat_cmp ℕ) (n : ℕ) → task.life ≡ Live → task.space ≡ 1 → task_of entry ≡ 1
+    → ((s : Parts) → run s (row_of entry (record { task = task; space = space })) ≡ Some ((OfSpace task.space, Some space') ∷ task_change 1 task' ∷ []))
+    → step (kernel_with task space console nodes failed n) entry ≡ Some (kernel_with task' space' console nodes failed (n + 1))
+unfolding step
+step_run entry task task' space space' console nodes failed n l e t row =
+    ap (option_map (stepped k)) (row_in entry task space console nodes failed n l e t ∙ row (parts k))
+    ∙ ap (λ number. Some (record (kernel_with task' space' console nodes failed (n + 1)) { tasks = map.insert (map.insert map.empty 1 task) 1 task'; spaces = map.insert (map.insert map.empty 1 space) number space' })) e
+    ∙ ap (λ tasks. Some (record (kernel_with task' space' console nodes failed (n + 1)) { tasks = tasks; spaces = map.insert (map.insert map.empty 1 space) 1 space' })) (insert-insert map.empty 1 task task')
+    ∙ ap (λ spaces. Some (record (kernel_with task' space' console nodes failed (n + 1)) { spaces = spaces })) (insert-insert map.empty 1 space space')
+  where
+    k : Kernel
+    k = kernel_with task space console nodes failed n
+
+-- the same where the entry may lack memory
+pub run_ok : {E : Type 0} (r : Result Entry E) (task task' : Task) (space space' : Space) (console : List ℕ) → task.life ≡ Live → task.space ≡ 1 → IfOk r (λ entry. task_of entry ≡ 1)
+    → IfOk r (λ entry. (s : Parts) → run s (row_of entry (record { task = task; space = space })) ≡ Some ((OfSpace task.space, Some space') ∷ task_change 1 task' ∷ []))
+    → IfOk r (λ entry. (nodes : Nodes) (failed : map.FinMap nat_cmp ℕ) (n : ℕ) → step (kernel_with task space console nodes failed n) entry ≡ Some (kernel_with task' space' console nodes failed (n + 1)))
+run_ok (Ok entry) task task' space space' console l e t row = λ nodes failed n. step_run entry task task' space space' console nodes failed n l e t row
+run_ok (Err x) task task' space space' console l e t row = tt
 
 or_true : (b : Bool) → (b || true) ≡ true
 or_true true = refl
@@ -131,10 +167,10 @@ pub whole_of : (entry : Entry) (task : Task) (space : Space) (console : List ℕ
     → is_whole entry (kernel_with task space console nodes failed n) ≡ true
 whole_of (Run number count) task space console nodes failed n e w =
     elim w.2 [
-      | inl h ↦ ap (λ x. nat_eq x 10000 || not (has_next (run (parts (kernel_with task space console nodes failed n)) (live number)))) h
-      | inr h ↦ ap (λ x. (count == 10000) || not (has_next (run (parts (kernel_with task space console nodes failed n)) (live x)))) w.0
-          ∙ ap (λ r. (count == 10000) || not (has_next r)) (live_of task space console nodes failed n w.1 e)
-          ∙ ap (λ b. (count == 10000) || not b) (stopped_next (next_of space task.registers) h)
+      | inl h ↦ ap (λ x. nat_eq x 10000 || not (has_next number (run (parts (kernel_with task space console nodes failed n)) (live number)))) h
+      | inr h ↦ ap (λ x. (count == 10000) || not (has_next x (run (parts (kernel_with task space console nodes failed n)) (live x)))) w.0
+          ∙ ap (λ r. (count == 10000) || not (has_next 1 r)) (live_of task space console nodes failed n w.1 e)
+          ∙ ap (λ b. (count == 10000) || not b) h
           ∙ or_true (count == 10000)
     ]
 whole_of (Call number call args given reply) task space console nodes failed n e w = refl

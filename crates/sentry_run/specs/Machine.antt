@@ -1,8 +1,9 @@
 -- The state of a run of one task, as a part of the kernel's.
-use Rattle.std.specs.Prelude.{◌≡◌, ◌⊎◌, ℕ, List, Option, Some, None, [], ◌∷◌}
+use Rattle.std.specs.Prelude.{◌≡◌, ◌⊎◌, ℕ, false, List, Option, Some, None, [], ◌∷◌}
 use Rattle.kernel_model.specs.declared.entry.Entry.{Entry}
 use Rattle.kernel_model.specs.declared.entry.Entry.TheVariants.{Run, Call, Sleep, End}
-use Rattle.kernel_model.specs.Instructions.{next_of, went}
+use Rattle.kernel_model.specs.Memory.{acting_on}
+use Rattle.kernel_model.specs.Instructions.{next_of, goes_on}
 use Rattle.std.specs.Ordering.{nat_cmp}
 use Rattle.std.specs.FinMap as map
 use Rattle.kernel_model.specs.declared.kernel.Kernel.{Kernel}
@@ -39,10 +40,10 @@ abbrev pub Changes : List ℕ → List ℕ → Task → Option (List Change) →
 Changes before after task changes =
     ((after ≡ before) × (changes ≡ Some (task_change 1 task ∷ []))) ⊎ (changes ≡ Some ((OfConsole, after) ∷ task_change 1 task ∷ []))
 
--- a Run that leaves this task is whole: it has 10,000 instructions, or the next one calls or traps
+-- a Run that leaves this task over this address space is whole: it has 10,000 instructions, or the next one calls or traps
 -- profile
 abbrev pub IsWholeRun : Entry → Space → Task → Type 0
-IsWholeRun (Run task n) space after = (task ≡ 1) × (after.life ≡ Live) × ((n ≡ 10000) ⊎ (went (next_of space after.registers) ≡ None))
+IsWholeRun (Run task n) space after = (task ≡ 1) × (after.life ≡ Live) × ((n ≡ 10000) ⊎ (goes_on (next_of (acting_on 1 space) after.registers) ≡ false))
 IsWholeRun (Call task number args given reply) space after = Unit {0}
 IsWholeRun (Sleep task) space after = Unit {0}
 IsWholeRun (End task signal) space after = Unit {0}

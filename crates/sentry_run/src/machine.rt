@@ -3,12 +3,13 @@ ghost use Rattle.std.specs.Ordering.{nat_cmp};
 ghost use Rattle.std.specs.FinMap as map;
 ghost use Rattle.kernel_model.specs.FileTree.{Nodes};
 ghost use Rattle.kernel_model.specs.Parts.{Parts, run as outcome_in};
-ghost use Rattle.kernel_model.specs.Instructions.{next_of};
-ghost use Rattle.kernel_model.specs.History.{is_live, is_whole, goes_on};
+ghost use Rattle.kernel_model.specs.Memory.{acting_on};
+ghost use Rattle.kernel_model.specs.Instructions.{next_of, goes_on};
+ghost use Rattle.kernel_model.specs.History.{is_live, is_whole};
 ghost use Rattle.kernel_model.specs.Step.{step, row_of, task_of, answered, task_change, with_registers};
 ghost use Rattle.kernel_model.specs.Registers.{replied};
 ghost use Rattle.kernel_model.specs.InPlace.{WritesFew};
-ghost use Rattle.kernel_model.specs.declared.kernel.Part.TheVariants.{OfConsole};
+ghost use Rattle.kernel_model.specs.declared.kernel.Part.TheVariants.{OfConsole, OfSpace};
 ghost use Rattle.kernel_model.specs.Numbers.{numbers_in};
 ghost use Rattle.kernel_model.specs.Image.{space_of};
 ghost use Rattle.sentry_run.specs.Machine.{task_of_image, Changes, IsWholeRun};
@@ -35,20 +36,25 @@ pub struct Machine {
     ghost first: { task.space ≡ 1 },
 }
 
-/// Runs the task's next instructions, until one of them traps or calls, or 10,000 ran.
-fn run_entry(task: &mut Task, space: &Space) -> Entry
+/// Runs the task's next instructions, until one of them traps or calls, or 10,000 ran. Want of memory leaves the task and
+/// its address space.
+fn run_entry(alloc: Global, task: &mut Task, space: &mut Space) -> Result<Entry, Memory>
     requires live { task.old.life ≡ Life.Live }
-    requires goes { IsTrue (goes_on (next_of space.now task.old.registers)) }
-    ensures row { (parts : Parts) → outcome_in parts (row_of result (record { task = task.old; space = space.now })) ≡ Some (task_change 1 task.new ∷ []) }
-    ensures task { task_of result ≡ TASK }
+    requires goes { IsTrue (goes_on (next_of (acting_on TASK space.old) task.old.registers)) }
+    ensures row { IfOk result (λ entry. (parts : Parts) → outcome_in parts (row_of entry (record { task = task.old; space = space.old })) ≡ Some ((OfSpace task.old.space, Some space.new) ∷ task_change TASK task.new ∷ [])) }
+    ensures task { IfOk result (λ entry. task_of entry ≡ TASK) }
     ensures space { task.new.space ≡ task.old.space }
-    ensures numbers { numbers_in result ≡ [] }
-    ensures whole { IsWholeRun result space.now task.new }
+    ensures numbers { IfOk result (λ entry. numbers_in entry ≡ []) }
+    ensures whole { IfOk result (λ entry. IsWholeRun entry space.new task.new) }
+    ensures err { OnErr result (task.new ≡ task.old) }
+    ensures err_space { OnErr result (space.new ≡ space.old) }
 {
     let mut registers = task.registers;
-    let n = kernel_model::run(&mut registers, space, QUANTUM);
+    let ran = kernel_model::run(alloc, TASK, &mut registers, &*space, QUANTUM)?;
+    let n = ran.count;
+    space.take(ran.kept);
     task.registers = registers;
-    Entry::Run { task: TASK, n }
+    Ok(Entry::Run { task: TASK, n })
 }
 
 /// Goes on behind a call with its reply.
@@ -94,7 +100,7 @@ fn call_entry(
     space: &Space,
     console: &mut List<u8>,
 ) -> Result<Entry, Memory>
-    requires { next_of space.now task.old.registers ≡ Next.Calls }
+    requires { next_of (acting_on TASK space.now) task.old.registers ≡ Next.Calls }
     ensures row { IfOk result (λ entry. (s : Parts) → s OfConsole ≡ console.old →
         Changes console.old console.new task.new (outcome_in s (row_of entry (record { task = task.old; space = space.now })))) }
     ensures task { IfOk result (λ entry. task_of entry ≡ TASK) }
@@ -122,7 +128,7 @@ fn call_entry(
 
 /// Ends the task by the signal of its next instruction's trap.
 fn end_entry(task: &mut Task, space: &Space, signal: u8) -> Entry
-    requires { next_of space.now task.old.registers ≡ Next.Traps signal }
+    requires { next_of (acting_on TASK space.now) task.old.registers ≡ Next.Traps signal }
     ensures row { (parts : Parts) → outcome_in parts (row_of result (record { task = task.old; space = space.now })) ≡ Some (task_change 1 task.new ∷ []) }
     ensures task { task_of result ≡ TASK }
     ensures space { task.new.space ≡ task.old.space }
@@ -171,8 +177,8 @@ impl Machine {
         ensures whole { IfOk result (λ entry. (nodes : Nodes) (failed : map.FinMap nat_cmp ℕ) (n : ℕ) → is_whole entry (kernel_of self.new nodes failed n) ≡ true) }
         ensures err { OnErr result (self.new ≡ self.old) }
     {
-        match kernel_model::next(&self.task.registers, &self.space) {
-            Next::Goes(_) => Ok(run_entry(&mut self.task, &self.space)),
+        match kernel_model::next(alloc, TASK, &self.task.registers, &self.space)? {
+            Next::Goes => run_entry(alloc, &mut self.task, &mut self.space),
             Next::Calls => call_entry(alloc, &mut self.task, &self.space, &mut self.console),
             Next::Traps(signal) => Ok(end_entry(&mut self.task, &self.space, signal)),
         }

@@ -12,10 +12,7 @@ use cases::{
     Case, EIGHT_ENTRIES, Ended, MOUNTS, SHORT_MOUNTS, case_of, case_under, faults_at, planned,
     run_case, run_into,
 };
-use guests::words::*;
-use guests::{
-    ADDS_NOTHING, HELLO, NO_ROW, WRITES_NOTHING, add_words, guest, guest_with, longer_guest,
-};
+use guests::{guest, guest_with};
 use host_memory::Op;
 use host_node::Tree;
 use kernel_model::Entry;
@@ -24,6 +21,9 @@ use sn_base::List;
 use sn_edge::{MemSink, Source};
 use sn_errno::Errno;
 use sn_text::Text;
+use sn_vectors::images::HELLO;
+use sn_vectors::programs::{ATOMICS, STORES, WRITES_NOTHING};
+use sn_vectors::words::*;
 use std::test::Fail;
 
 /// The text of the guest that writes nothing and exits, with its trace.
@@ -37,7 +37,7 @@ fn quiet_case(rt: HostRuntime) -> Result<Case, Fail> {
     case_of(
         rt,
         MOUNTS,
-        Tree::file(0o755, guest(rt.alloc(), &WRITES_NOTHING)?),
+        Tree::file(0o755, guest(rt.alloc(), WRITES_NOTHING.words)?),
     )
 }
 
@@ -97,7 +97,7 @@ fn a_guest_that_writes_nothing_and_exits_has_its_two_calls_in_the_trace(
 fn a_trace_with_room_for_one_entry_is_full_after_the_first_run(
     rt: HostRuntime,
 ) -> Result<(), Fail> {
-    let program = Tree::file(0o755, guest(rt.alloc(), &WRITES_NOTHING)?);
+    let program = Tree::file(0o755, guest(rt.alloc(), WRITES_NOTHING.words)?);
     let Ended { outcome, out, .. } = run_case(
         rt,
         case_of(rt, SHORT_MOUNTS, program)?,
@@ -183,7 +183,7 @@ fn a_sink_that_takes_a_piece_at_a_time_takes_the_whole_text(rt: HostRuntime) -> 
 #[test]
 fn a_program_that_is_no_executable_file_is_refused(rt: HostRuntime) -> Result<(), Fail> {
     let alloc = rt.alloc();
-    let shut = Tree::file(0o644, guest(alloc, &WRITES_NOTHING)?);
+    let shut = Tree::file(0o644, guest(alloc, WRITES_NOTHING.words)?);
     assert_eq!(rt;
         answer_over(rt, shut)?,
         Fault::Image {
@@ -226,7 +226,7 @@ fn fresh_at(outcome: &Outcome) -> Option<usize> {
 
 #[test]
 fn a_root_without_the_right_to_search_is_refused(rt: HostRuntime) -> Result<(), Fail> {
-    let program = Tree::file(0o755, guest(rt.alloc(), &WRITES_NOTHING)?);
+    let program = Tree::file(0o755, guest(rt.alloc(), WRITES_NOTHING.words)?);
     let Ended { outcome, .. } = run_case(rt, case_under(rt, 0o677, program)?, &TRACED)?;
     assert_eq!(rt;
         outcome.fault,
@@ -272,7 +272,7 @@ fn an_image_of_another_form_is_refused(rt: HostRuntime) -> Result<(), Fail> {
     // The first byte of its magic number, its machine, and how many program headers it has.
     for place in [0, 18, 56] {
         assert_eq!(rt;
-            answer_to(rt, guest_with(alloc, &WRITES_NOTHING, &[(place, 2)])?)?,
+            answer_to(rt, guest_with(alloc, WRITES_NOTHING.words, &[(place, 2)])?)?,
             refused
         );
     }
@@ -282,7 +282,7 @@ fn an_image_of_another_form_is_refused(rt: HostRuntime) -> Result<(), Fail> {
 #[test]
 fn flags_of_the_low_four_are_refused_and_others_pass(rt: HostRuntime) -> Result<(), Fail> {
     let alloc = rt.alloc();
-    let compressed = guest_with(alloc, &WRITES_NOTHING, &[(48, 1)])?;
+    let compressed = guest_with(alloc, WRITES_NOTHING.words, &[(48, 1)])?;
     assert_eq!(rt;
         answer_to(rt, compressed)?,
         Fault::Image {
@@ -290,7 +290,7 @@ fn flags_of_the_low_four_are_refused_and_others_pass(rt: HostRuntime) -> Result<
             errno: Errno::ENOEXEC
         }
     );
-    let other = guest_with(alloc, &WRITES_NOTHING, &[(48, 16)])?;
+    let other = guest_with(alloc, WRITES_NOTHING.words, &[(48, 16)])?;
     assert_eq!(rt; answer_to(rt, other)?, Fault::Done);
     Ok(())
 }
@@ -298,7 +298,7 @@ fn flags_of_the_low_four_are_refused_and_others_pass(rt: HostRuntime) -> Result<
 #[test]
 fn an_image_of_too_many_pages_is_refused(rt: HostRuntime) -> Result<(), Fail> {
     // Its segment has 0x0400_0098 bytes in memory: 16,385 pages beside those of the stack.
-    let image = guest_with(rt.alloc(), &WRITES_NOTHING, &[(107, 4)])?;
+    let image = guest_with(rt.alloc(), WRITES_NOTHING.words, &[(107, 4)])?;
     assert_eq!(rt;
         answer_to(rt, image)?,
         Fault::Image {
@@ -311,7 +311,11 @@ fn an_image_of_too_many_pages_is_refused(rt: HostRuntime) -> Result<(), Fail> {
 
 #[test]
 fn a_word_without_a_row_ends_the_guest_by_signal_4(rt: HostRuntime) -> Result<(), Fail> {
-    let case = case_of(rt, MOUNTS, Tree::file(0o755, guest(rt.alloc(), &NO_ROW)?))?;
+    let case = case_of(
+        rt,
+        MOUNTS,
+        Tree::file(0o755, guest(rt.alloc(), &[NO_INSTRUCTION; 8])?),
+    )?;
     let Ended { outcome, out, .. } = run_case(rt, case, &TRACED)?;
     assert_eq!(rt; outcome.status, 0);
     assert_eq!(rt; out.bytes(), b"group 1 signal 4\n1 1 signal 4\n".as_slice());
@@ -322,7 +326,7 @@ fn a_word_without_a_row_ends_the_guest_by_signal_4(rt: HostRuntime) -> Result<()
 fn code_without_the_right_to_run_ends_the_guest_by_signal_11(rt: HostRuntime) -> Result<(), Fail> {
     // The eight instructions are the last of their page: loaded at 0x10f68, entered at 0x10fe0.
     let moved = [(24, 0xe0), (25, 0x0f), (80, 0x68), (81, 0x0f)];
-    let image = guest_with(rt.alloc(), &ADDS_NOTHING, &moved)?;
+    let image = guest_with(rt.alloc(), &[NOP; 8], &moved)?;
     let Ended { outcome, out, .. } = run_case(
         rt,
         case_of(rt, MOUNTS, Tree::file(0o755, image))?,
@@ -340,9 +344,7 @@ fn code_without_the_right_to_run_ends_the_guest_by_signal_11(rt: HostRuntime) ->
 /// zeros.
 fn run_first(rt: HostRuntime, word: u32) -> Result<(Fault, usize, List<u8>), Fail> {
     let alloc = rt.alloc();
-    let mut code = List::new(alloc);
-    add_words(&mut code, &[word, 0, 0, 0, 0, 0, 0, 0])?;
-    let image = guest(alloc, code.as_slice())?;
+    let image = guest(alloc, &[word, 0, 0, 0, 0, 0, 0, 0])?;
     let case = case_of(rt, MOUNTS, Tree::file(0o755, image))?;
     let Ended { outcome, out, .. } = run_case(rt, case, &["run", "m"])?;
     Ok((
@@ -356,12 +358,11 @@ fn run_first(rt: HostRuntime, word: u32) -> Result<(Fault, usize, List<u8>), Fai
 fn a_first_instruction_that_traps_ends_the_guest_by_its_signal(
     rt: HostRuntime,
 ) -> Result<(), Fail> {
-    // No instruction, EBREAK, a load from address 0, a jump to the middle of the next word.
     let cases = [
-        (0x0000_0000, "group 1 signal 4\n"),
-        (0x0010_0073, "group 1 signal 5\n"),
-        (0x0000_3503, "group 1 signal 11\n"),
-        (0x0020_006f, "group 1 signal 7\n"),
+        (NO_INSTRUCTION, "group 1 signal 4\n"),
+        (EBREAK, "group 1 signal 5\n"),
+        (LD_A0_FROM_0, "group 1 signal 11\n"),
+        (JUMP_INTO_THE_NEXT_WORD, "group 1 signal 7\n"),
     ];
     for (word, text) in cases {
         let (fault, entries, out) = run_first(rt, word)?;
@@ -377,9 +378,8 @@ fn a_guest_that_jumps_to_itself_fills_its_trace_with_whole_runs(
     rt: HostRuntime,
 ) -> Result<(), Fail> {
     let alloc = rt.alloc();
-    let mut code = List::new(alloc);
-    add_words(&mut code, &[0x0000_006f, 0, 0, 0, 0, 0, 0, 0])?;
-    let program = Tree::file(0o755, guest(alloc, code.as_slice())?);
+    let image = guest(alloc, &[JUMP_TO_ITSELF, 0, 0, 0, 0, 0, 0, 0])?;
+    let program = Tree::file(0o755, image);
     let case = case_of(rt, EIGHT_ENTRIES, program)?;
     let Ended { outcome, out, .. } = run_case(rt, case, &TRACED)?;
     assert_eq!(rt; outcome.status, 8);
@@ -396,10 +396,9 @@ const EXIT: [u32; 3] = [LI_A0_0, LI_A7_EXIT_GROUP, ECALL];
 
 /// A run of a guest with these instructions.
 fn run_words(rt: HostRuntime, words: &[u32]) -> Result<Ended, Fail> {
-    let mut code = List::new(rt.alloc());
-    add_words(&mut code, words)?;
-    add_words(&mut code, &EXIT)?;
-    let image = longer_guest(rt.alloc(), code.as_slice())?;
+    let mut code = List::from_slice(rt.alloc(), words)?;
+    code.extend_from_slice(&EXIT)?;
+    let image = guest(rt.alloc(), code.as_slice())?;
     run_case(rt, case_of(rt, MOUNTS, Tree::file(0o755, image))?, &TRACED)
 }
 
@@ -410,6 +409,22 @@ fn a_guest_prints_a_line(rt: HostRuntime) -> Result<(), Fail> {
     let Ended { outcome, out, .. } = run_case(rt, case, &["run", "m"])?;
     assert_eq!(rt; outcome.status, 0);
     assert_eq!(rt; out.bytes(), b"Hello, world!\ngroup 1 exit 0\n".as_slice());
+    Ok(())
+}
+
+#[test]
+fn guests_store_on_their_stack_and_add_by_atomic_instructions(rt: HostRuntime) -> Result<(), Fail> {
+    let cases = [
+        (STORES, "wbhhddd\ngroup 1 exit 0\n"),
+        (ATOMICS, "group 1 exit 45\n"),
+    ];
+    for (program, text) in cases {
+        let image = guest(rt.alloc(), program.words)?;
+        let case = case_of(rt, MOUNTS, Tree::file(0o755, image))?;
+        let Ended { outcome, out, .. } = run_case(rt, case, &["run", "m"])?;
+        assert_eq!(rt; outcome.status, 0);
+        assert_eq!(rt; out.bytes(), text.as_bytes());
+    }
     Ok(())
 }
 
@@ -463,16 +478,16 @@ fn a_buffer_that_ends_outside_memory_is_refused_whole(rt: HostRuntime) -> Result
 fn a_write_past_the_room_of_the_console_takes_nothing(rt: HostRuntime) -> Result<(), Fail> {
     let alloc = rt.alloc();
     // From 65,536 bytes below the end of the stack: each write has more than 65,536 to take, and takes that many.
-    let mut code = List::new(alloc);
-    add_words(&mut code, &[MV_A1_SP, LI_A2_MINUS_1, LI_A7_WRITE])?;
+    let mut code = List::from_slice(alloc, &[MV_A1_SP, LI_A2_MINUS_1, LI_A7_WRITE])?;
     for _ in 0..32 {
-        add_words(&mut code, &[ADDI_A1_A1_MINUS_2048])?;
+        code.push(ADDI_A1_A1_MINUS_2048)?;
     }
     for _ in 0..17 {
-        add_words(&mut code, &[LI_A0_1, ECALL])?;
+        code.push(LI_A0_1)?;
+        code.push(ECALL)?;
     }
-    add_words(&mut code, &EXIT)?;
-    let image = longer_guest(alloc, code.as_slice())?;
+    code.extend_from_slice(&EXIT)?;
+    let image = guest(alloc, code.as_slice())?;
     let case = case_of(rt, MOUNTS, Tree::file(0o755, image))?;
     let Ended { outcome, out, .. } = run_case(rt, case, &["run", "m"])?;
     let trace = outcome.trace.as_slice();

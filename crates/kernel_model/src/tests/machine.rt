@@ -1,42 +1,9 @@
 use crate::{Args, Next, Space, args_of, call_of, next, read_executable, registers_of, reply, run};
 use elf_image::{Image, Rights};
 use rv_table::Reg;
+use sn_vectors::images::{GUEST, TWO_SEGMENTS};
 use std::alloc::Global;
 use std::test::Fail;
-
-/// A program that writes no bytes to descriptor 1 and exits with 0: ELF header, program header, eight words.
-#[rattlefmt::skip]
-pub(super) const GUEST: [u8; 152] = [
-    0x7f, 0x45, 0x4c, 0x46, 2, 1, 1, 0, 0, 0, 0, 0, 0, 0, 0, 0,
-    2, 0, 243, 0, 1, 0, 0, 0, 0x78, 0, 1, 0, 0, 0, 0, 0,
-    64, 0, 0, 0, 0, 0, 0, 0, 0, 0, 0, 0, 0, 0, 0, 0,
-    0, 0, 0, 0, 64, 0, 56, 0, 1, 0, 0, 0, 0, 0, 0, 0,
-    1, 0, 0, 0, 5, 0, 0, 0, 0, 0, 0, 0, 0, 0, 0, 0,
-    0, 0, 1, 0, 0, 0, 0, 0, 0, 0, 1, 0, 0, 0, 0, 0,
-    152, 0, 0, 0, 0, 0, 0, 0, 152, 0, 0, 0, 0, 0, 0, 0,
-    0, 16, 0, 0, 0, 0, 0, 0,
-    0x13, 0x05, 0x10, 0x00, 0x93, 0x05, 0x00, 0x00, 0x13, 0x06, 0x00, 0x00, 0x93, 0x08, 0x00, 0x04,
-    0x73, 0x00, 0x00, 0x00, 0x13, 0x05, 0x00, 0x00, 0x93, 0x08, 0xe0, 0x05, 0x73, 0x00, 0x00, 0x00,
-];
-
-/// A file of two segments: the first loads it whole, the second begins where the first ends, and has 8 bytes of the
-/// file and 4,096 of memory, to be written and not run.
-#[rattlefmt::skip]
-const TWO_SEGMENTS: [u8; 184] = [
-    0x7f, 0x45, 0x4c, 0x46, 2, 1, 1, 0, 0, 0, 0, 0, 0, 0, 0, 0,
-    2, 0, 243, 0, 1, 0, 0, 0, 0xb0, 0, 1, 0, 0, 0, 0, 0,
-    64, 0, 0, 0, 0, 0, 0, 0, 0, 0, 0, 0, 0, 0, 0, 0,
-    0, 0, 0, 0, 64, 0, 56, 0, 2, 0, 0, 0, 0, 0, 0, 0,
-    1, 0, 0, 0, 5, 0, 0, 0, 0, 0, 0, 0, 0, 0, 0, 0,
-    0, 0, 1, 0, 0, 0, 0, 0, 0, 0, 1, 0, 0, 0, 0, 0,
-    184, 0, 0, 0, 0, 0, 0, 0, 184, 0, 0, 0, 0, 0, 0, 0,
-    0, 16, 0, 0, 0, 0, 0, 0,
-    1, 0, 0, 0, 6, 0, 0, 0, 176, 0, 0, 0, 0, 0, 0, 0,
-    0xb8, 0, 1, 0, 0, 0, 0, 0, 0xb8, 0, 1, 0, 0, 0, 0, 0,
-    8, 0, 0, 0, 0, 0, 0, 0, 0, 16, 0, 0, 0, 0, 0, 0,
-    0, 16, 0, 0, 0, 0, 0, 0,
-    0x73, 0x00, 0x00, 0x00, 0x6f, 0x00, 0x00, 0x00,
-];
 
 /// The image of a file.
 fn image_in(alloc: Global, file: &[u8]) -> Result<Image, Fail> {
@@ -86,8 +53,9 @@ fn a_guest_runs_to_its_two_calls(rt: HostRuntime) -> Result<(), Fail> {
     let space = Space::of_image(rt.alloc(), &image)?;
     let mut registers = registers_of(&image);
     assert_eq!(rt; registers.read(Reg::new(2)), 274_877_906_944);
-    assert_eq!(rt; run(&mut registers, &space, 10_000), 4);
-    assert_eq!(rt; next(&registers, &space), Next::Calls);
+    let ran = run(rt.alloc(), 1, &mut registers, &space, 10_000)?;
+    assert_eq!(rt; ran.count, 4);
+    assert_eq!(rt; next(rt.alloc(), 1, &registers, &space)?, Next::Calls);
     assert_eq!(rt; call_of(&registers), 64);
     let args = Args {
         a0: 1,
@@ -100,7 +68,8 @@ fn a_guest_runs_to_its_two_calls(rt: HostRuntime) -> Result<(), Fail> {
     assert_eq!(rt; args_of(&registers), args);
     reply(&mut registers, -9);
     assert_eq!(rt; registers.read(Reg::new(10)), 18_446_744_073_709_551_607);
-    assert_eq!(rt; run(&mut registers, &space, 10_000), 2);
+    let ran = run(rt.alloc(), 1, &mut registers, &space, 10_000)?;
+    assert_eq!(rt; ran.count, 2);
     assert_eq!(rt; call_of(&registers), 94);
     assert_eq!(rt; registers.read(Reg::new(10)), 0);
     Ok(())
@@ -112,8 +81,8 @@ fn what_may_not_be_executed_traps_with_signal_11(rt: HostRuntime) -> Result<(), 
     let space = Space::of_image(rt.alloc(), &image)?;
     let mut registers = registers_of(&image);
     registers.pc = 274_877_906_944 - 4;
-    assert_eq!(rt; next(&registers, &space), Next::Traps(11));
+    assert_eq!(rt; next(rt.alloc(), 1, &registers, &space)?, Next::Traps(11));
     registers.pc = 65_536 + 152;
-    assert_eq!(rt; next(&registers, &space), Next::Traps(4));
+    assert_eq!(rt; next(rt.alloc(), 1, &registers, &space)?, Next::Traps(4));
     Ok(())
 }

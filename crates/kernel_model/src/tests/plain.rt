@@ -1,12 +1,12 @@
 ghost use Rattle.std.specs.Prelude.{◌≡◌, length, IfOk};
 
-use super::machine::GUEST;
 use crate::{Args, Entry, Fresh, Given, Life, Opened, Opening, OpeningErr, Plain, Rise, locality};
 use host_node::Tree;
 use mount_file::{Mount, Mounts, Program};
 use sn_base::{List, Memory};
 use sn_errno::Errno;
 use sn_text::{Folder, Route, Text, name_of};
+use sn_vectors::images::GUEST;
 use std::alloc::Global;
 use std::test::Fail;
 

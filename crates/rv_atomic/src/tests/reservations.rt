@@ -109,3 +109,16 @@ fn a_store_without_reservations_does_nothing(rt: HostRuntime) {
     assert!(rt; held.is_empty());
     assert!(rt; !held.take(1, 0x1000, 8));
 }
+
+#[test]
+fn a_copy_has_the_same_reservations_and_is_apart(rt: HostRuntime) -> Result<(), Fail> {
+    let mut held = Reservations::new(rt.alloc());
+    held.reserve(1, 8, 4)?;
+    held.reserve(2, 16, 8)?;
+    let copy = held.copy(rt.alloc())?;
+    assert!(rt; held.take(1, 8, 4));
+    assert_eq!(rt; held.len(), 1);
+    assert_eq!(rt; copy.len(), 2);
+    assert!(rt; copy.holds(1, 8, 4) && copy.holds(2, 16, 8));
+    Ok(())
+}

@@ -1,15 +1,5 @@
 //! Accesses that memory refuses.
 use super::*;
-use rv_table::Area;
-
-const AREA: Area = Area { place: 7, index: 1 };
-
-/// Sixteen bytes of a shared area.
-const SHARED: Run<16> = Run {
-    from: DATA,
-    bytes: [1; 16],
-    area: Some(AREA),
-};
 
 /// The words of `lb x1, 0(x2)`, `lh x1, 0(x2)`, `lw x1, 0(x2)`, `ld x1, 0(x2)`, `lbu x1, 0(x2)`, `lhu x1, 0(x2)` and
 /// `lwu x1, 0(x2)`, with the bytes that each loads.

@@ -24,16 +24,6 @@ fn zeros_and_ones_are_illegal(rt: HostRuntime) {
 }
 
 #[test]
-fn a_row_that_stores_is_illegal_so_far(rt: HostRuntime) {
-    let sb = 0x0011_0023;
-    let sd = 0x00c5_b423;
-    let lr_w = 0x1001_20af;
-    let sc_d = 0x19ff_bfaf;
-    let amoadd_d = 0x0021_b0af;
-    expect_all(&rt, &[sb, sd, lr_w, sc_d, amoadd_d], Step::Trap(4));
-}
-
-#[test]
 fn a_word_without_a_row_is_illegal(rt: HostRuntime) {
     let compressed = 0x0000_4501;
     let csrrw = 0xc001_10f3;

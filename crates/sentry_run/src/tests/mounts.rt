@@ -1,13 +1,14 @@
 //! Runs of mount files that are refused, and of what a task may be given.
 
 use super::cases::{Ended, case_of, faults_at, planned, run_case};
-use super::guests::{WRITES_NOTHING, guest};
+use super::guests::guest;
 use super::{TRACED, fresh_at};
 use crate::outcome::{Fault, Outcome};
 use host_memory::Op;
 use host_node::Tree;
 use mount_file::MountFault;
 use sn_errno::Errno;
+use sn_vectors::programs::WRITES_NOTHING;
 use std::alloc::Global;
 use std::test::Fail;
 
@@ -27,7 +28,7 @@ fn document(alloc: Global, line: &str, mounts: &str, tasks: &str) -> Result<Stri
 
 /// How a run of that mount file comes out.
 fn answer(rt: HostRuntime, bytes: &[u8]) -> Result<Outcome, Fail> {
-    let program = Tree::file(0o755, guest(rt.alloc(), &WRITES_NOTHING)?);
+    let program = Tree::file(0o755, guest(rt.alloc(), WRITES_NOTHING.words)?);
     Ok(run_case(rt, case_of(rt, bytes, program)?, &TRACED)?.outcome)
 }
 
@@ -100,7 +101,7 @@ fn task_with(alloc: Global, count: usize) -> Result<String, Fail> {
 fn too_many_strings_are_refused_before_the_root_is_looked_at(rt: HostRuntime) -> Result<(), Fail> {
     let alloc = rt.alloc();
     let too_many = document(alloc, "entries = 9", ROOT, task_with(alloc, 1024)?.as_str())?;
-    let program = Tree::file(0o755, guest(alloc, &WRITES_NOTHING)?);
+    let program = Tree::file(0o755, guest(alloc, WRITES_NOTHING.words)?);
     let case = case_of(rt, too_many.as_bytes(), program)?;
     let case = planned(alloc, case, &["root"], Op::Stat, 1)?;
     let Ended { outcome, world, .. } = run_case(rt, case, &TRACED)?;
