@@ -1,0 +1,7 @@
+# Where a guest begins: calls main, and ends the thread group with what it returns. The kernel has set the stack
+# pointer, and gp is not needed, as the linker relaxes nothing.
+    .globl _start
+_start:
+    call main
+    li a7, 94                   # exit_group
+    ecall
