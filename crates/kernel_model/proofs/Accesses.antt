@@ -3,7 +3,7 @@ use Rattle.std.proofs.Common.{◌≡◌, ℕ, zero, suc, ◌+◌, ◌-◌, ◌*�
 use Rattle.rv_table.specs.declared.error.MemErr.TheVariants as refusals
 use native.Mathlib.Numerals.{unary_clauses}
 use Rattle.rv_table.specs.declared.error.Area.{Area}
-use Rattle.rv_exec.specs.Bytes.{Byte, Value, Fault, behind, or_area, first_barred, first_area, number_from, by_barred, by_area, Accessed, AllowsAs, loaded}
+use Rattle.rv_table.specs.Bytes.{Byte, Value, Fault, behind, or_area, first_barred, first_area, number_from, by_barred, by_area, Accessed, AllowsAs, loaded}
 use Rattle.kernel_model.specs.Memory.{as_byte, NumberAs}
 
 or_none : (o : Option ℕ) (rest : Option Area) → rest ≡ None → or_area (as_byte o) rest ≡ None

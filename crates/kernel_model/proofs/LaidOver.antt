@@ -10,7 +10,7 @@ use Rattle.std.specs.List.{list_any}
 use Rattle.std.proofs.lemmas.Bool.{false≢true, true≢false, cases_eq, and_parts, and_from, and_right, false_from_ne_true}
 use Rattle.sn_base.proofs.Maps.{same_by_get, get_of_empty, get-insert_same, get-insert_other, get-remove_same, get-remove_other, insert_same, remove_absent}
 use Rattle.elf_image.specs.declared.image.Rights.{Rights}
-use Rattle.rv_exec.specs.Bytes.{behind, or_barred, first_barred}
+use Rattle.rv_table.specs.Bytes.{behind, or_barred, first_barred}
 use Rattle.kernel_model.specs.declared.space.Page.{Page}
 use Rattle.kernel_model.specs.declared.space.Space.{Space}
 use Rattle.kernel_model.specs.Memory.{Pages, as_byte, byte_in, room_at, with_byte, with_page, put_byte, put_bytes}

@@ -4,7 +4,7 @@ use Rattle.std.specs.Prelude.{slice_get, option_and_then, if◌then◌else◌, I
 use Rattle.std.specs.FinMap as map
 use Rattle.std.proofs.lemmas.Option.{slice_get-get_or}
 use Rattle.elf_image.specs.declared.image.Rights.{Rights}
-use Rattle.rv_exec.specs.Bytes.{Value, behind, or_barred, value_in, first_barred, number_from, loaded}
+use Rattle.rv_table.specs.Bytes.{Value, behind, or_barred, value_in, first_barred, number_from, loaded}
 use Rattle.kernel_model.specs.declared.space.Space.{Space}
 use Rattle.kernel_model.specs.declared.space.Page.{Page}
 use Rattle.kernel_model.specs.Memory.{byte_in, byte_at, as_byte}

@@ -7,7 +7,7 @@ use Rattle.elf_image.specs.declared.image.Rights.{Rights}
 use Rattle.rv_table.specs.Words.{IsWidth}
 use Rattle.rv_atomic.specs.declared.reservations.Reservation.{Reservation}
 use Rattle.rv_atomic.specs.Reservations.{after_store}
-use Rattle.rv_exec.specs.Bytes.{behind, first_barred}
+use Rattle.rv_table.specs.Bytes.{behind, first_barred}
 use Rattle.rv_exec.specs.Writes.{Stores}
 use Rattle.kernel_model.specs.declared.space.Page.{Page}
 use Rattle.kernel_model.specs.declared.space.Space.{Space}

@@ -2,7 +2,7 @@
 use Rattle.std.specs.Prelude.{◌≡◌, ℕ, zero, suc, ◌/◌, ◌%◌, ◌^◌, ◌++◌, Bool, true, ◌&&◌}
 use Rattle.std.specs.FinMap as map
 use Rattle.rv_table.specs.declared.regs.Regs.{Regs}
-use Rattle.rv_exec.specs.Bytes.{behind}
+use Rattle.rv_table.specs.Bytes.{behind}
 use Rattle.rv_exec.specs.Writes.{Write}
 use Rattle.kernel_model.specs.declared.space.Space.{Space}
 use Rattle.kernel_model.specs.Memory.{Pages, Acting, after_write}

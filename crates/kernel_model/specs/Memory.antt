@@ -3,7 +3,7 @@ use Rattle.std.specs.Prelude.{◌≡◌, Result, Ok, Err, ℕ, zero, suc, ◌+�
 use Rattle.std.specs.Ordering.{nat_cmp}
 use Rattle.std.specs.FinMap as map
 use Rattle.rv_atomic.specs.Reservations.{after_store, is_held, reserved, without}
-use Rattle.rv_exec.specs.Bytes.{Byte, Holds, Barred, Memory, behind}
+use Rattle.rv_table.specs.Bytes.{Byte, Holds, Barred, Memory, behind}
 use Rattle.rv_exec.specs.Writes.{Write, Stores, Reserves, Releases}
 use Rattle.kernel_model.specs.declared.space.Space.{Space}
 use Rattle.kernel_model.specs.declared.space.Page.{Page}

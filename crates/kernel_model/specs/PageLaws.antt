@@ -5,7 +5,7 @@ use Rattle.std.proofs.Common.{refl, ap, sym, ◌∙◌, ◌⊎◌, inl, inr, ari
 use Rattle.std.proofs.lemmas.Bool.{cases_eq}
 use Rattle.sn_base.proofs.Maps.{get-insert_same, get-insert_other}
 use Rattle.elf_image.specs.declared.image.Rights.{Rights}
-use Rattle.rv_exec.specs.Bytes.{Byte}
+use Rattle.rv_table.specs.Bytes.{Byte}
 use Rattle.rv_exec.specs.Writes.{with_value, stored_byte}
 use Rattle.kernel_model.specs.declared.space.Page.{Page}
 use Rattle.kernel_model.specs.Memory.{Pages, as_byte, byte_in, with_byte, with_page, put_byte, put_bytes}

@@ -4,7 +4,7 @@ use Rattle.std.proofs.Common.{refl, ap, sym, ◌∙◌, ◌⊎◌, inl, inr, ari
 use Rattle.std.proofs.Math.Nat.{div-div-eq-div-mul, pow-succ'}
 use Rattle.std.proofs.lemmas.Bool.{cases_eq, lt-ltb, le-ltb}
 use Rattle.std.proofs.Math.Dec.{leb-suc-suc}
-use Rattle.rv_exec.specs.Bytes.{Byte, Holds, Barred, InArea, behind}
+use Rattle.rv_table.specs.Bytes.{Byte, Holds, Barred, InArea, behind}
 use Rattle.rv_exec.specs.Writes.{distance, with_value, stored_byte}
 
 -- a put of one byte, and of so many of a number's bytes: at its own address the byte holds the value, elsewhere it stays;

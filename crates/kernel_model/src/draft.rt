@@ -6,7 +6,7 @@ ghost use Rattle.std.specs.FinMap as map;
 ghost use Rattle.rv_table.specs.Words.{IsWidth};
 ghost use Rattle.rv_table.specs.declared.error.MemErr.TheVariants as MemErr;
 ghost use Rattle.rv_exec.specs.Writes.{Stores};
-ghost use Rattle.rv_exec.specs.Bytes.{AllowsAs, Value, first_barred, loaded, number_from};
+ghost use Rattle.rv_table.specs.Bytes.{AllowsAs, Value, first_barred, loaded, number_from};
 ghost use Rattle.kernel_model.specs.Memory.{NumberAs, acting_on, as_byte, code_at, data_at, memory_of, put_byte, put_bytes, room_at};
 ghost use Rattle.kernel_model.specs.Drafts.{IsCovered, after_drafted, are_in, laid_over};
 ghost use Rattle.kernel_model.specs.InPage.{HasRoom};
@@ -201,7 +201,7 @@ impl<'a> Draft<'a> {
     }
 
     /// The number of so many bytes from an address on, or the first of their addresses that may not be executed.
-    #[tactic(auto, unfolding(rv_exec::specs::Bytes::first_barred, rv_exec::specs::Bytes::number_from))]
+    #[tactic(auto, unfolding(rv_table::specs::Bytes::first_barred, rv_table::specs::Bytes::number_from))]
     fn code_number(&self, at: u64, count: u8) -> Result<u64, u64>
         requires { count ≤ 8 }
         ensures number { NumberAs (first_barred (λ a. as_byte (code_at (drafting self.now).acting.space a)) at count) (number_from (λ a. as_byte (code_at (drafting self.now).acting.space a)) at count) result }
@@ -220,7 +220,7 @@ impl<'a> Draft<'a> {
     }
 
     /// The number of so many bytes from an address on, or the first of their addresses that may not be read.
-    #[tactic(auto, unfolding(rv_exec::specs::Bytes::first_barred, rv_exec::specs::Bytes::number_from))]
+    #[tactic(auto, unfolding(rv_table::specs::Bytes::first_barred, rv_table::specs::Bytes::number_from))]
     fn data_number(&self, at: u64, count: u8) -> Result<u64, u64>
         requires { count ≤ 8 }
         ensures number { NumberAs (first_barred (λ a. as_byte (data_at (drafting self.now).acting.space a)) at count) (number_from (λ a. as_byte (data_at (drafting self.now).acting.space a)) at count) result }
@@ -249,7 +249,7 @@ impl<'a> Draft<'a> {
     }
 
     /// The first of so many addresses that may not be written, one byte after another.
-    #[tactic(auto, unfolding(rv_exec::specs::Bytes::first_barred))]
+    #[tactic(auto, unfolding(rv_table::specs::Bytes::first_barred))]
     fn room_fault_by_byte(&self, at: u64, count: u8) -> Option<u64>
         ensures { result ≡ first_barred (λ a. as_byte (room_at (drafting self.now).acting.space a)) at count }
     {

@@ -1,2 +1,3 @@
 pub mod Granules
 pub mod Singles
+pub mod SinglesHere

@@ -1,2 +1,3 @@
+pub mod AreaReservations
 pub mod Atomics
 pub mod Reservations

@@ -1,6 +1,6 @@
 -- The reservations of one address space, what ends them, and when a store-conditional succeeds.
 -- RISC-V Unprivileged ISA 20191213, 8.2, Load-Reserved/Store-Conditional Instructions
-use Rattle.std.specs.Prelude.{◌≢◌, ℕ, zero, suc, ◌+◌, ◌/◌, ◌%◌, ◌^◌, ◌==◌, ◌&&◌, ◌||◌, not, Bool, false, List, [], ◌∷◌, ◌++◌, filter, AllPairs}
+use Rattle.std.specs.Prelude.{◌≢◌, ℕ, zero, suc, ◌+◌, ◌*◌, ◌/◌, ◌%◌, ◌^◌, ◌==◌, ◌&&◌, ◌||◌, not, nat_lt, max, min, Bool, false, List, [], ◌∷◌, ◌++◌, filter, AllPairs}
 use Rattle.std.specs.List.{list_any}
 use Rattle.rv_atomic.specs.declared.reservations.Reservation.{Reservation}
 
@@ -44,3 +44,14 @@ after_store rs task at width = filter (λ r. (r.task == task) || not (meets (gra
 -- 8.2: SC pairs with the latest LR; an SC to another address or of another width fails: profile
 abbrev pub is_held : List Reservation → (task address width : ℕ) → Bool
 is_held rs task address width = list_any (λ r. (r.task == task) && ((r.address == address) && (r.width == width))) rs
+
+-- whether a byte of a granule is one of so many bytes from an address on
+-- 8.2: the reservation set
+abbrev pub lies_over : (number at count : ℕ) → Bool
+lies_over number at count = nat_lt (max (8 * number) at) (min (8 * number + 8) (at + count))
+
+-- the reservations once so many bytes from an address on were mapped anew, unmapped or got other rights: none stays that
+-- has a byte of its granule there
+-- mmap(2), munmap(2), mprotect(2); that a reservation is lost by them: profile
+abbrev pub outside_range : List Reservation → (at count : ℕ) → List Reservation
+outside_range rs at count = filter (λ r. not (lies_over (granule r.address) at count)) rs

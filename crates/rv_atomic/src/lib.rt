@@ -4,25 +4,30 @@
 //! A caller hands `amo` a decoded instruction, what memory held and what rs2 holds, and sees registers as the numbers
 //! that their bits are. It sees `Reservations` as the list of those that the tasks of one address space have. A
 //! reservation is a task, the address that it loaded from, and how many bytes. What it reserves is the granule: the
-//! aligned 8 bytes that hold the address.
+//! aligned 8 bytes that hold the address. `AreaReservations` is the list of a shared area: of each task the granule,
+//! counted from the area's first byte, whichever address space it was reserved in.
 //!
 //! Proved of `amo`, of every instruction and all numbers: the value is `stored_by`, the definition that has a row for
 //! each operation in the manual's order. Proved of reservations: `reserve` leaves those of the others and behind them
 //! the new one (`ok`), or changes nothing (`err`), and that only where the task had none (`absent`). `stored` leaves
 //! `after_store`, which goes through the bytes of a store one by one. `take` answers whether the task had the
 //! reservation of just that address and width (`held`), and leaves those of the others in either case (`ended`).
-//! `holds` answers the same (`held`), and tells that no task has two (`single`). Only `reserve` takes memory.
+//! `holds` answers the same (`held`), and tells that no task has two (`single`). `drop_range` leaves those whose granule
+//! has no byte in the range. The list of an area has the same calls with the same clauses, and `leave` for a task that
+//! ends. Only `reserve` takes memory.
 //!
 //! Not said: the loads and stores themselves, their alignment and order, and which stores `stored` is told of.
 //!
 //! Standard: RISC-V Unprivileged ISA 20191213, chapter 8, A. The granule's size is a choice of this project.
 #![tactic(auto)]
 
+mod area_reservations;
 mod operations;
 mod reservations;
 #[cfg(test)]
 mod tests;
 mod words;
 
+pub use area_reservations::{AreaReservation, AreaReservations};
 pub use operations::amo;
 pub use reservations::{Reservation, Reservations};

@@ -1,8 +1,8 @@
 //! The reservations of one address space.
 
-ghost use Rattle.std.specs.Prelude.{◌≡◌, ◌<◌, ◌↔◌, [], length, IsTrue, IsFalse, IfOk, OnOk, OnErr, vec_len, vec_capacity};
+ghost use Rattle.std.specs.Prelude.{◌≡◌, ◌<◌, ◌+◌, ◌^◌, ◌↔◌, [], length, IsTrue, IsFalse, IfOk, OnOk, OnErr, vec_len, vec_capacity};
 ghost use Rattle.rv_table.specs.Words.{IsWidth};
-ghost use Rattle.rv_atomic.specs.Reservations.{AtMostOneEach, after_store, is_held, is_reserving, reserved, without};
+ghost use Rattle.rv_atomic.specs.Reservations.{AtMostOneEach, after_store, is_held, is_reserving, lies_over, outside_range, reserved, without};
 
 use sn_base::{List, Memory};
 use std::alloc::Global;
@@ -99,6 +99,16 @@ impl Reservations {
         }
     }
 
+    /// Ends the reservations of all tasks of each granule that has one of so many bytes from an address on, where these
+    /// were mapped anew, unmapped or got other rights. It takes no memory.
+    #[tactic(auto, using(crate::proofs::Singles::single_outside))]
+    pub fn drop_range(&mut self, at: u64, count: u64)
+        requires { at + count < 2 ^ 64 }
+        ensures { self.new ≡ outside_range self.old at count }
+    {
+        drop_over(&mut self.items, at, count);
+    }
+
     /// Ends the task's reservation, and answers whether it was of just that address and width. It takes no memory.
     #[tactic(auto, using(crate::proofs::Singles::single_without))]
     pub fn take(&mut self, task: u32, address: u64, width: u8) -> bool
@@ -163,4 +173,21 @@ fn drop_met(items: &mut Vec<Reservation>, task: u32, at: u64, width: u8)
     let first = at / 8;
     let last = at.wrapping_add(u64::from(width) - 1) / 8;
     items.retain(|r| r.task == task || (r.address / 8 != first && r.address / 8 != last));
+}
+
+/// Drops each whose granule has a byte among so many from an address on.
+fn drop_over(items: &mut Vec<Reservation>, at: u64, count: u64)
+    requires { at + count < 2 ^ 64 }
+    ensures { items.new.items ≡ outside_range items.old.items at count }
+{
+    items.retain(|r| !lies_over(r.address / 8, at, count));
+}
+
+/// Whether a byte of a granule is one of so many from an address on.
+fn lies_over(number: u64, at: u64, count: u64) -> bool
+    requires small { number < 2 ^ 61 }
+    requires fits { at + count < 2 ^ 64 }
+    ensures { result ≡ lies_over number at count }
+{
+    count > 0 && at / 8 <= number && number * 8 < at + count
 }

@@ -5,6 +5,7 @@ use super::*;
 use rv_table::{Instr, Reg};
 use std::process::Abort;
 
+mod area_reservations;
 mod double_words;
 mod reservations;
 mod words;

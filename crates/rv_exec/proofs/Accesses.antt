@@ -3,7 +3,7 @@ use Rattle.std.proofs.Common.{◌≡◌, ℕ, zero, suc, ◌+◌, ◌*◌, ◌-�
 use Rattle.std.proofs.Math.Nat.{pow-le-pow_right}
 use native.Mathlib.Numerals.{unary_clauses}
 use Rattle.rv_table.specs.Words.{IsWidth}
-use Rattle.rv_exec.specs.Bytes.{Byte, Barred, Fault, behind, loaded, first_area, first_barred, number_from, or_area, or_barred, value_in}
+use Rattle.rv_table.specs.Bytes.{Byte, Barred, Fault, behind, loaded, first_area, first_barred, number_from, or_area, or_barred, value_in}
 
 -- an access to some bytes: its first, and the others
 pub first_barred_step : (byte : ℕ → Byte) (address count : ℕ) → 0 < count → first_barred byte address count ≡ or_barred (byte address) address (first_barred byte (behind address) (count - 1))

@@ -2,7 +2,7 @@
 use Rattle.std.proofs.Common.{◌≡◌, ℕ, Bool, true, false, refl}
 use Rattle.std.specs.Prelude.{nat_lt, if◌then◌else◌}
 use Rattle.std.proofs.Math.Path.{fun_ext}
-use Rattle.rv_exec.specs.Bytes.{Byte, Barred, Memory}
+use Rattle.rv_table.specs.Bytes.{Byte, Barred, Memory}
 use Rattle.rv_exec.specs.Writes.{Stores, distance, stored_byte}
 use Rattle.rv_exec.specs.MemoryAfter.{memory_after}
 

@@ -1,4 +1,3 @@
-pub mod Bytes
 pub mod Execution
 pub mod Loads
 pub mod MemoryAfter

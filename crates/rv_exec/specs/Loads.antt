@@ -2,7 +2,7 @@
 use Rattle.std.specs.Prelude.{◌≡◌, ⊤, ℕ, Result, Ok, Err}
 use Rattle.rv_table.specs.declared.error.MemErr.{MemErr}
 use Rattle.rv_table.specs.declared.error.MemErr.TheVariants as refusals
-use Rattle.rv_exec.specs.Bytes.{Accessed, Value, Fault, Shared}
+use Rattle.rv_table.specs.Bytes.{Accessed, Value, Fault, Shared}
 use Rattle.rv_exec.specs.Execution.{extended}
 use Rattle.rv_exec.specs.declared.load.Load.{Load}
 use Rattle.rv_exec.specs.declared.load.Load.TheVariants.{Byte, Half, Word, Double, UnsignedByte, UnsignedHalf, UnsignedWord}

@@ -1,6 +1,6 @@
 -- Memory after a write, as a function of memory before it.
 use Rattle.std.specs.Prelude.{◌==◌, ◌&&◌, false, refl}
-use Rattle.rv_exec.specs.Bytes.{Memory}
+use Rattle.rv_table.specs.Bytes.{Memory}
 use Rattle.rv_exec.specs.Writes.{Write, Stores, Reserves, Releases, IsAfter, stored_byte}
 
 -- memory after a write: each byte, to each kind of access, and whether the task has a reservation

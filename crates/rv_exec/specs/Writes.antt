@@ -1,6 +1,6 @@
 -- What instructions write beside registers, and memory after it.
 use Rattle.std.specs.Prelude.{◌≡◌, ℕ, ◌+◌, ◌-◌, ◌/◌, ◌%◌, ◌^◌, ◌<◌, ◌==◌, ◌&&◌, nat_lt, Bool, false, List, [], ◌∷◌, if◌then◌else◌}
-use Rattle.rv_exec.specs.Bytes.{Byte, Holds, Barred, InArea, Memory}
+use Rattle.rv_table.specs.Bytes.{Byte, Holds, Barred, InArea, Memory}
 
 -- what an instruction writes: so many of a number's bytes, the task's reservation, or the end of it
 -- RISC-V Unprivileged ISA 20191213, 2.6, Load and Store Instructions; 8.2, Load-Reserved/Store-Conditional Instructions

@@ -2,7 +2,7 @@
 
 ghost use Rattle.std.specs.Prelude.{◌≡◌, ◌≢◌, ◌⊎◌, true, false, Ok};
 ghost use Rattle.rv_table.specs.Words.{IsWidth};
-ghost use Rattle.rv_exec.specs.Bytes.{AllowsAs, loaded};
+ghost use Rattle.rv_table.specs.Bytes.{AllowsAs, loaded};
 ghost use Rattle.rv_exec.specs.Execution.{allowed, conditional, load_reserved, operates, operating, reserving, store_conditional, StepsAs};
 ghost use Rattle.rv_exec.specs.Loads.{width_of, extend_of};
 

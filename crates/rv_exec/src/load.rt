@@ -2,7 +2,7 @@
 
 ghost use Rattle.std.specs.Prelude.{◌≡◌, ◌≢◌, false};
 ghost use Rattle.rv_table.specs.Words.{IsWidth};
-ghost use Rattle.rv_exec.specs.Bytes.{loaded};
+ghost use Rattle.rv_table.specs.Bytes.{loaded};
 ghost use Rattle.rv_exec.specs.Execution.{extended};
 ghost use Rattle.rv_exec.specs.Loads.{width_of, extend_of, refused_by, AccessesAs};
 

@@ -2,7 +2,7 @@
 
 ghost use Rattle.std.specs.Prelude.{◌≡◌, ◌≢◌, ℕ, Bool, true, false, IsOk, OnOk, OnErr};
 ghost use Rattle.rv_table.specs.Words.{IsWidth};
-ghost use Rattle.rv_exec.specs.Bytes.{Memory as Seen, AnswersAs, AllowsAs, loaded};
+ghost use Rattle.rv_table.specs.Bytes.{Memory as Seen, AnswersAs, AllowsAs, loaded};
 ghost use Rattle.rv_exec.specs.Writes.{Write, Stores, Reserves, Releases, IsAfter};
 
 use rv_table::MemErr;

@@ -4,7 +4,8 @@
 //! immediate with its sign carried on to 64 bits. The table stands in `specs/Table.antt`, a row a line in the manual's
 //! order, and the fields of a word in `specs/Fields.antt`. `rows_of word` is the list of all instructions that rows of
 //! the table make of a word. The registers of a task are `Regs`, and why memory answers nothing is `MemErr`. What the
-//! crates above say of numbers of 64 and of 32 bits stands in `specs/Words.antt`.
+//! crates above say of numbers of 64 and of 32 bits stands in `specs/Words.antt`, and how they see memory, byte by byte,
+//! in `specs/Bytes.antt`.
 //!
 //! Proved: of every word, `decode` gives exactly the rows that fit it (`row`): the one that does where it gives an
 //! instruction, none where it gives `None`. So no two rows fit one word. A register's number is kept (`number`) and

@@ -3,7 +3,7 @@
 ghost use Rattle.std.specs.Prelude.{◌≡◌, ◌≢◌, ◌<◌, ◌≤◌, ◌+◌, ◌/◌, ◌%◌, ◌^◌, ℕ, IfOk, Option, Some, length, slice_index, if◌then◌else◌};
 ghost use Rattle.std.specs.Option.{option_or};
 ghost use Rattle.rv_table.specs.Words.{IsWidth};
-ghost use Rattle.rv_exec.specs.Bytes.{AllowsAs, AnswersAs, Barred, Byte, Holds, first_area, first_barred, loaded, number_from, or_area, or_barred, value_in};
+ghost use Rattle.rv_table.specs.Bytes.{AllowsAs, AnswersAs, Barred, Byte, Holds, first_area, first_barred, loaded, number_from, or_area, or_barred, value_in};
 ghost use Rattle.rv_exec.specs.Writes.{Stores, stored_byte};
 ghost use Rattle.rv_exec.specs.MemoryAfter.{memory_after};
 
@@ -40,7 +40,7 @@ pub struct Run<const N: usize> {
 impl<const N: usize> Bytes for Run<N> {
     ghost use Rattle.std.specs.Prelude.{◌<◌, nat_lt, if◌then◌else◌, slice_index};
     ghost use Rattle.std.specs.Option.{option_map_or};
-    ghost use Rattle.rv_exec.specs.Bytes.{Holds, Barred, InArea};
+    ghost use Rattle.rv_table.specs.Bytes.{Holds, Barred, InArea};
     ghost use Rattle.rv_exec.specs.Writes.{distance};
 
     ghost byte_at = { λ run address.
@@ -236,7 +236,7 @@ impl Memory {
 impl Mem for Memory {
     ghost use Rattle.std.specs.Prelude.{Bool, true, false, ◌==◌, ◌&&◌, if◌then◌else◌};
     ghost use Rattle.std.specs.Option.{option_map_or};
-    ghost use Rattle.rv_exec.specs.Bytes.{Barred, Memory as Seen};
+    ghost use Rattle.rv_table.specs.Bytes.{Barred, Memory as Seen};
     ghost use Rattle.rv_exec.specs.MemoryAfter.{is_memory_after};
 
     ghost State = { Seen };

@@ -1,5 +1,5 @@
 use Rattle.std.proofs.Common.{sym, ap, ◌∙◌}
-use Rattle.rv_exec.specs.Bytes.{loaded}
+use Rattle.rv_table.specs.Bytes.{loaded}
 use Rattle.kernel_model.specs.Memory.{data_at, memory_of}
 use Rattle.kernel_model.specs.Drafts.{Drafting}
 use Rattle.kernel_model.specs.Drafted.{drafting}

@@ -1,5 +1,5 @@
 use Rattle.std.proofs.Common.{◌≡◌, ◌<◌, ◌≤◌, ◌+◌, ◌%◌, ◌^◌, ℕ, get_or}
-use Rattle.rv_exec.specs.Bytes.{Holds}
+use Rattle.rv_table.specs.Bytes.{Holds}
 use Rattle.rv_exec.specs.Writes.{stored_byte}
 use Rattle.rv_exec.proofs.tests.memory.put.Given as goal
 
