@@ -103,7 +103,6 @@ impl Reservations {
     /// were mapped anew, unmapped or got other rights. It takes no memory.
     #[tactic(auto, using(crate::proofs::Singles::single_outside))]
     pub fn drop_range(&mut self, at: u64, count: u64)
-        requires { at + count < 2 ^ 64 }
         ensures { self.new ≡ outside_range self.old at count }
     {
         drop_over(&mut self.items, at, count);
@@ -177,7 +176,6 @@ fn drop_met(items: &mut Vec<Reservation>, task: u32, at: u64, width: u8)
 
 /// Drops each whose granule has a byte among so many from an address on.
 fn drop_over(items: &mut Vec<Reservation>, at: u64, count: u64)
-    requires { at + count < 2 ^ 64 }
     ensures { items.new.items ≡ outside_range items.old.items at count }
 {
     items.retain(|r| !lies_over(r.address / 8, at, count));
@@ -185,9 +183,8 @@ fn drop_over(items: &mut Vec<Reservation>, at: u64, count: u64)
 
 /// Whether a byte of a granule is one of so many from an address on.
 fn lies_over(number: u64, at: u64, count: u64) -> bool
-    requires small { number < 2 ^ 61 }
-    requires fits { at + count < 2 ^ 64 }
+    requires { number < 2 ^ 61 }
     ensures { result ≡ lies_over number at count }
 {
-    count > 0 && at / 8 <= number && number * 8 < at + count
+    count > 0 && at / 8 <= number && number * 8 < at.saturating_add(count)
 }
