@@ -115,7 +115,7 @@ fn byte_of(value: u64, place: u64) -> u8
     (shifted % 256) as u8
 }
 
-#[tactic(auto, using(crate::proofs::Accesses::first_barred_step), unfolding(crate::specs::Bytes::first_barred))]
+#[tactic(auto, using(crate::proofs::Accesses::first_barred_step), unfolding(rv_table::specs::Bytes::first_barred))]
 fn first_barred<B: Bytes>(bytes: &B, at: u64, count: u8) -> Option<u64>
     ensures { result ≡ first_barred (B.byte_at bytes.now) at count }
 {
@@ -129,7 +129,7 @@ fn first_barred<B: Bytes>(bytes: &B, at: u64, count: u8) -> Option<u64>
     }
 }
 
-#[tactic(auto, using(crate::proofs::Accesses::first_area_step), unfolding(crate::specs::Bytes::first_area))]
+#[tactic(auto, using(crate::proofs::Accesses::first_area_step), unfolding(rv_table::specs::Bytes::first_area))]
 fn first_area<B: Bytes>(bytes: &B, at: u64, count: u8) -> Option<Area>
     ensures { result ≡ first_area (B.byte_at bytes.now) at count }
 {
@@ -142,7 +142,7 @@ fn first_area<B: Bytes>(bytes: &B, at: u64, count: u8) -> Option<Area>
     }
 }
 
-#[tactic(auto, using(crate::proofs::Accesses::number_from_step), unfolding(crate::specs::Bytes::number_from))]
+#[tactic(auto, using(crate::proofs::Accesses::number_from_step), unfolding(rv_table::specs::Bytes::number_from))]
 fn number<B: Bytes>(bytes: &B, at: u64, count: u8) -> u64
     requires { count ≤ 8 }
     ensures number { result ≡ number_from (B.byte_at bytes.now) at count }
@@ -156,7 +156,7 @@ fn number<B: Bytes>(bytes: &B, at: u64, count: u8) -> u64
 }
 
 /// What an access to so many bytes comes to.
-#[tactic(auto, unfolding(crate::specs::Bytes::loaded))]
+#[tactic(auto, unfolding(rv_table::specs::Bytes::loaded))]
 fn access<B: Bytes>(bytes: &B, at: u64, count: u8) -> Result<u64, MemErr>
     requires { count ≤ 8 }
     ensures answer { AnswersAs (loaded (B.byte_at bytes.now) at count) result }
