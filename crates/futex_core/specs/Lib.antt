@@ -1,0 +1,2 @@
+pub mod FutexKeys
+pub mod FutexLists

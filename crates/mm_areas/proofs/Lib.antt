@@ -1,0 +1,14 @@
+pub mod PageLaws
+pub mod RegionLaws
+pub mod IndexLaws
+pub mod EditLaws
+pub mod NewPageLaws
+pub mod FreeLaws
+pub mod CountLaws
+pub mod PlaceLaws
+pub mod ProtectLaws
+pub mod ChangeLaws
+pub mod WriteLaws
+pub mod ShareLaws
+pub mod OwnLaws
+pub mod SharedLaws

@@ -1,0 +1,11 @@
+pub mod Pages
+pub mod Regions
+pub mod Order
+pub mod Mappings
+pub mod Places
+pub mod Rights
+pub mod Protected
+pub mod Own
+pub mod Contents
+pub mod Shares
+pub mod Hints

@@ -1,0 +1,85 @@
+//! What maps, unmaps and moves the break.
+
+ghost use Rattle.std.specs.Prelude.{◌≡◌, ◌≢◌, ◌/◌, true, false, Some, IfOk, IfErr, OnOk, OnErr, IfSome};
+ghost use Rattle.mm_areas.specs.Mappings.{mapping, pages_in, place_in, address_of, map_fault, mapped_at, unmap_fault, unmapped_at, is_break, broken_at, after_brk};
+
+use crate::lengths::{PAGE, is_misplaced, pages_in};
+use crate::new_pages::new_pages;
+use crate::places::{is_break, place};
+use crate::{AreaErr, Areas, Backing, Rights};
+use sn_base::Memory;
+use std::alloc::Global;
+
+impl Areas {
+    /// Maps new pages over so many bytes, and answers their address: the one that is asked, in the places of the pages
+    /// that are there, or that of the highest free range.
+    #[tactic(auto, using(crate::proofs::PlaceLaws::len_laid_new))]
+    pub fn map(
+        &mut self,
+        alloc: Global,
+        at: Option<u64>,
+        length: u64,
+        rights: Rights,
+        backing: Backing,
+    ) -> Result<u64, AreaErr>
+        ensures place { IfOk result (λ address.
+            address_of (place_in (mapping self.old).pages at (pages_in length)) ≡ Some address) }
+        ensures ok { IfOk result (λ address.
+            mapping self.new ≡ mapped_at (mapping self.old) (address / 4096) length rights backing) }
+        ensures fault { IfErr result (λ e. e ≢ AreaErr.Memory → map_fault (mapping self.old) at length ≡ Some e) }
+        ensures faulty { IfSome (map_fault (mapping self.old) at length) (λ fault. result ≡ Err fault) }
+        ensures err { OnErr result (mapping self.new ≡ mapping self.old) }
+    {
+        let first = place(self, at, length)?;
+        let pages = new_pages(alloc, backing, rights, pages_in(length))?;
+        self.lay(first, pages)?;
+        Ok(PAGE * first)
+    }
+
+    /// Unmaps the pages of so many bytes from an address on; pages that aren't mapped stay so.
+    pub fn unmap(&mut self, address: u64, length: u64) -> Result<(), AreaErr>
+        ensures ok { OnOk result (mapping self.new ≡ unmapped_at (mapping self.old) address length) }
+        ensures fault { IfErr result (λ e. e ≢ AreaErr.Memory → unmap_fault address length ≡ Some e) }
+        ensures faulty { IfSome (unmap_fault address length) (λ fault. result ≡ Err fault) }
+        ensures err { OnErr result (mapping self.new ≡ mapping self.old) }
+    {
+        if length == 0 || is_misplaced(address, length) {
+            return Err(AreaErr::Invalid);
+        }
+        self.take(address / PAGE, pages_in(length))?;
+        Ok(())
+    }
+
+    /// Puts the break at an address, if it may be put there, and answers where it is then. Where it stays, no memory is
+    /// taken.
+    pub fn brk(&mut self, alloc: Global, to: u64) -> Result<u64, Memory>
+        ensures ok { OnOk result (mapping self.new ≡ after_brk (mapping self.old) to) }
+        ensures answer { IfOk result (λ at. at ≡ (mapping self.new).program_break) }
+        ensures refused { is_break (mapping self.old) to ≡ false → result ≡ Ok (mapping self.old).program_break }
+        ensures err { OnErr result (mapping self.new ≡ mapping self.old) }
+    {
+        if is_break(self, to) {
+            self.move_break(alloc, to)?;
+        }
+        Ok(self.program_break)
+    }
+
+    /// Puts the break at an address where it may be put.
+    #[tactic(auto, using(crate::proofs::PlaceLaws::len_laid_new))]
+    fn move_break(&mut self, alloc: Global, to: u64) -> Result<(), Memory>
+        requires { is_break (mapping self.old) to ≡ true }
+        ensures ok { OnOk result (mapping self.new ≡ broken_at (mapping self.old) to) }
+        ensures err { OnErr result (mapping self.new ≡ mapping self.old) }
+    {
+        let broken = pages_in(self.program_break);
+        let wanted = pages_in(to);
+        if broken < wanted {
+            let pages = new_pages(alloc, Backing::Zeros, Rights::READ_WRITE, wanted - broken)?;
+            self.lay(broken, pages)?;
+        } else {
+            self.take(wanted, broken - wanted)?;
+        }
+        self.program_break = to;
+        Ok(())
+    }
+}

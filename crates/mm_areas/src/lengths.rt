@@ -1,0 +1,31 @@
+//! Bytes as whole pages: lengths that round up, and addresses and lengths that no call takes.
+
+ghost use Rattle.std.specs.Prelude.{◌≡◌};
+ghost use Rattle.mm_areas.specs.Mappings.{pages_in, is_misplaced, is_no_length};
+
+/// A page's bytes.
+pub(crate) const PAGE: u64 = 4096;
+
+/// The page that the address space ends at: its addresses are below 2^38.
+pub(crate) const END: u64 = 0x400_0000;
+
+/// How many pages so many bytes take.
+pub(crate) fn pages_in(length: u64) -> u64
+    ensures { result ≡ pages_in length }
+{
+    length.div_ceil(PAGE)
+}
+
+/// Whether an address is no multiple of a page's bytes, or the end above that of the address space.
+pub(crate) fn is_misplaced(address: u64, length: u64) -> bool
+    ensures { result ≡ is_misplaced address length }
+{
+    address % PAGE != 0 || address / PAGE + pages_in(length) > END
+}
+
+/// Whether no mapping has that length.
+pub(crate) fn is_no_length(length: u64) -> bool
+    ensures { result ≡ is_no_length length }
+{
+    length == 0 || pages_in(length) > 1 << 51
+}

@@ -1,0 +1,38 @@
+//! New pages: zeros of their own, or the pages of a shared area.
+
+ghost use Rattle.std.specs.Prelude.{◌≡◌, length, map, IfOk};
+ghost use Rattle.mm_areas.specs.Pages.{mapped_by, new_pages, mapped_new};
+
+use crate::{Backing, Content, Page, Rights, SharedPage};
+use mm_frames::Frame;
+use sn_base::Memory;
+use std::alloc::Global;
+
+/// The page of that number among new ones.
+fn new_page(backing: Backing, rights: Rights, number: u64) -> Page
+    ensures { mapped_by result ≡ mapped_new backing rights number }
+{
+    let content = match backing {
+        Backing::Zeros => Content::Private(Frame::zero()),
+        Backing::Of(area) => Content::Shared(SharedPage { area, number }),
+    };
+    Page { rights, content }
+}
+
+/// So many new pages.
+#[tactic(auto, using(crate::proofs::NewPageLaws::length_of_new))]
+pub(crate) fn new_pages(
+    alloc: Global,
+    backing: Backing,
+    rights: Rights,
+    count: u64,
+) -> Result<Vec<Page>, Memory>
+    ensures pages { IfOk result (λ pages. map mapped_by pages.items ≡ new_pages backing rights count) }
+    ensures count { IfOk result (λ pages. length pages.items ≡ count) }
+{
+    let mut pages = Vec::with_capacity(alloc, count as usize)?;
+    for number in 0..count {
+        pages.push(new_page(backing, rights, number))?;
+    }
+    Ok(pages)
+}

@@ -1,0 +1,73 @@
+//! Where a mapping goes, and whether the break may be put where it is asked.
+
+ghost use Rattle.std.specs.Prelude.{◌≡◌, ◌+◌, ◌<◌, ◌≤◌, ◌^◌, None, Some, IfOk, IfErr, OnOk};
+ghost use Rattle.std.specs.FinMap as map_of;
+ghost use Rattle.mm_areas.specs.Mappings.{mapping, taken_from, pages_in, pages_after, place_in, map_fault, is_no_place, is_break, most_pages};
+
+use crate::free::{highest_free, is_free, mapped_within};
+use crate::lengths::{PAGE, is_misplaced, is_no_length, pages_in};
+use crate::{AreaErr, Areas};
+
+/// The most pages that are mapped at once.
+pub(crate) const MOST: u64 = 16384;
+
+/// Whether no mapping begins there or has that length.
+fn is_no_place(at: Option<u64>, length: u64) -> bool
+    ensures { result ≡ is_no_place at length }
+{
+    match at {
+        None => is_no_length(length),
+        Some(address) => is_no_length(length) || is_misplaced(address, length) || address < PAGE,
+    }
+}
+
+/// How many pages are mapped once so many more are.
+#[tactic(auto, using(crate::proofs::RegionLaws::order_from_test))]
+fn pages_after(areas: &Areas, at: Option<u64>, count: u64) -> u64
+    requires { count ≤ 2 ^ 51 }
+    ensures { result ≡ pages_after (mapping areas.now).pages at count }
+{
+    match at {
+        None => areas.count + count,
+        Some(address) => areas.count
+            - mapped_within(areas.regions.as_slice(), address / PAGE, count)
+            + count,
+    }
+}
+
+/// The page that a mapping begins at, or why there is none.
+#[tactic(auto, using(crate::proofs::RegionLaws::order_from_test, crate::proofs::PlaceLaws::highest_ends, crate::proofs::PlaceLaws::highest_takes))]
+pub(crate) fn place(areas: &Areas, at: Option<u64>, length: u64) -> Result<u64, AreaErr>
+    ensures fits { IfOk result (λ page. place_in (mapping areas.now).pages at (pages_in length) ≡ Some page) }
+    ensures ok { OnOk result (map_fault (mapping areas.now) at length ≡ None) }
+    ensures some { OnOk result (0 < length) }
+    ensures end { IfOk result (λ page. page + pages_in length ≤ 2 ^ 26) }
+    ensures limit { IfOk result (λ page.
+        map_of.len (taken_from (mapping areas.now) page (pages_in length)).pages + pages_in length ≤ most_pages) }
+    ensures fault { IfErr result (λ e. map_fault (mapping areas.now) at length ≡ Some e) }
+{
+    if is_no_place(at, length) {
+        return Err(AreaErr::Invalid);
+    }
+    let count = pages_in(length);
+    if pages_after(areas, at, count) > MOST {
+        return Err(AreaErr::Limit);
+    }
+    match at {
+        None => highest_free(areas.regions.as_slice(), count).ok_or(AreaErr::NoRange),
+        Some(address) => Ok(address / PAGE),
+    }
+}
+
+/// Whether the break may be put there.
+#[tactic(auto, using(crate::proofs::RegionLaws::order_from_test))]
+pub(crate) fn is_break(areas: &Areas, to: u64) -> bool
+    ensures { result ≡ is_break (mapping areas.now) to }
+{
+    let broken = pages_in(areas.program_break);
+    let more = pages_in(to).saturating_sub(broken);
+    areas.start <= to
+        && to < 1 << 37
+        && is_free(areas.regions.as_slice(), broken, more)
+        && areas.count + more <= MOST
+}

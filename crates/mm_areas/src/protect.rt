@@ -1,0 +1,80 @@
+//! Other rights for the pages of a range.
+
+ghost use Rattle.std.specs.Prelude.{◌≡◌, ◌-◌, ◌≤◌, length, map, Err, OnOk, OnErr, IfErr, IfSome};
+ghost use Rattle.mm_areas.specs.Order.{AreFrom};
+ghost use Rattle.mm_areas.specs.Pages.{mapped_by, protected};
+ghost use Rattle.mm_areas.specs.Protected.{protected_from, IsProtected};
+ghost use Rattle.mm_areas.specs.Regions.{pages_of};
+ghost use Rattle.mm_areas.specs.Mappings.{mapping, protect_fault, protected_in};
+
+use crate::areas::Region;
+use crate::free::is_covered;
+use crate::lengths::{PAGE, is_misplaced, pages_in};
+use crate::regions::first_behind;
+use crate::{AreaErr, Areas, Page, Rights};
+
+/// Gives the pages from one index up to another other rights.
+fn protect_between(pages: &mut [Page], low: usize, high: usize, rights: Rights)
+    requires range { low ≤ high }
+    requires bound { high ≤ length pages.old }
+    ensures { map mapped_by pages.new ≡ protected_from rights low (high - low) 0 (map mapped_by pages.old) }
+{
+    for index in low..high {
+        pages[index].rights = rights;
+    }
+}
+
+/// Gives the pages of a region that are from one on and below another other rights.
+fn protect_region(region: &mut Region, first: u64, end: u64, rights: Rights)
+    requires { first ≤ end }
+    ensures { IsProtected rights first (end - first) region.old region.new }
+{
+    let high = end
+        .saturating_sub(region.first)
+        .min(region.pages.len() as u64);
+    let low = first.saturating_sub(region.first).min(high);
+    protect_between(
+        region.pages.as_mut_slice(),
+        low as usize,
+        high as usize,
+        rights,
+    );
+}
+
+/// Gives the pages from one on and below another other rights.
+fn protect_pages(regions: &mut [Region], first: u64, end: u64, rights: Rights)
+    requires range { first ≤ end }
+    requires order { AreFrom 0 regions.old }
+    ensures order { AreFrom 0 regions.new }
+    ensures pages { pages_of regions.new ≡ protected rights first (end - first) (pages_of regions.old) }
+{
+    for index in first_behind(regions, first)..regions.len() {
+        if regions[index].first >= end {
+            return;
+        }
+        protect_region(&mut regions[index], first, end, rights);
+    }
+}
+
+impl Areas {
+    /// Gives the pages of so many bytes from an address on other rights, where each of them is mapped. It takes no
+    /// memory.
+    #[tactic(auto, using(crate::proofs::RegionLaws::order_from_test, crate::proofs::RegionLaws::test_from_order, crate::proofs::ProtectLaws::as_many_protected))]
+    pub fn protect(&mut self, address: u64, length: u64, rights: Rights) -> Result<(), AreaErr>
+        ensures ok { OnOk result (mapping self.new ≡ protected_in (mapping self.old) address length rights) }
+        ensures fault { IfErr result (λ e. protect_fault (mapping self.old) address length ≡ Some e) }
+        ensures faulty { IfSome (protect_fault (mapping self.old) address length) (λ fault. result ≡ Err fault) }
+        ensures err { OnErr result (mapping self.new ≡ mapping self.old) }
+    {
+        if is_misplaced(address, length) {
+            return Err(AreaErr::Invalid);
+        }
+        let first = address / PAGE;
+        let count = pages_in(length);
+        if !is_covered(self.regions.as_slice(), first, count) {
+            return Err(AreaErr::Hole);
+        }
+        protect_pages(self.regions.as_mut_slice(), first, first + count, rights);
+        Ok(())
+    }
+}

@@ -1,0 +1,7 @@
+mod Words
+mod Owned
+mod Pages
+mod Mended
+mod Others
+pub mod NumberLemmas
+pub mod FrameLemmas

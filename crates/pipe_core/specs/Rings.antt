@@ -1,0 +1,17 @@
+-- The bytes of a ring: slots of which some are in use, from one on, and past the last slot from the first on.
+use Rattle.std.specs.Prelude.{ℕ, ◌+◌, ◌%◌, List, ◌++◌, take, drop, slice_index}
+
+-- the slots in the order in which they are gone round from one of them on
+-- profile
+abbrev pub slots_from : (start : ℕ) → List ℕ → List ℕ
+slots_from start slots = drop start slots ++ take start slots
+
+-- so many bytes from a slot on, going round
+-- profile
+abbrev pub bytes_from : (start count : ℕ) → List ℕ → List ℕ
+bytes_from start count slots = take count (slots_from start slots)
+
+-- the byte so many slots on from one, going round
+-- profile
+abbrev pub byte_at : (start i : ℕ) → List ℕ → ℕ
+byte_at start i slots = slice_index slots ((start + i) % 65536)

@@ -1,0 +1,101 @@
+//! The bytes on their way through a pipe: a ring of slots, taken when it is made.
+
+ghost use Rattle.std.specs.Prelude.{◌≡◌, ℕ, ◌+◌, ◌<◌, ◌≤◌, List, [], ◌++◌, length, take, drop, IfOk, slice_index};
+ghost use Rattle.pipe_core.specs.Rings.{byte_at, bytes_from};
+
+use sn_base::Memory;
+use std::alloc::Global;
+use std::marker::Model;
+
+/// How many bytes a ring has room for.
+pub(crate) const CAPACITY: usize = 65_536;
+
+/// A queue of at most 65,536 bytes. Contracts see them in order, oldest first.
+#[derive(Debug, Drop)]
+pub(crate) struct Ring {
+    slots: Vec<u8>,
+    /// The slot of the oldest byte.
+    start: usize,
+    len: usize,
+}
+
+impl Model for Ring {
+    ghost use Rattle.std.specs.Prelude.{ℕ, ◌≡◌, ◌<◌, ◌≤◌, List, length};
+    ghost use Rattle.pipe_core.specs.Rings.{bytes_from};
+
+    ghost Value = { List ℕ };
+
+    ghost view = { λ a. bytes_from a.start a.len a.slots.items };
+
+    ghost invariant = { λ a. (length a.slots.items ≡ 65536) × (a.start < 65536) × (a.len ≤ 65536) };
+}
+
+impl Ring {
+    /// A ring with no bytes.
+    pub(crate) fn new(alloc: Global) -> Result<Ring, Memory>
+        ensures { IfOk result (λ ring. ring ≡ []) }
+    {
+        let slots = vec![in alloc; 0; CAPACITY]?;
+        Ok(Ring {
+            slots,
+            start: 0,
+            len: 0,
+        })
+    }
+
+    /// How many bytes are in it.
+    pub(crate) fn len(&self) -> usize
+        ensures len { result ≡ length self.now }
+        ensures within { length self.now ≤ 65536 }
+    {
+        self.len
+    }
+
+    /// Moves the oldest bytes out, as many as there is room for.
+    pub(crate) fn take_into(&mut self, to: &mut [u8])
+        requires { length to.old ≤ length self.old }
+        ensures bytes { to.new ≡ take (length to.old) self.old }
+        ensures rest { self.new ≡ drop (length to.old) self.old }
+    {
+        copy_out(&self.slots, self.start, to);
+        self.start = (self.start + to.len()) % CAPACITY;
+        self.len -= to.len();
+    }
+
+    /// Puts bytes behind the others.
+    pub(crate) fn append(&mut self, bytes: &[u8])
+        requires { length self.old + length bytes.now ≤ 65536 }
+        ensures { self.new ≡ self.old ++ bytes.now }
+    {
+        let end = (self.start + self.len) % CAPACITY;
+        copy_in(&mut self.slots, end, bytes);
+        self.len += bytes.len();
+    }
+}
+
+/// Copies the bytes from a slot on, going round.
+fn copy_out(slots: &[u8], start: usize, to: &mut [u8])
+    requires slots { length slots.now ≡ 65536 }
+    requires start { start < 65536 }
+    requires within { length to.old ≤ 65536 }
+    ensures { to.new ≡ bytes_from start (length to.old) slots.now }
+{
+    let len = to.len();
+    let first = len.min(CAPACITY - start);
+    to[..first].copy_from_slice(&slots[start..start + first]);
+    to[first..].copy_from_slice(&slots[..len - first]);
+}
+
+/// Copies bytes into the slots from one on, going round.
+fn copy_in(slots: &mut [u8], start: usize, bytes: &[u8])
+    requires slots { length slots.old ≡ 65536 }
+    requires start { start < 65536 }
+    requires within { length bytes.now ≤ 65536 }
+    ensures len { length slots.new ≡ 65536 }
+    ensures put { (i : ℕ) → i < length bytes.now → byte_at start i slots.new ≡ slice_index bytes.now i }
+    ensures kept { (i : ℕ) → length bytes.now ≤ i → i < 65536 → byte_at start i slots.new ≡ byte_at start i slots.old }
+{
+    let first = bytes.len().min(CAPACITY - start);
+    slots[start..start + first].copy_from_slice(&bytes[..first]);
+    slots[..bytes.len() - first].copy_from_slice(&bytes[first..]);
+}

@@ -1,0 +1,5 @@
+pub mod Changes
+pub mod Endings
+pub mod Keeping
+pub mod Numbers
+pub mod Waiting

@@ -1,0 +1,8 @@
+pub mod Clones
+pub mod Ends
+pub mod Entries
+pub mod Kept
+pub mod Leaving
+pub mod Reaps
+pub mod Status
+pub mod Table
