@@ -1,0 +1,4 @@
+pub mod Accesses
+pub mod Handing
+pub mod Sight
+pub mod Spaces
