@@ -12,7 +12,8 @@ use Rattle.mm_areas.specs.Pages.{is_within}
 -- mmap(2)
 abbrev pub page_in : List Region → ℕ → Option Page
 page_in [] n = None
-page_in (r ∷ rs) n = if is_within r.first (length r.pages.items) n then slice_get r.pages.items (n - r.first) else page_in rs n
+page_in (r ∷ rs) n =
+    if is_within r.first (length r.pages.items) n then slice_get r.pages.items (n - r.first) else page_in rs n
 
 -- whether a page's bytes are its own, so that a store to them takes no memory
 -- fork(2), NOTES: copy-on-write pages

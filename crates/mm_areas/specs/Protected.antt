@@ -8,10 +8,12 @@ use Rattle.mm_areas.specs.Pages.{Mapped, mapped_by, is_within, with_rights}
 -- mprotect(2)
 abbrev pub protected_from : Rights → (first count page : ℕ) → List Mapped → List Mapped
 protected_from rights first count page [] = []
-protected_from rights first count page (m ∷ ms) = (if is_within first count page then with_rights rights m else m) ∷ protected_from rights first count (suc page) ms
+protected_from rights first count page (m ∷ ms) =
+    (if is_within first count page then with_rights rights m else m) ∷ protected_from rights first count (suc page) ms
 
 -- a region where it was, its pages of a range with other rights
 -- mprotect(2)
 pub record IsProtected (rights : Rights) (first count : ℕ) (old new : Region) : Type 0 where
   pub place : new.first ≡ old.first
-  pub pages : map mapped_by new.pages.items ≡ protected_from rights first count old.first (map mapped_by old.pages.items)
+  pub pages : map mapped_by new.pages.items
+      ≡ protected_from rights first count old.first (map mapped_by old.pages.items)

@@ -27,7 +27,8 @@ impl Page {
     /// Makes the bytes of a private page its own. A page of a shared area stays as it is.
     fn own(&mut self, alloc: Global) -> Result<(), Memory>
         ensures mapped { mapped_by self.new ≡ mapped_by self.old }
-        ensures own { OnOk result (is_some (bytes_mapped (Some (mapped_by self.old))) ≡ true → is_own_content self.new.content ≡ true) }
+        ensures own { OnOk result (is_some (bytes_mapped (Some (mapped_by self.old))) ≡ true →
+            is_own_content self.new.content ≡ true) }
         ensures still { is_own_content self.old.content ≡ true → is_own_content self.new.content ≡ true }
         ensures err { OnErr result (self.new ≡ self.old) }
         ensures lacking { OnErr result (is_own_content self.old.content ≡ false) }
@@ -50,7 +51,8 @@ impl Page {
         requires private { is_some (bytes_mapped (Some (mapped_by self.old))) ≡ true }
         requires width { IsWidth width }
         requires fits { offset + width ≤ 4096 }
-        ensures ok { OnOk result (mapped_by self.new ≡ changed (λ bytes. with_number bytes offset width value) (mapped_by self.old)) }
+        ensures ok { OnOk result (mapped_by self.new ≡
+            changed (λ bytes. with_number bytes offset width value) (mapped_by self.old)) }
         ensures own { OnOk result (is_own_content self.new.content ≡ true) }
         ensures err { OnErr result (self.new ≡ self.old) }
         ensures lacking { OnErr result (is_own_content self.old.content ≡ false) }
@@ -65,7 +67,8 @@ impl Page {
     fn write_bytes(&mut self, alloc: Global, offset: usize, run: &[u8]) -> Result<(), Memory>
         requires private { is_some (bytes_mapped (Some (mapped_by self.old))) ≡ true }
         requires fits { offset + length run.now ≤ 4096 }
-        ensures ok { OnOk result (mapped_by self.new ≡ changed (λ bytes. with_run bytes offset run.now) (mapped_by self.old)) }
+        ensures ok { OnOk result (mapped_by self.new ≡
+            changed (λ bytes. with_run bytes offset run.now) (mapped_by self.old)) }
         ensures own { OnOk result (is_own_content self.new.content ≡ true) }
         ensures err { OnErr result (self.new ≡ self.old) }
         ensures lacking { OnErr result (is_own_content self.old.content ≡ false) }
@@ -79,7 +82,8 @@ impl Page {
     /// Puts so many of a number's bytes into a page whose bytes are its own, and answers whether it has.
     pub(crate) fn put_number(&mut self, offset: usize, width: u8, value: u64) -> bool
         ensures fits { IsTrue result ↔ ((is_own_content self.old.content ≡ true) × IsInPage offset width) }
-        ensures bytes { OnTrue result (mapped_by self.new ≡ changed (λ bytes. with_number bytes offset width value) (mapped_by self.old)) }
+        ensures bytes { OnTrue result (mapped_by self.new ≡
+            changed (λ bytes. with_number bytes offset width value) (mapped_by self.old)) }
         ensures own { is_own_content self.new.content ≡ is_own_content self.old.content }
         ensures unchanged { OnFalse result (self.new ≡ self.old) }
     {
@@ -112,7 +116,9 @@ impl Areas {
         requires private { is_some (bytes_at (mapping self.old).pages page) ≡ true }
         requires width { IsWidth width }
         requires fits { offset + width ≤ 4096 }
-        ensures ok { OnOk result (mapping self.new ≡ with_pages (mapping self.old) (with_change (mapping self.old).pages page (λ bytes. with_number bytes offset width value))) }
+        ensures ok { OnOk result (mapping self.new ≡
+            with_pages (mapping self.old)
+            (with_change (mapping self.old).pages page (λ bytes. with_number bytes offset width value))) }
         ensures own { OnOk result (owns self.new page ≡ true) }
         ensures err { OnErr result (mapping self.new ≡ mapping self.old) }
         ensures lacking { OnErr result (owns self.old page ≡ false) }
@@ -140,7 +146,9 @@ impl Areas {
     ) -> Result<(), Memory>
         requires private { is_some (bytes_at (mapping self.old).pages page) ≡ true }
         requires fits { offset + length run.now ≤ 4096 }
-        ensures ok { OnOk result (mapping self.new ≡ with_pages (mapping self.old) (with_change (mapping self.old).pages page (λ bytes. with_run bytes offset run.now))) }
+        ensures ok { OnOk result (mapping self.new ≡
+            with_pages (mapping self.old)
+            (with_change (mapping self.old).pages page (λ bytes. with_run bytes offset run.now))) }
         ensures own { OnOk result (owns self.new page ≡ true) }
         ensures err { OnErr result (mapping self.new ≡ mapping self.old) }
         ensures lacking { OnErr result (owns self.old page ≡ false) }
@@ -162,7 +170,8 @@ impl Areas {
     #[tactic(auto, using(crate::proofs::RegionLaws::order_from_test))]
     pub fn own(&mut self, alloc: Global, page: u64) -> Result<(), Memory>
         ensures mapped { mapping self.new ≡ mapping self.old }
-        ensures own { OnOk result (is_some (bytes_at (mapping self.old).pages page) ≡ true → owns self.new page ≡ true) }
+        ensures own { OnOk result (is_some (bytes_at (mapping self.old).pages page) ≡ true →
+            owns self.new page ≡ true) }
         ensures private { OnErr result (is_some (bytes_at (mapping self.old).pages page) ≡ true) }
         ensures lacking { OnErr result (owns self.old page ≡ false) }
         ensures kept { OnErr result (owns self.new page ≡ owns self.old page) }
@@ -184,7 +193,9 @@ impl Areas {
     #[tactic(auto, using(crate::proofs::RegionLaws::order_from_test))]
     pub fn put_number(&mut self, page: u64, offset: usize, width: u8, value: u64) -> bool
         ensures fits { IsTrue result ↔ ((owns self.old page ≡ true) × IsInPage offset width) }
-        ensures bytes { OnTrue result (mapping self.new ≡ with_pages (mapping self.old) (with_change (mapping self.old).pages page (λ bytes. with_number bytes offset width value))) }
+        ensures bytes { OnTrue result (mapping self.new ≡
+            with_pages (mapping self.old)
+            (with_change (mapping self.old).pages page (λ bytes. with_number bytes offset width value))) }
         ensures unchanged { OnFalse result (mapping self.new ≡ mapping self.old) }
         ensures owned { (other : ℕ) → owns self.new other ≡ owns self.old other }
     {

@@ -23,7 +23,8 @@ fn highest_gap(regions: &[Region], count: u64) -> u64
     requires few { count ≤ 16384 }
     ensures top { result ≤ 2 ^ 26 - 256 }
     ensures free { count ≤ result → is_free (pages_of regions.now) (result - count) count ≡ true }
-    ensures above { (f : ℕ) → result < f + count → f + count ≤ 2 ^ 26 - 256 → is_free (pages_of regions.now) f count ≡ false }
+    ensures above { (f : ℕ) → result < f + count → f + count ≤ 2 ^ 26 - 256 →
+        is_free (pages_of regions.now) f count ≡ false }
 {
     let mut end = TOP;
     for index in (0..regions.len()).rev() {

@@ -16,7 +16,8 @@ impl Page {
     /// The number of so many bytes from an offset on, where the page has a right and bytes of its own.
     fn number_allowed(&self, offset: usize, width: u8, right: Rights) -> Option<u64>
         ensures { SomeIff result
-            ((has self.now.rights right ≡ true) × (is_some (bytes_mapped (Some (mapped_by self.now))) ≡ true) × IsInPage offset width)
+            ((has self.now.rights right ≡ true) ×
+            (is_some (bytes_mapped (Some (mapped_by self.now))) ≡ true) × IsInPage offset width)
             (number_in (unwrap_or (bytes_mapped (Some (mapped_by self.now))) []) offset width) }
     {
         if !self.rights.allows(right) {
@@ -30,8 +31,10 @@ impl Page {
 
     /// Puts so many of a number's bytes from an offset on, where the page has a right and its bytes are its own.
     fn put_allowed(&mut self, offset: usize, width: u8, value: u64, right: Rights) -> bool
-        ensures fits { IsTrue result ↔ ((is_own_content self.old.content ≡ true) × (has self.old.rights right ≡ true) × IsInPage offset width) }
-        ensures bytes { OnTrue result (mapped_by self.new ≡ changed (λ bytes. with_number bytes offset width value) (mapped_by self.old)) }
+        ensures fits { IsTrue result ↔ ((is_own_content self.old.content ≡ true) ×
+            (has self.old.rights right ≡ true) × IsInPage offset width) }
+        ensures bytes { OnTrue result (mapped_by self.new ≡
+            changed (λ bytes. with_number bytes offset width value) (mapped_by self.old)) }
         ensures own { is_own_content self.new.content ≡ is_own_content self.old.content }
         ensures unchanged { OnFalse result (self.new ≡ self.old) }
     {
@@ -82,7 +85,8 @@ impl Areas {
         right: Rights,
     ) -> Option<u64>
         ensures { SomeIff result
-            ((is_hint self.now hint page ≡ true) × (allows_at (mapping self.now).pages page right ≡ true) × (is_some (bytes_at (mapping self.now).pages page) ≡ true) × IsInPage offset width)
+            ((is_hint self.now hint page ≡ true) × (allows_at (mapping self.now).pages page right ≡ true)
+            × (is_some (bytes_at (mapping self.now).pages page) ≡ true) × IsInPage offset width)
             (number_in (unwrap_or (bytes_at (mapping self.now).pages page) []) offset width) }
     {
         if !self.is_near(hint, page) {
@@ -103,8 +107,12 @@ impl Areas {
         value: u64,
         right: Rights,
     ) -> bool
-        ensures fits { IsTrue result ↔ ((is_hint self.old hint page ≡ true) × (owns self.old page ≡ true) × (allows_at (mapping self.old).pages page right ≡ true) × IsInPage offset width) }
-        ensures bytes { OnTrue result (mapping self.new ≡ with_pages (mapping self.old) (with_change (mapping self.old).pages page (λ bytes. with_number bytes offset width value))) }
+        ensures fits { IsTrue result ↔
+            ((is_hint self.old hint page ≡ true) × (owns self.old page ≡ true)
+            × (allows_at (mapping self.old).pages page right ≡ true) × IsInPage offset width) }
+        ensures bytes { OnTrue result (mapping self.new ≡
+            with_pages (mapping self.old)
+            (with_change (mapping self.old).pages page (λ bytes. with_number bytes offset width value))) }
         ensures unchanged { OnFalse result (mapping self.new ≡ mapping self.old) }
         ensures owned { (other : ℕ) → owns self.new other ≡ owns self.old other }
     {

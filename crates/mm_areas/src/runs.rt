@@ -14,7 +14,8 @@ impl Page {
     /// Puts a run of bytes into a page whose bytes are its own, and answers whether it has.
     fn put_bytes(&mut self, offset: usize, run: &[u8]) -> bool
         ensures fits { IsTrue result ↔ ((is_own_content self.old.content ≡ true) × (offset + length run.now ≤ 4096)) }
-        ensures bytes { OnTrue result (mapped_by self.new ≡ changed (λ bytes. with_run bytes offset run.now) (mapped_by self.old)) }
+        ensures bytes { OnTrue result (mapped_by self.new ≡
+            changed (λ bytes. with_run bytes offset run.now) (mapped_by self.old)) }
         ensures own { is_own_content self.new.content ≡ is_own_content self.old.content }
         ensures unchanged { OnFalse result (self.new ≡ self.old) }
     {
@@ -35,7 +36,9 @@ impl Areas {
     #[tactic(auto, using(crate::proofs::RegionLaws::order_from_test))]
     pub fn put_bytes(&mut self, page: u64, offset: usize, run: &[u8]) -> bool
         ensures fits { IsTrue result ↔ ((owns self.old page ≡ true) × (offset + length run.now ≤ 4096)) }
-        ensures bytes { OnTrue result (mapping self.new ≡ with_pages (mapping self.old) (with_change (mapping self.old).pages page (λ bytes. with_run bytes offset run.now))) }
+        ensures bytes { OnTrue result (mapping self.new ≡
+            with_pages (mapping self.old)
+            (with_change (mapping self.old).pages page (λ bytes. with_run bytes offset run.now))) }
         ensures unchanged { OnFalse result (mapping self.new ≡ mapping self.old) }
         ensures owned { (other : ℕ) → owns self.new other ≡ owns self.old other }
     {

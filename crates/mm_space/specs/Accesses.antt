@@ -41,7 +41,8 @@ mapped_byte right hand offset (Some m) = page_byte right hand offset m
 -- the byte at an address, as an access by that right sees it
 -- RISC-V Unprivileged ISA 20191213, 1.4, Memory
 abbrev pub byte_at : Rights → Reach → (address : ℕ) → Byte
-byte_at right r address = mapped_byte right r.hand (page_offset address) (map.get r.space.mapping.pages (page_number address))
+byte_at right r address =
+    mapped_byte right r.hand (page_offset address) (map.get r.space.mapping.pages (page_number address))
 
 -- the rights that a load, a store and a fetch need
 -- mmap(2), PROT_READ 1, PROT_WRITE 2, PROT_EXEC 4
@@ -57,4 +58,5 @@ executable = record { 0 = 4 }
 -- an access comes to a number, whichever areas are handed in
 -- profile
 abbrev pub LoadsNear : Rights → AddressSpace → (at width number : ℕ) → Type 0
-LoadsNear right space at width number = (hand : List InHand) → loaded (byte_at right (record { space = space; hand = hand })) at width ≡ Value number
+LoadsNear right space at width number =
+    (hand : List InHand) → loaded (byte_at right (record { space = space; hand = hand })) at width ≡ Value number

@@ -12,8 +12,8 @@ use mm_areas::{Content, Rights};
 use rv_table::MemErr;
 
 impl Space {
-    /// The number of so many bytes at an address, each of which may be read. It needs no alignment, and takes no memory.
-    /// Addresses go round at 2^64.
+    /// The number of so many bytes at an address, each of which may be read. It needs no alignment, and takes no
+    /// memory. Addresses go round at 2^64.
     ///
     /// - `Fault`: the first of the bytes that may not be read.
     /// - `Shared`: else the area of the first of them that lies in one which isn't handed in.

@@ -79,7 +79,8 @@ impl Handed {
 
     /// A byte of a page of a shared area.
     fn byte_in(&self, page: &SharedPage, offset: usize) -> Seen
-        ensures { seen_byte result ≡ area_byte page.now.area page.now.number offset (area_in page.now.area (hand_of self.now)) }
+        ensures { seen_byte result ≡
+            area_byte page.now.area page.now.number offset (area_in page.now.area (hand_of self.now)) }
     {
         match self.get(page.area) {
             Some(area) => seen(area.frames.byte(page.number as usize, offset)),

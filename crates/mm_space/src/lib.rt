@@ -1,15 +1,15 @@
 //! A guest's address space, as loads and fetches reach it, and its child at a fork.
 //!
-//! A caller sees a `Space` through `space_of`: what is mapped, with the break, and what its tasks have reserved. With an
-//! access it hands in shared areas (`Handed`), under their names, and contracts see what both reach as a `Reach`. What
-//! each byte is to an access by a right, `byte_at` says: it has a value, it may not be accessed so, or it lies in a shared
-//! area that isn't handed in.
+//! A caller sees a `Space` through `space_of`: what is mapped, with the break, and what its tasks have reserved. With
+//! an access it hands in shared areas (`Handed`), under their names, and contracts see what both reach as a `Reach`.
+//! What each byte is to an access by a right, `byte_at` says: it has a value, it may not be accessed so, or it lies in a
+//! shared area that isn't handed in.
 //!
 //! Proved: `load` and `fetch` answer what the access comes to (`number`, `word`): the number of the bytes, the lowest
-//! first; the first byte that lacks the right, before any shared area is asked for; else the area of the first byte that
-//! lies in one which isn't handed in. They take no memory (`lean`). Addresses go round at 2^64, and no access needs
-//! alignment. `get` gives the area of a name (the first of it). `fork` gives a space of the same mapping in which nothing
-//! is reserved (`child`), and leaves this one as it was (`kept`).
+//! first; the first byte that lacks the right, before any shared area is asked for; else the area of the first byte
+//! that lies in one which isn't handed in. They take no memory (`lean`). Addresses go round at 2^64, and no access
+//! needs alignment. `get` gives the area of a name (the first of it). `fork` gives a space of the same mapping in which
+//! nothing is reserved (`child`), and leaves this one as it was (`kept`).
 //!
 //! Not said: how a number that lies in one private page is read at once, and that memory suffices for a fork.
 //!

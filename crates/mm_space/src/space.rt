@@ -35,8 +35,8 @@ impl Space {
         &self.areas
     }
 
-    /// The address space of a child: private pages have the same bytes, which both share until one of them writes, shared
-    /// areas are the same areas, and nothing is reserved. An `Err` leaves this one as it was.
+    /// The address space of a child: private pages have the same bytes, which both share until one of them writes,
+    /// shared areas are the same areas, and nothing is reserved. An `Err` leaves this one as it was.
     ///
     /// fork(2); that a child has no reservation is a choice of this project.
     pub fn fork(&mut self, alloc: Global) -> Result<Space, Memory>
