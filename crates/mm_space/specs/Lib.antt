@@ -1,4 +1,5 @@
 pub mod Accesses
+pub mod Changes
 pub mod Handing
 pub mod Sight
 pub mod Spaces
