@@ -6,7 +6,7 @@ use Rattle.std.proofs.lemmas.List.Kept.{AllPairs-filter}
 use Rattle.std.proofs.lemmas.List.Quantifiers.{all_pairs_push}
 use Rattle.std.proofs.lemmas.List.Filters.{length-filter_both}
 use Rattle.rv_atomic.specs.declared.reservations.Reservation.{Reservation}
-use Rattle.rv_atomic.specs.Reservations.{AtMostOneEach, is_reserving, without, reserved, after_store, outside_range}
+use Rattle.rv_atomic.specs.Reservations.{AtMostOneEach, is_reserving, without, reserved, after_store, after_run, outside_range}
 
 -- fewer reservations are single where all were
 pub single_filter : (keeps : Reservation → Bool) (rs : List Reservation) → AtMostOneEach rs → AtMostOneEach (filter keeps rs)
@@ -26,6 +26,9 @@ single_without rs task single = single_filter _ rs single
 
 pub single_after_store : (rs : List Reservation) (task at width : ℕ) → AtMostOneEach rs → AtMostOneEach (after_store rs task at width)
 single_after_store rs task at width single = single_filter _ rs single
+
+pub single_after_run : (rs : List Reservation) (task at count : ℕ) → AtMostOneEach rs → AtMostOneEach (after_run rs task at count)
+single_after_run rs task at count single = single_filter _ rs single
 
 pub single_outside : (rs : List Reservation) (at count : ℕ) → AtMostOneEach rs → AtMostOneEach (outside_range rs at count)
 single_outside rs at count single = single_filter _ rs single

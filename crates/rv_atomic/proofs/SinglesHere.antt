@@ -6,7 +6,7 @@ use Rattle.std.proofs.lemmas.List.Kept.{AllPairs-filter}
 use Rattle.std.proofs.lemmas.List.Quantifiers.{all_pairs_push}
 use Rattle.std.proofs.lemmas.List.Filters.{length-filter_both}
 use Rattle.rv_atomic.specs.declared.area_reservations.AreaReservation.{AreaReservation}
-use Rattle.rv_atomic.specs.AreaReservations.{AtMostOneHere, is_reserving_here, without_here, reserved_here, after_store_here}
+use Rattle.rv_atomic.specs.AreaReservations.{AtMostOneHere, is_reserving_here, without_here, reserved_here, after_store_here, after_run_here}
 
 -- fewer reservations are single where all were
 single_filter_here : (keeps : AreaReservation → Bool) (rs : List AreaReservation) → AtMostOneHere rs → AtMostOneHere (filter keeps rs)
@@ -26,6 +26,9 @@ single_without_here rs task single = single_filter_here _ rs single
 
 pub single_after_store_here : (rs : List AreaReservation) (task at width : ℕ) → AtMostOneHere rs → AtMostOneHere (after_store_here rs task at width)
 single_after_store_here rs task at width single = single_filter_here _ rs single
+
+pub single_after_run_here : (rs : List AreaReservation) (task at count : ℕ) → AtMostOneHere rs → AtMostOneHere (after_run_here rs task at count)
+single_after_run_here rs task at count single = single_filter_here _ rs single
 
 -- without the task's own there are no more
 pub no_more_without_here : (rs : List AreaReservation) (task : ℕ) → length (without_here rs task) ≤ length rs

@@ -3,7 +3,7 @@
 use Rattle.std.specs.Prelude.{◌≢◌, ℕ, ◌==◌, ◌&&◌, ◌||◌, not, Bool, List, [], ◌∷◌, ◌++◌, filter, AllPairs}
 use Rattle.std.specs.List.{list_any}
 use Rattle.rv_atomic.specs.declared.area_reservations.AreaReservation.{AreaReservation}
-use Rattle.rv_atomic.specs.Reservations.{meets}
+use Rattle.rv_atomic.specs.Reservations.{lies_over, meets}
 
 -- no task has two reservations in one area
 -- 8.2: a hart has one reservation at most
@@ -32,3 +32,9 @@ reserved_here rs task granule = without_here rs task ++ (record { task = task; g
 -- 8.2: a store from another hart to the reservation set; a task's own stores end nothing: profile
 abbrev pub after_store_here : List AreaReservation → (task at width : ℕ) → List AreaReservation
 after_store_here rs task at width = filter (λ r. (r.task == task) || not (meets r.granule at width)) rs
+
+-- the reservations after a task has put so many bytes of the area, however many: each ends that is another task's and has a
+-- byte of its granule there
+-- read(2): what a call puts into its buffer; 8.2: a store from another hart to the reservation set
+abbrev pub after_run_here : List AreaReservation → (task at count : ℕ) → List AreaReservation
+after_run_here rs task at count = filter (λ r. (r.task == task) || not (lies_over r.granule at count)) rs

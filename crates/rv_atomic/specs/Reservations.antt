@@ -55,3 +55,9 @@ lies_over number at count = nat_lt (max (8 * number) at) (min (8 * number + 8) (
 -- mmap(2), munmap(2), mprotect(2); that a reservation is lost by them: profile
 abbrev pub outside_range : List Reservation → (at count : ℕ) → List Reservation
 outside_range rs at count = filter (λ r. not (lies_over (granule r.address) at count)) rs
+
+-- the reservations after a task has put so many bytes from an address on, however many: each ends that is another task's
+-- and has a byte of its granule there
+-- read(2): what a call puts into its buffer; 8.2: a store from another hart to the reservation set
+abbrev pub after_run : List Reservation → (task at count : ℕ) → List Reservation
+after_run rs task at count = filter (λ r. (r.task == task) || not (lies_over (granule r.address) at count)) rs

@@ -1,8 +1,9 @@
 //! The reservations that tasks have in a shared area.
 
-ghost use Rattle.std.specs.Prelude.{◌≡◌, ◌<◌, ◌↔◌, [], length, IsTrue, IsFalse, OnOk, OnErr, vec_len, vec_capacity};
+ghost use Rattle.std.specs.Prelude.{◌≡◌, ◌+◌, ◌^◌, ◌<◌, ◌≤◌, ◌↔◌, [], length, IsTrue, IsFalse, OnOk, OnErr, vec_len, vec_capacity};
 ghost use Rattle.rv_table.specs.Words.{IsWidth};
-ghost use Rattle.rv_atomic.specs.AreaReservations.{AtMostOneHere, after_store_here, is_held_here, is_reserving_here, reserved_here, without_here};
+ghost use Rattle.rv_atomic.specs.Reservations.{lies_over};
+ghost use Rattle.rv_atomic.specs.AreaReservations.{AtMostOneHere, after_run_here, after_store_here, is_held_here, is_reserving_here, reserved_here, without_here};
 
 use sn_base::Memory;
 use std::alloc::Global;
@@ -86,6 +87,18 @@ impl AreaReservations {
         }
     }
 
+    /// Ends the other tasks' reservations of each granule that has one of so many bytes, whose first is `at` bytes behind
+    /// the area's first, where a call has put them for the task. It takes no memory.
+    #[tactic(auto, using(crate::proofs::SinglesHere::single_after_run_here))]
+    pub fn stored_run(&mut self, task: u32, at: u64, count: u64)
+        requires { at + count ≤ 2 ^ 64 }
+        ensures { self.new ≡ after_run_here self.old task at count }
+    {
+        if !self.items.is_empty() {
+            drop_run(&mut self.items, task, at, count);
+        }
+    }
+
     /// Ends what a task has reserved here, as where it ends. It takes no memory.
     #[tactic(auto, using(crate::proofs::SinglesHere::single_without_here))]
     pub fn leave(&mut self, task: u32)
@@ -142,4 +155,20 @@ fn drop_met(items: &mut Vec<AreaReservation>, task: u32, at: u64, width: u8)
     let first = at / 8;
     let last = at.wrapping_add(u64::from(width) - 1) / 8;
     items.retain(|r| r.task == task || (r.granule != first && r.granule != last));
+}
+
+/// Drops the other tasks' whose granule has a byte among so many from one of the area's bytes on.
+fn drop_run(items: &mut Vec<AreaReservation>, task: u32, at: u64, count: u64)
+    requires { at + count ≤ 2 ^ 64 }
+    ensures { items.new.items ≡ after_run_here items.old.items task at count }
+{
+    items.retain(|r| r.task == task || !lies_over(r.granule, at, count));
+}
+
+/// Whether a byte of a granule is one of so many from one of the area's bytes on.
+fn lies_over(number: u64, at: u64, count: u64) -> bool
+    requires { at + count ≤ 2 ^ 64 }
+    ensures { result ≡ lies_over number at count }
+{
+    count > 0 && at / 8 <= number && number <= (at + (count - 1)) / 8
 }

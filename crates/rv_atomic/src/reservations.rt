@@ -2,7 +2,7 @@
 
 ghost use Rattle.std.specs.Prelude.{◌≡◌, ◌<◌, ◌+◌, ◌^◌, ◌↔◌, [], length, IsTrue, IsFalse, IfOk, OnOk, OnErr, vec_len, vec_capacity};
 ghost use Rattle.rv_table.specs.Words.{IsWidth};
-ghost use Rattle.rv_atomic.specs.Reservations.{AtMostOneEach, after_store, is_held, is_reserving, lies_over, outside_range, reserved, without};
+ghost use Rattle.rv_atomic.specs.Reservations.{AtMostOneEach, after_run, after_store, is_held, is_reserving, lies_over, outside_range, reserved, without};
 
 use sn_base::{List, Memory};
 use std::alloc::Global;
@@ -99,6 +99,17 @@ impl Reservations {
         }
     }
 
+    /// Ends the other tasks' reservations of each granule that has one of so many bytes from an address on, where a call
+    /// has put them for the task. It takes no memory.
+    #[tactic(auto, using(crate::proofs::Singles::single_after_run))]
+    pub fn stored_run(&mut self, task: u32, at: u64, count: u64)
+        ensures { self.new ≡ after_run self.old task at count }
+    {
+        if !self.items.is_empty() {
+            drop_run(&mut self.items, task, at, count);
+        }
+    }
+
     /// Ends the reservations of all tasks of each granule that has one of so many bytes from an address on, where these
     /// were mapped anew, unmapped or got other rights. It takes no memory.
     #[tactic(auto, using(crate::proofs::Singles::single_outside))]
@@ -117,6 +128,13 @@ impl Reservations {
         let held = has(&self.items, task, address, width);
         drop_own(&mut self.items, task);
         held
+    }
+
+    /// Whether a task has a reservation. Where it has, another takes no memory.
+    pub fn is_reserving(&self, task: u32) -> bool
+        ensures { result ≡ is_reserving self.now task }
+    {
+        is_reserving(&self.items, task)
     }
 
     /// Whether the task's reservation is of just that address and width. Nothing changes.
@@ -172,6 +190,13 @@ fn drop_met(items: &mut Vec<Reservation>, task: u32, at: u64, width: u8)
     let first = at / 8;
     let last = at.wrapping_add(u64::from(width) - 1) / 8;
     items.retain(|r| r.task == task || (r.address / 8 != first && r.address / 8 != last));
+}
+
+/// Drops the other tasks' whose granule has a byte among so many from an address on.
+fn drop_run(items: &mut Vec<Reservation>, task: u32, at: u64, count: u64)
+    ensures { items.new.items ≡ after_run items.old.items task at count }
+{
+    items.retain(|r| r.task == task || !lies_over(r.address / 8, at, count));
 }
 
 /// Drops each whose granule has a byte among so many from an address on.

@@ -88,3 +88,27 @@ fn a_range_ends_the_reservations_of_all_tasks_whose_granule_has_a_byte_there(
     }
     Ok(())
 }
+
+#[test]
+fn a_run_of_an_areas_bytes_ends_the_other_tasks_reservations_alone(
+    rt: HostRuntime,
+) -> Result<(), Fail> {
+    // bytes put from, how many, and whether the reservation of the area's third eight bytes stays
+    let cases: [(u64, u64, bool); 6] = [
+        (15, 1, true),
+        (15, 2, false),
+        (23, 1, false),
+        (23, 0, true),
+        (24, 4_096, true),
+        (0, 4_096, false),
+    ];
+    for (at, count, kept) in cases {
+        let mut held = AreaReservations::new(rt.alloc());
+        held.reserve(1, 2)?;
+        held.reserve(2, 2)?;
+        held.stored_run(2, at, count);
+        assert_eq!(rt; held.holds(1, 2), kept, "{count} bytes at {at}");
+        assert!(rt; held.holds(2, 2));
+    }
+    Ok(())
+}

@@ -83,8 +83,10 @@ fn a_store_of_two_granules_ends_both_reservations(rt: HostRuntime) -> Result<(),
 #[test]
 fn a_second_load_replaces_the_first_reservation(rt: HostRuntime) -> Result<(), Fail> {
     let mut held = Reservations::new(rt.alloc());
+    assert!(rt; !held.is_reserving(1));
     held.reserve(1, 0x1000, 8)?;
     held.reserve(1, 0x2000, 4)?;
+    assert!(rt; held.is_reserving(1) && !held.is_reserving(2));
     assert_eq!(rt; held.len(), 1);
     assert!(rt; !held.holds(1, 0x1000, 8));
     assert!(rt; held.take(1, 0x2000, 4));
@@ -120,5 +122,28 @@ fn a_copy_has_the_same_reservations_and_is_apart(rt: HostRuntime) -> Result<(), 
     assert_eq!(rt; held.len(), 1);
     assert_eq!(rt; copy.len(), 2);
     assert!(rt; copy.holds(1, 8, 4) && copy.holds(2, 16, 8));
+    Ok(())
+}
+
+#[test]
+fn a_run_of_bytes_ends_the_other_tasks_reservations_alone(rt: HostRuntime) -> Result<(), Fail> {
+    // bytes put from, how many, and whether the reservation of the eight bytes at 0x1000 stays
+    let cases: [(u64, u64, bool); 7] = [
+        (0xfff, 1, true),
+        (0xfff, 2, false),
+        (0x1007, 1, false),
+        (0x1007, 0, true),
+        (0x1008, 65_536, true),
+        (0, 65_536, false),
+        (0xffff_ffff_ffff_ffff, 4, true),
+    ];
+    for (at, count, kept) in cases {
+        let mut held = Reservations::new(rt.alloc());
+        held.reserve(1, 0x1004, 4)?;
+        held.reserve(2, 0x1000, 8)?;
+        held.stored_run(2, at, count);
+        assert_eq!(rt; held.holds(1, 0x1004, 4), kept, "{count} bytes at {at:x}");
+        assert!(rt; held.holds(2, 0x1000, 8));
+    }
     Ok(())
 }
