@@ -5,7 +5,7 @@ use stat_layout::{Dirent, FileKind, dirent_length, put_dirent};
 use std::test::Fail;
 
 /// Names by their length, and the length of the record.
-const LENGTHS: [(usize, usize); 11] = [
+const LENGTHS: [(u8, usize); 11] = [
     (0, 24),
     (1, 24),
     (4, 24),
@@ -22,7 +22,11 @@ const LENGTHS: [(usize, usize); 11] = [
 #[test]
 fn a_record_has_room_for_the_nul_up_to_a_multiple_of_eight(rt: HostRuntime) {
     for (name, record) in LENGTHS {
-        assert_eq!(rt; dirent_length(name), record, "a name of {name} bytes");
+        assert_eq!(rt;
+            dirent_length(usize::from(name)),
+            record,
+            "a name of {name} bytes"
+        );
     }
 }
 

@@ -2,6 +2,7 @@
 
 use sn_base::List;
 use stat_layout::{IoVec, IoVecErr, iovec_bytes, iovecs, total};
+use std::alloc::Global;
 use std::test::Fail;
 
 /// Counts, and how many bytes their records take.
@@ -70,34 +71,41 @@ fn a_call_may_have_1024_buffers(rt: HostRuntime) -> Result<(), Fail> {
 
 /// Two lengths, and their sum where a call can answer it.
 #[rattlefmt::skip]
-const SUMS: [([u8; 8], [u8; 8], Option<u64>); 7] = [
-    ([0, 0, 0, 0, 0, 0, 0, 0], [0, 0, 0, 0, 0, 0, 0, 0], Some(0)),
-    ([254, 255, 255, 255, 255, 255, 255, 127], [1, 0, 0, 0, 0, 0, 0, 0], Some(9_223_372_036_854_775_807)),
-    ([255, 255, 255, 255, 255, 255, 255, 127], [1, 0, 0, 0, 0, 0, 0, 0], None),
-    ([0, 0, 0, 0, 0, 0, 0, 128], [0, 0, 0, 0, 0, 0, 0, 0], None),
-    ([255, 255, 255, 255, 255, 255, 255, 255], [1, 0, 0, 0, 0, 0, 0, 0], None),
-    ([255, 255, 255, 255, 255, 255, 255, 255], [2, 0, 0, 0, 0, 0, 0, 0], None),
-    ([0, 0, 0, 0, 0, 0, 0, 128], [0, 0, 0, 0, 0, 0, 0, 128], None),
+const SUMS: [(u64, u64, Option<u64>); 8] = [
+    (0, 0, Some(0)),
+    (9_223_372_036_854_775_807, 0, Some(9_223_372_036_854_775_807)),
+    (9_223_372_036_854_775_806, 1, Some(9_223_372_036_854_775_807)),
+    (9_223_372_036_854_775_807, 1, None),
+    (9_223_372_036_854_775_808, 0, None),
+    (18_446_744_073_709_551_615, 1, None),
+    (18_446_744_073_709_551_615, 2, None),
+    (9_223_372_036_854_775_808, 9_223_372_036_854_775_808, None),
 ];
+
+/// The records of two buffers at 0.
+fn records_of(first: u64, second: u64) -> [u8; 32] {
+    let mut records = [0; 32];
+    records[8..16].copy_from_slice(&first.to_le_bytes());
+    records[24..].copy_from_slice(&second.to_le_bytes());
+    records
+}
+
+/// Whether so many bytes in two buffers are too many.
+fn is_too_long(alloc: Global, first: u64, second: u64) -> bool {
+    let made = iovecs(alloc, &records_of(first, second));
+    made.is_err_and(|e| e == IoVecErr::Sum)
+}
+
+fn buffer_of(length: u64) -> IoVec {
+    IoVec { base: 0, length }
+}
 
 #[test]
 fn buffers_of_more_than_a_call_can_answer_are_refused(rt: HostRuntime) {
     for (first, second, sum) in SUMS {
-        let mut records = [0; 32];
-        records[8..16].copy_from_slice(&first);
-        records[24..].copy_from_slice(&second);
-        let made = iovecs(rt.alloc(), &records);
-        assert_eq!(rt; made.is_err_and(|e| e == IoVecErr::Sum), sum.is_none());
-        let buffers = [
-            IoVec {
-                base: 0,
-                length: u64::from_le_bytes(first),
-            },
-            IoVec {
-                base: 0,
-                length: u64::from_le_bytes(second),
-            },
-        ];
-        assert_eq!(rt; total(&buffers), sum);
+        let refused = is_too_long(rt.alloc(), first, second);
+        assert_eq!(rt; refused, sum.is_none(), "{first} and {second}");
+        let buffers = [buffer_of(first), buffer_of(second)];
+        assert_eq!(rt; total(&buffers), sum, "{first} and {second}");
     }
 }
