@@ -3,19 +3,13 @@ use Rattle.std.proofs.Common.{◌≡◌, ℕ, ◌+◌, ◌-◌, ◌≤◌, List,
 use Rattle.std.proofs.Math.Seq.{take-append_seam, take-append-add, drop-append-add}
 use Rattle.std.proofs.lemmas.List.{take-replicate, drop-replicate}
 use Rattle.std.specs.Prelude.{replicate}
-use Rattle.std.specs.Int.{bytes_low_first}
 use Rattle.sn_bytes.specs.Fields.{little_bytes}
-use Rattle.sn_bytes.proofs.FieldWrites.{bytes_written}
 use Rattle.stat_layout.specs.declared.kind.FileKind.{FileKind}
 use Rattle.stat_layout.specs.declared.stat.Stat.{Stat}
 use Rattle.stat_layout.specs.Places.{placed}
 use Rattle.stat_layout.specs.Kinds.{entry_type}
 use Rattle.stat_layout.specs.Dirents.{dirent_length, dirent_record}
 use Rattle.stat_layout.specs.Stats.{mode_of, blocks_of, stat_record}
-
--- the bytes of a number
-pub in_bytes : (width n : ℕ) → little_bytes width n ≡ bytes_low_first 0 width n
-in_bytes width n = bytes_written width n
 
 -- the fields of struct stat, put over zeros
 pub stat_laid_out : (s : Stat) →

@@ -1,6 +1,6 @@
 //! Buffers that one call reads into or writes from, read out of the bytes of struct iovec.
 
-ghost use Rattle.std.specs.Prelude.{◌≡◌, ◌↔◌, ◌+◌, ◌-◌, ◌*◌, ◌/◌, ◌^◌, ◌≤◌, length, nat_le, if◌then◌else◌, IfOk, IfErr};
+ghost use Rattle.std.specs.Prelude.{◌≡◌, ◌↔◌, ◌+◌, ◌-◌, ◌*◌, ◌/◌, ◌^◌, ◌≤◌, length, nat_le, if◌then◌else◌, IfOk, IfErr, OnOk};
 ghost use Rattle.sn_base.specs.Sums.{capped};
 ghost use Rattle.stat_layout.specs.IoVecs.{IsFaultOf, IsOutOfRange, IsTooLong, iovec_at, iovecs_in, total_of};
 ghost use Rattle.stat_layout.specs.declared.iovec.IoVecErr.TheVariants.{Memory as WantOfMemory};
@@ -51,6 +51,7 @@ const LONGEST: u64 = (1 << 63) - 1;
 /// How many bytes the records of so many buffers take.
 pub fn iovec_bytes(count: u64) -> Result<usize, IoVecErr>
     ensures ok { IfOk result (λ size. size ≡ 16 * count) }
+    ensures within { IfOk result (λ size. size ≤ 16384) }
     ensures count { (result ≡ Err IoVecErr.Count) ↔ IsOutOfRange count }
     ensures fault { IfErr result (λ e. e ≡ IoVecErr.Count) }
 {
@@ -67,6 +68,7 @@ pub fn iovec_bytes(count: u64) -> Result<usize, IoVecErr>
 pub fn iovecs(alloc: Global, records: &[u8]) -> Result<List<IoVec>, IoVecErr>
     ensures ok { IfOk result (λ buffers. buffers ≡ iovecs_in records.now) }
     ensures count { IfOk result (λ buffers. length buffers ≡ length records.now / 16) }
+    ensures sum { OnOk result (total_of (iovecs_in records.now) ≤ 2 ^ 63 - 1) }
     ensures fault { IfErr result (IsFaultOf records.now) }
     ensures faulty { IsTooLong (iovecs_in records.now) → result ≡ Err IoVecErr.Sum }
 {

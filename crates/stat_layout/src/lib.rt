@@ -11,14 +11,14 @@
 //! length, and ends its name with a NUL (`fields`). `dirent_length` is the least multiple of 8 with room for all that
 //! (`value`, `multiple`, `room`, `least`).
 //!
-//! Proved of `iovec_bytes`: it refuses the counts outside 0 to 1,024, and no others (`count`, `fault`). `iovecs` gives
-//! the buffers in order (`ok`), and is refused with `Sum` exactly where they have more than 2^63 - 1 bytes in all,
-//! whatever the memory (`fault`, `faulty`); no sum wraps, here or in `total`.
+//! Proved of `iovec_bytes`: it refuses the counts outside 0 to 1,024, and no others (`count`, `within`, `fault`).
+//! `iovecs` gives all buffers in order (`ok`, `count`), and is refused with `Sum` exactly where they have more than
+//! 2^63 - 1 bytes in all (`sum`, `fault`), whatever the memory (`faulty`). `total` is that sum. None of them wraps.
 //!
 //! Not said: that memory suffices, where the records lie in a guest's memory, and which numbers a node has.
 //!
 //! Standard: stat(2) and inode(7); Linux's asm-generic/stat.h, as riscv64 has it; getdents64(2) and readdir(3);
-//! readv(2). Owner and group 1,000, blocks of 4,096 bytes and no times are choices of this project. No locks.
+//! readv(2). Owner and group 1,000, blocks of 4,096 bytes and times of 0 are choices of this project. No locks.
 #![tactic(auto)]
 
 mod dirent;

@@ -14,7 +14,7 @@ pub(crate) fn place(bytes: &mut [u8], offset: usize, field: &[u8])
 }
 
 /// Puts a number over the byte at an offset.
-#[tactic(auto, using(crate::proofs::Layouts::in_bytes))]
+#[tactic(auto, using(sn_bytes::proofs::FieldWrites::bytes_written))]
 pub(crate) fn place_u8(bytes: &mut [u8], offset: usize, value: u8)
     requires { offset + 1 ≤ length bytes.old }
     ensures { bytes.new ≡ placed offset (little_bytes 1 value) bytes.old }
@@ -23,7 +23,7 @@ pub(crate) fn place_u8(bytes: &mut [u8], offset: usize, value: u8)
 }
 
 /// Puts a number over the two bytes at an offset.
-#[tactic(auto, using(crate::proofs::Layouts::in_bytes))]
+#[tactic(auto, using(sn_bytes::proofs::FieldWrites::bytes_written))]
 pub(crate) fn place_u16(bytes: &mut [u8], offset: usize, value: u16)
     requires { offset + 2 ≤ length bytes.old }
     ensures { bytes.new ≡ placed offset (little_bytes 2 value) bytes.old }
@@ -32,7 +32,7 @@ pub(crate) fn place_u16(bytes: &mut [u8], offset: usize, value: u16)
 }
 
 /// Puts a number over the four bytes at an offset.
-#[tactic(auto, using(crate::proofs::Layouts::in_bytes))]
+#[tactic(auto, using(sn_bytes::proofs::FieldWrites::bytes_written))]
 pub(crate) fn place_u32(bytes: &mut [u8], offset: usize, value: u32)
     requires { offset + 4 ≤ length bytes.old }
     ensures { bytes.new ≡ placed offset (little_bytes 4 value) bytes.old }
@@ -41,7 +41,7 @@ pub(crate) fn place_u32(bytes: &mut [u8], offset: usize, value: u32)
 }
 
 /// Puts a number over the eight bytes at an offset.
-#[tactic(auto, using(crate::proofs::Layouts::in_bytes))]
+#[tactic(auto, using(sn_bytes::proofs::FieldWrites::bytes_written))]
 pub(crate) fn place_u64(bytes: &mut [u8], offset: usize, value: u64)
     requires { offset + 8 ≤ length bytes.old }
     ensures { bytes.new ≡ placed offset (little_bytes 8 value) bytes.old }
