@@ -24,6 +24,7 @@
 mod areas;
 mod changes;
 mod contents;
+mod decoded_words;
 mod fault;
 mod fork;
 mod free;
