@@ -1,5 +1,5 @@
 -- Which pages have their words there, decoded.
-use Rattle.std.specs.Prelude.{ℕ, Bool, false, List, Option, Some, None, option_map}
+use Rattle.std.specs.Prelude.{◌≡◌, ℕ, Bool, false, List, Option, Some, None, option_map, slice_get}
 use Rattle.rv_table.specs.declared.instr.Instr.{Instr}
 use Rattle.mm_frames.specs.Frames.{has_row}
 use Rattle.mm_frames.specs.Rows.{row_of}
@@ -9,7 +9,7 @@ use Rattle.mm_areas.specs.declared.page.Page.{Page}
 use Rattle.mm_areas.specs.declared.areas.Areas.{Areas}
 use Rattle.mm_areas.specs.Pages.{Mapped, Pages}
 use Rattle.mm_areas.specs.Contents.{bytes_mapped, bytes_at}
-use Rattle.mm_areas.specs.Own.{page_in}
+use Rattle.mm_areas.specs.Own.{page_of}
 
 -- whether a page's words are there, decoded: those of a page of a shared area never are
 -- profile
@@ -26,7 +26,12 @@ has_row_in (Some page) = has_row_content page.content
 -- the same of a page by its number in an address space
 -- profile
 abbrev pub has_row_at : Areas → (page : ℕ) → Bool
-has_row_at areas page = has_row_in (page_in areas.regions.items page)
+has_row_at areas page = has_row_in (page_of areas page)
+
+-- none of some pages has its words there, decoded
+-- profile
+abbrev pub AreUndecoded : List Page → Type 0
+AreUndecoded pages = (index : ℕ) → has_row_in (slice_get pages index) ≡ false
 
 -- the instructions that a page's words are, of a page that has its own bytes
 -- RISC-V Unprivileged ISA 20191213, 1.5: instructions of four bytes, the lowest first
