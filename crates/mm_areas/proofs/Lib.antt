@@ -13,3 +13,4 @@ pub mod ShareLaws
 pub mod OwnLaws
 pub mod SharedLaws
 pub mod RowLaws
+pub mod FreshLaws

@@ -81,9 +81,13 @@ impl Areas {
         ensures err { OnErr result (mapping self.new ≡ mapping self.old) }
         ensures owned { (page : ℕ) → map_of.contains_key (mapping self.old).pages page ≡ true →
             map_of.contains_key (mapping self.new).pages page ≡ true → owns self.new page ≡ owns self.old page }
+        ensures fresh { (page : ℕ) → map_of.contains_key (mapping self.old).pages page ≡ false →
+            owns self.new page ≡ false }
         ensures rows { (page : ℕ) → map_of.contains_key (mapping self.old).pages page ≡ true →
             map_of.contains_key (mapping self.new).pages page ≡ true →
             has_row_at self.new page ≡ has_row_at self.old page }
+        ensures undecoded { (page : ℕ) → map_of.contains_key (mapping self.old).pages page ≡ false →
+            has_row_at self.new page ≡ false }
     {
         if is_break(self, to) {
             self.move_break(alloc, to)?;
@@ -99,6 +103,10 @@ impl Areas {
         ensures err { OnErr result (mapping self.new ≡ mapping self.old) }
         ensures kept { (page : ℕ) → map_of.contains_key (mapping self.old).pages page ≡ true →
             map_of.contains_key (mapping self.new).pages page ≡ true → page_of self.new page ≡ page_of self.old page }
+        ensures fresh { (page : ℕ) → map_of.contains_key (mapping self.old).pages page ≡ false →
+            owns self.new page ≡ false }
+        ensures undecoded { (page : ℕ) → map_of.contains_key (mapping self.old).pages page ≡ false →
+            has_row_at self.new page ≡ false }
     {
         let broken = pages_in(self.program_break);
         let wanted = pages_in(to);
