@@ -10,7 +10,7 @@ use Rattle.mm_frames.specs.declared.row.Row.{Row}
 use Rattle.mm_frames.specs.Rows.{words_of}
 use Rattle.mm_areas.specs.declared.page.Page.{Page}
 use Rattle.mm_areas.specs.declared.areas.Region.{Region}
-use Rattle.mm_areas.specs.Pages.{Mapped, Pages, mapped_by}
+use Rattle.mm_areas.specs.Pages.{Mapped, mapped_by}
 use Rattle.mm_areas.specs.Regions.{pages_of}
 use Rattle.mm_areas.specs.Order.{are_from}
 use Rattle.mm_areas.specs.Own.{page_in}

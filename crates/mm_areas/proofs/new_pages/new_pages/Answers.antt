@@ -1,4 +1,4 @@
-use Rattle.std.proofs.Common.{◌≡◌, List, [], ◌∷◌, ◌++◌, map, refl, ap, sym, ◌∙◌, subst, rules}
+use Rattle.std.proofs.Common.{◌≡◌, [], ◌∷◌, ◌++◌, map, refl, ap, sym, ◌∙◌, subst, rules}
 use Rattle.mm_areas.specs.Pages.{mapped_by}
 use Rattle.mm_areas.specs.Shares.{AreShared}
 use Rattle.mm_areas.specs.DecodedWords.{AreUndecoded}
