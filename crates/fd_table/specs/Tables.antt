@@ -19,7 +19,7 @@ IsWithinLimit table = (n : ℕ) → IsTrue (map.contains_key table n) → n < 25
 
 -- ---- the lowest free number
 
--- a number that isn't open, the lowest of those from another on
+-- the lowest number at or above another that isn't open
 -- open(2), DESCRIPTION; dup(2); fcntl(2), F_DUPFD
 pub record IsLowestFree (table : Table) (from number : ℕ) : Type 0 where
   pub free : map.get table number ≡ None
@@ -27,7 +27,7 @@ pub record IsLowestFree (table : Table) (from number : ℕ) : Type 0 where
   pub limited : number < 256
   pub taken : (n : ℕ) → from ≤ n → n < number → IsSome (map.get table n)
 
--- each number from one on is open
+-- no number at or above another is free
 -- open(2), dup(2) and fcntl(2), EMFILE
 abbrev pub IsFullFrom : Table → (from : ℕ) → Type 0
 IsFullFrom table from = (n : ℕ) → from ≤ n → n < 256 → IsSome (map.get table n)

@@ -1,6 +1,6 @@
 //! The flags of open(2), and what they let a caller do with an open file.
 
-ghost use Rattle.std.specs.Prelude.{⊤, ◌≡◌, [], ◌∷◌, codes};
+ghost use Rattle.std.specs.Prelude.{⊤, ◌≡◌};
 
 use bitflags::{Flag, Flags, bitflag_items};
 

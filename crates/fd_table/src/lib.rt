@@ -5,13 +5,14 @@
 //! record of its fields, and `OpenFlags` are a number's bits, of which 11 have names. The descriptions that names
 //! stand for aren't kept here.
 //!
-//! Proved: `install` and `dup` open the lowest free number at or above one (`lowest`), and are refused as `Full`
-//! exactly where there is none (`full`), so for any number exactly where 256 are open (`all`). `dup` and `dup3` give
-//! a number another's description, with the mark that the call gives (`ok`); `dup3` answers what had the place
-//! (`replaced`), and which fault it answers is `dup3_fault` (`fault`). `close` answers what the number had, or that it
-//! isn't open (`answer`), and frees it (`ok`). After an error the table is as before (`err`). A copy is equal, and
-//! `numbers` and `on_exec` give the open numbers, and those that execve(2) closes, ascending. `access` is what the low
-//! two bits say (`access_in`), `status_flags` what F_GETFL answers, and `set_status` sets O_APPEND and O_NONBLOCK alone.
+//! Proved: `install` and `dup` open the lowest free number at or above the least asked (`lowest`), and are refused as
+//! `Full` exactly where there is none (`full`), from 0 on exactly where 256 are open (`all`); before that `dup` is
+//! refused as `BadFd` exactly where its number isn't open (`bad_fd`). `dup` and `dup3` give a number another's
+//! description, with the mark that the call gives (`ok`); `dup3` answers what had the place (`replaced`), and
+//! `dup3_fault` says which fault it answers (`fault`). `close` answers what the number had, or that it isn't open
+//! (`answer`), and frees it (`ok`). After an error the table is as before (`err`). A copy is equal, and `numbers` and
+//! `on_exec` give the open numbers, and those that execve(2) closes, ascending. `access` is what the low two bits say
+//! (`access_in`), `status_flags` what F_GETFL answers, and `set_status` sets O_APPEND and O_NONBLOCK alone.
 //!
 //! Only `new`, `copy`, `numbers` and `on_exec` take memory. A look-up goes by index; `install` and `dup` look at the
 //! numbers from the least asked to the one that they open.

@@ -1,6 +1,6 @@
 //! The slots of a table: a descriptor's number is the place of its slot.
 
-ghost use Rattle.std.specs.Prelude.{◌≡◌, ℕ, ◌<◌, ◌≤◌, ◌↔◌, None, IsSome, IfSome, IfNone, IfOk, length, filter, is_some};
+ghost use Rattle.std.specs.Prelude.{◌≡◌, ◌<◌, ◌≤◌, ◌↔◌, None, IfSome, IfNone, IfOk, length, filter, is_some};
 ghost use Rattle.std.specs.List.{range_with_len};
 ghost use Rattle.std.specs.FinMap as map;
 ghost use Rattle.fd_table.specs.Slots.{table_of};
@@ -38,7 +38,7 @@ pub(crate) fn vacate(slots: &mut [Option<Descriptor>], fd: u32)
     slots[fd as usize] = None;
 }
 
-/// The lowest number without a descriptor, from one on.
+/// The lowest number at or above another that has no descriptor.
 pub(crate) fn first_free(slots: &[Option<Descriptor>], from: u32) -> Option<u32>
     requires { length slots.now ≡ 256 }
     ensures lowest { IfSome result (λ fd. IsLowestFree (table_of slots.now) from fd) }

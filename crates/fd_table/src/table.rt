@@ -1,6 +1,6 @@
 //! A descriptor table and its calls.
 
-ghost use Rattle.std.specs.Prelude.{◌≡◌, ◌≢◌, ℕ, ◌<◌, ◌≤◌, ◌↔◌, Err, IfOk, IfErr, OnOk, OnErr, IsSome, ok_or, None};
+ghost use Rattle.std.specs.Prelude.{◌≡◌, ◌≢◌, ◌≤◌, ◌↔◌, Err, IfOk, IfErr, OnOk, OnErr, IsSome, ok_or, None};
 ghost use Rattle.std.specs.FinMap as map;
 ghost use Rattle.std.specs.Result.{result_err};
 ghost use Rattle.fd_table.specs.Tables.{IsFullFrom, IsLowestFree, IsWithinLimit, closed_on_exec, dup3_fault, duplicated, marked, open_fault};
