@@ -12,6 +12,12 @@ use Rattle.sn_base.proofs.Maps.{same_by_get}
 use Rattle.task_table.specs.Entries.{changed_at, each_changed}
 use Rattle.task_table.proofs.Numbers.{get_after, keys-insert_there, among_keys}
 
+-- a test that a change leaves
+pub alike : {A : Type 0} {B : Type 0} (f : A → A) (test : A → B) (d : B) (same : (x : A) → test (f x) ≡ test x) (b : Bool) (o : Option A) → option_map_or test (cond b (option_map f o) o) d ≡ option_map_or test o d
+alike f test d same true None = refl
+alike f test d same true (Some x) = same x
+alike f test d same false o = refl
+
 module _ {V : Type 0} where
   -- ---- one entry
 
