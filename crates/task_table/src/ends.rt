@@ -1,13 +1,12 @@
 //! Ending tasks of a thread group, and the group.
 
-ghost use Rattle.std.specs.Prelude.{◌≡◌, ◌≤◌, [], if◌then◌else◌, None, Some, filter, map as map_list, vec_capacity, vec_len};
-ghost use Rattle.std.specs.FinMap as map;
+ghost use Rattle.std.specs.Prelude.{◌≡◌, ◌≤◌, [], if◌then◌else◌, None, Some, vec_capacity, vec_len};
 ghost use Rattle.task_table.specs.Ends.{ended_if, ended_tasks, ended_where, groups_closed};
 ghost use Rattle.task_table.specs.Entries.{changed_at, numbers_where};
 ghost use Rattle.task_table.specs.Leaving.{is_leaving, leaves};
 ghost use Rattle.task_table.specs.Table.{clear_of, has_parent, live_numbers};
 
-use crate::reaps::{drop_orphans, orphan_children};
+use crate::reaps::orphan_children;
 use crate::{EndedTask, Group, Status, Task};
 use sn_base::{List, Map};
 
@@ -114,5 +113,4 @@ pub(crate) fn close_group(
 {
     orphan_children(groups, children, group);
     note_end(groups, group, status);
-    drop_orphans(children, groups);
 }

@@ -61,7 +61,7 @@ fn end_itself(tasks: &mut Map<Task>, task: u32)
 }
 
 /// Takes a number out of ascending ones, if it is among them.
-fn take_out(numbers: &mut Vec<u32>, number: u32)
+pub(crate) fn take_out(numbers: &mut Vec<u32>, number: u32)
     requires { IsStrictlyIncreasing numbers.old.items }
     ensures { numbers.new.items ≡ filter (λ n. not (n == number)) numbers.old.items }
 {

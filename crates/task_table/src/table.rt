@@ -140,7 +140,8 @@ impl Tasks {
         Ok(number)
     }
 
-    /// Ends a task, and with the last one of a thread group the group. It goes over the live tasks once.
+    /// Ends a task, and with the last one of a thread group the group. It goes over the live tasks once, and where the
+    /// group ends once over the groups with a parent.
     pub fn exit(&mut self, alloc: Global, task: u32, code: u8) -> Result<Ended, Memory>
         requires { IsTrue (is_live self.old.tasks task) }
         ensures ok { OnOk result (self.new ≡ exited self.old task (Status.Exited code)) }
@@ -166,7 +167,7 @@ impl Tasks {
         })
     }
 
-    /// Ends a thread group and its tasks. It goes over the live tasks once.
+    /// Ends a thread group and its tasks. It goes over the live tasks once, and once over the groups with a parent.
     pub fn end_group(&mut self, alloc: Global, group: u32, status: Status) -> Result<Ended, Memory>
         requires there { IsTrue (map.contains_key self.old.groups group) }
         requires lives { IsFalse (has_ended self.old.groups group) }
@@ -202,7 +203,7 @@ impl Tasks {
     }
 
     /// What waiting for a child comes to: for that of a number, or for any. A child that is answered is nobody's child
-    /// from then on. It takes no memory.
+    /// from then on. It goes over the groups with a parent once, and takes no memory.
     pub fn reap(&mut self, parent: u32, which: Option<u32>) -> ReapEnd
         ensures answer { result ≡ reap_end self.old.groups parent which }
         ensures after { self.new ≡ after_reap self.old result }
