@@ -1,5 +1,6 @@
 pub mod Accesses
 pub mod Changes
 pub mod Handing
+pub mod Puts
 pub mod Sight
 pub mod Spaces
