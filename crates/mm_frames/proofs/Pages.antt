@@ -1,9 +1,11 @@
 -- Pages of which one frame has changed.
-use Rattle.std.proofs.Common.{◌≡◌, ℕ, ◌+◌, ◌<◌, Bool, false, List, [], ◌∷◌, ◌++◌, length, get_or, set, take, replicate, map, Result, Ok, Err, Some, ap, sym, ◌∙◌, subst}
+use Rattle.std.proofs.Common.{◌≡◌, ℕ, ◌+◌, ◌<◌, ◌↔◌, Bool, true, false, List, [], ◌∷◌, ◌++◌, length, get_or, set, take, replicate, map, Result, Ok, Err, Some, ap, sym, ◌∙◌, subst}
 use Rattle.std.specs.Prelude.{OnOk, OnErr, slice_get}
+use Rattle.std.specs.Bool.{IsTrue, OnTrue}
 use Rattle.std.proofs.lemmas.List.{map-set, map-append, get_or-map, length-map, replicate_more, take_more, take_more_set}
 use Rattle.std.proofs.Math.Seq.{map-set_same}
-use Rattle.std.proofs.lemmas.Option.{slice_get-get_or}
+use Rattle.std.proofs.lemmas.Bool.{false≢true}
+use Rattle.std.proofs.lemmas.Option.{slice_get-get_or, slice_get_within}
 use Rattle.mm_frames.specs.declared.frame.Frame.{Frame}
 use Rattle.mm_frames.specs.Frames.{bytes_of, is_own, with_change, page_at}
 
@@ -26,6 +28,26 @@ page_changed (Err e) frames page old new change within was changed = tt
 pub page_owned : {E X : Type 0} (answer : Result X E) (frames : List Frame) (page : ℕ) (new : Frame) (own : Bool) → OnOk answer (is_own new ≡ own) → OnOk answer (map is_own (set frames page new) ≡ set (map is_own frames) page own)
 page_owned (Ok done) frames page new own is = map-set is_own frames page new ∙ ap (set (map is_own frames) page) is
 page_owned (Err e) frames page new own is = tt
+
+-- the same where it is told by a test
+pub page_put : (done : Bool) (frames : List Frame) (page : ℕ) (old new : Frame) (change : List ℕ → List ℕ) → page < length frames → old ≡ get_or frames page old
+    → OnTrue done (bytes_of new ≡ change (bytes_of old)) → OnTrue done (map bytes_of (set frames page new) ≡ with_change (map bytes_of frames) page change)
+page_put true frames page old new change within was changed =
+    map-set bytes_of frames page new
+    ∙ ap (set (map bytes_of frames) page) (changed ∙ ap change (ap bytes_of was ∙ sym (get_or-map bytes_of frames page old [] within)))
+page_put false frames page old new change within was changed = tt
+
+-- where it is as own as before, all pages are
+pub owned_kept : (frames : List Frame) (page : ℕ) (old new : Frame) → old ≡ get_or frames page old → is_own new ≡ is_own old → map is_own (set frames page new) ≡ map is_own frames
+owned_kept frames page old new was same = map-set_same is_own frames page new old (same ∙ ap is_own was)
+
+-- past the last page none is own
+own_past : (frames : List Frame) (page : ℕ) → (page < length frames → ⊥) → slice_get (map is_own frames) page ≡ Some true → ⊥
+own_past frames page past own = past (subst (λ n. page < n) (length-map frames is_own) (slice_get_within (map is_own frames) page true own))
+
+-- so that nothing is put there
+pub put_past : {P : Type 0} (frames : List Frame) (page : ℕ) → (page < length frames → false ≡ true) → IsTrue false ↔ ((slice_get (map is_own frames) page ≡ Some true) × P)
+put_past frames page past = (λ done. absurd (false≢true done), λ met. absurd (own_past frames page (λ within. false≢true (past within)) met.0))
 
 -- where its bytes stay, all pages do
 pub pages_kept : (frames : List Frame) (page : ℕ) (old new : Frame) → old ≡ get_or frames page old → bytes_of new ≡ bytes_of old → map bytes_of (set frames page new) ≡ map bytes_of frames

@@ -1,6 +1,8 @@
 //! The frames of pages one behind another, as a shared area has them.
 
 ghost use Rattle.std.specs.Prelude.{◌≡◌, ◌+◌, ◌<◌, ◌≤◌, ◌↔◌, [], IsTrue, true, false, length, SomeIff, IfOk, OnOk, OnErr, slice_get, slice_set, replicate};
+ghost use Rattle.std.specs.Bool.{OnTrue, OnFalse};
+ghost use Rattle.std.specs.Option.{option_copied};
 ghost use Rattle.rv_table.specs.Words.{IsWidth};
 ghost use Rattle.mm_frames.specs.Numbers.{IsInPage, number_in, with_number, with_run};
 
@@ -59,6 +61,57 @@ impl Frames {
             (number_in (page_at (pages_of self.now) page) offset width) }
     {
         self.frames.get(page)?.number(offset, width)
+    }
+
+    /// A page's bytes, in order, or `None` past the last page.
+    pub fn as_slice(&self, page: usize) -> Option<&[u8]>
+        ensures { option_copied result ≡ slice_get (pages_of self.now) page }
+    {
+        Some(self.frames.get(page)?.as_slice())
+    }
+
+    /// Makes a page's bytes its own: bytes that it shares, and zeros that nobody has written, are copied. An `Err`
+    /// changes nothing, and comes only where they weren't its own.
+    pub fn own(&mut self, alloc: Global, page: usize) -> Result<(), Memory>
+        requires { page < length (pages_of self.old) }
+        ensures pages { pages_of self.new ≡ pages_of self.old }
+        ensures owned { OnOk result (owned_of self.new ≡ slice_set (owned_of self.old) page true) }
+        ensures kept { OnErr result (owned_of self.new ≡ owned_of self.old) }
+        ensures shared { OnErr result (slice_get (owned_of self.old) page ≡ Some false) }
+    {
+        self.frames[page].own(alloc)
+    }
+
+    /// Puts so many of a number's bytes from an offset of a page on, the lowest first, and answers whether it has:
+    /// exactly where there is the page, its bytes are its own, it reaches so far and an access is so wide. It takes no
+    /// memory.
+    pub fn put_number(&mut self, page: usize, offset: usize, width: u8, value: u64) -> bool
+        ensures fits { IsTrue result ↔ ((slice_get (owned_of self.old) page ≡ Some true) × IsInPage offset width) }
+        ensures bytes { OnTrue result
+            (pages_of self.new ≡ with_change (pages_of self.old) page (λ bytes. with_number bytes offset width value)) }
+        ensures unchanged { OnFalse result (pages_of self.new ≡ pages_of self.old) }
+        ensures owned { owned_of self.new ≡ owned_of self.old }
+    {
+        match self.frames.get_mut(page) {
+            Some(frame) => frame.put_number(offset, width, value),
+            None => false,
+        }
+    }
+
+    /// Puts a run of bytes from an offset of a page on, and answers whether it has: exactly where there is the page,
+    /// its bytes are its own and it reaches so far. It takes no memory.
+    pub fn put_bytes(&mut self, page: usize, offset: usize, run: &[u8]) -> bool
+        ensures fits { IsTrue result ↔
+            ((slice_get (owned_of self.old) page ≡ Some true) × (offset + length run.now ≤ 4096)) }
+        ensures bytes { OnTrue result
+            (pages_of self.new ≡ with_change (pages_of self.old) page (λ bytes. with_run bytes offset run.now)) }
+        ensures unchanged { OnFalse result (pages_of self.new ≡ pages_of self.old) }
+        ensures owned { owned_of self.new ≡ owned_of self.old }
+    {
+        match self.frames.get_mut(page) {
+            Some(frame) => frame.put_bytes(offset, run),
+            None => false,
+        }
     }
 
     /// Puts a byte at an offset of a page. Other pages stay as they were, and so do other holders of the frame. An

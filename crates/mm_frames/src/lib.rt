@@ -8,7 +8,7 @@
 //!
 //! Proved: each read gives exactly what lies there, and `None` exactly where the page doesn't reach so far or no
 //! access is so wide. A store leaves exactly the bytes before with the new ones in their place (`ok`, `bytes`), and
-//! the frame own (`own`). An `Err` is want of memory, changes nothing (`err`), and comes only where the frame wasn't
+//! the frame own (`own`, `owned`). An `Err` is want of memory, changes nothing (`err`), and comes only where it wasn't
 //! own (`shared`): zeros that nobody has written take no memory, so that their first store takes some, as that to a
 //! shared frame does. `put_number` and `put_bytes` take none, and answer `true` exactly where the frame is own and
 //! what is put fits (`fits`). `share` gives another frame of the same bytes, and neither is own from then on (`lost`).
