@@ -1,6 +1,7 @@
 pub mod Accesses
 pub mod Changes
 pub mod Handing
+pub mod Places
 pub mod Puts
 pub mod Sight
 pub mod Spaces

@@ -1,15 +1,15 @@
 -- Bytes put into an address space, and into the shared areas that are handed in.
-use Rattle.std.specs.Prelude.{ℕ, zero, suc, ◌+◌, ◌*◌, ◌/◌, ◌%◌, ◌^◌, List, [], ◌∷◌, Option, Some, None, if◌then◌else◌, length, slice_set}
+use Rattle.std.specs.Prelude.{◌≡◌, Ok, ℕ, zero, suc, ◌+◌, ◌*◌, ◌/◌, ◌%◌, ◌^◌, List, [], ◌∷◌, Option, Some, None, if◌then◌else◌, length, slice_set}
 use Rattle.std.specs.FinMap as map
 use Rattle.rv_table.specs.declared.error.Area.{Area}
-use Rattle.rv_table.specs.Bytes.{behind}
+use Rattle.rv_table.specs.Bytes.{AllowsAs, behind, loaded}
 use Rattle.rv_atomic.specs.Reservations.{after_run, after_store}
 use Rattle.rv_atomic.specs.AreaReservations.{after_store_here}
 use Rattle.mm_frames.specs.Frames as frames
 use Rattle.mm_areas.specs.Contents as contents
 use Rattle.mm_areas.specs.Mappings.{with_pages}
 use Rattle.mm_areas.specs.Pages.{Held, Bytes, PageOf, Mapped}
-use Rattle.mm_space.specs.Accesses.{page_number, page_offset}
+use Rattle.mm_space.specs.Accesses.{byte_at, page_number, page_offset, writable}
 use Rattle.mm_space.specs.Handing.{AreaState, InHand}
 use Rattle.mm_space.specs.Sight.{is_area}
 use Rattle.mm_space.specs.Spaces.{AddressSpace, Reach}
@@ -55,7 +55,7 @@ put_mapped task page offset value (Some m) r = put_held task page offset value m
 abbrev pub put_byte : (task address value : ℕ) → Reach → Reach
 put_byte task address value r =
     put_mapped task (page_number address) (page_offset address) value
-        (map.get r.space.mapping.pages (page_number address)) r
+    (map.get r.space.mapping.pages (page_number address)) r
 
 -- so many of a number's bytes put from an address on, the lowest first
 -- RISC-V Unprivileged ISA 20191213, 1.4: little-endian
@@ -95,3 +95,10 @@ after_run_stored task at bytes r = record {
   space = ended_by_run task at (length bytes) (put_run task at bytes r).space;
   hand = (put_run task at bytes r).hand;
 }
+
+-- a store is made, whichever areas are handed in
+-- profile
+abbrev pub StoresNear : (old new : AddressSpace) → (task at width value : ℕ) → Type 0
+StoresNear old new task at width value = (hand : List InHand) →
+    AllowsAs (loaded (byte_at writable (record { space = old; hand = hand })) at width) (Ok tt)
+    × ((record { space = new; hand = hand }) ≡ after_stored task at width value (record { space = old; hand = hand }))

@@ -26,6 +26,7 @@ mod handed;
 mod seen;
 mod sight;
 mod space;
+mod stores;
 
 pub use handed::{Handed, HandedArea, SharedArea};
 pub use space::Space;
