@@ -5,3 +5,4 @@ pub mod NumberBounds
 pub mod Placed
 pub mod Readied
 pub mod NearPuts
+pub mod Undone

@@ -165,3 +165,11 @@ module _ (name : Area) (hs : List HandedArea) (place : ℕ) (old new : HandedAre
       (ap (λ (n : Area). (let i : InHand = record { name = n; state = area_state new.area } in i)) p.named
       ∙ ap (λ (s : AreaState). (let i : InHand = record { name = old.name; state = s } in i)) is
       ∙ ap (λ (h : HandedArea). changed_in_hand change (in_hand h)) p.was)
+
+  pub put_ok : {E : Type 0} (answer : Result Unit E) (change : AreaState → AreaState) → OnOk answer (area_state new.area ≡ change (area_state old.area)) → OnOk answer (map in_hand (set hs place new) ≡ with_area name change (map in_hand hs))
+  put_ok (Ok done) change is = put_there change is
+  put_ok (Err e) change is = tt
+
+  pub same_err : {E : Type 0} (answer : Result Unit E) → OnErr answer (area_state new.area ≡ area_state old.area) → OnErr answer (map in_hand (set hs place new) ≡ map in_hand hs)
+  same_err (Ok done) same = tt
+  same_err (Err e) same = same_there same

@@ -23,7 +23,9 @@ pub struct SharedArea {
 }
 
 impl SharedArea {
+    ghost use Rattle.std.specs.Prelude.{Some};
     ghost use Rattle.mm_space.specs.Places.{page_owned};
+    ghost use Rattle.mm_space.specs.Reserves.{is_held_in_area, leave_in_area, reserve_in_area};
 
     /// Makes the bytes of a page the area's own, where there is the page.
     fn own(&mut self, alloc: Global, number: usize) -> Result<(), Memory>
@@ -36,6 +38,33 @@ impl SharedArea {
             self.frames.own(alloc, number)?;
         }
         Ok(())
+    }
+
+    /// Notes that a task has reserved the granule of a byte.
+    fn reserve(&mut self, task: u32, number: u64, offset: u64) -> Result<(), Memory>
+        requires { offset < 4096 }
+        ensures ok { OnOk result (area_state self.new ≡ reserve_in_area task number offset (area_state self.old)) }
+        ensures err { OnErr result (area_state self.new ≡ area_state self.old) }
+    {
+        let at = number.wrapping_mul(4096).wrapping_add(offset);
+        self.reservations.reserve(task, at / 8)
+    }
+
+    /// Whether a task has reserved the granule of a byte.
+    fn holds(&self, task: u32, number: u64, offset: u64) -> bool
+        requires { offset < 4096 }
+        ensures { result ≡ is_held_in_area task number offset (Some (area_state self.now)) }
+    {
+        let at = number.wrapping_mul(4096).wrapping_add(offset);
+        self.reservations.holds(task, at / 8)
+    }
+
+    /// Ends what a task has reserved.
+    fn leave(&mut self, task: u32)
+        ensures left { area_state self.new ≡ leave_in_area task (area_state self.old) }
+        ensures owned { (other : ℕ) → page_owned self.new.frames other ≡ page_owned self.old.frames other }
+    {
+        self.reservations.leave(task);
     }
 
     /// Puts a byte at an offset of a page, where the page's bytes are the area's own.
@@ -68,6 +97,7 @@ pub struct Handed {
 
 impl Handed {
     ghost use Rattle.mm_space.specs.Accesses.{area_byte, held_byte};
+    ghost use Rattle.mm_space.specs.Reserves.{is_held_in_area, leave_in_area, reserve_in_area};
 
     /// No area is handed in. It takes no memory.
     pub fn none(alloc: Global) -> Handed
@@ -127,6 +157,48 @@ impl Handed {
     {
         if let Some(place) = place_of(&self.areas, page.area) {
             self.areas[place].area.put(task, page.number, offset, value);
+        }
+    }
+
+    /// Notes in a shared area, where that is handed in, that a task has reserved the granule of a byte of a page. An
+    /// `Err` changes nothing.
+    pub(crate) fn reserve(
+        &mut self,
+        task: u32,
+        page: &SharedPage,
+        offset: u64,
+    ) -> Result<(), Memory>
+        requires { offset < 4096 }
+        ensures ok { OnOk result (hand_of self.new ≡
+            with_area page.now.area (reserve_in_area task page.now.number offset) (hand_of self.old)) }
+        ensures err { OnErr result (hand_of self.new ≡ hand_of self.old) }
+    {
+        match place_of(&self.areas, page.area) {
+            Some(place) => self.areas[place].area.reserve(task, page.number, offset),
+            None => Ok(()),
+        }
+    }
+
+    /// Whether a shared area that is handed in has a task's reservation of the granule of a byte of a page.
+    pub(crate) fn holds(&self, task: u32, page: &SharedPage, offset: u64) -> bool
+        requires { offset < 4096 }
+        ensures { result ≡
+            is_held_in_area task page.now.number offset (area_in page.now.area (hand_of self.now)) }
+    {
+        match self.get(page.area) {
+            Some(area) => area.holds(task, page.number, offset),
+            None => false,
+        }
+    }
+
+    /// Ends what a task has reserved in a shared area, where that is handed in.
+    pub(crate) fn leave(&mut self, task: u32, page: &SharedPage)
+        ensures left { hand_of self.new ≡ with_area page.now.area (leave_in_area task) (hand_of self.old) }
+        ensures owned { (name : Area) → (number : ℕ) →
+            owns_shared self.new name number ≡ owns_shared self.old name number }
+    {
+        if let Some(place) = place_of(&self.areas, page.area) {
+            self.areas[place].area.leave(task);
         }
     }
 

@@ -23,6 +23,7 @@
 mod access;
 mod changes;
 mod handed;
+mod reserves;
 mod seen;
 mod sight;
 mod space;

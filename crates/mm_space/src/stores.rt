@@ -112,7 +112,7 @@ impl Space {
     }
 
     /// The page of a shared area that a page is.
-    fn shared_page(&self, page: u64) -> Option<SharedPage>
+    pub(crate) fn shared_page(&self, page: u64) -> Option<SharedPage>
         ensures { result ≡ shared_at (map_of.get (mapping self.now.areas).pages page) }
     {
         match &self.areas.page(page)?.content {
