@@ -1,19 +1,22 @@
 -- What regions stand for after a cut, after some are taken out, and after one is put in.
-use Rattle.std.proofs.Common.{◌≡◌, ℕ, zero, suc, ◌+◌, ◌-◌, ◌^◌, ◌<◌, ◌≤◌, true, List, [], ◌∷◌, ◌++◌, length, take, drop, get_or, map, None, Vec, Global, refl, ap, sym, ◌∙◌, subst, inl, inr, arith, length-append}
+use Rattle.std.proofs.Common.{◌≡◌, ℕ, zero, suc, ◌+◌, ◌-◌, ◌^◌, ◌<◌, ◌≤◌, true, false, cond, Option, List, [], ◌∷◌, ◌++◌, length, take, drop, get_or, map, None, Vec, Global, refl, ap, sym, ◌∙◌, subst, inl, inr, arith, length-append}
 use Rattle.std.specs.Option.{is_some}
-use Rattle.std.specs.List.{insert, remove_range}
+use Rattle.std.specs.List.{insert, remove_range, slice_get}
 use Rattle.std.specs.FinMap.{get}
 use Rattle.std.proofs.Math.ListN.{set}
 use Rattle.std.proofs.lemmas.List.{length-take, length-drop}
 use Rattle.std.specs.Vec.{vec_len}
-use Rattle.std.proofs.lemmas.Bool.{cases_lt, false≢true}
+use Rattle.std.proofs.lemmas.Bool.{cases_lt, cond-true, false≢true}
 use Rattle.mm_areas.specs.declared.areas.Region.{Region}
-use Rattle.mm_areas.specs.Pages.{Mapped, mapped_by, laid, unmapped, is_free}
+use Rattle.mm_areas.specs.declared.page.Page.{Page}
+use Rattle.mm_areas.specs.Pages.{Mapped, mapped_by, laid, unmapped, is_free, is_within}
+use Rattle.mm_areas.specs.Own.{page_in}
 use Rattle.mm_areas.specs.Regions.{pages_of}
 use Rattle.mm_areas.specs.Order.{AreFrom}
 use Rattle.mm_areas.specs.Places.{AreCut, AreHalves, index_behind}
-use Rattle.mm_areas.proofs.PageLaws.{laid-append, laid-laid_apart, unmapped_absent, unmapped-empty, unmapped-laid_within, unmapped-laid_apart, is_free_at}
+use Rattle.mm_areas.proofs.PageLaws.{where_page, within_range, within_bounds, apart_below, apart_behind, laid-append, laid-laid_apart, unmapped_absent, unmapped-empty, unmapped-laid_within, unmapped-laid_apart, is_free_at}
 use Rattle.mm_areas.proofs.RegionLaws.{end_of, mapped_in, length-mapped_in, from_lower, get_below, get_behind_first}
+use Rattle.mm_areas.proofs.ChangeLaws.{page_here, page_there}
 use Rattle.mm_areas.proofs.IndexLaws.{index_passed, index_first, index_of_later, first_from, has_in_region, cut_later}
 
 -- ---- a cut
@@ -24,6 +27,7 @@ pub record AreCutTo (page from : ℕ) (old new : List Region) : Type 0 where
   pub order : AreFrom from new
   pub cut : AreCut page new
   pub others : (other : ℕ) → AreCut other old → AreCut other new
+  pub kept : (q : ℕ) → page_in new q ≡ page_in old q
 
 map-append : (xs ys : List _) → map mapped_by (xs ++ ys) ≡ map mapped_by xs ++ map mapped_by ys
 map-append [] ys = refl
@@ -39,6 +43,55 @@ halves_pages page r low high rs is =
     ∙ ap (λ (n : ℕ). laid r.first (mapped_in low) (laid n (mapped_in high) (pages_of rs))) at
     ∙ sym (laid-append r.first (mapped_in low) (mapped_in high) (pages_of rs))
     ∙ ap (λ (ms : List Mapped). laid r.first ms (pages_of rs)) (sym (map-append low.pages.items high.pages.items) ∙ ap (map mapped_by) is.all)
+
+-- a page's bytes in one half are those in the whole
+slice_get-front : {X : Type 0} (xs ys : List X) (k : ℕ) → k < length xs → slice_get xs k ≡ slice_get (xs ++ ys) k
+slice_get-front [] ys k less = absurd (omega arith)
+slice_get-front (x ∷ xs) ys zero less = refl
+slice_get-front (x ∷ xs) ys (suc k) less = slice_get-front xs ys k (omega arith)
+
+slice_get-behind : {X : Type 0} (xs ys : List X) (k j : ℕ) → j ≡ length xs + k → slice_get ys k ≡ slice_get (xs ++ ys) j
+slice_get-behind [] ys k j at = let same : k ≡ j = omega (arith, at) in ap (slice_get ys) same
+slice_get-behind (x ∷ xs) ys k zero at = absurd (omega (arith, at))
+slice_get-behind (x ∷ xs) ys k (suc j) at = slice_get-behind xs ys k j (omega (arith, at))
+
+-- both halves have the pages of the whole
+halves_kept : (page : ℕ) (r low high : Region) (rs : List Region) → AreHalves page r low high → (q : ℕ) → page_in (low ∷ high ∷ rs) q ≡ page_in (r ∷ rs) q
+halves_kept page r low high rs is q = elim (cases_lt q r.first) [
+  | inl before ↦
+      page_there low (high ∷ rs) q (apart_below low.first (length low.pages.items) q (omega (arith, before, is.first)))
+      ∙ page_there high rs q (apart_below high.first (length high.pages.items) q (omega (arith, before, is.second, is.ends)))
+      ∙ sym (page_there r rs q (apart_below r.first (length r.pages.items) q before))
+  | inr from ↦ elim (cases_lt q page) [
+    | inl front ↦
+        let within : q - r.first < length low.pages.items = omega (arith, from, front, is.ends) in
+        page_here low (high ∷ rs) q (omega (arith, from, is.first)) (omega (arith, front, is.first, is.ends))
+        ∙ ap (λ (n : ℕ). slice_get low.pages.items (q - n)) is.first
+        ∙ slice_get-front low.pages.items high.pages.items (q - r.first) within
+        ∙ ap (λ (ps : List Page). slice_get ps (q - r.first)) is.all
+        ∙ sym (page_here r rs q from (omega (arith, front, is.ends, count)))
+    | inr behind ↦ elim (cases_lt q (end_of r)) [
+      | inl inside ↦
+          let at : q - r.first ≡ length low.pages.items + (q - high.first) = omega (arith, behind, is.second, is.ends) in
+          page_there low (high ∷ rs) q (apart_behind low.first (length low.pages.items) q (omega (arith, behind, is.first, is.ends)))
+          ∙ page_here high rs q (omega (arith, behind, is.second)) (omega (arith, inside, is.second, is.ends, count))
+          ∙ slice_get-behind low.pages.items high.pages.items (q - high.first) (q - r.first) at
+          ∙ ap (λ (ps : List Page). slice_get ps (q - r.first)) is.all
+          ∙ sym (page_here r rs q from inside)
+      | inr past ↦
+          page_there low (high ∷ rs) q (apart_behind low.first (length low.pages.items) q (omega (arith, behind, is.first, is.ends)))
+          ∙ page_there high rs q (apart_behind high.first (length high.pages.items) q (omega (arith, past, is.second, is.ends, count)))
+          ∙ sym (page_there r rs q (apart_behind r.first (length r.pages.items) q past))
+    ]
+  ]
+]
+  where
+    count : length low.pages.items + length high.pages.items ≡ length r.pages.items
+    count = halves_count page r low high is
+
+-- what stands behind a region stays, and so do all pages
+behind_kept : (r : Region) (olds news : List Region) (q : ℕ) → page_in news q ≡ page_in olds q → page_in (r ∷ news) q ≡ page_in (r ∷ olds) q
+behind_kept r olds news q same = ap (λ (o : Option Page). cond (is_within r.first (length r.pages.items) q) (slice_get r.pages.items (q - r.first)) o) same
 
 halves_cut : (page from : ℕ) (r low high : Region) (rs : List Region) → AreFrom from (r ∷ rs) → AreHalves page r low high → AreCutTo page from (r ∷ rs) (low ∷ high ∷ rs)
 halves_cut page from r low high rs h is = record {
@@ -56,6 +109,7 @@ halves_cut page from r low high rs h is = record {
     | inl ended ↦ (inl (omega (arith, ended, count, is.first)), (inl (omega (arith, ended, count, is.second, is.ends)), c.1))
     | inr later ↦ (inr (omega (arith, later, is.first)), (inr (omega (arith, later, is.second, is.ends)), c.1))
   ];
+  kept = halves_kept page r low high rs is;
 }
   where
     count : length low.pages.items + length high.pages.items ≡ length r.pages.items
@@ -73,6 +127,7 @@ cut_laws page from (r ∷ rs) (suc i) d low high h less is =
       order = (h.0, h.1, rest.order);
       cut = (inl (omega (arith, first, is.ends)), rest.cut);
       others = λ other c. (c.0, rest.others other c.1);
+      kept = λ q. behind_kept r rs (insert (set rs i low) (suc i) high) q (rest.kept q);
     }
 
 -- ---- some are taken out
@@ -80,9 +135,17 @@ cut_laws page from (r ∷ rs) (suc i) d low high h less is =
 pub record AreWithout (low high from : ℕ) (old new : List Region) : Type 0 where
   pub pages : pages_of new ≡ unmapped low (high - low) (pages_of old)
   pub order : AreFrom from new
+  pub kept : (q : ℕ) → is_within low (high - low) q ≡ false → page_in new q ≡ page_in old q
+
+-- a page outside a range is outside each part of it
+outside_part : (low count first size q : ℕ) → low ≤ first → first + size ≤ low + count → is_within low count q ≡ false → is_within first size q ≡ false
+outside_part low count first size q begins ends out = elim (where_page first size q) [
+  | inl w ↦ absurd (false≢true (sym out ∙ within_range low count q (omega (arith, begins, w.0)) (omega (arith, ends, w.1))))
+  | inr w ↦ w.1
+]
 
 pub taken_out : (low high from : ℕ) (rs : List Region) (i j : ℕ) → low ≤ high → AreFrom from rs → AreCut low rs → AreCut high rs → i ≡ index_behind low rs → j ≡ index_behind high rs → AreWithout low high from rs (remove_range rs i j)
-taken_out low high from [] zero zero le h cut_low cut_high is_i is_j = record { pages = sym (unmapped-empty low (high - low)); order = h }
+taken_out low high from [] zero zero le h cut_low cut_high is_i is_j = record { pages = sym (unmapped-empty low (high - low)); order = h; kept = λ q out. refl }
 taken_out low high from [] (suc i) j le h cut_low cut_high is_i is_j = absurd (omega (arith, is_i))
 taken_out low high from [] zero (suc j) le h cut_low cut_high is_i is_j = absurd (omega (arith, is_j))
 taken_out low high from (r ∷ rs) (suc i) (suc j) le h cut_low cut_high is_i is_j =
@@ -93,6 +156,7 @@ taken_out low high from (r ∷ rs) (suc i) (suc j) le h cut_low cut_high is_i is
     record {
       pages = ap (laid r.first (mapped_in r)) rest.pages ∙ sym (unmapped-laid_apart low (high - low) r.first (mapped_in r) (pages_of rs) (inl apart));
       order = (h.0, h.1, rest.order);
+      kept = λ q out. behind_kept r rs (remove_range rs i j) q (rest.kept q out);
     }
 taken_out low high from (r ∷ rs) (suc i) zero le h cut_low cut_high is_i is_j =
     absurd (omega (arith, (index_passed low r rs i is_i).0, index_first high r rs is_j))
@@ -105,6 +169,7 @@ taken_out low high from (r ∷ rs) zero (suc j) le h cut_low cut_high is_i is_j 
     record {
       pages = rest.pages ∙ sym (unmapped-laid_within low (high - low) r.first (mapped_in r) (pages_of rs) begins within);
       order = from_lower from (end_of r) (drop j rs) (omega (arith, h.0)) rest.order;
+      kept = λ q out. rest.kept q out ∙ sym (page_there r rs q (outside_part low (high - low) r.first (length r.pages.items) q begins (omega (arith, b.0)) out));
     }
 taken_out low high from (r ∷ rs) zero zero le h cut_low cut_high is_i is_j =
     let here = index_first high r rs is_j in
@@ -113,6 +178,7 @@ taken_out low high from (r ∷ rs) zero zero le h cut_low cut_high is_i is_j =
     record {
       pages = sym (unmapped_absent low (high - low) (pages_of (r ∷ rs)) (λ q a b. get_below r.first (r ∷ rs) q (at_first, h.1, h.2) (omega arith)));
       order = h;
+      kept = λ q out. refl;
     }
 
 -- ---- one is put in
@@ -120,6 +186,8 @@ taken_out low high from (r ∷ rs) zero zero le h cut_low cut_high is_i is_j =
 pub record AreWith (from : ℕ) (region : Region) (old new : List Region) : Type 0 where
   pub pages : pages_of new ≡ laid region.first (mapped_in region) (pages_of old)
   pub order : AreFrom from new
+  pub kept : (q : ℕ) → is_within region.first (length region.pages.items) q ≡ false → page_in new q ≡ page_in old q
+  pub put : (q : ℕ) → is_within region.first (length region.pages.items) q ≡ true → page_in new q ≡ slice_get region.pages.items (q - region.first)
 
 -- a region that a free range stands before is behind it
 before_first : (from : ℕ) (region r : Region) (rs : List Region) → AreFrom from (r ∷ rs) → ((q : ℕ) → region.first ≤ q → q < end_of region → get (pages_of (r ∷ rs)) q ≡ None) → 0 < length region.pages.items → region.first < end_of r → end_of region ≤ r.first
@@ -137,12 +205,26 @@ before_first from region r rs h free some here = elim (cases_lt r.first (end_of 
     both : (q : ℕ) → region.first ≤ q → r.first ≤ q → q < end_of region → q < end_of r → ⊥
     both q a b c e = false≢true (sym (ap is_some (free q a c)) ∙ has_in_region from (r ∷ rs) zero r q h (omega arith) b e)
 
+-- a page of the first region
+page_of_first : (r : Region) (rs : List Region) (q : ℕ) → is_within r.first (length r.pages.items) q ≡ true → page_in (r ∷ rs) q ≡ slice_get r.pages.items (q - r.first)
+page_of_first r rs q here = cond-true (is_within r.first (length r.pages.items) q) (slice_get r.pages.items (q - r.first)) (page_in rs q) here
+
 pub put_in : (from : ℕ) (rs : List Region) (i : ℕ) (region : Region) → AreFrom from rs → from ≤ region.first → 0 < length region.pages.items → end_of region ≤ 2 ^ 26 → ((q : ℕ) → region.first ≤ q → q < end_of region → get (pages_of rs) q ≡ None) → i ≡ index_behind region.first rs → AreWith from region rs (insert rs i region)
-put_in from [] zero region h low some high free is = record { pages = refl; order = (low, some, high) }
+put_in from [] zero region h low some high free is = record {
+  pages = refl;
+  order = (low, some, high);
+  kept = λ q out. page_there region [] q out;
+  put = λ q here. page_of_first region [] q here;
+}
 put_in from [] (suc i) region h low some high free is = absurd (omega (arith, is))
 put_in from (r ∷ rs) zero region h low some high free is =
     let here = index_first region.first r rs is in
-    record { pages = refl; order = (low, some, (before_first from region r rs h free some here, h.1, h.2)) }
+    record {
+      pages = refl;
+      order = (low, some, (before_first from region r rs h free some here, h.1, h.2));
+      kept = λ q out. page_there region (r ∷ rs) q out;
+      put = λ q here. page_of_first region (r ∷ rs) q here;
+    }
 put_in from (r ∷ rs) (suc i) region h low some high free is =
     let passed = index_passed region.first r rs i is in
     let rest = put_in (end_of r) rs i region h.2 passed.0 some high (λ q a b. sym (get_behind_first r rs q (omega (arith, passed.0, a))) ∙ free q a b) passed.1 in
@@ -150,6 +232,8 @@ put_in from (r ∷ rs) (suc i) region h low some high free is =
     record {
       pages = ap (laid r.first (mapped_in r)) rest.pages ∙ laid-laid_apart r.first (mapped_in r) region.first (mapped_in region) (pages_of rs) (inl apart);
       order = (h.0, h.1, rest.order);
+      kept = λ q out. behind_kept r rs (insert rs i region) q (rest.kept q out);
+      put = λ q here. page_there r (insert rs i region) q (apart_behind r.first (length r.pages.items) q (omega (arith, passed.0, (within_bounds region.first (length region.pages.items) q here).0))) ∙ rest.put q here;
     }
 
 pub without : (low high : ℕ) (old new : List Region) (i j : ℕ) → new ≡ remove_range old i j → low ≤ high → AreFrom 0 old → AreCut low old → AreCut high old → i ≡ index_behind low old → j ≡ index_behind high old → AreWithout low high 0 old new

@@ -12,3 +12,5 @@ pub mod WriteLaws
 pub mod ShareLaws
 pub mod OwnLaws
 pub mod SharedLaws
+pub mod RowLaws
+pub mod FreshLaws

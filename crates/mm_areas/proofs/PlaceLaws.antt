@@ -1,15 +1,16 @@
 -- Laws of where a mapping goes, and of how many pages are mapped then.
-use Rattle.std.proofs.Common.{◌≡◌, ℕ, zero, suc, ◌+◌, ◌-◌, ◌^◌, ◌<◌, ◌≤◌, Bool, true, false, cond, ◌&&◌, List, length, map, Option, Some, refl, ap, sym, ◌∙◌, arith}
+use Rattle.std.proofs.Common.{◌≡◌, ℕ, zero, suc, ◌+◌, ◌-◌, ◌^◌, ◌<◌, ◌≤◌, Bool, true, false, cond, ◌&&◌, List, length, map, Option, Some, refl, ap, sym, ◌∙◌, inl, inr, arith}
 use Rattle.std.specs.Prelude.{nat_le, nat_lt}
-use Rattle.std.specs.FinMap.{len}
-use Rattle.std.proofs.lemmas.Bool.{and_parts, leb-true}
-use Rattle.mm_areas.specs.Pages.{Mapped, Pages, unmapped, is_free, laid, mapped_by, new_pages}
+use Rattle.std.specs.FinMap.{contains_key, len}
+use Rattle.std.specs.Option.{is_some}
+use Rattle.std.proofs.lemmas.Bool.{and_parts, leb-true, false≢true}
+use Rattle.mm_areas.specs.Pages.{Mapped, Pages, is_within, unmapped, is_free, laid, mapped_by, new_pages}
 use Rattle.mm_areas.specs.declared.rights.Rights.{Rights}
 use Rattle.mm_areas.specs.declared.page.Page.{Page}
 use Rattle.mm_areas.specs.declared.page.Backing.{Backing}
 use Rattle.mm_areas.specs.declared.page.Backing.TheVariants.{Zeros}
 use Rattle.mm_areas.specs.Mappings.{Mapping, highest_of, highest_free, most_pages, pages_in, is_break}
-use Rattle.mm_areas.proofs.PageLaws.{is_free_at, unmapped_absent, len-laid}
+use Rattle.mm_areas.proofs.PageLaws.{where_page, get-unmapped_in, is_free_at, unmapped_absent, len-laid}
 use Rattle.mm_areas.proofs.NewPageLaws.{length-new_pages}
 use Rattle.mm_areas.proofs.CountLaws.{len-held}
 
@@ -53,3 +54,25 @@ grown_limit m to broken count rights new is at more made =
 -- pages that are laid add at most themselves
 pub len_laid_few : (first : ℕ) (ms : List Mapped) (pages : Pages) → len (laid first ms pages) ≤ len pages + length ms
 len_laid_few first ms pages = omega (arith, len-laid first ms pages, len-held pages first (length ms))
+
+-- ---- the pages that stay where the break moves
+
+-- a mapped page isn't among those that a higher break takes
+pub grown_apart : (m : Mapping) (to broken count page : ℕ) → is_break m to ≡ true → broken ≡ pages_in m.program_break → count ≡ pages_in to - pages_in m.program_break → contains_key m.pages page ≡ true → is_within broken count page ≡ false
+grown_apart m to broken count page is at more mapped =
+    let first = pages_in m.program_break in
+    let wanted = pages_in to - first in
+    let front = nat_le m.start to && nat_lt to (2 ^ 37) in
+    let parts = and_parts (front && is_free m.pages first wanted) (nat_le (len m.pages + wanted) most_pages) is in
+    let free = (and_parts front (is_free m.pages first wanted) parts.0).1 in
+    elim (where_page broken count page) [
+      | inl w ↦ absurd (false≢true (sym (ap is_some (is_free_at m.pages first wanted page free (omega (arith, w.0)) (omega (arith, w.1)))) ∙ mapped))
+      | inr w ↦ w.1
+    ]
+
+-- a page that is mapped behind a cut isn't among those that were taken out
+pub cut_apart : (first count page : ℕ) (pages : Pages) → contains_key (unmapped first count pages) page ≡ true → is_within first count page ≡ false
+cut_apart first count page pages mapped = elim (where_page first count page) [
+  | inl w ↦ absurd (false≢true (sym (ap is_some (get-unmapped_in first count pages page w.0 w.1)) ∙ mapped))
+  | inr w ↦ w.1
+]

@@ -1,6 +1,8 @@
 -- Laws of other rights for the pages of a range: of a list, of a region, and of all regions.
 use Rattle.std.proofs.Common.{◌≡◌, ℕ, zero, suc, ◌+◌, ◌-◌, ◌<◌, ◌≤◌, Bool, true, false, cond, List, [], ◌∷◌, length, get_or, min, Option, Some, None, option_map, refl, ap, sym, ◌∙◌, subst, ◌⊎◌, inl, inr, arith}
-use Rattle.std.specs.Option.{is_some}
+use Rattle.std.specs.Option.{is_some, option_map_or}
+use Rattle.std.specs.List.{slice_get}
+use Rattle.std.proofs.lemmas.Option.{slice_get-map}
 use Rattle.std.specs.Ordering.{nat_cmp}
 use Rattle.std.specs.Cmp.{nat_cmp_total}
 use Rattle.std.specs.FinMap.{get, insert, empty, contains_key, len, len-insert}
@@ -13,7 +15,12 @@ use Rattle.mm_areas.specs.Pages.{Mapped, Pages, laid, is_within, with_rights, pr
 use Rattle.mm_areas.specs.Regions.{pages_of}
 use Rattle.mm_areas.specs.Order.{AreFrom}
 use Rattle.mm_areas.specs.Places.{index_behind}
-use Rattle.mm_areas.specs.Protected.{protected_from, IsProtected}
+use Rattle.mm_areas.specs.Protected.{protected_from, IsProtected, content_in}
+use Rattle.mm_areas.specs.declared.page.Content.{Content}
+use Rattle.mm_areas.specs.declared.page.Page.{Page}
+use Rattle.mm_areas.specs.Own.{page_in, is_own_at, is_own_content}
+use Rattle.mm_areas.specs.DecodedWords.{has_row_in, has_row_content}
+use Rattle.mm_areas.proofs.ChangeLaws.{IsLike, page_like}
 use Rattle.mm_areas.proofs.PageLaws.{where_page, within_range, apart_below, apart_behind, get-protected_in, get-protected_apart}
 use Rattle.mm_areas.proofs.RegionLaws.{end_of, mapped_in, length-mapped_in}
 use Rattle.mm_areas.proofs.IndexLaws.{index_passed, first_from}
@@ -135,6 +142,7 @@ protected_already rights first count r apart = record {
     | inl below ↦ inl (omega (arith, length-mapped_in r))
     | inr behind ↦ inr (omega arith)
   ]));
+  contents = refl;
 }
 
 -- a region's pages of a range, counted from its first
@@ -180,6 +188,41 @@ protected_order rights first count from (o ∷ os) (n ∷ ns) same each h =
     let some : 0 < length n.pages.items = omega (arith, h.1, size) in
     let ends : end_of o ≡ end_of n = omega (arith, size, is.place) in
     (low, some, subst (λ (p : ℕ). AreFrom p ns) ends (protected_order rights first count (end_of o) os ns (omega (arith, same)) (λ k d less. each (suc k) d (omega arith)) h.2))
+
+-- ---- what pages have, which stays
+
+-- a page has what it had
+abbrev HasSame : ℕ → Option Page → Option Page → Type 0
+HasSame page old new = content_in new ≡ content_in old
+
+like_protected : (rights : Rights) (first count : ℕ) (old new : Region) → IsProtected rights first count old new → IsLike HasSame old new
+like_protected rights first count old new is = record {
+  first = is.place;
+  size = length_of_protected rights first count old new is;
+  each = λ j less.
+      sym (slice_get-map (λ (p : Page). p.content) new.pages.items j)
+      ∙ ap (λ (xs : List Content). slice_get xs j) is.contents
+      ∙ slice_get-map (λ (p : Page). p.content) old.pages.items j;
+}
+
+pub contents_kept : (rights : Rights) (first count : ℕ) (old new : List Region) → length new ≡ length old → AreProtected rights first count old new → (page : ℕ) → content_in (page_in new page) ≡ content_in (page_in old page)
+contents_kept rights first count old new same each page =
+    page_like HasSame old new page refl (record { size = same; each = λ k d less. like_protected rights first count (get_or old k d) (get_or new k d) (each k d less) })
+
+own_by : (page : Option Page) → is_own_at page ≡ option_map_or is_own_content (content_in page) false
+own_by None = refl
+own_by (Some page) = refl
+
+row_by : (page : Option Page) → has_row_in page ≡ option_map_or has_row_content (content_in page) false
+row_by None = refl
+row_by (Some page) = refl
+
+-- so it is as own as it was, and has its words there as before
+pub own_same : (old new : Option Page) → content_in new ≡ content_in old → is_own_at new ≡ is_own_at old
+own_same old new same = own_by new ∙ ap (λ (c : Option Content). option_map_or is_own_content c false) same ∙ sym (own_by old)
+
+pub row_same : (old new : Option Page) → content_in new ≡ content_in old → has_row_in new ≡ has_row_in old
+row_same old new same = row_by new ∙ ap (λ (c : Option Content). option_map_or has_row_content c false) same ∙ sym (row_by old)
 
 -- ---- the regions in front of the range, and those behind it
 

@@ -1,5 +1,5 @@
 -- Laws of pages and regions that share their bytes, one after another.
-use Rattle.std.proofs.Common.{◌≡◌, ℕ, zero, suc, ◌+◌, ◌-◌, ◌<◌, ◌≤◌, true, false, List, [], ◌∷◌, ◌++◌, length, set, take, refl, ap, sym, ◌∙◌, subst, ◌⊎◌, inl, inr}
+use Rattle.std.proofs.Common.{◌≡◌, ℕ, zero, suc, ◌+◌, ◌-◌, ◌<◌, ◌≤◌, Bool, true, false, Option, Some, None, List, [], ◌∷◌, ◌++◌, length, set, take, refl, ap, sym, ◌∙◌, subst, ◌⊎◌, inl, inr}
 use Rattle.std.specs.List.{slice_get}
 use Rattle.std.proofs.lemmas.List.{take_more_set, take_all}
 use Rattle.std.proofs.lemmas.Bool.{cases_Bool, cond-true}
@@ -7,17 +7,25 @@ use Rattle.mm_areas.specs.declared.page.Page.{Page}
 use Rattle.mm_areas.specs.declared.areas.Region.{Region}
 use Rattle.mm_areas.specs.Pages.{is_within}
 use Rattle.mm_areas.specs.Own.{page_in, is_own_at, is_own_content}
+use Rattle.mm_areas.specs.DecodedWords.{has_row_in, has_row_content, AreUndecoded}
 use Rattle.mm_areas.specs.Shares.{AreShared, AreSharedIn}
 use Rattle.mm_areas.proofs.ChangeLaws.{page_there}
 
 -- ---- pages
 
+-- what is said of no page, and not of one more, is said of none with the one
+none_more : (word : Option Page → Bool) (pages : List Page) (page : Page) → word None ≡ false → ((j : ℕ) → word (slice_get pages j) ≡ false) → word (Some page) ≡ false → (j : ℕ) → word (slice_get (pages ++ page ∷ []) j) ≡ false
+none_more word [] page nowhere are is zero = is
+none_more word [] page nowhere are is (suc j) = nowhere
+none_more word (p ∷ pages) page nowhere are is zero = are 0
+none_more word (p ∷ pages) page nowhere are is (suc j) = none_more word pages page nowhere (λ k. are (suc k)) is j
+
 -- one more
 pub shared_more : (copies : List Page) (copy : Page) → AreShared copies → is_own_content copy.content ≡ false → AreShared (copies ++ copy ∷ [])
-shared_more [] copy are is zero = is
-shared_more [] copy are is (suc j) = refl
-shared_more (p ∷ copies) copy are is zero = are 0
-shared_more (p ∷ copies) copy are is (suc j) = shared_more copies copy (λ k. are (suc k)) is j
+shared_more copies copy are is = none_more is_own_at copies copy refl are is
+
+pub undecoded_more : (pages : List Page) (page : Page) → AreUndecoded pages → has_row_content page.content ≡ false → AreUndecoded (pages ++ page ∷ [])
+undecoded_more pages page are is = none_more has_row_in pages page refl are is
 
 -- the next of those in their place
 pub lost_more : (pages : List Page) (index : ℕ) (new : Page) → index < length pages → AreShared (take index pages) → is_own_content new.content ≡ false → AreShared (take (index + 1) (set pages index new))

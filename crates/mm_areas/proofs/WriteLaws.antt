@@ -204,13 +204,17 @@ pub put_unchanged : (done : Bool) (page : ℕ) (old new : Page) (olds news : Lis
 put_unchanged true page old new olds news start program_break are same = tt
 put_unchanged false page old new olds news start program_break are same = write_err {X = Unit {0}} {E = ℕ} (Err 0) page old new olds news start program_break are same
 
+-- what is said of the page that is written as it was is said of all pages so
+pub same_word : {X : Type 0} (word : Option Page → X) (page : ℕ) (old new : Page) (olds news : List Region) → AreWritten page old new olds news → word (Some new) ≡ word (Some old) → (q : ℕ) → word (page_in news q) ≡ word (page_in olds q)
+same_word word page old new olds news are same q = elim (cases_eq q page) [
+  | inl here ↦
+      ap (λ (n : ℕ). word (page_in news n)) here ∙ ap word are.here ∙ same ∙ sym (ap word are.there) ∙ sym (ap (λ (n : ℕ). word (page_in olds n)) here)
+  | inr other ↦ ap word (are.others q other)
+]
+
 -- a page that is its own as it was leaves all pages so
 pub put_owned : (page : ℕ) (old new : Page) (olds news : List Region) → AreWritten page old new olds news → is_own_content new.content ≡ is_own_content old.content → (q : ℕ) → is_own_at (page_in news q) ≡ is_own_at (page_in olds q)
-put_owned page old new olds news are same q = elim (cases_eq q page) [
-  | inl here ↦
-      ap (λ (n : ℕ). is_own_at (page_in news n)) here ∙ ap is_own_at are.here ∙ same ∙ sym (ap is_own_at are.there) ∙ sym (ap (λ (n : ℕ). is_own_at (page_in olds n)) here)
-  | inr other ↦ ap is_own_at (are.others q other)
-]
+put_owned page old new olds news are same = same_word is_own_at page old new olds news are same
 
 pub put_fits : {P Q : Type 0} (page : ℕ) (old new : Page) (olds news : List Region) → AreWritten page old new olds news → P ↔ ((is_own_content old.content ≡ true) × Q) → P ↔ ((is_own_at (page_in olds page) ≡ true) × Q)
 put_fits page old new olds news are fits = ((λ h. (ap is_own_at are.there ∙ (fits.0 h).0, (fits.0 h).1)), (λ h. fits.1 (sym (ap is_own_at are.there) ∙ h.0, h.1)))

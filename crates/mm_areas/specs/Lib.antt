@@ -7,5 +7,6 @@ pub mod Rights
 pub mod Protected
 pub mod Own
 pub mod Contents
+pub mod DecodedWords
 pub mod Shares
 pub mod Hints

@@ -27,7 +27,12 @@ abbrev pub is_own_at : Option Page → Bool
 is_own_at None = false
 is_own_at (Some page) = is_own_content page.content
 
--- the same of a page by its number in an address space
+-- the page of a number in an address space
+-- mmap(2)
+abbrev pub page_of : Areas → ℕ → Option Page
+page_of areas page = page_in areas.regions.items page
+
+-- whether the bytes of a page by its number in an address space are its own
 -- fork(2), NOTES: copy-on-write pages
 abbrev pub owns : Areas → ℕ → Bool
-owns areas page = is_own_at (page_in areas.regions.items page)
+owns areas page = is_own_at (page_of areas page)

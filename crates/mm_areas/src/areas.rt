@@ -1,6 +1,6 @@
 //! The areas of an address space.
 
-ghost use Rattle.std.specs.Prelude.{◌≡◌, ◌+◌, ◌≤◌, ◌<◌, ◌%◌, ◌^◌, true};
+ghost use Rattle.std.specs.Prelude.{◌≡◌, ℕ, ◌+◌, ◌-◌, ◌≤◌, ◌<◌, ◌%◌, ◌^◌, true, false};
 ghost use Rattle.std.specs.FinMap as map_of;
 ghost use Rattle.mm_areas.specs.Order.{are_from};
 ghost use Rattle.mm_areas.specs.Regions.{pages_of};
@@ -31,9 +31,10 @@ pub struct Areas {
 }
 
 impl Areas {
-    ghost use Rattle.std.specs.Prelude.{length, option_map, OnOk, OnErr};
+    ghost use Rattle.std.specs.Prelude.{length, option_map, slice_get, OnOk, OnErr};
     ghost use Rattle.std.specs.Option.{option_copied};
-    ghost use Rattle.mm_areas.specs.Pages.{mapped_by};
+    ghost use Rattle.mm_areas.specs.Pages.{mapped_by, is_within};
+    ghost use Rattle.mm_areas.specs.Own.{page_of};
     ghost use Rattle.mm_areas.specs.Mappings.{mapping, unmapped_from, laid_in, taken_from, most_pages};
 
     /// Nothing mapped, with the break at its start. It takes no memory.
@@ -78,13 +79,19 @@ impl Areas {
         page_at(self.regions.as_slice(), number)
     }
 
-    /// Lays pages from one on, in the places of those that are there.
+    /// Lays pages from one on, in the places of those that are there. Each is there then as it was handed in, and the
+    /// pages outside keep their frames.
     #[tactic(auto, using(crate::proofs::RegionLaws::order_from_test, crate::proofs::RegionLaws::test_from_order))]
     pub fn lay(&mut self, first: u64, pages: Vec<Page>) -> Result<(), Memory>
         requires end { first + length pages.items ≤ 2 ^ 26 }
         requires limit { map_of.len (laid_in (mapping self.old) first pages.items).pages ≤ most_pages }
         ensures ok { OnOk result (mapping self.new ≡ laid_in (mapping self.old) first pages.items) }
         ensures err { OnErr result (mapping self.new ≡ mapping self.old) }
+        ensures kept { (page : ℕ) → is_within first (length pages.items) page ≡ false →
+            page_of self.new page ≡ page_of self.old page }
+        ensures put { OnOk result ((page : ℕ) → is_within first (length pages.items) page ≡ true →
+            page_of self.new page ≡ slice_get pages.items (page - first)) }
+        ensures same { OnErr result ((page : ℕ) → page_of self.new page ≡ page_of self.old page) }
     {
         if pages.is_empty() {
             return Ok(());
@@ -96,12 +103,15 @@ impl Areas {
         Ok(())
     }
 
-    /// Takes out the pages of a range.
+    /// Takes out the pages of a range. The pages outside keep their frames.
     #[tactic(auto, using(crate::proofs::RegionLaws::order_from_test, crate::proofs::RegionLaws::test_from_order))]
     pub(crate) fn take(&mut self, first: u64, count: u64) -> Result<(), Memory>
         requires { first + count < 2 ^ 64 }
         ensures ok { OnOk result (mapping self.new ≡ taken_from (mapping self.old) first count) }
         ensures err { OnErr result (mapping self.new ≡ mapping self.old) }
+        ensures kept { (page : ℕ) → is_within first count page ≡ false →
+            page_of self.new page ≡ page_of self.old page }
+        ensures same { OnErr result ((page : ℕ) → page_of self.new page ≡ page_of self.old page) }
     {
         let gone = mapped_within(self.regions.as_slice(), first, count);
         clear(&mut self.regions, first, count)?;

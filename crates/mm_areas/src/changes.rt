@@ -1,6 +1,10 @@
 //! What maps, unmaps and moves the break.
 
-ghost use Rattle.std.specs.Prelude.{◌≡◌, ◌≢◌, ◌/◌, true, false, Some, IfOk, IfErr, OnOk, OnErr, IfSome};
+ghost use Rattle.std.specs.Prelude.{◌≡◌, ◌≢◌, ℕ, ◌/◌, true, false, Some, IfOk, IfErr, OnOk, OnErr, IfSome};
+ghost use Rattle.std.specs.FinMap as map_of;
+ghost use Rattle.mm_areas.specs.Pages.{is_within};
+ghost use Rattle.mm_areas.specs.Own.{page_of, owns};
+ghost use Rattle.mm_areas.specs.DecodedWords.{has_row_at};
 ghost use Rattle.mm_areas.specs.Mappings.{mapping, pages_in, place_in, address_of, map_fault, mapped_at, unmap_fault, unmapped_at, is_break, broken_at, after_brk};
 
 use crate::lengths::{PAGE, is_misplaced, pages_in};
@@ -12,7 +16,8 @@ use std::alloc::Global;
 
 impl Areas {
     /// Maps new pages over so many bytes, and answers their address: the one that is asked, in the places of the pages
-    /// that are there, or that of the highest free range.
+    /// that are there, or that of the highest free range. The other pages keep their bytes as their own, if they were,
+    /// and their decoded words. New pages have no bytes of their own until they are written.
     #[tactic(auto, using(crate::proofs::PlaceLaws::len_laid_new))]
     pub fn map(
         &mut self,
@@ -29,6 +34,16 @@ impl Areas {
         ensures fault { IfErr result (λ e. e ≢ AreaErr.Memory → map_fault (mapping self.old) at length ≡ Some e) }
         ensures faulty { IfSome (map_fault (mapping self.old) at length) (λ fault. result ≡ Err fault) }
         ensures err { OnErr result (mapping self.new ≡ mapping self.old) }
+        ensures owned { IfOk result (λ address. (page : ℕ) → is_within (address / 4096) (pages_in length) page ≡ false →
+            owns self.new page ≡ owns self.old page) }
+        ensures fresh { IfOk result (λ address. (page : ℕ) → is_within (address / 4096) (pages_in length) page ≡ true →
+            owns self.new page ≡ false) }
+        ensures kept { OnErr result ((page : ℕ) → owns self.new page ≡ owns self.old page) }
+        ensures rows { IfOk result (λ address. (page : ℕ) → is_within (address / 4096) (pages_in length) page ≡ false →
+            has_row_at self.new page ≡ has_row_at self.old page) }
+        ensures undecoded { IfOk result (λ address.
+            (page : ℕ) → is_within (address / 4096) (pages_in length) page ≡ true → has_row_at self.new page ≡ false) }
+        ensures rows_kept { OnErr result ((page : ℕ) → has_row_at self.new page ≡ has_row_at self.old page) }
     {
         let first = place(self, at, length)?;
         let pages = new_pages(alloc, backing, rights, pages_in(length))?;
@@ -36,12 +51,19 @@ impl Areas {
         Ok(PAGE * first)
     }
 
-    /// Unmaps the pages of so many bytes from an address on; pages that aren't mapped stay so.
+    /// Unmaps the pages of so many bytes from an address on; pages that aren't mapped stay so. The other pages keep
+    /// their bytes as their own, if they were, and their decoded words.
     pub fn unmap(&mut self, address: u64, length: u64) -> Result<(), AreaErr>
         ensures ok { OnOk result (mapping self.new ≡ unmapped_at (mapping self.old) address length) }
         ensures fault { IfErr result (λ e. e ≢ AreaErr.Memory → unmap_fault address length ≡ Some e) }
         ensures faulty { IfSome (unmap_fault address length) (λ fault. result ≡ Err fault) }
         ensures err { OnErr result (mapping self.new ≡ mapping self.old) }
+        ensures owned { (page : ℕ) → is_within (address / 4096) (pages_in length) page ≡ false →
+            owns self.new page ≡ owns self.old page }
+        ensures kept { OnErr result ((page : ℕ) → owns self.new page ≡ owns self.old page) }
+        ensures rows { (page : ℕ) → is_within (address / 4096) (pages_in length) page ≡ false →
+            has_row_at self.new page ≡ has_row_at self.old page }
+        ensures rows_kept { OnErr result ((page : ℕ) → has_row_at self.new page ≡ has_row_at self.old page) }
     {
         if length == 0 || is_misplaced(address, length) {
             return Err(AreaErr::Invalid);
@@ -51,12 +73,21 @@ impl Areas {
     }
 
     /// Puts the break at an address, if it may be put there, and answers where it is then. Where it stays, no memory is
-    /// taken.
+    /// taken. Pages that stay mapped keep their bytes as their own, if they were, and their decoded words.
     pub fn brk(&mut self, alloc: Global, to: u64) -> Result<u64, Memory>
         ensures ok { OnOk result (mapping self.new ≡ after_brk (mapping self.old) to) }
         ensures answer { IfOk result (λ at. at ≡ (mapping self.new).program_break) }
         ensures refused { is_break (mapping self.old) to ≡ false → result ≡ Ok (mapping self.old).program_break }
         ensures err { OnErr result (mapping self.new ≡ mapping self.old) }
+        ensures owned { (page : ℕ) → map_of.contains_key (mapping self.old).pages page ≡ true →
+            map_of.contains_key (mapping self.new).pages page ≡ true → owns self.new page ≡ owns self.old page }
+        ensures fresh { (page : ℕ) → map_of.contains_key (mapping self.old).pages page ≡ false →
+            owns self.new page ≡ false }
+        ensures rows { (page : ℕ) → map_of.contains_key (mapping self.old).pages page ≡ true →
+            map_of.contains_key (mapping self.new).pages page ≡ true →
+            has_row_at self.new page ≡ has_row_at self.old page }
+        ensures undecoded { (page : ℕ) → map_of.contains_key (mapping self.old).pages page ≡ false →
+            has_row_at self.new page ≡ false }
     {
         if is_break(self, to) {
             self.move_break(alloc, to)?;
@@ -70,6 +101,12 @@ impl Areas {
         requires { is_break (mapping self.old) to ≡ true }
         ensures ok { OnOk result (mapping self.new ≡ broken_at (mapping self.old) to) }
         ensures err { OnErr result (mapping self.new ≡ mapping self.old) }
+        ensures kept { (page : ℕ) → map_of.contains_key (mapping self.old).pages page ≡ true →
+            map_of.contains_key (mapping self.new).pages page ≡ true → page_of self.new page ≡ page_of self.old page }
+        ensures fresh { (page : ℕ) → map_of.contains_key (mapping self.old).pages page ≡ false →
+            owns self.new page ≡ false }
+        ensures undecoded { (page : ℕ) → map_of.contains_key (mapping self.old).pages page ≡ false →
+            has_row_at self.new page ≡ false }
     {
         let broken = pages_in(self.program_break);
         let wanted = pages_in(to);

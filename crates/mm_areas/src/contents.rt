@@ -7,6 +7,7 @@ ghost use Rattle.mm_frames.specs.Numbers.{IsInPage, number_in, with_number, with
 ghost use Rattle.mm_areas.specs.Pages.{mapped_by};
 ghost use Rattle.mm_areas.specs.Contents.{bytes_mapped, changed};
 ghost use Rattle.mm_areas.specs.Own.{is_own_content};
+ghost use Rattle.mm_areas.specs.DecodedWords.{has_row_content};
 
 use crate::regions::find;
 use crate::{Areas, Content, Page};
@@ -33,6 +34,7 @@ impl Page {
         ensures err { OnErr result (self.new ≡ self.old) }
         ensures lacking { OnErr result (is_own_content self.old.content ≡ false) }
         ensures private { OnErr result (is_some (bytes_mapped (Some (mapped_by self.old))) ≡ true) }
+        ensures row { has_row_content self.new.content ≡ has_row_content self.old.content }
     {
         match &mut self.content {
             Content::Private(frame) => frame.own(alloc),
@@ -56,6 +58,7 @@ impl Page {
         ensures own { OnOk result (is_own_content self.new.content ≡ true) }
         ensures err { OnErr result (self.new ≡ self.old) }
         ensures lacking { OnErr result (is_own_content self.old.content ≡ false) }
+        ensures row { has_row_content self.new.content ≡ has_row_content self.old.content }
     {
         match &mut self.content {
             Content::Private(frame) => frame.write_number(alloc, offset, width, value),
@@ -72,6 +75,7 @@ impl Page {
         ensures own { OnOk result (is_own_content self.new.content ≡ true) }
         ensures err { OnErr result (self.new ≡ self.old) }
         ensures lacking { OnErr result (is_own_content self.old.content ≡ false) }
+        ensures row { OnOk result (has_row_content self.new.content ≡ false) }
     {
         match &mut self.content {
             Content::Private(frame) => frame.write_bytes(alloc, offset, run),
@@ -86,6 +90,7 @@ impl Page {
             changed (λ bytes. with_number bytes offset width value) (mapped_by self.old)) }
         ensures own { is_own_content self.new.content ≡ is_own_content self.old.content }
         ensures unchanged { OnFalse result (self.new ≡ self.old) }
+        ensures row { has_row_content self.new.content ≡ has_row_content self.old.content }
     {
         match &mut self.content {
             Content::Private(frame) => frame.put_number(offset, width, value),
@@ -100,6 +105,7 @@ impl Areas {
     ghost use Rattle.mm_areas.specs.Contents.{bytes_at, with_change};
     ghost use Rattle.mm_areas.specs.Mappings.{mapping, with_pages};
     ghost use Rattle.mm_areas.specs.Own.{owns};
+    ghost use Rattle.mm_areas.specs.DecodedWords.{has_row_at};
 
     /// Puts so many of a number's bytes into a private page from an offset on, the lowest first. A page that shares its
     /// bytes gets a copy of its own first, so that other holders keep theirs. An `Err` changes nothing, and comes only
@@ -124,6 +130,7 @@ impl Areas {
         ensures lacking { OnErr result (owns self.old page ≡ false) }
         ensures kept { OnErr result (owns self.new page ≡ owns self.old page) }
         ensures others { (other : ℕ) → (other ≡ page → ⊥) → owns self.new other ≡ owns self.old other }
+        ensures rows { (other : ℕ) → has_row_at self.new other ≡ has_row_at self.old other }
     {
         match find(self.regions.as_slice(), page) {
             Some(index) => {
@@ -135,7 +142,8 @@ impl Areas {
         }
     }
 
-    /// Puts a run of bytes into a private page from an offset on, in the way of `write_number`.
+    /// Puts a run of bytes into a private page from an offset on, in the way of `write_number`. The page's decoded words
+    /// are given up.
     #[tactic(auto, using(crate::proofs::RegionLaws::order_from_test))]
     pub fn write_bytes(
         &mut self,
@@ -154,6 +162,9 @@ impl Areas {
         ensures lacking { OnErr result (owns self.old page ≡ false) }
         ensures kept { OnErr result (owns self.new page ≡ owns self.old page) }
         ensures others { (other : ℕ) → (other ≡ page → ⊥) → owns self.new other ≡ owns self.old other }
+        ensures row { OnOk result (has_row_at self.new page ≡ false) }
+        ensures row_kept { OnErr result (has_row_at self.new page ≡ has_row_at self.old page) }
+        ensures rows { (other : ℕ) → (other ≡ page → ⊥) → has_row_at self.new other ≡ has_row_at self.old other }
     {
         match find(self.regions.as_slice(), page) {
             Some(index) => {
@@ -177,6 +188,7 @@ impl Areas {
         ensures kept { OnErr result (owns self.new page ≡ owns self.old page) }
         ensures others { (other : ℕ) → (other ≡ page → ⊥) → owns self.new other ≡ owns self.old other }
         ensures still { (other : ℕ) → owns self.old other ≡ true → owns self.new other ≡ true }
+        ensures rows { (other : ℕ) → has_row_at self.new other ≡ has_row_at self.old other }
     {
         match find(self.regions.as_slice(), page) {
             Some(index) => {
@@ -198,6 +210,7 @@ impl Areas {
             (with_change (mapping self.old).pages page (λ bytes. with_number bytes offset width value))) }
         ensures unchanged { OnFalse result (mapping self.new ≡ mapping self.old) }
         ensures owned { (other : ℕ) → owns self.new other ≡ owns self.old other }
+        ensures rows { (other : ℕ) → has_row_at self.new other ≡ has_row_at self.old other }
     {
         match find(self.regions.as_slice(), page) {
             Some(index) => {

@@ -6,6 +6,7 @@ ghost use Rattle.mm_frames.specs.Numbers.{IsInPage, number_in, with_number};
 ghost use Rattle.mm_areas.specs.Pages.{mapped_by};
 ghost use Rattle.mm_areas.specs.Contents.{bytes_mapped, changed};
 ghost use Rattle.mm_areas.specs.Own.{is_own_content};
+ghost use Rattle.mm_areas.specs.DecodedWords.{has_row_content};
 
 use crate::regions::find;
 use crate::{Areas, Content, Page, Rights};
@@ -37,6 +38,7 @@ impl Page {
             changed (λ bytes. with_number bytes offset width value) (mapped_by self.old)) }
         ensures own { is_own_content self.new.content ≡ is_own_content self.old.content }
         ensures unchanged { OnFalse result (self.new ≡ self.old) }
+        ensures row { has_row_content self.new.content ≡ has_row_content self.old.content }
     {
         if !self.rights.allows(right) {
             return false;
@@ -51,6 +53,7 @@ impl Areas {
     ghost use Rattle.mm_areas.specs.Hints.{is_hint, allows_at};
     ghost use Rattle.mm_areas.specs.Mappings.{mapping, with_pages};
     ghost use Rattle.mm_areas.specs.Own.{owns};
+    ghost use Rattle.mm_areas.specs.DecodedWords.{has_row_at};
 
     /// A hint of the region that has a page: 0 where none has it.
     #[tactic(auto, using(crate::proofs::RegionLaws::order_from_test))]
@@ -115,6 +118,7 @@ impl Areas {
             (with_change (mapping self.old).pages page (λ bytes. with_number bytes offset width value))) }
         ensures unchanged { OnFalse result (mapping self.new ≡ mapping self.old) }
         ensures owned { (other : ℕ) → owns self.new other ≡ owns self.old other }
+        ensures rows { (other : ℕ) → has_row_at self.new other ≡ has_row_at self.old other }
     {
         if !self.is_near(hint, page) {
             return false;

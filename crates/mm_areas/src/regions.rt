@@ -1,6 +1,6 @@
 //! Regions in order: where a page is, how they are cut, what is taken out and what is put in.
 
-ghost use Rattle.std.specs.Prelude.{◌≡◌, ℕ, ◌+◌, ◌-◌, ◌^◌, ◌<◌, ◌≤◌, nat_le, true, length, map, option_map, is_some, IfSome, IfOk, OnOk, OnErr, vec_len, vec_capacity};
+ghost use Rattle.std.specs.Prelude.{◌≡◌, ℕ, ◌+◌, ◌-◌, ◌^◌, ◌<◌, ◌≤◌, nat_le, true, false, length, map, option_map, is_some, IfSome, IfOk, OnOk, OnErr, vec_len, vec_capacity, slice_get};
 ghost use Rattle.std.specs.List.{HoldsAt, remove_range};
 ghost use Rattle.std.specs.Option.{option_copied};
 ghost use Rattle.std.specs.FinMap as map_of;
@@ -8,6 +8,7 @@ ghost use Rattle.mm_areas.specs.Order.{AreFrom};
 ghost use Rattle.mm_areas.specs.Places.{AreCut, AreHalves, index_behind};
 ghost use Rattle.mm_areas.specs.Pages.{is_within, is_free, mapped_by, laid, unmapped};
 ghost use Rattle.mm_areas.specs.Regions.{pages_of};
+ghost use Rattle.mm_areas.specs.Own.{page_in};
 
 use crate::Page;
 use crate::areas::Region;
@@ -64,6 +65,7 @@ pub(crate) fn cut(regions: &mut Vec<Region>, page: u64) -> Result<(), Memory>
     ensures pages { pages_of regions.new.items ≡ pages_of regions.old.items }
     ensures ok { OnOk result (AreCut page regions.new.items) }
     ensures others { (other : ℕ) → AreCut other regions.old.items → AreCut other regions.new.items }
+    ensures kept { (page : ℕ) → page_in regions.new.items page ≡ page_in regions.old.items page }
 {
     let index = first_behind(regions.as_slice(), page);
     if index < regions.len() && regions[index].first < page {
@@ -95,6 +97,8 @@ pub(crate) fn take_out(regions: &mut Vec<Region>, first: u64, end: u64)
     ensures order { AreFrom 0 regions.new.items }
     ensures pages { pages_of regions.new.items ≡ unmapped first (end - first) (pages_of regions.old.items) }
     ensures room { vec_len regions.old < vec_capacity regions.old → vec_len regions.new < vec_capacity regions.new }
+    ensures kept { (page : ℕ) → is_within first (end - first) page ≡ false →
+        page_in regions.new.items page ≡ page_in regions.old.items page }
 {
     let from = first_behind(regions.as_slice(), first);
     let to = first_behind(regions.as_slice(), end);
@@ -111,6 +115,10 @@ pub(crate) fn put(regions: &mut Vec<Region>, region: Region)
     ensures order { AreFrom 0 regions.new.items }
     ensures pages { pages_of regions.new.items
         ≡ laid region.first (map mapped_by region.pages.items) (pages_of regions.old.items) }
+    ensures kept { (page : ℕ) → is_within region.first (length region.pages.items) page ≡ false →
+        page_in regions.new.items page ≡ page_in regions.old.items page }
+    ensures put { (page : ℕ) → is_within region.first (length region.pages.items) page ≡ true →
+        page_in regions.new.items page ≡ slice_get region.pages.items (page - region.first) }
 {
     let index = first_behind(regions.as_slice(), region.first);
     if regions.insert(index, region).is_err() {
@@ -127,6 +135,11 @@ pub(crate) fn lay_over(regions: &mut Vec<Region>, region: Region) -> Result<(), 
     ensures ok { OnOk result (pages_of regions.new.items
         ≡ laid region.first (map mapped_by region.pages.items) (pages_of regions.old.items)) }
     ensures err { OnErr result (pages_of regions.new.items ≡ pages_of regions.old.items) }
+    ensures kept { (page : ℕ) → is_within region.first (length region.pages.items) page ≡ false →
+        page_in regions.new.items page ≡ page_in regions.old.items page }
+    ensures put { OnOk result ((page : ℕ) → is_within region.first (length region.pages.items) page ≡ true →
+        page_in regions.new.items page ≡ slice_get region.pages.items (page - region.first)) }
+    ensures same { OnErr result ((page : ℕ) → page_in regions.new.items page ≡ page_in regions.old.items page) }
 {
     let end = region.first + region.pages.len() as u64;
     cut(regions, region.first)?;
@@ -144,6 +157,9 @@ pub(crate) fn clear(regions: &mut Vec<Region>, first: u64, count: u64) -> Result
     ensures order { AreFrom 0 regions.new.items }
     ensures ok { OnOk result (pages_of regions.new.items ≡ unmapped first count (pages_of regions.old.items)) }
     ensures err { OnErr result (pages_of regions.new.items ≡ pages_of regions.old.items) }
+    ensures kept { (page : ℕ) → is_within first count page ≡ false →
+        page_in regions.new.items page ≡ page_in regions.old.items page }
+    ensures same { OnErr result ((page : ℕ) → page_in regions.new.items page ≡ page_in regions.old.items page) }
 {
     cut(regions, first)?;
     cut(regions, first + count)?;

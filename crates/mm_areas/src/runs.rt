@@ -6,6 +6,7 @@ ghost use Rattle.mm_frames.specs.Numbers.{with_run};
 ghost use Rattle.mm_areas.specs.Pages.{mapped_by};
 ghost use Rattle.mm_areas.specs.Contents.{changed};
 ghost use Rattle.mm_areas.specs.Own.{is_own_content};
+ghost use Rattle.mm_areas.specs.DecodedWords.{has_row_content};
 
 use crate::regions::find;
 use crate::{Areas, Content, Page};
@@ -18,6 +19,7 @@ impl Page {
             changed (λ bytes. with_run bytes offset run.now) (mapped_by self.old)) }
         ensures own { is_own_content self.new.content ≡ is_own_content self.old.content }
         ensures unchanged { OnFalse result (self.new ≡ self.old) }
+        ensures row { OnTrue result (has_row_content self.new.content ≡ false) }
     {
         match &mut self.content {
             Content::Private(frame) => frame.put_bytes(offset, run),
@@ -30,9 +32,10 @@ impl Areas {
     ghost use Rattle.mm_areas.specs.Contents.{with_change};
     ghost use Rattle.mm_areas.specs.Mappings.{mapping, with_pages};
     ghost use Rattle.mm_areas.specs.Own.{owns};
+    ghost use Rattle.mm_areas.specs.DecodedWords.{has_row_at};
 
     /// Puts a run of bytes into a page from an offset on, where the page's bytes are its own and it reaches so far, and
-    /// answers whether it has. It takes no memory.
+    /// answers whether it has. It takes no memory, and gives up the page's decoded words.
     #[tactic(auto, using(crate::proofs::RegionLaws::order_from_test))]
     pub fn put_bytes(&mut self, page: u64, offset: usize, run: &[u8]) -> bool
         ensures fits { IsTrue result ↔ ((owns self.old page ≡ true) × (offset + length run.now ≤ 4096)) }
@@ -41,6 +44,9 @@ impl Areas {
             (with_change (mapping self.old).pages page (λ bytes. with_run bytes offset run.now))) }
         ensures unchanged { OnFalse result (mapping self.new ≡ mapping self.old) }
         ensures owned { (other : ℕ) → owns self.new other ≡ owns self.old other }
+        ensures row { OnTrue result (has_row_at self.new page ≡ false) }
+        ensures row_kept { OnFalse result (has_row_at self.new page ≡ has_row_at self.old page) }
+        ensures rows { (other : ℕ) → (other ≡ page → ⊥) → has_row_at self.new other ≡ has_row_at self.old other }
     {
         match find(self.regions.as_slice(), page) {
             Some(index) => {

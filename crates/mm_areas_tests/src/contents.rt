@@ -94,3 +94,44 @@ fn a_hint_serves_the_region_that_it_names(rt: HostRuntime) -> Result<(), Fail> {
     assert!(rt; !areas.put_number_near(0, 5, 0, 1, 0, Rights::WRITE));
     Ok(())
 }
+
+#[test]
+fn a_page_stays_its_own_where_others_change(rt: HostRuntime) -> Result<(), Fail> {
+    let mut areas = Areas::new(rt.alloc(), 4096);
+    areas.map(
+        rt.alloc(),
+        Some(8192),
+        4 * 4096,
+        Rights::READ | Rights::WRITE,
+        Backing::Zeros,
+    )?;
+    areas.own(rt.alloc(), 3)?;
+    assert!(rt; areas.put_number(3, 0, 1, 1));
+    areas.protect(12_288, 4096, Rights::READ)?;
+    assert!(rt; areas.put_number(3, 1, 1, 2));
+    assert!(rt; !areas.put_number_near(0, 3, 1, 1, 9, Rights::WRITE));
+    areas.protect(8192, 3 * 4096, Rights::READ | Rights::WRITE)?;
+    assert!(rt; areas.put_number_near(0, 3, 2, 1, 3, Rights::WRITE));
+    areas.unmap(8192, 4096)?;
+    areas.map(rt.alloc(), Some(16_384), 4096, Rights::READ, Backing::Zeros)?;
+    assert_eq!(rt; areas.brk(rt.alloc(), 8192), Ok(8192));
+    assert!(rt; areas.put_number(3, 3, 1, 4));
+    assert_eq!(rt; areas.number(3, 0, 4), Some(0x0403_0201));
+    assert!(rt; !areas.is_own(1) && !areas.is_own(2) && !areas.is_own(4) && !areas.is_own(5));
+    Ok(())
+}
+
+#[test]
+fn a_page_that_is_mapped_anew_is_not_its_own(rt: HostRuntime) -> Result<(), Fail> {
+    let mut areas = Areas::new(rt.alloc(), 4096);
+    assert_eq!(rt; areas.brk(rt.alloc(), 8192), Ok(8192));
+    assert!(rt; !areas.is_own(1));
+    areas.own(rt.alloc(), 1)?;
+    assert!(rt; areas.put_number(1, 0, 1, 1));
+    assert_eq!(rt; areas.brk(rt.alloc(), 4096), Ok(4096));
+    assert!(rt; !areas.is_own(1) && !areas.put_number(1, 0, 1, 1));
+    assert_eq!(rt; areas.brk(rt.alloc(), 4097), Ok(4097));
+    assert!(rt; !areas.is_own(1) && !areas.put_number(1, 0, 1, 1));
+    assert_eq!(rt; areas.number(1, 0, 1), Some(0));
+    Ok(())
+}

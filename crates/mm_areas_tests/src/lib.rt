@@ -12,6 +12,8 @@ mod breaks;
 #[cfg(test)]
 mod contents;
 #[cfg(test)]
+mod decoded_words;
+#[cfg(test)]
 mod looks;
 #[cfg(test)]
 mod maps;

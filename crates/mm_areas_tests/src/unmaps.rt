@@ -1,6 +1,7 @@
 //! What is unmapped, and what gets other rights.
 
 use crate::looks::rights;
+use bitflags::Flags;
 use mm_areas::{AreaErr, Areas, Backing, Rights};
 use std::alloc::Global;
 use std::test::Fail;
@@ -117,4 +118,24 @@ fn a_right_is_allowed_where_all_its_bits_are(rt: HostRuntime) -> Result<(), Fail
     assert!(rt; both.allows(Rights::READ) && both.allows(Rights::WRITE) && both.allows(both));
     assert!(rt; !both.allows(Rights::EXECUTE) && !Rights::READ.allows(both));
     Ok(())
+}
+
+#[test]
+fn rights_are_made_of_each_that_is_there(rt: HostRuntime) {
+    for (read, write, execute, bits) in [
+        (false, false, false, 0),
+        (true, false, false, 1),
+        (false, true, false, 2),
+        (true, true, false, 3),
+        (false, false, true, 4),
+        (true, false, true, 5),
+        (false, true, true, 6),
+        (true, true, true, 7),
+    ] {
+        let rights = Rights::of(read, write, execute);
+        assert_eq!(rt; rights.bits(), bits);
+        assert_eq!(rt; rights.allows(Rights::READ), read);
+        assert_eq!(rt; rights.allows(Rights::WRITE), write);
+        assert_eq!(rt; rights.allows(Rights::EXECUTE), execute);
+    }
 }

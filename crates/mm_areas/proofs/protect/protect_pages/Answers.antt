@@ -5,7 +5,7 @@ use Rattle.mm_areas.specs.declared.rights.Rights.{Rights}
 use Rattle.mm_areas.specs.declared.areas.Region.{Region}
 use Rattle.mm_areas.specs.Protected.{IsProtected}
 use Rattle.mm_areas.specs.Order.{AreFrom}
-use Rattle.mm_areas.proofs.ProtectLaws.{AreProtected, protected_already, protected_regions, protected_order, ended_before, begins_later}
+use Rattle.mm_areas.proofs.ProtectLaws.{AreProtected, contents_kept, protected_already, protected_regions, protected_order, ended_before, begins_later}
 use Rattle.mm_areas.proofs.protect.protect_pages.Goals as goal
 
 pub loop-index-init : goal.loop-index-init
@@ -47,3 +47,9 @@ returns-clause-order c = protected_order c.args.rights c.args.first (c.args.end 
 
 pub returns-clause-pages : goal.returns-clause-pages
 returns-clause-pages c = protected_regions c.args.rights c.args.first (c.args.end - c.args.first) c.args.regions.now c.loop-index.regions c.loop-index.auto.regions (met_all c)
+
+pub returns-then-regions-index-clause-contents : goal.returns-then-regions-index-clause-contents
+returns-then-regions-index-clause-contents c = contents_kept c.args.rights c.args.first (c.args.end - c.args.first) c.args.regions.now c.loop-index.regions c.loop-index.auto.regions (met c)
+
+pub returns-clause-contents : goal.returns-clause-contents
+returns-clause-contents c = contents_kept c.args.rights c.args.first (c.args.end - c.args.first) c.args.regions.now c.loop-index.regions c.loop-index.auto.regions (met_all c)

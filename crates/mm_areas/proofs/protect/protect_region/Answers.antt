@@ -20,7 +20,11 @@ returns c =
       place = refl;
       pages =
           ap (map mapped_by) (with_items_is r.pages c.protect_between.new.pages kept)
-          ∙ c.protect_between.ensures
+          ∙ c.protect_between.ensures.mapped
           ∙ ap (λ (xs : List Page). protected_from c.args.rights low (high - low) 0 (map mapped_by xs)) old
           ∙ protected_by_index c.args.rights c.args.first c.args.end r.first low high ms c.requires is_high is_low;
+      contents =
+          ap (map (λ (p : Page). p.content)) (with_items_is r.pages c.protect_between.new.pages kept)
+          ∙ c.protect_between.ensures.contents
+          ∙ ap (map (λ (p : Page). p.content)) old;
     }

@@ -42,6 +42,9 @@ returns-else-is_err-clause-ok c = (whole c).cut
 pub returns-else-is_err-clause-others : goal.returns-else-is_err-clause-others
 returns-else-is_err-clause-others c = (whole c).others
 
+pub returns-else-is_err-clause-kept : goal.returns-else-is_err-clause-kept
+returns-else-is_err-clause-kept c = (whole c).kept
+
 pub returns-else-index-len-clause-ok : goal.returns-else-index-len-clause-ok
 returns-else-index-len-clause-ok c =
     let old = c.args.regions.now.items in

@@ -22,6 +22,9 @@ returns-clause-order c = (whole c).order
 pub returns-clause-pages : goal.returns-clause-pages
 returns-clause-pages c = (whole c).pages
 
+pub returns-clause-kept : goal.returns-clause-kept
+returns-clause-kept c = (whole c).kept
+
 pub returns-clause-room : goal.returns-clause-room
 returns-clause-room c room =
     let le = index_rises c.args.first c.args.end c.args.regions.now.items c.requires.range in

@@ -5,6 +5,7 @@ use Rattle.mm_areas.specs.Mappings.{with_pages, mapping}
 use Rattle.mm_areas.proofs.WriteLaws.{AreWritten, put_found, write_same, write_lacks, write_kept, write_others}
 use Rattle.std.proofs.lemmas.Bool.{false≢true}
 use Rattle.mm_areas.proofs.OwnLaws.{own_ok, own_private, own_still, not_private}
+use Rattle.mm_areas.proofs.RowLaws.{rows_same}
 use Rattle.mm_areas.proofs.areas.Areas.own.Goals as goal
 use Rattle.mm_areas.proofs.areas.Areas.own.Goals.{After-own}
 
@@ -41,3 +42,6 @@ returns-in-Some-clause-still c = own_still c.args.page c.index_mut.result.now c.
 
 pub returns-in-None-clause-own : goal.returns-in-None-clause-own
 returns-in-None-clause-own c = λ h. absurd (false≢true (sym (not_private c.as_slice.result.now c.args.self.now.regions.items c.args.page c.as_slice.ensures.value c.in-None.ensures.mapped) ∙ h))
+
+pub returns-in-Some-clause-rows : goal.returns-in-Some-clause-rows
+returns-in-Some-clause-rows c = rows_same c.args.page c.index_mut.result.now c.own.new.self c.args.self.now.regions.items _ (written (goal.at.returns-in-Some-clause-rows c).After-own) c.own.ensures.row

@@ -5,6 +5,7 @@ use Rattle.mm_frames.specs.Numbers.{with_run}
 use Rattle.std.proofs.lemmas.Bool.{false≢true}
 use Rattle.mm_areas.specs.Own.{is_own_at}
 use Rattle.mm_areas.proofs.WriteLaws.{AreWritten, put_found, put_ok, put_unchanged, put_owned, put_fits, not_found}
+use Rattle.mm_areas.proofs.RowLaws.{rows_others, put_drops, put_keeps}
 use Rattle.mm_areas.proofs.areas.Areas.put_bytes.Goals as goal
 use Rattle.mm_areas.proofs.areas.Areas.put_bytes.Goals.{After-put_bytes}
 
@@ -34,3 +35,12 @@ returns-in-Some-clause-unchanged c = put_unchanged c.put_bytes.result c.args.pag
 
 pub returns-in-Some-clause-owned : goal.returns-in-Some-clause-owned
 returns-in-Some-clause-owned c = put_owned c.args.page c.index_mut.result.now c.put_bytes.new.self c.args.self.now.regions.items _ (written (goal.at.returns-in-Some-clause-owned c).After-put_bytes) c.put_bytes.ensures.own
+
+pub returns-in-Some-clause-row : goal.returns-in-Some-clause-row
+returns-in-Some-clause-row c = put_drops c.put_bytes.result c.args.page c.index_mut.result.now c.put_bytes.new.self c.args.self.now.regions.items _ (written (goal.at.returns-in-Some-clause-row c).After-put_bytes) c.put_bytes.ensures.row
+
+pub returns-in-Some-clause-row_kept : goal.returns-in-Some-clause-row_kept
+returns-in-Some-clause-row_kept c = put_keeps c.put_bytes.result c.args.page c.index_mut.result.now c.put_bytes.new.self c.args.self.now.regions.items _ (written (goal.at.returns-in-Some-clause-row_kept c).After-put_bytes) c.put_bytes.ensures.unchanged
+
+pub returns-in-Some-clause-rows : goal.returns-in-Some-clause-rows
+returns-in-Some-clause-rows c = rows_others c.args.page c.index_mut.result.now c.put_bytes.new.self c.args.self.now.regions.items _ (written (goal.at.returns-in-Some-clause-rows c).After-put_bytes)

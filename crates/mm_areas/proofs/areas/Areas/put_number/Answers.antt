@@ -5,6 +5,7 @@ use Rattle.mm_frames.specs.Numbers.{with_number}
 use Rattle.std.proofs.lemmas.Bool.{false≢true}
 use Rattle.mm_areas.specs.Own.{is_own_at}
 use Rattle.mm_areas.proofs.WriteLaws.{AreWritten, put_found, put_ok, put_unchanged, put_owned, put_fits, not_found}
+use Rattle.mm_areas.proofs.RowLaws.{rows_same}
 use Rattle.mm_areas.proofs.areas.Areas.put_number.Goals as goal
 use Rattle.mm_areas.proofs.areas.Areas.put_number.Goals.{After-put_number}
 
@@ -34,3 +35,6 @@ returns-in-Some-clause-unchanged c = put_unchanged c.put_number.result c.args.pa
 
 pub returns-in-Some-clause-owned : goal.returns-in-Some-clause-owned
 returns-in-Some-clause-owned c = put_owned c.args.page c.index_mut.result.now c.put_number.new.self c.args.self.now.regions.items _ (written (goal.at.returns-in-Some-clause-owned c).After-put_number) c.put_number.ensures.own
+
+pub returns-in-Some-clause-rows : goal.returns-in-Some-clause-rows
+returns-in-Some-clause-rows c = rows_same c.args.page c.index_mut.result.now c.put_number.new.self c.args.self.now.regions.items _ (written (goal.at.returns-in-Some-clause-rows c).After-put_number) c.put_number.ensures.row

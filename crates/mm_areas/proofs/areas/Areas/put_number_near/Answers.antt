@@ -4,6 +4,7 @@ use Rattle.std.proofs.Math.ListN.{set}
 use Rattle.mm_frames.specs.Numbers.{IsInPage, with_number}
 use Rattle.mm_areas.specs.Hints.{is_hint}
 use Rattle.mm_areas.proofs.WriteLaws.{AreWritten, put_ok, put_unchanged, put_owned, put_near, near_fits}
+use Rattle.mm_areas.proofs.RowLaws.{rows_same}
 use Rattle.mm_areas.proofs.areas.Areas.put_number_near.Goals as goal
 use Rattle.mm_areas.proofs.areas.Areas.put_number_near.Goals.{After-put_allowed}
 
@@ -28,3 +29,6 @@ returns-clause-unchanged c = put_unchanged c.put_allowed.result c.args.page c.in
 
 pub returns-clause-owned : goal.returns-clause-owned
 returns-clause-owned c = put_owned c.args.page c.index_mut.result.now c.put_allowed.new.self c.args.self.now.regions.items _ (written (goal.at.returns-clause-owned c).After-put_allowed) c.put_allowed.ensures.own
+
+pub returns-clause-rows : goal.returns-clause-rows
+returns-clause-rows c = rows_same c.args.page c.index_mut.result.now c.put_allowed.new.self c.args.self.now.regions.items _ (written (goal.at.returns-clause-rows c).After-put_allowed) c.put_allowed.ensures.row

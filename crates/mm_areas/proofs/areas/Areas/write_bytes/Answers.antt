@@ -6,6 +6,7 @@ use Rattle.mm_frames.specs.Numbers.{with_run}
 use Rattle.mm_areas.specs.Pages.{Mapped}
 use Rattle.mm_areas.specs.Contents.{bytes_mapped}
 use Rattle.mm_areas.proofs.WriteLaws.{AreWritten, put_found, write_ok, write_owns, write_err, write_lacks, write_kept, write_others}
+use Rattle.mm_areas.proofs.RowLaws.{rows_others, write_drops, write_keeps}
 use Rattle.mm_areas.proofs.areas.Areas.write_bytes.Goals as goal
 use Rattle.mm_areas.proofs.areas.Areas.write_bytes.Goals.{After-write_bytes}
 
@@ -42,3 +43,12 @@ returns-clause-kept c = write_kept c.write_bytes.result c.args.page c.index_mut.
 
 pub returns-clause-others : goal.returns-clause-others
 returns-clause-others c = write_others c.args.page c.index_mut.result.now c.write_bytes.new.self c.args.self.now.regions.items _ (written (goal.at.returns-clause-others c).After-write_bytes)
+
+pub returns-clause-row : goal.returns-clause-row
+returns-clause-row c = write_drops c.write_bytes.result c.args.page c.index_mut.result.now c.write_bytes.new.self c.args.self.now.regions.items _ (written (goal.at.returns-clause-row c).After-write_bytes) c.write_bytes.ensures.row
+
+pub returns-clause-row_kept : goal.returns-clause-row_kept
+returns-clause-row_kept c = write_keeps c.write_bytes.result c.args.page c.index_mut.result.now c.write_bytes.new.self c.args.self.now.regions.items _ (written (goal.at.returns-clause-row_kept c).After-write_bytes) c.write_bytes.ensures.err
+
+pub returns-clause-rows : goal.returns-clause-rows
+returns-clause-rows c = rows_others c.args.page c.index_mut.result.now c.write_bytes.new.self c.args.self.now.regions.items _ (written (goal.at.returns-clause-rows c).After-write_bytes)

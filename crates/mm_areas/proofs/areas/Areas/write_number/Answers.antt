@@ -6,6 +6,7 @@ use Rattle.mm_frames.specs.Numbers.{with_number}
 use Rattle.mm_areas.specs.Pages.{Mapped}
 use Rattle.mm_areas.specs.Contents.{bytes_mapped}
 use Rattle.mm_areas.proofs.WriteLaws.{AreWritten, put_found, write_ok, write_owns, write_err, write_lacks, write_kept, write_others}
+use Rattle.mm_areas.proofs.RowLaws.{rows_same}
 use Rattle.mm_areas.proofs.areas.Areas.write_number.Goals as goal
 use Rattle.mm_areas.proofs.areas.Areas.write_number.Goals.{After-write_number}
 
@@ -42,3 +43,6 @@ returns-clause-kept c = write_kept c.write_number.result c.args.page c.index_mut
 
 pub returns-clause-others : goal.returns-clause-others
 returns-clause-others c = write_others c.args.page c.index_mut.result.now c.write_number.new.self c.args.self.now.regions.items _ (written (goal.at.returns-clause-others c).After-write_number)
+
+pub returns-clause-rows : goal.returns-clause-rows
+returns-clause-rows c = rows_same c.args.page c.index_mut.result.now c.write_number.new.self c.args.self.now.regions.items _ (written (goal.at.returns-clause-rows c).After-write_number) c.write_number.ensures.row
