@@ -22,7 +22,9 @@
 
 mod access;
 mod changes;
+mod decoded;
 mod handed;
+mod hints;
 mod reserves;
 mod seen;
 mod sight;
@@ -30,4 +32,5 @@ mod space;
 mod stores;
 
 pub use handed::{Handed, HandedArea, SharedArea};
+pub use hints::Hints;
 pub use space::Space;
