@@ -55,7 +55,7 @@ put_mapped task page offset value (Some m) r = put_held task page offset value m
 abbrev pub put_byte : (task address value : ℕ) → Reach → Reach
 put_byte task address value r =
     put_mapped task (page_number address) (page_offset address) value
-        (map.get r.space.mapping.pages (page_number address)) r
+    (map.get r.space.mapping.pages (page_number address)) r
 
 -- so many of a number's bytes put from an address on, the lowest first
 -- RISC-V Unprivileged ISA 20191213, 1.4: little-endian

@@ -8,7 +8,9 @@
 //! Proved: `load` and `fetch` answer what the access comes to (`number`, `word`): the number of the bytes, the lowest
 //! first; the first byte that lacks the right, before any shared area is asked for; else the area of the first byte
 //! that lies in one which isn't handed in. They take no memory (`lean`). Addresses go round at 2^64, and no access
-//! needs alignment. `map`, `unmap`, `protect` and `brk` leave the mapping that mm_areas' definitions make of the old one,
+//! needs alignment. `allowed` answers so whether each of a run of bytes may be accessed by a right (`room`), and `read`
+//! puts a run into a buffer where all of it may be read (`ok`), and else leaves the buffer as it was (`err`).
+//! `map`, `unmap`, `protect` and `brk` leave the mapping that mm_areas' definitions make of the old one,
 //! and the first three end the reservations over their range (`ok`); a fault is answered where it is and only there
 //! (`fault`, `faulty`), and an error changes nothing (`err`). `get` gives the area of a name (the first of it). `fork` gives a space of the same mapping in which
 //! nothing is reserved (`child`), and leaves this one as it was (`kept`).
@@ -23,6 +25,8 @@
 mod access;
 mod changes;
 mod handed;
+mod page_sight;
+mod runs;
 mod seen;
 mod sight;
 mod space;
