@@ -1,8 +1,12 @@
 pub mod Accessed
 pub mod AreaPuts
 pub mod Near
+pub mod NearPuts
 pub mod NumberBounds
 pub mod Placed
 pub mod Readied
-pub mod NearPuts
+pub mod SeenPages
+pub mod Splits
 pub mod Undone
+pub mod Walks
+pub mod WholePages

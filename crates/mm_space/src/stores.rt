@@ -36,7 +36,7 @@ impl Space {
         ensures lean { is_ready self.old handed.old at width ≡ true → result ≢ Err MemErr.Memory }
         ensures same { reach self.new handed.new ≡ reach self.old handed.old }
     {
-        self.can_write(handed, at, width)?;
+        self.allowed(handed, Rights::WRITE, at, usize::from(width))?;
         match self.own_all(alloc, handed, at, width) {
             Ok(()) => Ok(()),
             Err(_) => Err(MemErr::Memory),
@@ -74,20 +74,6 @@ impl Space {
             }
             Err(err) => Err(err),
         }
-    }
-
-    /// Whether each of so many bytes at an address may be written, one byte after another.
-    fn can_write(&self, handed: &Handed, at: u64, width: u8) -> Result<(), MemErr>
-        ensures room { AllowsAs (loaded (byte_at writable (reach self.now handed.now)) at width) result }
-        ensures lean { result ≢ Err MemErr.Memory }
-    {
-        if let Some(addr) = self.first_barred(handed, Rights::WRITE, at, width) {
-            return Err(MemErr::Fault { addr });
-        }
-        if let Some(area) = self.first_area(handed, Rights::WRITE, at, width) {
-            return Err(MemErr::Shared(area));
-        }
-        Ok(())
     }
 
     /// The page of a shared area that a page is.
