@@ -13,9 +13,13 @@ mod accesses;
 #[cfg(test)]
 mod changes;
 #[cfg(test)]
+mod decoded;
+#[cfg(test)]
 mod fixture;
 #[cfg(test)]
 mod forks;
+#[cfg(test)]
+mod near;
 #[cfg(test)]
 mod reads;
 #[cfg(test)]
