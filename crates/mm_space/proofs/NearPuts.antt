@@ -95,7 +95,7 @@ module _ (task number : ℕ) (rights : Rights) (r : Reach) (low : number < 2 ^ 5
   abbrev with_bytes : List ℕ → Reach
   with_bytes bytes = with_space (map.insert pages number (private_of bytes))
 
-  byte_put : (at offset value : ℕ) (bytes : List ℕ) → at ≡ (number * 4096 + offset) % 2 ^ 64 → offset < 4096 → put_byte task at value (with_bytes bytes) ≡ with_bytes (slice_set bytes offset value)
+  pub byte_put : (at offset value : ℕ) (bytes : List ℕ) → at ≡ (number * 4096 + offset) % 2 ^ 64 → offset < 4096 → put_byte task at value (with_bytes bytes) ≡ with_bytes (slice_set bytes offset value)
   byte_put at offset value bytes is inside =
       let page_is : page_number at ≡ number = omega (arith, is, inside, low) in
       let offset_is : page_offset at ≡ offset = omega (arith, is, inside, low) in

@@ -26,6 +26,7 @@
 #![tactic(auto)]
 
 mod access;
+mod area_runs;
 mod changes;
 mod decoded;
 mod handed;
@@ -37,6 +38,7 @@ mod seen;
 mod sight;
 mod space;
 mod stores;
+mod writes;
 
 pub use handed::{Handed, HandedArea, SharedArea};
 pub use hints::Hints;

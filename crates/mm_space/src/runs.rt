@@ -79,7 +79,7 @@ impl Space {
 }
 
 /// How many of so many bytes from an address on lie in its page.
-fn in_page(at: u64, count: usize) -> usize
+pub(crate) fn in_page(at: u64, count: usize) -> usize
     ensures within { result ≤ count }
     ensures page { at % 4096 + result ≤ 4096 }
     ensures some { 0 < count → 0 < result }

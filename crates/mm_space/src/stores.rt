@@ -87,7 +87,12 @@ impl Space {
     }
 
     /// Makes the bytes of the page at an address its own.
-    fn own_at(&mut self, alloc: Global, handed: &mut Handed, address: u64) -> Result<(), Memory>
+    pub(crate) fn own_at(
+        &mut self,
+        alloc: Global,
+        handed: &mut Handed,
+        address: u64,
+    ) -> Result<(), Memory>
         ensures same { reach self.new handed.new ≡ reach self.old handed.old }
         ensures ready { OnOk result (is_ready_at self.new handed.new address ≡ true) }
         ensures still { (other : ℕ) →
