@@ -1,3 +1,17 @@
 pub mod Accessed
+pub mod AreaPuts
+pub mod AreaRuns
 pub mod Near
+pub mod NearPuts
 pub mod NumberBounds
+pub mod PageRuns
+pub mod Placed
+pub mod PutPieces
+pub mod Readied
+pub mod ReadyRuns
+pub mod SeenPages
+pub mod SetRuns
+pub mod Splits
+pub mod Undone
+pub mod Walks
+pub mod WholePages

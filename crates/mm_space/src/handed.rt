@@ -1,8 +1,10 @@
 //! Shared areas, and those that are handed in with an access.
 
-ghost use Rattle.std.specs.Prelude.{◌≡◌, [], ◌∷◌, ◌++◌, OnOk, OnErr, option_map, option_copied};
+ghost use Rattle.std.specs.Prelude.{◌≡◌, ℕ, ◌<◌, true, false, None, [], ◌∷◌, ◌++◌, OnOk, OnErr, option_map, option_copied};
 ghost use Rattle.mm_areas.specs.Pages.{held_in};
 ghost use Rattle.mm_space.specs.Handing.{area_in, area_state, hand_of, in_hand};
+ghost use Rattle.mm_space.specs.Places.{owned_in, owns_shared, place_of};
+ghost use Rattle.mm_space.specs.Puts.{put_in_area, with_area};
 ghost use Rattle.mm_space.specs.Sight.{as_byte, is_area, seen_byte};
 
 use crate::seen::Seen;
@@ -20,6 +22,66 @@ pub struct SharedArea {
     pub reservations: AreaReservations,
 }
 
+impl SharedArea {
+    ghost use Rattle.std.specs.Prelude.{Some};
+    ghost use Rattle.mm_space.specs.Places.{page_owned};
+    ghost use Rattle.mm_space.specs.Reserves.{is_held_in_area, leave_in_area, reserve_in_area};
+
+    /// Makes the bytes of a page the area's own, where there is the page.
+    fn own(&mut self, alloc: Global, number: usize) -> Result<(), Memory>
+        ensures same { area_state self.new ≡ area_state self.old }
+        ensures ok { OnOk result (page_owned self.new.frames number ≡ true) }
+        ensures still { (other : ℕ) → page_owned self.old.frames other ≡ true → page_owned self.new.frames other ≡ true }
+        ensures lacking { OnErr result (page_owned self.old.frames number ≡ false) }
+    {
+        if number < self.frames.len() {
+            self.frames.own(alloc, number)?;
+        }
+        Ok(())
+    }
+
+    /// Notes that a task has reserved the granule of a byte.
+    fn reserve(&mut self, task: u32, number: u64, offset: u64) -> Result<(), Memory>
+        requires { offset < 4096 }
+        ensures ok { OnOk result (area_state self.new ≡ reserve_in_area task number offset (area_state self.old)) }
+        ensures err { OnErr result (area_state self.new ≡ area_state self.old) }
+    {
+        let at = number.wrapping_mul(4096).wrapping_add(offset);
+        self.reservations.reserve(task, at / 8)
+    }
+
+    /// Whether a task has reserved the granule of a byte.
+    fn holds(&self, task: u32, number: u64, offset: u64) -> bool
+        requires { offset < 4096 }
+        ensures { result ≡ is_held_in_area task number offset (Some (area_state self.now)) }
+    {
+        let at = number.wrapping_mul(4096).wrapping_add(offset);
+        self.reservations.holds(task, at / 8)
+    }
+
+    /// Ends what a task has reserved.
+    fn leave(&mut self, task: u32)
+        ensures left { area_state self.new ≡ leave_in_area task (area_state self.old) }
+        ensures owned { (other : ℕ) → page_owned self.new.frames other ≡ page_owned self.old.frames other }
+    {
+        self.reservations.leave(task);
+    }
+
+    /// Puts a byte at an offset of a page, where the page's bytes are the area's own.
+    fn put(&mut self, task: u32, number: u64, offset: usize, value: u8)
+        requires offset { offset < 4096 }
+        requires own { page_owned self.old.frames number ≡ true }
+        ensures put { area_state self.new ≡ put_in_area task number offset value (area_state self.old) }
+        ensures owned { (other : ℕ) → page_owned self.new.frames other ≡ page_owned self.old.frames other }
+    {
+        let _ = self
+            .frames
+            .put_number(number as usize, offset, 1, u64::from(value));
+        let at = number.wrapping_mul(4096).wrapping_add(offset as u64);
+        self.reservations.stored(task, at, 1);
+    }
+}
+
 /// A shared area under its name.
 #[derive(Drop)]
 pub struct HandedArea {
@@ -30,11 +92,12 @@ pub struct HandedArea {
 /// The shared areas that are handed in with an access. A byte in any other can't be reached.
 #[derive(Drop)]
 pub struct Handed {
-    areas: Vec<HandedArea>,
+    pub(crate) areas: Vec<HandedArea>,
 }
 
 impl Handed {
     ghost use Rattle.mm_space.specs.Accesses.{area_byte, held_byte};
+    ghost use Rattle.mm_space.specs.Reserves.{is_held_in_area, leave_in_area, reserve_in_area};
 
     /// No area is handed in. It takes no memory.
     pub fn none(alloc: Global) -> Handed
@@ -67,6 +130,78 @@ impl Handed {
         None
     }
 
+    /// Makes the bytes of a page of a shared area the area's own, where that is handed in and has the page. Nothing that
+    /// an access sees changes.
+    pub(crate) fn own(&mut self, alloc: Global, page: &SharedPage) -> Result<(), Memory>
+        ensures same { hand_of self.new ≡ hand_of self.old }
+        ensures ok { OnOk result (owns_shared self.new page.now.area page.now.number ≡ true) }
+        ensures still { (name : Area) → (number : ℕ) →
+            owns_shared self.old name number ≡ true → owns_shared self.new name number ≡ true }
+        ensures lacking { OnErr result (owns_shared self.old page.now.area page.now.number ≡ false) }
+    {
+        match place_of(&self.areas, page.area) {
+            Some(place) => self.areas[place].area.own(alloc, page.number as usize),
+            None => Ok(()),
+        }
+    }
+
+    /// Puts a byte at an offset of a page of a shared area, whose bytes are the area's own, for a task. It takes no
+    /// memory.
+    pub(crate) fn put(&mut self, task: u32, page: &SharedPage, offset: usize, value: u8)
+        requires offset { offset < 4096 }
+        requires own { owns_shared self.old page.now.area page.now.number ≡ true }
+        ensures put { hand_of self.new ≡
+            with_area page.now.area (put_in_area task page.now.number offset value) (hand_of self.old) }
+        ensures owned { (name : Area) → (number : ℕ) →
+            owns_shared self.new name number ≡ owns_shared self.old name number }
+    {
+        if let Some(place) = place_of(&self.areas, page.area) {
+            self.areas[place].area.put(task, page.number, offset, value);
+        }
+    }
+
+    /// Notes in a shared area, where that is handed in, that a task has reserved the granule of a byte of a page. An
+    /// `Err` changes nothing.
+    pub(crate) fn reserve(
+        &mut self,
+        task: u32,
+        page: &SharedPage,
+        offset: u64,
+    ) -> Result<(), Memory>
+        requires { offset < 4096 }
+        ensures ok { OnOk result (hand_of self.new ≡
+            with_area page.now.area (reserve_in_area task page.now.number offset) (hand_of self.old)) }
+        ensures err { OnErr result (hand_of self.new ≡ hand_of self.old) }
+    {
+        match place_of(&self.areas, page.area) {
+            Some(place) => self.areas[place].area.reserve(task, page.number, offset),
+            None => Ok(()),
+        }
+    }
+
+    /// Whether a shared area that is handed in has a task's reservation of the granule of a byte of a page.
+    pub(crate) fn holds(&self, task: u32, page: &SharedPage, offset: u64) -> bool
+        requires { offset < 4096 }
+        ensures { result ≡
+            is_held_in_area task page.now.number offset (area_in page.now.area (hand_of self.now)) }
+    {
+        match self.get(page.area) {
+            Some(area) => area.holds(task, page.number, offset),
+            None => false,
+        }
+    }
+
+    /// Ends what a task has reserved in a shared area, where that is handed in.
+    pub(crate) fn leave(&mut self, task: u32, page: &SharedPage)
+        ensures left { hand_of self.new ≡ with_area page.now.area (leave_in_area task) (hand_of self.old) }
+        ensures owned { (name : Area) → (number : ℕ) →
+            owns_shared self.new name number ≡ owns_shared self.old name number }
+    {
+        if let Some(place) = place_of(&self.areas, page.area) {
+            self.areas[place].area.leave(task);
+        }
+    }
+
     /// A byte of a page, by where the page's bytes are.
     pub(crate) fn byte_of(&self, content: &Content, offset: usize) -> Seen
         ensures { seen_byte result ≡ held_byte (hand_of self.now) offset (held_in content.now) }
@@ -87,6 +222,20 @@ impl Handed {
             None => Seen::InArea(page.area),
         }
     }
+}
+
+/// The place of the first area of a name.
+pub(crate) fn place_of(areas: &[HandedArea], name: Area) -> Option<usize>
+    ensures { result ≡ place_of name areas.now }
+{
+    let mut place = 0;
+    for handed in areas {
+        if is_area(handed.name, name) {
+            return Some(place);
+        }
+        place += 1;
+    }
+    None
 }
 
 fn is_area(a: Area, b: Area) -> bool
