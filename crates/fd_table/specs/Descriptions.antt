@@ -4,7 +4,7 @@ use Rattle.fd_table.specs.declared.description.Description.{Description}
 use Rattle.fd_table.specs.Flags.{access_number, append_flag, nonblock_flag, has_flag}
 
 -- the access mode, and the bits of the status flags that are set
--- fcntl(2), F_GETFL
+-- fcntl(2), F_GETFL; that no other bit is told: profile
 abbrev pub status_flags : Description → ℕ
 status_flags d =
     access_number d.access
@@ -12,7 +12,7 @@ status_flags d =
     + (if d.nonblock then nonblock_flag else 0)
 
 -- a description with the status flags that a number has, and else as before
--- fcntl(2), F_SETFL: the access mode and the other bits are ignored
+-- fcntl(2), F_SETFL: the access mode is ignored; that the other bits are: profile
 abbrev pub with_status : Description → (flags : ℕ) → Description
 with_status d flags = record {
   object = d.object;

@@ -28,7 +28,7 @@ pub record IsLowestFree (table : Table) (from number : ℕ) : Type 0 where
   pub taken : (n : ℕ) → from ≤ n → n < number → IsSome (map.get table n)
 
 -- no number at or above another is free
--- open(2), dup(2) and fcntl(2), EMFILE
+-- open(2), dup(2) and fcntl(2), EMFILE; a minimum that no table has is the caller's to refuse: profile
 abbrev pub IsFullFrom : Table → (from : ℕ) → Type 0
 IsFullFrom table from = (n : ℕ) → from ≤ n → n < 256 → IsSome (map.get table n)
 

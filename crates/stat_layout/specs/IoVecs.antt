@@ -8,7 +8,7 @@ use Rattle.stat_layout.specs.declared.iovec.IoVecErr.{IoVecErr}
 use Rattle.stat_layout.specs.declared.iovec.IoVecErr.TheVariants.{Count, Sum, Memory}
 
 -- a count that no call takes: as a signed number it's below 0 or above the most buffers that a call may have
--- readv(2), ERRORS, EINVAL; limits.h, IOV_MAX: 1,024
+-- readv(2), ERRORS, EINVAL; limits.h, IOV_MAX: 1,024; that all 64 bits count: profile
 abbrev pub IsOutOfRange : (count : ℕ) → Type 0
 IsOutOfRange count = (cast_signed w64 count <ℤ pos 0) ⊎ (pos 1024 <ℤ cast_signed w64 count)
 
