@@ -1,4 +1,4 @@
--- Runs of bytes: what lies from an address on, one byte behind another, and what is put so into a page of a shared area.
+-- Runs of bytes: what lies from an address on, one byte behind another, and what is put so into a page of an area.
 use Rattle.std.specs.Prelude.{ℕ, zero, suc, ◌+◌, List, [], ◌∷◌}
 use Rattle.rv_table.specs.Bytes.{Byte, behind, value_in}
 use Rattle.mm_space.specs.Handing.{AreaState}

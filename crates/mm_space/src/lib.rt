@@ -3,26 +3,28 @@
 //!
 //! A caller sees a `Space` through `space_of`: what is mapped, with the break, and what its tasks have reserved. With
 //! an access it hands in shared areas (`Handed`), under their names, and contracts see what both reach as a `Reach`.
-//! What each byte is to an access by a right, `byte_at` says: it has a value, it may not be accessed so, or it lies in a
-//! shared area that isn't handed in.
+//! What each byte is to an access by a right, `byte_at` says: it has a value, it may not be accessed so, or it lies in
+//! a shared area that isn't handed in.
 //!
 //! Proved: `load` and `fetch` answer what the access comes to (`number`, `word`): the number of the bytes, the lowest
 //! first; the first byte that lacks the right, before any shared area is asked for; else the area of the first byte
-//! that lies in one which isn't handed in. `allowed`, `read`, `writable` and `store` are refused by the same rule
-//! (`room`), and a refusal changes nothing (`err`). `store` leaves the bytes in their places, and ends other tasks'
-//! reservations of the granules that they meet, in the address space and in the area (`ok`). Only `writable`, `store`
-//! and `reserve` may want memory; after `writable` a store doesn't (`ready`, `lean`). `take` answers whether the task has
-//! the reservation of just that address and width, and in a shared area still has it there (`held`). What is done by a
-//! hint is what the exact call does, whichever areas are handed in, or nothing (`near`, `done`, `unchanged`). Decoded
-//! words are those of the page's bytes (`words`). `map`, `unmap`, `protect` and `brk` leave the mapping that mm_areas'
-//! definitions make of the old one, and the first three end the reservations over their range (`ok`); a fault is answered
-//! where it is and only there (`fault`, `faulty`). `fork` gives a space of the same mapping in which nothing is reserved
-//! (`child`), and leaves this one as it was (`kept`).
+//! that lies in one which isn't handed in. `allowed`, `read`, `writable`, `store` and `write` are refused by the same
+//! rule (`room`), and a refusal changes nothing (`err`). `read` takes the bytes of a run, and `store` and `write` leave
+//! bytes in their places, a run's one after another, and end other tasks' reservations of the granules that they meet,
+//! in the address space and in the area (`ok`). Only `writable`, `store`, `write` and `reserve` may want memory; where
+//! pages have their bytes for themselves, as after `writable`, no store or run does (`ready`, `lean`). `take` answers
+//! whether the task has the reservation of just that address and width, and in a shared area still has it there
+//! (`held`). What is done by a hint is what the exact call does, whichever areas are handed in, or nothing (`near`,
+//! `done`, `unchanged`). Decoded words are those of the page's bytes (`words`). `map`, `unmap`, `protect` and `brk`
+//! leave the mapping that mm_areas' definitions make of the old one, and the first three end the reservations over
+//! their range (`ok`); a fault is answered where it is and only there (`fault`, `faulty`). `fork` gives a space of the
+//! same mapping in which nothing is reserved (`child`), and leaves this one as it was (`kept`).
 //!
 //! Not said: time, that memory suffices, and that at most 64 pages have their words decoded (tested).
 //!
 //! Standard: RISC-V Unprivileged ISA 20191213, 1.4, Memory, 2.6, Load and Store Instructions, and 8.2,
-//! Load-Reserved/Store-Conditional Instructions; mmap(2), munmap(2), mprotect(2), brk(2) and fork(2). No locks.
+//! Load-Reserved/Store-Conditional Instructions; mmap(2), munmap(2), mprotect(2), brk(2), fork(2), read(2) and
+//! write(2). No locks.
 #![tactic(auto)]
 
 mod access;

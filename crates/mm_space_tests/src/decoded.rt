@@ -109,3 +109,21 @@ fn words_that_are_put_back_take_the_place_of_others(rt: HostRuntime) -> Result<(
     assert_eq!(rt; decoded(&space, 200), 1);
     Ok(())
 }
+
+#[test]
+fn a_run_of_bytes_takes_the_words_from_its_page(rt: HostRuntime) -> Result<(), Fail> {
+    let mut space = code(rt.alloc(), 2)?;
+    let mut none = Handed::none(rt.alloc());
+    assert!(rt; space.decode(rt.alloc(), 256));
+    assert!(rt; matches!(word(&space, 1023), Some(None)));
+    // ecall at the page's end
+    let run = [0x73, 0, 0, 0];
+    assert_eq!(rt;
+        space.write(rt.alloc(), &mut none, 1, 0x10_0ffc, &run),
+        Ok(())
+    );
+    assert!(rt; word(&space, 1023).is_none());
+    assert!(rt; space.decode(rt.alloc(), 256));
+    assert!(rt; matches!(word(&space, 1023), Some(Some(Instr::Ecall))));
+    Ok(())
+}

@@ -10,6 +10,7 @@
 //! | 21_6000 to 21_6fff | read, write | a private page |
 //! | 21_7000 to 21_7fff | write | a private page |
 //! | 21_8000 to 21_8fff | read, write | the page 0 of `SECOND` |
+//! | 21_9000 to 21_9fff | read, write | the page 0 of `SECOND` once more |
 
 use crate::fixture::{FIRST, SECOND};
 use mm_areas::{Areas, Backing, Rights};
@@ -55,6 +56,7 @@ pub(crate) fn space(alloc: Global) -> Result<Space, Fail> {
         (0x21_6000, 4096, both, Backing::Zeros),
         (0x21_7000, 4096, Rights::WRITE, Backing::Zeros),
         (0x21_8000, 4096, both, Backing::Of(SECOND)),
+        (0x21_9000, 4096, both, Backing::Of(SECOND)),
     ] {
         areas.map(alloc, Some(at), length, rights, backing)?;
     }
