@@ -15,3 +15,11 @@ mod changes;
 mod fixture;
 #[cfg(test)]
 mod forks;
+#[cfg(test)]
+mod pair;
+#[cfg(test)]
+mod reservations;
+#[cfg(test)]
+mod shared_areas;
+#[cfg(test)]
+mod stores;
