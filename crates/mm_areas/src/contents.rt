@@ -142,8 +142,8 @@ impl Areas {
         }
     }
 
-    /// Puts a run of bytes into a private page from an offset on, in the way of `write_number`. The page's decoded words
-    /// are given up.
+    /// Puts a run of bytes into a private page from an offset on, in the way of `write_number`. It gives up the page's
+    /// decoded words.
     #[tactic(auto, using(crate::proofs::RegionLaws::order_from_test))]
     pub fn write_bytes(
         &mut self,

@@ -106,7 +106,11 @@ fn quick_stores_to_pages_put_what_fits(rt: HostRuntime) -> Result<(), Fail> {
         (1, usize::MAX, false),
         (2, 0, false),
     ] {
-        assert_eq!(rt; frames.put_bytes(page, offset, &[5, 6]), done, "page {page} at {offset}");
+        assert_eq!(rt;
+            frames.put_bytes(page, offset, &[5, 6]),
+            done,
+            "page {page} at {offset}"
+        );
     }
     assert_eq!(rt; frames.number(1, 4088, 8), Some(0x0605_3344_5566_7788));
     Ok(())

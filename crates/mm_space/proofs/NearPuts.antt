@@ -1,6 +1,7 @@
 -- Stores whose bytes lie in one page that has its bytes for itself.
-use Rattle.std.proofs.Common.{◌≡◌, ℕ, zero, suc, ◌+◌, ◌*◌, ◌/◌, ◌%◌, ◌^◌, ◌<◌, ◌≤◌, ◌↔◌, Bool, true, false, List, length, Option, Some, None, Ok, refl, ap, sym, ◌∙◌, subst, arith}
-use Rattle.std.specs.Prelude.{IsTrue, slice_get, slice_set, option_map}
+use Rattle.std.proofs.Common.{◌≡◌, ℕ, zero, suc, ◌+◌, ◌*◌, ◌/◌, ◌%◌, ◌^◌, ◌<◌, ◌≤◌, ◌↔◌, Bool, true, false, List, [], length, Option, Some, None, Ok, refl, ap, sym, ◌∙◌, subst, arith}
+use Rattle.std.specs.Prelude.{IfSome, IsTrue, is_some, slice_get, slice_set, option_map, unwrap_or}
+use Rattle.std.specs.Option.{SomeIff}
 use Rattle.std.specs.Bool.{OnTrue, OnFalse}
 use Rattle.std.specs.FinMap as map
 use Rattle.std.proofs.lemmas.Bool.{false≢true}
@@ -9,13 +10,13 @@ use Rattle.rv_table.specs.Bytes.{AllowsAs, behind, loaded}
 use Rattle.rv_atomic.specs.Reservations.{after_store}
 use Rattle.rv_atomic.specs.declared.reservations.Reservation.{Reservation}
 use Rattle.mm_frames.specs.Frames.{bytes_of}
-use Rattle.mm_frames.specs.Numbers.{IsInPage, with_number}
+use Rattle.mm_frames.specs.Numbers.{IsInPage, number_in, with_number}
 use Rattle.mm_areas.specs.declared.areas.Areas.{Areas}
 use Rattle.mm_areas.specs.declared.page.Content.{Content}
 use Rattle.mm_areas.specs.declared.page.Content.TheVariants.{Private, Shared}
 use Rattle.mm_areas.specs.declared.page.Page.{Page}
 use Rattle.mm_areas.specs.declared.rights.Rights.{Rights}
-use Rattle.mm_areas.specs.Contents.{changed_at, with_change}
+use Rattle.mm_areas.specs.Contents.{bytes_at, bytes_mapped, changed_at, with_change}
 use Rattle.mm_areas.specs.Hints.{allows_at, allows_mapped}
 use Rattle.mm_areas.specs.Mappings.{Mapping, mapping, with_pages}
 use Rattle.mm_areas.specs.Own.{is_own_at, is_own_content, owns, page_in}
@@ -23,33 +24,62 @@ use Rattle.mm_areas.specs.Pages.{Bytes, Held, Mapped, Pages, held_in, mapped_by}
 use Rattle.mm_areas.specs.Rights.{has}
 use Rattle.mm_areas.proofs.ChangeLaws.{get_page}
 use Rattle.mm_areas.proofs.RegionLaws.{order_from_test}
-use Rattle.mm_space.specs.Accesses.{byte_at, page_number, page_offset, writable}
+use Rattle.mm_space.specs.Accesses.{LoadsNear, byte_at, page_number, page_offset, writable}
 use Rattle.mm_space.specs.Handing.{InHand}
 use Rattle.mm_space.specs.Puts.{StoresNear, after_stored, ended_by_store, put_byte, put_bytes, put_mapped}
 use Rattle.mm_space.specs.Spaces.{AddressSpace, Reach}
 use Rattle.mm_space.proofs.Accessed.{room_there}
-use Rattle.mm_space.proofs.Near.{IsPrivate, near_apart, near_free}
+use Rattle.mm_space.proofs.Near.{IsPrivate, near_apart, near_free, near_value}
 
--- a page whose bytes are its own is mapped, and has 4,096 bytes
-pub record IsOwnPage (areas : Areas) (page : ℕ) : Type 0 where
+-- a private page is mapped, and has 4,096 bytes
+pub record IsPrivatePage (areas : Areas) (page : ℕ) : Type 0 where
   pub rights : Rights
   pub bytes : List ℕ
   pub there : map.get (mapping areas).pages page ≡ Some (record { rights = rights; held = Bytes bytes })
   pub whole : length bytes ≡ 4096
 
-pub own_page : (areas : Areas) (page : ℕ) → owns areas page ≡ true → IsOwnPage areas page
+-- what a page by its number is
+found : (areas : Areas) (page : ℕ) (o : Option Page) → page_in areas.regions.items page ≡ o → map.get (mapping areas).pages page ≡ option_map mapped_by o
+found areas page o is = get_page 0 areas.regions.items page (order_from_test 0 areas.regions.items areas.in_order) ∙ ap (option_map mapped_by) is
+
+-- a page whose bytes are its own is private
+pub own_page : (areas : Areas) (page : ℕ) → owns areas page ≡ true → IsPrivatePage areas page
 own_page areas page own = by (page_in areas.regions.items page) refl own
   where
-    found : (o : Option Page) → page_in areas.regions.items page ≡ o → map.get (mapping areas).pages page ≡ option_map mapped_by o
-    found o is = get_page 0 areas.regions.items page (order_from_test 0 areas.regions.items areas.in_order) ∙ ap (option_map mapped_by) is
-
-    by_content : (rights : Rights) (content : Content) → map.get (mapping areas).pages page ≡ Some (record { rights = rights; held = held_in content }) → is_own_content content ≡ true → IsOwnPage areas page
+    by_content : (rights : Rights) (content : Content) → map.get (mapping areas).pages page ≡ Some (record { rights = rights; held = held_in content }) → is_own_content content ≡ true → IsPrivatePage areas page
     by_content rights (Private frame) there is_own = record { rights = rights; bytes = bytes_of frame; there = there; whole = frame.whole }
     by_content rights (Shared shared) there is_own = absurd (false≢true is_own)
 
-    by : (o : Option Page) → page_in areas.regions.items page ≡ o → is_own_at o ≡ true → IsOwnPage areas page
+    by : (o : Option Page) → page_in areas.regions.items page ≡ o → is_own_at o ≡ true → IsPrivatePage areas page
     by None is is_own = absurd (false≢true is_own)
-    by (Some p) is is_own = by_content p.rights p.content (found (Some p) is) is_own
+    by (Some p) is is_own = by_content p.rights p.content (found areas page (Some p) is) is_own
+
+-- and so is one that has bytes
+pub bytes_page : (areas : Areas) (page : ℕ) → is_some (bytes_at (mapping areas).pages page) ≡ true → IsPrivatePage areas page
+bytes_page areas page has_bytes = by (page_in areas.regions.items page) refl has_bytes
+  where
+    by_content : (rights : Rights) (content : Content) → map.get (mapping areas).pages page ≡ Some (record { rights = rights; held = held_in content }) → is_some (bytes_at (mapping areas).pages page) ≡ true → IsPrivatePage areas page
+    by_content rights (Private frame) there some = record { rights = rights; bytes = bytes_of frame; there = there; whole = frame.whole }
+    by_content rights (Shared shared) there some = absurd (false≢true (sym (ap (λ (o : Option Mapped). is_some (bytes_mapped o)) there) ∙ some))
+
+    by : (o : Option Page) → page_in areas.regions.items page ≡ o → is_some (bytes_at (mapping areas).pages page) ≡ true → IsPrivatePage areas page
+    by None is some = absurd (false≢true (sym (ap (λ (o : Option Mapped). is_some (bytes_mapped o)) (found areas page None is)) ∙ some))
+    by (Some p) is some = by_content p.rights p.content (found areas page (Some p) is) some
+
+-- a number that a page gives by its right is what an access comes to
+pub load_done : (areas : Areas) (reservations : List Reservation) (right : Rights) (near : Bool) (at width : ℕ) (answer : Option ℕ) → at < 2 ^ 64
+    → SomeIff answer ((near ≡ true) × (allows_at (mapping areas).pages (at / 4096) right ≡ true) × (is_some (bytes_at (mapping areas).pages (at / 4096)) ≡ true) × IsInPage (at % 4096) width)
+    (number_in (unwrap_or (bytes_at (mapping areas).pages (at / 4096)) []) (at % 4096) width)
+    → IfSome answer (LoadsNear right (record { mapping = mapping areas; reservations = reservations }) at width)
+load_done areas reservations right near at width None small is = tt
+load_done areas reservations right near at width (Some value) small is = λ hand.
+    near_value right (record { space = record { mapping = mapping areas; reservations = reservations }; hand = hand }) page.bytes at width value small
+    (record { rights = page.rights; there = page.there; allowed = ap (λ (m : Option Mapped). allows_mapped m right) (sym page.there) ∙ is.0.1; whole = page.whole })
+    is.0.3.1
+    (is.1 ∙ ap (λ (o : Option Mapped). number_in (unwrap_or (bytes_mapped o) []) (at % 4096) width) page.there)
+  where
+    page : IsPrivatePage areas (at / 4096)
+    page = bytes_page areas (at / 4096) is.0.2
 
 module _ (task number : ℕ) (rights : Rights) (r : Reach) (low : number < 2 ^ 52) where
   abbrev pages : Pages
@@ -65,7 +95,7 @@ module _ (task number : ℕ) (rights : Rights) (r : Reach) (low : number < 2 ^ 5
   abbrev with_bytes : List ℕ → Reach
   with_bytes bytes = with_space (map.insert pages number (private_of bytes))
 
-  byte_put : (at offset value : ℕ) (bytes : List ℕ) → at ≡ (number * 4096 + offset) % 2 ^ 64 → offset < 4096 → put_byte task at value (with_bytes bytes) ≡ with_bytes (slice_set bytes offset value)
+  pub byte_put : (at offset value : ℕ) (bytes : List ℕ) → at ≡ (number * 4096 + offset) % 2 ^ 64 → offset < 4096 → put_byte task at value (with_bytes bytes) ≡ with_bytes (slice_set bytes offset value)
   byte_put at offset value bytes is inside =
       let page_is : page_number at ≡ number = omega (arith, is, inside, low) in
       let offset_is : page_offset at ≡ offset = omega (arith, is, inside, low) in
@@ -100,7 +130,7 @@ store_done areas news was is true near task at width value small fits changed en
     pages : Pages
     pages = (mapping areas).pages
 
-    own : IsOwnPage areas page
+    own : IsPrivatePage areas page
     own = own_page areas page (fits.0 refl).1
 
     old : List InHand → Reach

@@ -1,8 +1,10 @@
 pub mod Accesses
 pub mod Changes
 pub mod Handing
+pub mod PageSights
 pub mod Places
 pub mod Puts
 pub mod Reserves
+pub mod Runs
 pub mod Sight
 pub mod Spaces

@@ -92,7 +92,7 @@ pub struct HandedArea {
 /// The shared areas that are handed in with an access. A byte in any other can't be reached.
 #[derive(Drop)]
 pub struct Handed {
-    areas: Vec<HandedArea>,
+    pub(crate) areas: Vec<HandedArea>,
 }
 
 impl Handed {
@@ -225,7 +225,7 @@ impl Handed {
 }
 
 /// The place of the first area of a name.
-fn place_of(areas: &[HandedArea], name: Area) -> Option<usize>
+pub(crate) fn place_of(areas: &[HandedArea], name: Area) -> Option<usize>
     ensures { result ≡ place_of name areas.now }
 {
     let mut place = 0;

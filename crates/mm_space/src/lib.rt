@@ -1,33 +1,47 @@
-//! A guest's address space: what is mapped there and how that changes, loads and fetches, and its child at a fork.
+//! A guest's address space: what is mapped there and how that changes, loads, stores and fetches, runs of bytes for
+//! system calls, reservations, and its child at a fork.
 //!
 //! A caller sees a `Space` through `space_of`: what is mapped, with the break, and what its tasks have reserved. With
 //! an access it hands in shared areas (`Handed`), under their names, and contracts see what both reach as a `Reach`.
-//! What each byte is to an access by a right, `byte_at` says: it has a value, it may not be accessed so, or it lies in a
-//! shared area that isn't handed in.
+//! What each byte is to an access by a right, `byte_at` says: it has a value, it may not be accessed so, or it lies in
+//! a shared area that isn't handed in.
 //!
 //! Proved: `load` and `fetch` answer what the access comes to (`number`, `word`): the number of the bytes, the lowest
 //! first; the first byte that lacks the right, before any shared area is asked for; else the area of the first byte
-//! that lies in one which isn't handed in. They take no memory (`lean`). Addresses go round at 2^64, and no access
-//! needs alignment. `map`, `unmap`, `protect` and `brk` leave the mapping that mm_areas' definitions make of the old one,
-//! and the first three end the reservations over their range (`ok`); a fault is answered where it is and only there
-//! (`fault`, `faulty`), and an error changes nothing (`err`). `get` gives the area of a name (the first of it). `fork` gives a space of the same mapping in which
-//! nothing is reserved (`child`), and leaves this one as it was (`kept`).
+//! that lies in one which isn't handed in. `allowed`, `read`, `writable`, `store` and `write` are refused by the same
+//! rule (`room`), and a refusal changes nothing (`err`). `read` takes the bytes of a run, and `store` and `write` leave
+//! bytes in their places, a run's one after another, and end other tasks' reservations of the granules that they meet,
+//! in the address space and in the area (`ok`). Only `writable`, `store`, `write` and `reserve` may want memory; where
+//! pages have their bytes for themselves, as after `writable`, no store or run does (`ready`, `lean`). `take` answers
+//! whether the task has the reservation of just that address and width, and in a shared area still has it there
+//! (`held`). What is done by a hint is what the exact call does, whichever areas are handed in, or nothing (`near`,
+//! `done`, `unchanged`). Decoded words are those of the page's bytes (`words`). `map`, `unmap`, `protect` and `brk`
+//! leave the mapping that mm_areas' definitions make of the old one, and the first three end the reservations over
+//! their range (`ok`); a fault is answered where it is and only there (`fault`, `faulty`). `fork` gives a space of the
+//! same mapping in which nothing is reserved (`child`), and leaves this one as it was (`kept`).
 //!
-//! Not said: how a number that lies in one private page is read at once, and that memory suffices for a change or a
-//! fork.
+//! Not said: time, that memory suffices, and that at most 64 pages have their words decoded (tested).
 //!
-//! Standard: RISC-V Unprivileged ISA 20191213, 1.4, Memory, and 2.6, Load and Store Instructions; mmap(2), munmap(2),
-//! mprotect(2), brk(2) and fork(2). No locks.
+//! Standard: RISC-V Unprivileged ISA 20191213, 1.4, Memory, 2.6, Load and Store Instructions, and 8.2,
+//! Load-Reserved/Store-Conditional Instructions; mmap(2), munmap(2), mprotect(2), brk(2), fork(2), read(2) and
+//! write(2). No locks.
 #![tactic(auto)]
 
 mod access;
+mod area_runs;
 mod changes;
+mod decoded;
 mod handed;
+mod hints;
+mod page_sight;
 mod reserves;
+mod runs;
 mod seen;
 mod sight;
 mod space;
 mod stores;
+mod writes;
 
 pub use handed::{Handed, HandedArea, SharedArea};
+pub use hints::Hints;
 pub use space::Space;

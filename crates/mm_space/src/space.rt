@@ -3,6 +3,7 @@
 ghost use Rattle.std.specs.Prelude.{◌≡◌, IfOk};
 ghost use Rattle.mm_areas.specs.Mappings.{mapping};
 
+use crate::decoded::Decoded;
 use mm_areas::Areas;
 use rv_atomic::Reservations;
 use sn_base::Memory;
@@ -13,6 +14,7 @@ use std::alloc::Global;
 pub struct Space {
     pub(crate) areas: Areas,
     pub(crate) reservations: Reservations,
+    pub(crate) decoded: Decoded,
 }
 
 impl Space {
@@ -25,6 +27,7 @@ impl Space {
         Space {
             areas,
             reservations: Reservations::new(alloc),
+            decoded: Decoded::none(),
         }
     }
 

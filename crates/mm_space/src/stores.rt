@@ -1,7 +1,6 @@
 //! Stores.
 
 ghost use Rattle.std.specs.Prelude.{◌≡◌, ◌≢◌, ℕ, ◌≤◌, true, false, List, OnOk, OnErr, Ok, Err};
-ghost use Rattle.std.specs.Bool.{OnTrue, OnFalse};
 ghost use Rattle.std.specs.FinMap as map_of;
 ghost use Rattle.rv_table.specs.Bytes.{AllowsAs, loaded};
 ghost use Rattle.rv_table.specs.Words.{IsWidth};
@@ -9,9 +8,8 @@ ghost use Rattle.rv_table.specs.declared.error.MemErr.TheVariants as MemErr;
 ghost use Rattle.mm_areas.specs.Mappings.{mapping};
 ghost use Rattle.mm_space.specs.Accesses.{byte_at, writable};
 ghost use Rattle.mm_space.specs.Places.{AreAsReady, is_ready, is_ready_at, shared_at};
-ghost use Rattle.mm_space.specs.Puts.{StoresNear, after_stored, put_byte, put_bytes};
-ghost use Rattle.mm_space.specs.Spaces.{reach, space_of};
-ghost use Rattle.mm_space.specs.declared.handed.Handed.{Handed};
+ghost use Rattle.mm_space.specs.Puts.{after_stored, put_byte, put_bytes};
+ghost use Rattle.mm_space.specs.Spaces.{reach};
 
 use crate::{Handed, Space};
 use mm_areas::{Content, Rights, SharedPage};
@@ -38,7 +36,7 @@ impl Space {
         ensures lean { is_ready self.old handed.old at width ≡ true → result ≢ Err MemErr.Memory }
         ensures same { reach self.new handed.new ≡ reach self.old handed.old }
     {
-        self.can_write(handed, at, width)?;
+        self.allowed(handed, Rights::WRITE, at, usize::from(width))?;
         match self.own_all(alloc, handed, at, width) {
             Ok(()) => Ok(()),
             Err(_) => Err(MemErr::Memory),
@@ -64,7 +62,8 @@ impl Space {
             after_stored task at width value (reach self.old handed.old)) }
         ensures err { OnErr result (reach self.new handed.new ≡ reach self.old handed.old) }
     {
-        if self.store_near(task, at, width, value) {
+        let hint = self.areas.hint(at / 4096);
+        if self.store_by(hint, task, at, width, value) {
             return Ok(());
         }
         match self.writable(alloc, handed, at, width) {
@@ -75,40 +74,6 @@ impl Space {
             }
             Err(err) => Err(err),
         }
-    }
-
-    /// Stores where the bytes lie in one page that may be written and has its bytes for itself, and answers whether it
-    /// has. It takes no memory.
-    fn store_near(&mut self, task: u32, at: u64, width: u8, value: u64) -> bool
-        requires { IsWidth width }
-        ensures done { OnTrue result (StoresNear (space_of self.old) (space_of self.new) task at width value) }
-        ensures unchanged { OnFalse result (space_of self.new ≡ space_of self.old) }
-        ensures ready { OnFalse result ((handed : Handed) → AreAsReady self.old self.new handed handed) }
-    {
-        let page = at / 4096;
-        let hint = self.areas.hint(page);
-        let offset = (at % 4096) as usize;
-        let done = self
-            .areas
-            .put_number_near(hint, page, offset, width, value, Rights::WRITE);
-        if done {
-            self.reservations.stored(task, at, width);
-        }
-        done
-    }
-
-    /// Whether each of so many bytes at an address may be written, one byte after another.
-    fn can_write(&self, handed: &Handed, at: u64, width: u8) -> Result<(), MemErr>
-        ensures room { AllowsAs (loaded (byte_at writable (reach self.now handed.now)) at width) result }
-        ensures lean { result ≢ Err MemErr.Memory }
-    {
-        if let Some(addr) = self.first_barred(handed, Rights::WRITE, at, width) {
-            return Err(MemErr::Fault { addr });
-        }
-        if let Some(area) = self.first_area(handed, Rights::WRITE, at, width) {
-            return Err(MemErr::Shared(area));
-        }
-        Ok(())
     }
 
     /// The page of a shared area that a page is.
@@ -122,7 +87,12 @@ impl Space {
     }
 
     /// Makes the bytes of the page at an address its own.
-    fn own_at(&mut self, alloc: Global, handed: &mut Handed, address: u64) -> Result<(), Memory>
+    pub(crate) fn own_at(
+        &mut self,
+        alloc: Global,
+        handed: &mut Handed,
+        address: u64,
+    ) -> Result<(), Memory>
         ensures same { reach self.new handed.new ≡ reach self.old handed.old }
         ensures ready { OnOk result (is_ready_at self.new handed.new address ≡ true) }
         ensures still { (other : ℕ) →

@@ -2,7 +2,12 @@
 //!
 //! Loads of each width and fetches, inside a page and over its end, where the next page is missing, lacks the right or
 //! lies in a shared area; areas in hand, and none; what loads and fetches see once a range was mapped, unmapped or given
-//! other rights, and once the break has moved; a space and its child.
+//! other rights, and once the break has moved; a space and its child. Runs of up to 65,536 bytes over private pages and
+//! areas, whole, and with a byte at the begin, inside or at the end that may not be read.
+//!
+//! Stores of each width at each place over a page's end, made and refused, and whether they may be made; a space, its
+//! child and the child's that store by turns; areas seen from several places. Reservations: each store about a granule,
+//! here and from another space, each change of what is mapped, and what a store-conditional is told.
 //!
 //! Expected values are worked out by hand: bytes stand lowest first, and a page's number is its address by 4,096.
 #![tactic(auto)]
@@ -12,13 +17,21 @@ mod accesses;
 #[cfg(test)]
 mod changes;
 #[cfg(test)]
+mod decoded;
+#[cfg(test)]
 mod fixture;
 #[cfg(test)]
 mod forks;
 #[cfg(test)]
+mod near;
+#[cfg(test)]
 mod pair;
 #[cfg(test)]
+mod reads;
+#[cfg(test)]
 mod reservations;
+#[cfg(test)]
+mod run_fixture;
 #[cfg(test)]
 mod shared_areas;
 #[cfg(test)]

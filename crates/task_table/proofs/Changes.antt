@@ -6,11 +6,17 @@ use Rattle.std.specs.Option.{option_map, option_map_or}
 use Rattle.std.specs.FinMap.{FinMap, get, insert, entries, keys, find, get-entries, get-from_entries}
 use Rattle.std.specs.Ordering.{nat_cmp, eq_by_cmp}
 use Rattle.std.specs.Cmp.{nat_cmp_total, unsigned_tied}
-use Rattle.std.proofs.lemmas.Bool.{eqb-true}
+use Rattle.std.proofs.lemmas.Bool.{eqb-true, eq-eqb}
 use Rattle.std.proofs.lemmas.List.{take_more}
 use Rattle.sn_base.proofs.Maps.{same_by_get}
 use Rattle.task_table.specs.Entries.{changed_at, each_changed}
 use Rattle.task_table.proofs.Numbers.{get_after, keys-insert_there, among_keys}
+
+-- a test that a change leaves
+pub alike : {A : Type 0} {B : Type 0} (f : A → A) (test : A → B) (d : B) (same : (x : A) → test (f x) ≡ test x) (b : Bool) (o : Option A) → option_map_or test (cond b (option_map f o) o) d ≡ option_map_or test o d
+alike f test d same true None = refl
+alike f test d same true (Some x) = same x
+alike f test d same false o = refl
 
 module _ {V : Type 0} where
   -- ---- one entry
@@ -88,6 +94,21 @@ module _ {V : Type 0} where
   pub get-each_changed : (f : ℕ → V → V) (m : FinMap nat_cmp V) (q : ℕ) → get (each_changed f m) q ≡ option_map (f q) (get m q)
   unfolding each_changed
   get-each_changed f m q = get-from_entries nat_cmp_total (map (λ e. (e.0, f e.0 e.1)) (entries m)) q ∙ find_changed f (entries m) q ∙ ap (option_map (f q)) (sym (get-entries m q))
+
+  -- an entry that is changed after some were, itself maybe among them, is what it is where every entry is changed
+  pub get-changed_after : (f : ℕ → V → V) → ((n : ℕ) (v : V) → f n (f n v) ≡ f n v) → (m : FinMap nat_cmp V) (ns : List ℕ) (q : ℕ) → get (changed_at (f q) (changed_along f m ns) q) q ≡ get (each_changed f m) q
+  get-changed_after f once m ns q =
+      let before = get (changed_along f m ns) q in
+      get-changed_at (f q) (changed_along f m ns) q q
+      ∙ ap (λ b. cond b (option_map (f q) before) before) (eq-eqb q q refl)
+      ∙ ap (option_map (f q)) (get-changed_along f once m ns q)
+      ∙ again (list_any (eqb q) ns) (get m q)
+      ∙ sym (get-each_changed f m q)
+    where
+      again : (b : Bool) (o : Option V) → option_map (f q) (cond b (option_map (f q) o) o) ≡ option_map (f q) o
+      again true None = refl
+      again true (Some v) = ap Some (once q v)
+      again false o = refl
 
   -- to change those in turn that are not what they would be comes to the same
   pub changed_along_all : (f : ℕ → V → V) → ((n : ℕ) (v : V) → f n (f n v) ≡ f n v) → (m : FinMap nat_cmp V) (ns : List ℕ) → ((q : ℕ) (v : V) → get m q ≡ Some v → list_any (eqb q) ns ≡ false → f q v ≡ v) → changed_along f m ns ≡ each_changed f m

@@ -1,5 +1,5 @@
 -- Laws of tasks that end, and of the list of live ones.
-use Rattle.std.proofs.Common.{◌≡◌, ℕ, Bool, true, false, cond, refl, ap, sym, ◌∙◌}
+use Rattle.std.proofs.Common.{◌≡◌, ℕ, Bool, true, false, cond, not, refl, ap, sym, ◌∙◌}
 use Rattle.std.specs.Prelude.{Option, Some, None, filter}
 use Rattle.std.specs.Option.{option_map, option_map_or}
 use Rattle.std.specs.Ordering.{nat_cmp}
@@ -8,7 +8,7 @@ use Rattle.task_table.specs.declared.task.Task.{Task}
 use Rattle.task_table.specs.Ends.{ended_if, ended_where}
 use Rattle.task_table.specs.Table.{is_live, live_numbers}
 use Rattle.task_table.proofs.Changes.{changed_along, changed_along_all, get-each_changed, keys-each_changed}
-use Rattle.task_table.proofs.Numbers.{among_where, where_narrowed}
+use Rattle.task_table.proofs.Numbers.{among_where, filter_alike, where_narrowed}
 
 pub ended_twice : (test : ℕ → Task → Bool) (n : ℕ) (c : Task) → ended_if test n (ended_if test n c) ≡ ended_if test n c
 ended_twice test n c =
@@ -44,3 +44,13 @@ live_before_end test tasks q h = before (get tasks q) (sym (ap (λ o. option_map
 -- the live tasks after some ended
 pub live_after_end : (test : ℕ → Task → Bool) (tasks : FinMap nat_cmp Task) → filter (is_live (ended_where test tasks)) (live_numbers tasks) ≡ live_numbers (ended_where test tasks)
 live_after_end test tasks = where_narrowed (λ c. c.live) tasks (ended_where test tasks) (keys-ended_where test tasks) (live_before_end test tasks)
+
+-- they are those that didn't pass the test
+pub live_stays : (test : ℕ → Task → Bool) (tasks : FinMap nat_cmp Task) → filter (λ n. not (option_map_or (test n) (get tasks n) false)) (live_numbers tasks) ≡ live_numbers (ended_where test tasks)
+live_stays test tasks = filter_alike _ _ (live_numbers tasks) (λ q among.
+    stays q (get tasks q) (sym (among_where (λ c. c.live) tasks q) ∙ among) ∙ sym (ap (λ o. option_map_or (λ (c : Task). c.live) o false) (get-ended_where test tasks q)))
+    ∙ live_after_end test tasks
+  where
+    stays : (q : ℕ) (o : Option Task) → option_map_or (λ (c : Task). c.live) o false ≡ true → not (option_map_or (test q) o false) ≡ option_map_or (λ (c : Task). c.live) (option_map (ended_if test q) o) false
+    stays q None live = absurd (cc live)
+    stays q (Some c) live = elim (test q c) as (λ b. not b ≡ (cond b (record c { live = false }) c).live) [ true ↦ refl | false ↦ sym live ]

@@ -16,7 +16,7 @@ use Rattle.task_table.specs.Entries.{changed_at, each_changed, numbers_where, pa
 use Rattle.task_table.specs.Kept.{IsKept, IsSound}
 use Rattle.task_table.specs.Reaps.{orphaned}
 use Rattle.task_table.specs.Table.{TaskTable, group_of, has_ended, has_parent, is_live, live_numbers, no_tasks}
-use Rattle.task_table.proofs.Changes.{get-changed_at, get-each_changed, keys-changed_at}
+use Rattle.task_table.proofs.Changes.{alike, get-changed_at, get-each_changed, keys-changed_at}
 use Rattle.task_table.proofs.Endings.{get-ended_where, live_after_end, live_before_end}
 use Rattle.task_table.proofs.Numbers.{any_passing, get_after, among_where, where-insert_last, where_same}
 
@@ -58,12 +58,6 @@ some_map f (Some x) = refl
 some_cond : {A : Type 0} (f : A → A) (b : Bool) (o : Option A) → is_some (cond b (option_map f o) o) ≡ is_some o
 some_cond f true o = some_map f o
 some_cond f false o = refl
-
--- a test that a change leaves
-alike : {A : Type 0} {B : Type 0} (f : A → A) (test : A → B) (d : B) (same : (x : A) → test (f x) ≡ test x) (b : Bool) (o : Option A) → option_map_or test (cond b (option_map f o) o) d ≡ option_map_or test o d
-alike f test d same true None = refl
-alike f test d same true (Some x) = same x
-alike f test d same false o = refl
 
 -- ---- tasks that end
 

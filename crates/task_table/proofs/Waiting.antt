@@ -1,12 +1,13 @@
 -- Laws of children: of lists of them, and of groups that lose their parent.
-use Rattle.std.proofs.Common.{◌≡◌, ℕ, ◌+◌, ◌<◌, Bool, true, false, cond, eqb, ltb, ◌&&◌, List, [], ◌∷◌, ◌++◌, length, take, drop, get_or, refl, ap, sym, ◌∙◌, arith}
+use Rattle.std.proofs.Common.{◌≡◌, ℕ, ◌+◌, ◌<◌, ◌≤◌, Bool, true, false, cond, eqb, ltb, not, ◌&&◌, List, [], ◌∷◌, ◌++◌, length, set, take, drop, get_or, refl, ap, sym, ◌∙◌, arith}
 use Rattle.std.specs.Prelude.{Option, Some, None, is_some, filter, find}
 use Rattle.std.specs.Option.{option_and_then, option_map, option_map_or}
 use Rattle.std.specs.Ordering.{nat_cmp}
 use Rattle.std.specs.FinMap.{FinMap, get, keys}
-use Rattle.std.proofs.lemmas.Bool.{and_parts, ltb-false}
-use Rattle.std.proofs.lemmas.List.{append-nil, take-append-drop}
+use Rattle.std.proofs.lemmas.Bool.{and_parts, eq-eqb, ltb-false}
+use Rattle.std.proofs.lemmas.List.{append-nil, take_all, take-append-drop}
 use Rattle.std.proofs.lemmas.List.Elements.{filter-append, filter_more}
+use Rattle.std.proofs.lemmas.List.Filters.{FiltersInPlace-all}
 use Rattle.std.proofs.lemmas.List.Folds.{find-append}
 use Prim.Native.Nat.{suc}
 use Rattle.std.specs.Option.{option_or as option_or_else}
@@ -14,12 +15,12 @@ use Rattle.std.proofs.Math.Seq.{drop-cons}
 use Rattle.task_table.specs.declared.task.Group.{Group}
 use Rattle.task_table.specs.declared.task.Status.{Status}
 use Rattle.task_table.specs.declared.task.ReapEnd.TheVariants.{NotYet, Reaped}
-use Rattle.task_table.specs.Ends.{groups_closed}
 use Rattle.task_table.specs.Entries.{passes, numbers_where, changed_at, each_changed}
 use Rattle.task_table.specs.Reaps.{is_child, is_waited, children, end_among, none_ended, orphaned, reaped, status_of}
 use Rattle.task_table.specs.Table.{has_ended, has_parent}
-use Rattle.task_table.proofs.Changes.{changed_along, changed_along_all, get-changed_at, keys-changed_at, get-each_changed, keys-each_changed}
-use Rattle.task_table.proofs.Numbers.{filter_narrowed, among_where, where_narrowed}
+use Rattle.task_table.proofs.Changes.{changed_along, changed_along_all, get-changed_after, get-changed_at, keys-changed_at, get-each_changed, keys-each_changed}
+use Rattle.task_table.proofs.Numbers.{filter_alike, filter_narrowed, among_where, where_narrowed}
+use Rattle.task_table.proofs.Walking.{WalkedAlong, WalkedAlong-dropped, WalkedAlong-stays}
 
 -- ---- lists of children
 
@@ -68,11 +69,19 @@ pub orphaned_along_children : (p : ℕ) (groups : FinMap nat_cmp Group) → chan
 orphaned_along_children p groups = changed_along_all (λ _. orphaned p) (λ _. orphaned_twice p) groups (numbers_where has_parent groups) (λ q group at out.
     orphaned_none p group (sym (ap (λ o. option_map_or has_parent o false) at) ∙ sym (among_where has_parent groups q) ∙ out))
 
-lost : Group → Group
-lost group = record group { parent = 0 }
+-- one that lost its parent has none
+pub orphan_without_parent : (groups : FinMap nat_cmp Group) (n : ℕ) → passes has_parent (changed_at (λ g. record g { parent = 0 }) groups n) n ≡ false
+orphan_without_parent groups n =
+    ap (λ o. option_map_or has_parent o false) (get-changed_at (λ (g : Group). record g { parent = 0 }) groups n n)
+    ∙ ap (λ b. option_map_or has_parent (cond b (option_map (λ (g : Group). record g { parent = 0 }) (get groups n)) (get groups n)) false) (eq-eqb n n refl)
+    ∙ at (get groups n)
+  where
+    at : (o : Option Group) → option_map_or has_parent (option_map (λ (g : Group). record g { parent = 0 }) o) false ≡ false
+    at None = refl
+    at (Some g) = refl
 
 -- the groups with a parent after one lost it
-pub children_after_orphan : (groups : FinMap nat_cmp Group) (n : ℕ) → filter (passes has_parent (changed_at (λ g. record g { parent = 0 }) groups n)) (numbers_where has_parent groups) ≡ numbers_where has_parent (changed_at (λ g. record g { parent = 0 }) groups n)
+children_after_orphan : (groups : FinMap nat_cmp Group) (n : ℕ) → filter (passes has_parent (changed_at (λ g. record g { parent = 0 }) groups n)) (numbers_where has_parent groups) ≡ numbers_where has_parent (changed_at (λ g. record g { parent = 0 }) groups n)
 children_after_orphan groups n = where_narrowed has_parent groups _ (keys-changed_at _ groups n) (λ q h.
     before (eqb q n) (get groups q) (sym (ap (λ o. option_map_or has_parent o false) (get-changed_at (λ g. record g { parent = 0 }) groups n q)) ∙ h))
   where
@@ -81,21 +90,59 @@ children_after_orphan groups n = where_narrowed has_parent groups _ (keys-change
     before true (Some g) h = absurd (cc h)
     before false o h = h
 
--- the groups with a parent after a group ended
-pub children_after_close : (groups : FinMap nat_cmp Group) (g : ℕ) (status : Status) → filter (passes has_parent (groups_closed groups g status)) (numbers_where has_parent groups) ≡ numbers_where has_parent (groups_closed groups g status)
-children_after_close groups g status = where_narrowed has_parent groups _ (keys-changed_at _ _ g ∙ keys-each_changed (λ _. orphaned g) (λ _. orphaned_twice g) groups) (λ q h.
-    before (eqb q g) (get groups q) (
-    sym (ap (λ o. option_map_or has_parent o false) (get-changed_at (λ group. record group { ended = Some status }) (each_changed (λ _. orphaned g) groups) g q
-    ∙ ap (λ o. cond (eqb q g) (option_map (λ (group : Group). record group { ended = Some status }) o) o) (get-each_changed (λ _. orphaned g) groups q))) ∙ h))
+-- they are the others
+pub children_after_release : (groups : FinMap nat_cmp Group) (n : ℕ) → filter (λ q. not (eqb q n)) (numbers_where has_parent groups) ≡ numbers_where has_parent (changed_at (λ g. record g { parent = 0 }) groups n)
+children_after_release groups n = filter_alike _ _ (numbers_where has_parent groups) (λ q among.
+    other (eqb q n) (get groups q) (sym (among_where has_parent groups q) ∙ among) ∙ sym (ap (λ o. option_map_or has_parent o false) (get-changed_at (λ g. record g { parent = 0 }) groups n q)))
+    ∙ children_after_orphan groups n
   where
-    still : (group : Group) → has_parent (orphaned g group) ≡ true → has_parent group ≡ true
-    still group = elim (eqb group.parent g) as (λ b. has_parent (cond b (record group { parent = 0 }) group) ≡ true → has_parent group ≡ true) [ true ↦ λ h. absurd (cc h) | false ↦ λ h. h ]
+    other : (b : Bool) (o : Option Group) → option_map_or has_parent o false ≡ true → not b ≡ option_map_or has_parent (cond b (option_map (λ (g : Group). record g { parent = 0 }) o) o) false
+    other b None h = absurd (cc h)
+    other true (Some g) h = refl
+    other false (Some g) h = sym h
 
-    before : (b : Bool) (o : Option Group) → option_map_or has_parent (cond b (option_map (λ (group : Group). record group { ended = Some status }) (option_map (orphaned g) o)) (option_map (orphaned g) o)) false ≡ true → option_map_or has_parent o false ≡ true
-    before true None h = h
-    before true (Some group) h = still group h
-    before false None h = h
-    before false (Some group) h = still group h
+-- the groups with a parent after the children of one lost it
+children_after_orphans : (p : ℕ) (groups : FinMap nat_cmp Group) → filter (passes has_parent (each_changed (λ _. orphaned p) groups)) (numbers_where has_parent groups) ≡ numbers_where has_parent (each_changed (λ _. orphaned p) groups)
+children_after_orphans p groups = where_narrowed has_parent groups _ (keys-each_changed (λ _. orphaned p) (λ _. orphaned_twice p) groups) (λ q h.
+    before (get groups q) (sym (ap (λ o. option_map_or has_parent o false) (get-each_changed (λ _. orphaned p) groups q)) ∙ h))
+  where
+    before : (o : Option Group) → option_map_or has_parent (option_map (orphaned p) o) false ≡ true → option_map_or has_parent o false ≡ true
+    before None h = h
+    before (Some group) h = elim (eqb group.parent p) as (λ b. has_parent (cond b (record group { parent = 0 }) group) ≡ true → has_parent group ≡ true) [ true ↦ λ e. absurd (cc e) | false ↦ λ e. e ] h
+
+-- ---- the walk that takes the parent from the children of a group
+
+-- of the first i groups with a parent the children of this one have lost it, and the others stand in the first k places
+pub record Orphaned (p : ℕ) (groups : FinMap nat_cmp Group) (xs : List ℕ) (now : FinMap nat_cmp Group) (ys : List ℕ) (k i : ℕ) : Type 0 where
+  pub along : WalkedAlong (λ _. orphaned p) (passes has_parent (each_changed (λ _. orphaned p) groups)) groups xs now ys k i
+
+module _ {p : ℕ} {groups : FinMap nat_cmp Group} {xs : List ℕ} {now : FinMap nat_cmp Group} {ys : List ℕ} {k i : ℕ} where
+  -- what is told of a group holds after the walk too
+  told_after : Orphaned p groups xs now ys k i → (n : ℕ) (next : FinMap nat_cmp Group) → next ≡ changed_at (orphaned p) now n → (b : Bool) → b ≡ passes has_parent next n → passes has_parent (each_changed (λ _. orphaned p) groups) n ≡ b
+  told_after w n next made b told =
+      sym (told ∙ ap (λ m. passes has_parent m n) (made ∙ ap (λ m. changed_at (orphaned p) m n) w.along.changed)
+      ∙ ap (λ o. option_map_or has_parent o false) (get-changed_after (λ _. orphaned p) (λ _. orphaned_twice p) groups (take i xs) n))
+
+  -- a group that has no parent then
+  pub Orphaned-lost : Orphaned p groups xs now ys k i → i < length ys → (n : ℕ) → n ≡ get_or ys i n → (next : FinMap nat_cmp Group) → next ≡ changed_at (orphaned p) now n → (b : Bool) → b ≡ passes has_parent next n → b ≡ false → Orphaned p groups xs next ys k (i + 1)
+  Orphaned-lost w within n is next made b told goes = rw made (record { along = WalkedAlong-dropped w.along within n is (told_after w n next made b told ∙ goes) })
+
+  -- a group that has one
+  pub Orphaned-stays : Orphaned p groups xs now ys k i → i < length ys → (n : ℕ) → n ≡ get_or ys i n → (next : FinMap nat_cmp Group) → next ≡ changed_at (orphaned p) now n → (b : Bool) → b ≡ passes has_parent next n → b ≡ true → Orphaned p groups xs next (set ys k n) (k + 1) (i + 1)
+  Orphaned-stays w within n is next made b told here = rw made (record { along = WalkedAlong-stays w.along within n is (told_after w n next made b told ∙ here) })
+
+  pub groups_orphaned : Orphaned p groups xs now ys k i → length xs ≤ i → xs ≡ numbers_where has_parent groups → now ≡ each_changed (λ _. orphaned p) groups
+  groups_orphaned w past are =
+      w.along.changed
+      ∙ ap (changed_along (λ _. orphaned p) groups) (take_all i xs past ∙ are)
+      ∙ orphaned_along_children p groups
+
+  pub children_orphaned : Orphaned p groups xs now ys k i → length xs ≤ i → xs ≡ numbers_where has_parent groups → take k ys ≡ numbers_where has_parent now
+  children_orphaned w past are =
+      FiltersInPlace-all w.along.staying past
+      ∙ ap (filter (passes has_parent (each_changed (λ _. orphaned p) groups))) are
+      ∙ children_after_orphans p groups
+      ∙ sym (ap (numbers_where has_parent) (groups_orphaned w past are))
 
 -- ---- a walk over children
 

@@ -20,6 +20,7 @@
 #![tactic(auto)]
 
 mod ends;
+mod exits;
 mod reaps;
 mod table;
 mod task;

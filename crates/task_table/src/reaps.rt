@@ -1,12 +1,12 @@
 //! Children: which there are, which has ended, and children that lose their parent.
 
-ghost use Rattle.std.specs.Prelude.{◌≡◌, ◌==◌, None, true, if◌then◌else◌, filter, option_copied};
+ghost use Rattle.std.specs.Prelude.{◌≡◌, None, if◌then◌else◌, filter, option_copied};
 ghost use Rattle.std.specs.FinMap as map;
-ghost use Rattle.std.specs.Option.{option_map_or};
 ghost use Rattle.task_table.specs.Entries.{changed_at, each_changed, numbers_where, passes};
 ghost use Rattle.task_table.specs.Reaps.{end_among, is_child, is_waited, orphaned, reap_end};
 ghost use Rattle.task_table.specs.Table.{has_parent};
 
+use crate::exits::take_out;
 use crate::{Group, ReapEnd};
 use sn_base::Map;
 
@@ -77,52 +77,46 @@ fn orphan(groups: &mut Map<Group>, number: u32)
     }
 }
 
-/// Takes the parent from a group, if it is the one given.
+/// Takes the parent from a group, if it is the one given, and answers whether the group has a parent then.
 #[tactic(auto, using(sn_base::proofs::Maps::insert_same))]
-fn orphan_of(groups: &mut Map<Group>, number: u32, parent: u32)
-    ensures { groups.new ≡ changed_at (orphaned parent) groups.old number }
+fn orphan_of(groups: &mut Map<Group>, number: u32, parent: u32) -> bool
+    ensures groups { groups.new ≡ changed_at (orphaned parent) groups.old number }
+    ensures stays { result ≡ passes has_parent groups.new number }
 {
-    if let Some(group) = groups.get(u64::from(number)).copied() {
-        if group.parent == parent {
-            orphan(groups, number);
+    let Some(group) = groups.get(u64::from(number)).copied() else {
+        return false;
+    };
+    if group.parent != parent {
+        return group.parent > 0;
+    }
+    orphan(groups, number);
+    false
+}
+
+/// Takes the parent from each child of a group, and keeps the list of groups with a parent. It goes over that list
+/// once, and takes no memory.
+pub(crate) fn orphan_children(groups: &mut Map<Group>, children: &mut Vec<u32>, parent: u32)
+    requires { children.old.items ≡ numbers_where has_parent groups.old }
+    ensures groups { groups.new ≡ each_changed (λ _. orphaned parent) groups.old }
+    ensures children { children.new.items ≡ numbers_where has_parent groups.new }
+{
+    let mut kept = 0;
+    for place in 0..children.len() {
+        let number = children[place];
+        if orphan_of(groups, number, parent) {
+            children[kept] = number;
+            kept += 1;
         }
     }
-}
-
-/// Takes the parent from each child of a group.
-pub(crate) fn orphan_children(groups: &mut Map<Group>, children: &[u32], parent: u32)
-    requires { children.now ≡ numbers_where has_parent groups.old }
-    ensures { groups.new ≡ each_changed (λ _. orphaned parent) groups.old }
-{
-    for number in children {
-        orphan_of(groups, *number, parent);
-    }
-}
-
-/// Whether a group has a parent.
-fn is_kin(groups: &Map<Group>, number: u32) -> bool
-    ensures { result ≡ passes has_parent groups.now number }
-{
-    match groups.get(u64::from(number)) {
-        Some(group) => group.parent > 0,
-        None => false,
-    }
-}
-
-/// Drops the groups that have no parent.
-pub(crate) fn drop_orphans(children: &mut Vec<u32>, groups: &Map<Group>)
-    ensures { children.new.items ≡ filter (passes has_parent groups.now) children.old.items }
-{
-    children.retain(|number| is_kin(groups, *number));
+    children.truncate(kept);
 }
 
 /// Takes the parent from a child that was answered, and keeps the list of groups with a parent.
-#[tactic(auto, using(crate::proofs::Waiting::children_after_orphan))]
 pub(crate) fn release(groups: &mut Map<Group>, children: &mut Vec<u32>, number: u32)
     requires { children.old.items ≡ numbers_where has_parent groups.old }
     ensures groups { groups.new ≡ changed_at (λ g. record g { parent = 0 }) groups.old number }
     ensures children { children.new.items ≡ numbers_where has_parent groups.new }
 {
     orphan(groups, number);
-    drop_orphans(children, groups);
+    take_out(children, number);
 }

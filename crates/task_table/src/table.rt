@@ -9,7 +9,8 @@ ghost use Rattle.task_table.specs.Kept.{IsKept};
 ghost use Rattle.task_table.specs.Reaps.{after_reap, reap_end};
 ghost use Rattle.task_table.specs.Table.{cwd_of, group_of, has_ended, has_parent, is_live, live_count, live_numbers, no_tasks};
 
-use crate::ends::{Leaving, close_group, end_tasks, group_of, is_last_of_group, tasks_leaving};
+use crate::ends::{Leaving, close_group, end_tasks};
+use crate::exits::{end_one, group_of, is_last_of_group, task_leaving};
 use crate::reaps::{end_of_wait, release};
 use crate::{CloneErr, Ended, Group, Made, ReapEnd, Status, Task};
 use sn_base::{Map, Memory};
@@ -139,7 +140,8 @@ impl Tasks {
         Ok(number)
     }
 
-    /// Ends a task, and with the last one of a thread group the group.
+    /// Ends a task, and with the last one of a thread group the group. It goes over the live tasks once, and where the
+    /// group ends once over the groups with a parent.
     pub fn exit(&mut self, alloc: Global, task: u32, code: u8) -> Result<Ended, Memory>
         requires { IsTrue (is_live self.old.tasks task) }
         ensures ok { OnOk result (self.new ≡ exited self.old task (Status.Exited code)) }
@@ -147,11 +149,10 @@ impl Tasks {
         ensures group { IfOk result (λ e. e.group ≡ is_last self.old.tasks task) }
         ensures err { OnErr result (self.new ≡ self.old) }
     {
-        let which = Leaving::Itself { task };
-        let tasks = tasks_leaving(alloc, &self.tasks, &self.live, &which)?;
+        let tasks = task_leaving(alloc, &self.tasks, task)?;
         let is_last = is_last_of_group(&self.tasks, &self.live, task);
         let group = group_of(&self.tasks, task);
-        end_tasks(&mut self.tasks, &mut self.live, &which);
+        end_one(&mut self.tasks, &mut self.live, task);
         if is_last {
             close_group(
                 &mut self.groups,
@@ -166,7 +167,7 @@ impl Tasks {
         })
     }
 
-    /// Ends a thread group and its tasks.
+    /// Ends a thread group and its tasks. It goes over the live tasks once, and once over the groups with a parent.
     pub fn end_group(&mut self, alloc: Global, group: u32, status: Status) -> Result<Ended, Memory>
         requires there { IsTrue (map.contains_key self.old.groups group) }
         requires lives { IsFalse (has_ended self.old.groups group) }
@@ -176,13 +177,13 @@ impl Tasks {
         ensures err { OnErr result (self.new ≡ self.old) }
     {
         let which = Leaving::Members { group };
-        let tasks = tasks_leaving(alloc, &self.tasks, &self.live, &which)?;
-        end_tasks(&mut self.tasks, &mut self.live, &which);
+        let room = Vec::with_capacity(alloc, self.live.len())?;
+        let tasks = end_tasks(&mut self.tasks, &mut self.live, &which, room);
         close_group(&mut self.groups, &mut self.children, group, status);
         Ok(Ended { tasks, group: true })
     }
 
-    /// Ends the other tasks of a task's thread group.
+    /// Ends the other tasks of a task's thread group. It goes over the live tasks once.
     pub fn end_others(&mut self, alloc: Global, task: u32) -> Result<Ended, Memory>
         requires { IsTrue (is_live self.old.tasks task) }
         ensures ok { OnOk result (self.new ≡ others_ended self.old task) }
@@ -193,8 +194,8 @@ impl Tasks {
     {
         let group = group_of(&self.tasks, task);
         let which = Leaving::OtherMembers { group, task };
-        let tasks = tasks_leaving(alloc, &self.tasks, &self.live, &which)?;
-        end_tasks(&mut self.tasks, &mut self.live, &which);
+        let room = Vec::with_capacity(alloc, self.live.len())?;
+        let tasks = end_tasks(&mut self.tasks, &mut self.live, &which, room);
         Ok(Ended {
             tasks,
             group: false,
@@ -202,7 +203,7 @@ impl Tasks {
     }
 
     /// What waiting for a child comes to: for that of a number, or for any. A child that is answered is nobody's child
-    /// from then on. It takes no memory.
+    /// from then on. It goes over the groups with a parent once, and takes no memory.
     pub fn reap(&mut self, parent: u32, which: Option<u32>) -> ReapEnd
         ensures answer { result ≡ reap_end self.old.groups parent which }
         ensures after { self.new ≡ after_reap self.old result }

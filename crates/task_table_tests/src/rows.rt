@@ -66,6 +66,25 @@ fn a_child_that_nobody_waited_for_needs_no_wait_once_its_parent_ended(
 }
 
 #[rattlefmt::skip]
+const CHILDREN_IN_TURNS: [Row; 10] = [
+    Row { call: Call::Open, tasks: &[(1, 1, true)], groups: &[(1, 0, None)] },
+    Row { call: Call::Fork(1), tasks: &[(1, 1, true), (2, 2, true)], groups: &[(2, 1, None)] },
+    Row { call: Call::Fork(2), tasks: &[(1, 1, true), (2, 2, true), (3, 3, true)], groups: &[(3, 2, None)] },
+    Row { call: Call::Fork(1), tasks: &[(1, 1, true), (2, 2, true), (3, 3, true), (4, 4, true)], groups: &[(4, 1, None)] },
+    Row { call: Call::Fork(2), tasks: &[(1, 1, true), (2, 2, true), (3, 3, true), (4, 4, true), (5, 5, true)], groups: &[(5, 2, None)] },
+    Row { call: Call::Exit(4, 6), tasks: &[(1, 1, true), (2, 2, true), (3, 3, true), (4, 4, false), (5, 5, true)], groups: &[(4, 1, Some(Status::Exited(6)))] },
+    Row { call: Call::EndGroup(2, Status::Killed(9)), tasks: &[(1, 1, true), (2, 2, false), (3, 3, true), (4, 4, false), (5, 5, true)], groups: &[(2, 1, Some(Status::Killed(9))), (3, 0, None), (4, 1, Some(Status::Exited(6))), (5, 0, None)] },
+    Row { call: Call::Reap(1, Some(4), ReapEnd::Reaped { child: 4, status: Status::Exited(6) }), tasks: &[(1, 1, true), (2, 2, false), (3, 3, true), (4, 4, false), (5, 5, true)], groups: &[(2, 1, Some(Status::Killed(9))), (4, 0, Some(Status::Exited(6)))] },
+    Row { call: Call::Reap(1, None, ReapEnd::Reaped { child: 2, status: Status::Killed(9) }), tasks: &[(1, 1, true), (2, 2, false), (3, 3, true), (4, 4, false), (5, 5, true)], groups: &[(2, 0, Some(Status::Killed(9))), (4, 0, Some(Status::Exited(6)))] },
+    Row { call: Call::Reap(1, None, ReapEnd::NoChild), tasks: &[(1, 1, true), (2, 2, false), (3, 3, true), (4, 4, false), (5, 5, true)], groups: &[(2, 0, Some(Status::Killed(9))), (4, 0, Some(Status::Exited(6)))] },
+];
+
+#[test]
+fn a_group_that_ends_orphans_its_own_children_alone(rt: HostRuntime) -> Result<(), Fail> {
+    expect_rows(&rt, rt.alloc(), &CHILDREN_IN_TURNS)
+}
+
+#[rattlefmt::skip]
 const WAITS: [Row; 11] = [
     Row { call: Call::Open, tasks: &[(1, 1, true)], groups: &[(1, 0, None)] },
     Row { call: Call::Reap(1, None, ReapEnd::NoChild), tasks: &[(1, 1, true)], groups: &[(1, 0, None)] },

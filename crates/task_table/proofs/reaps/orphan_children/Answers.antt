@@ -1,20 +1,19 @@
-use Rattle.std.proofs.Common.{get_or, ap, sym, ◌∙◌}
-use Rattle.std.proofs.lemmas.List.{take_all}
-use Rattle.task_table.specs.Entries.{changed_at}
-use Rattle.task_table.specs.Reaps.{orphaned}
-use Rattle.task_table.proofs.Changes.{changed_along, changed_along_more}
-use Rattle.task_table.proofs.Waiting.{orphaned_along_children}
+use Rattle.std.proofs.Common.{◌∙◌, arith}
+use Rattle.task_table.proofs.Waiting.{Orphaned-lost, Orphaned-stays, groups_orphaned, children_orphaned}
 use Rattle.task_table.proofs.reaps.orphan_children.Goals as goal
+use Rattle.task_table.proofs.reaps.orphan_children.Goals.{then-orphan_of, else-orphan_of}
 
-pub loop-number-preserved : goal.loop-number-preserved
-loop-number-preserved c =
-    let n = get_or c.args.children.now c.loop-number.number-index 0 in
-    c.orphan_of.ensures
-    ∙ ap (λ groups. changed_at (orphaned c.args.parent) groups n) c.loop-number.invariant
-    ∙ sym (changed_along_more (λ _. orphaned c.args.parent) c.args.groups.now c.args.children.now c.loop-number.number-index c.loop-number-test.true)
+pub loop-place-preserved : goal.loop-place-preserved
+loop-place-preserved c =
+    let walked = c.loop-place.invariant in
+    let number = c.index-number.result.now in
+    elim c.if-orphan_of.branch [
+      | then-orphan_of w ↦ rw (w.children-is, w.kept-is) (Orphaned-stays walked (omega arith) number c.index-number.ensures _ c.orphan_of.ensures.groups _ c.orphan_of.ensures.stays w.if-orphan_of.true)
+      | else-orphan_of w ↦ rw (w.children-is, w.kept-is) (Orphaned-lost walked (omega arith) number c.index-number.ensures _ c.orphan_of.ensures.groups _ c.orphan_of.ensures.stays w.if-orphan_of.false)
+    ]
 
-pub returns : goal.returns
-returns c =
-    c.loop-number.invariant
-    ∙ ap (changed_along (λ _. orphaned c.args.parent) c.args.groups.now) (take_all c.loop-number.number-index c.args.children.now c.loop-number-test.false ∙ c.requires)
-    ∙ orphaned_along_children c.args.parent c.args.groups.now
+pub returns-clause-groups : goal.returns-clause-groups
+returns-clause-groups c = groups_orphaned c.loop-place.invariant (omega arith) c.requires
+
+pub returns-clause-children : goal.returns-clause-children
+returns-clause-children c = c.truncate.ensures.items ∙ children_orphaned c.loop-place.invariant (omega arith) c.requires

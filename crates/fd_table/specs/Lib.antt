@@ -1,0 +1,4 @@
+pub mod Flags
+pub mod Descriptions
+pub mod Tables
+pub mod Slots

@@ -1,0 +1,73 @@
+//! The flags of open(2), and accesses.
+
+use bitflags::Flags;
+use fd_table::{Access, OpenFlags};
+
+#[test]
+fn each_flag_of_open_has_its_octal_value(rt: HostRuntime) {
+    for (flag, value) in [
+        (OpenFlags::WRONLY, 0o1),
+        (OpenFlags::RDWR, 0o2),
+        (OpenFlags::CREAT, 0o100),
+        (OpenFlags::EXCL, 0o200),
+        (OpenFlags::TRUNC, 0o1000),
+        (OpenFlags::APPEND, 0o2000),
+        (OpenFlags::NONBLOCK, 0o4000),
+        (OpenFlags::LARGEFILE, 0o100000),
+        (OpenFlags::DIRECTORY, 0o200000),
+        (OpenFlags::NOFOLLOW, 0o400000),
+        (OpenFlags::CLOEXEC, 0o2000000),
+    ] {
+        assert_eq!(rt; flag.bits(), value);
+        assert_eq!(rt; OpenFlags::from_bits_retain(value), flag);
+    }
+}
+
+#[test]
+fn a_number_of_flags_has_those_whose_bits_are_set(rt: HostRuntime) {
+    // O_WRONLY, O_CREAT, O_CLOEXEC, and octal 40000, O_DIRECT, which has no name here
+    let flags = OpenFlags::from_bits_retain(0o2040101);
+    for (flag, there) in [
+        (OpenFlags::WRONLY, true),
+        (OpenFlags::RDWR, false),
+        (OpenFlags::CREAT, true),
+        (OpenFlags::EXCL, false),
+        (OpenFlags::TRUNC, false),
+        (OpenFlags::APPEND, false),
+        (OpenFlags::NONBLOCK, false),
+        (OpenFlags::LARGEFILE, false),
+        (OpenFlags::DIRECTORY, false),
+        (OpenFlags::NOFOLLOW, false),
+        (OpenFlags::CLOEXEC, true),
+    ] {
+        assert_eq!(rt; flags.contains(flag), there);
+    }
+}
+
+#[test]
+fn the_access_is_told_by_the_low_two_bits_alone(rt: HostRuntime) {
+    for (mode, access) in [
+        (0, Some(Access::Read)),
+        (1, Some(Access::Write)),
+        (2, Some(Access::Both)),
+        (3, None),
+    ] {
+        for others in [0, 0o4, 0o100, 0o2000000, 0o37777777774] {
+            let flags = OpenFlags::from_bits_retain(mode | others);
+            assert_eq!(rt; flags.access(), access);
+        }
+    }
+}
+
+#[test]
+fn an_access_tells_who_may_read_and_write_and_its_mode(rt: HostRuntime) {
+    for (access, may_read, may_write, mode) in [
+        (Access::Read, true, false, 0),
+        (Access::Write, false, true, 1),
+        (Access::Both, true, true, 2),
+    ] {
+        assert_eq!(rt; access.may_read(), may_read);
+        assert_eq!(rt; access.may_write(), may_write);
+        assert_eq!(rt; access.number(), mode);
+    }
+}

@@ -1,0 +1,103 @@
+//! Runs of bytes put into memory.
+
+ghost use Rattle.std.specs.Prelude.{◌≡◌, ◌≢◌, ℕ, ◌+◌, ◌%◌, ◌≤◌, true, false, length, OnOk, OnErr, Ok, Err};
+ghost use Rattle.rv_table.specs.Bytes.{AllowsAs, loaded};
+ghost use Rattle.rv_table.specs.declared.error.MemErr.TheVariants as MemErr;
+ghost use Rattle.mm_space.specs.Accesses.{byte_at, writable};
+ghost use Rattle.mm_space.specs.Places.{AreAsReady, is_ready, is_ready_at};
+ghost use Rattle.mm_space.specs.Puts.{after_run_stored, put_run};
+ghost use Rattle.mm_space.specs.Spaces.{reach};
+
+use crate::runs::in_page;
+use crate::{Handed, Space};
+use mm_areas::Rights;
+use rv_table::MemErr;
+use sn_base::Memory;
+use std::alloc::Global;
+
+impl Space {
+    /// Puts bytes from an address on, one behind another, for a task, where each of them may be written. It ends other
+    /// tasks' reservations of the granules that it meets. Addresses go round at 2^64. A refusal changes nothing, and
+    /// where the pages have their bytes for themselves, no memory is taken.
+    ///
+    /// - `Fault`: the first of the bytes that may not be written.
+    /// - `Shared`: else the area of the first of them that lies in one which isn't handed in.
+    /// - `Memory`: else, where a page that shares its bytes couldn't be copied.
+    ///
+    /// read(2): what a call puts into a guest's buffer.
+    pub fn write(
+        &mut self,
+        alloc: Global,
+        handed: &mut Handed,
+        task: u32,
+        at: u64,
+        bytes: &[u8],
+    ) -> Result<(), MemErr>
+        ensures room { AllowsAs (loaded (byte_at writable (reach self.old handed.old)) at (length bytes.now)) result }
+        ensures lean { is_ready self.old handed.old at (length bytes.now) ≡ true → result ≢ Err MemErr.Memory }
+        ensures ok { OnOk result (reach self.new handed.new ≡
+            after_run_stored task at bytes.now (reach self.old handed.old)) }
+        ensures err { OnErr result (reach self.new handed.new ≡ reach self.old handed.old) }
+    {
+        self.allowed(handed, Rights::WRITE, at, bytes.len())?;
+        match self.own_run(alloc, handed, at, bytes.len()) {
+            Ok(()) => {
+                self.put_run(handed, task, at, bytes);
+                self.reservations.stored_run(task, at, bytes.len() as u64);
+                Ok(())
+            }
+            Err(_) => Err(MemErr::Memory),
+        }
+    }
+
+    /// Makes the bytes of the pages of so many bytes from an address on their own.
+    fn own_run(
+        &mut self,
+        alloc: Global,
+        handed: &mut Handed,
+        at: u64,
+        count: usize,
+    ) -> Result<(), Memory>
+        ensures same { reach self.new handed.new ≡ reach self.old handed.old }
+        ensures ready { OnOk result (is_ready self.new handed.new at count ≡ true) }
+        ensures lacking { OnErr result (is_ready self.old handed.old at count ≡ false) }
+    {
+        let mut done = 0;
+        while done < count {
+            let address = at.wrapping_add(done as u64);
+            self.own_at(alloc, handed, address)?;
+            done += in_page(address, count - done);
+        }
+        Ok(())
+    }
+
+    /// Puts bytes from an address on, whose pages have their bytes for themselves.
+    fn put_run(&mut self, handed: &mut Handed, task: u32, at: u64, bytes: &[u8])
+        requires { is_ready self.old handed.old at (length bytes.now) ≡ true }
+        ensures { reach self.new handed.new ≡ put_run task at bytes.now (reach self.old handed.old) }
+    {
+        let mut done = 0;
+        while done < bytes.len() {
+            let address = at.wrapping_add(done as u64);
+            let piece = in_page(address, bytes.len() - done);
+            self.put_piece(handed, task, address, &bytes[done..done + piece]);
+            done += piece;
+        }
+    }
+
+    /// Puts bytes from an address on into its page, which has its bytes for itself.
+    fn put_piece(&mut self, handed: &mut Handed, task: u32, at: u64, piece: &[u8])
+        requires fits { at % 4096 + length piece.now ≤ 4096 }
+        requires ready { is_ready_at self.old handed.old at ≡ true }
+        ensures put { reach self.new handed.new ≡ put_run task at piece.now (reach self.old handed.old) }
+        ensures ready { AreAsReady self.old self.new handed.old handed.new }
+    {
+        let offset = (at % 4096) as usize;
+        if self.areas.put_bytes(at / 4096, offset, piece) {
+            return;
+        }
+        if let Some(page) = self.shared_page(at / 4096) {
+            handed.put_run(task, &page, offset, piece);
+        }
+    }
+}

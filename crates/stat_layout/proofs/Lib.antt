@@ -1,0 +1,3 @@
+pub mod Buffers
+pub mod FieldsRead
+pub mod Layouts

@@ -1,0 +1,5 @@
+pub mod Kinds
+pub mod Places
+pub mod Stats
+pub mod Dirents
+pub mod IoVecs
