@@ -1,9 +1,11 @@
 //! Tests of address spaces: what their contracts leave to a trial.
 //!
 //! Loads of each width and fetches, inside a page and over its end, where the next page is missing, lacks the right or
-//! lies in a shared area; areas in hand, and none; what loads and fetches see once a range was mapped, unmapped or given
-//! other rights, and once the break has moved; a space and its child. Runs of up to 65,536 bytes over private pages and
-//! areas, whole, and with a byte at the begin, inside or at the end that may not be read.
+//! lies in a shared area; areas in hand, and none; what loads and fetches see once a range was mapped, unmapped or
+//! given other rights, and once the break has moved; a space and its child. Runs of up to 65,536 bytes over private
+//! pages and areas, whole, and with a byte at the begin, inside or at the end that may not be read or written; what a
+//! run that is written leaves around it, in other mappings of an area, in a parent, in decoded words, and of
+//! reservations.
 //!
 //! Stores of each width at each place over a page's end, made and refused, and whether they may be made; a space, its
 //! child and the child's that store by turns; areas seen from several places. Reservations: each store about a granule,
@@ -36,3 +38,5 @@ mod run_fixture;
 mod shared_areas;
 #[cfg(test)]
 mod stores;
+#[cfg(test)]
+mod writes;

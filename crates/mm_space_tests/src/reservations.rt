@@ -4,6 +4,7 @@ use crate::fixture::{FIRST, Put, SECOND, area};
 use crate::pair::{Pair, Side, THIRD};
 use mm_areas::{Areas, Backing, Rights};
 use mm_space::{Handed, Space};
+use rv_atomic::Reservation;
 use std::alloc::Global;
 use std::process::Abort;
 use std::test::Fail;
@@ -27,7 +28,7 @@ fn hand_of(alloc: Global) -> Result<Handed, Fail> {
 /// Stores about the granule of the eight bytes from 8 on: where each begins, of how many bytes, and whether another task's
 /// reservation of the granule stays.
 #[rattlefmt::skip]
-const ABOUT_A_GRANULE: [(u64, u8, bool); 23] = [
+const ABOUT_A_GRANULE: [(u8, u8, bool); 23] = [
     (0x07, 1, true),
     (0x08, 1, false),
     (0x09, 1, false),
@@ -53,56 +54,98 @@ const ABOUT_A_GRANULE: [(u64, u8, bool); 23] = [
     (0x10, 8, true),
 ];
 
-/// Loads that reserve in that granule: of how many bytes, and how far from its begin.
-const WITHIN_A_GRANULE: [(u64, u8); 3] = [(0, 8), (0, 4), (4, 4)];
+/// Loads that reserve in that granule: where each begins, and of how many bytes.
+const WITHIN_A_GRANULE: [(u8, u8); 3] = [(0x08, 8), (0x08, 4), (0x0c, 4)];
+
+/// Where pages begin: two private ones, and two of an area.
+const PAGES: [u64; 4] = [0x1_0000, 0x1_1000, 0x4_0000, 0x4_1000];
+
+/// An address space and another of the same area, with what both reach.
+#[derive(Drop)]
+struct Spaces {
+    alloc: Global,
+    space: Space,
+    other: Space,
+    handed: Handed,
+}
+
+impl Spaces {
+    fn of(alloc: Global) -> Result<Spaces, Fail> {
+        Ok(Spaces {
+            alloc,
+            space: space_of(alloc)?,
+            other: space_of(alloc)?,
+            handed: hand_of(alloc)?,
+        })
+    }
+
+    /// Whether a reservation that is made anew outlives a store in the same space.
+    fn outlives_here(&mut self, reserved: Reservation, put: Put) -> Result<bool, Fail> {
+        let (task, at, width) = (reserved.task, reserved.address, reserved.width);
+        self.space.reserve(&mut self.handed, task, at, width)?;
+        put.make(self.alloc, &mut self.space, &mut self.handed)?;
+        Ok(self.space.take(&mut self.handed, task, at, width))
+    }
+
+    /// Whether it outlives one in the other.
+    fn outlives_there(&mut self, reserved: Reservation, put: Put) -> Result<bool, Fail> {
+        let (task, at, width) = (reserved.task, reserved.address, reserved.width);
+        self.space.reserve(&mut self.handed, task, at, width)?;
+        put.make(self.alloc, &mut self.other, &mut self.handed)?;
+        Ok(self.space.take(&mut self.handed, task, at, width))
+    }
+}
 
 #[test]
 fn another_tasks_store_to_any_byte_of_the_granule_ends_a_reservation(
     rt: HostRuntime,
 ) -> Result<(), Fail> {
-    for (offset, width) in WITHIN_A_GRANULE {
-        each_ends_what_it_meets(&rt, rt.alloc(), offset, width)?;
+    let mut spaces = Spaces::of(rt.alloc())?;
+    for (at, width, stays) in ABOUT_A_GRANULE {
+        for reserved in WITHIN_A_GRANULE {
+            expect_outlived(&rt, &mut spaces, reserved, (at, width), stays)?;
+        }
     }
     Ok(())
 }
 
-/// Stores about a granule in a private page, in a shared one from the same space, and there from another space.
-fn each_ends_what_it_meets(
+/// In private pages and in an area's, another task's store ends it or not as expected, from the other space in the area
+/// alone; the task's own ends none.
+fn expect_outlived(
     rt: &impl Abort,
-    alloc: Global,
-    offset: u64,
-    width: u8,
+    spaces: &mut Spaces,
+    (from, count): (u8, u8),
+    (at, width): (u8, u8),
+    stays: bool,
 ) -> Result<(), Fail> {
-    let mut handed = hand_of(alloc)?;
-    let mut space = space_of(alloc)?;
-    let mut other = space.fork(alloc)?;
-    for (at, count, stays) in ABOUT_A_GRANULE {
-        for base in [0x1_0000, 0x1_1000, 0x4_0000, 0x4_1000] {
-            let address = base + 8 + offset;
-            let put = Put {
-                task: 2,
-                at: base + at,
-                width: count,
-                value: 0,
-            };
-            space.reserve(&mut handed, 1, address, width)?;
-            put.make(alloc, &mut space, &mut handed)?;
-            let kept = space.take(&mut handed, 1, address, width);
-            assert_eq!(rt; kept, stays, "{count} bytes at {base:x} + {at:x}");
-            space.reserve(&mut handed, 1, address, width)?;
-            put.make(alloc, &mut other, &mut handed)?;
-            let kept = space.take(&mut handed, 1, address, width);
-            assert_eq!(rt;
-                kept,
-                stays || base < 0x4_0000,
-                "{count} bytes at {base:x} + {at:x} elsewhere"
-            );
-            space.reserve(&mut handed, 2, address, width)?;
-            put.make(alloc, &mut space, &mut handed)?;
-            put.make(alloc, &mut other, &mut handed)?;
-            let kept = space.take(&mut handed, 2, address, width);
-            assert!(rt; kept, "its own {count} bytes at {base:x} + {at:x}");
-        }
+    for page in PAGES {
+        let reserved = Reservation {
+            task: 1,
+            address: page + u64::from(from),
+            width: count,
+        };
+        let put = Put {
+            task: 2,
+            at: page + u64::from(at),
+            width,
+            value: 0,
+        };
+        let own = Put { task: 1, ..put };
+        let apart = page < 0x4_0000;
+        assert_eq!(rt;
+            spaces.outlives_here(reserved, put)?,
+            stays,
+            "{width} bytes at {at:x}"
+        );
+        assert_eq!(rt;
+            spaces.outlives_there(reserved, put)?,
+            stays || apart,
+            "{width} bytes at {at:x}"
+        );
+        assert!(rt;
+            spaces.outlives_here(reserved, own)?,
+            "{width} bytes at {at:x}"
+        );
     }
     Ok(())
 }
