@@ -1,19 +1,9 @@
 //! Loads and fetches.
 
-use crate::fixture::{FIRST, SECOND, area, space};
-use mm_space::{Handed, Space};
+use crate::fixture::{FIRST, SECOND, area, load, space};
+use mm_space::Handed;
 use rv_table::MemErr;
 use std::test::Fail;
-
-/// A load of so many bytes, of a width that an access has.
-fn load(space: &Space, handed: &Handed, at: u64, width: u8) -> Result<u64, MemErr> {
-    match width {
-        1 => space.load(handed, at, 1),
-        2 => space.load(handed, at, 2),
-        4 => space.load(handed, at, 4),
-        _ => space.load(handed, at, 8),
-    }
-}
 
 #[rattlefmt::skip]
 const LOADS: [(u64, u8, Result<u64, MemErr>); 20] = [

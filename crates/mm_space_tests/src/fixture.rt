@@ -11,9 +11,9 @@
 
 use mm_areas::{Areas, Backing, Rights};
 use mm_frames::Frames;
-use mm_space::{HandedArea, SharedArea, Space};
+use mm_space::{Handed, HandedArea, SharedArea, Space};
 use rv_atomic::AreaReservations;
-use rv_table::Area;
+use rv_table::{Area, MemErr};
 use std::alloc::Global;
 use std::test::Fail;
 
@@ -83,4 +83,40 @@ pub(crate) fn area(
             reservations,
         },
     })
+}
+
+/// A load of so many bytes, of a width that an access has.
+pub(crate) fn load(space: &Space, handed: &Handed, at: u64, width: u8) -> Result<u64, MemErr> {
+    match width {
+        1 => space.load(handed, at, 1),
+        2 => space.load(handed, at, 2),
+        4 => space.load(handed, at, 4),
+        _ => space.load(handed, at, 8),
+    }
+}
+
+/// A store of so many of a number's bytes, of a width that an access has, by a task.
+#[derive(Clone, Copy, Debug)]
+pub(crate) struct Put {
+    pub(crate) task: u32,
+    pub(crate) at: u64,
+    pub(crate) width: u8,
+    pub(crate) value: u64,
+}
+
+impl Put {
+    pub(crate) fn make(
+        self,
+        alloc: Global,
+        space: &mut Space,
+        handed: &mut Handed,
+    ) -> Result<(), MemErr> {
+        let (task, at, value) = (self.task, self.at, self.value);
+        match self.width {
+            1 => space.store(alloc, handed, task, at, 1, value),
+            2 => space.store(alloc, handed, task, at, 2, value),
+            4 => space.store(alloc, handed, task, at, 4, value),
+            _ => space.store(alloc, handed, task, at, 8, value),
+        }
+    }
 }

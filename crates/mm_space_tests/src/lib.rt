@@ -7,6 +7,10 @@
 //! run that is written leaves around it, in other mappings of an area, in a parent, in decoded words, and of
 //! reservations.
 //!
+//! Stores of each width at each place over a page's end, made and refused, and whether they may be made; a space, its
+//! child and the child's that store by turns; areas seen from several places. Reservations: each store about a granule,
+//! here and from another space, each change of what is mapped, and what a store-conditional is told.
+//!
 //! Expected values are worked out by hand: bytes stand lowest first, and a page's number is its address by 4,096.
 #![tactic(auto)]
 
@@ -23,8 +27,16 @@ mod forks;
 #[cfg(test)]
 mod near;
 #[cfg(test)]
+mod pair;
+#[cfg(test)]
 mod reads;
 #[cfg(test)]
+mod reservations;
+#[cfg(test)]
 mod run_fixture;
+#[cfg(test)]
+mod shared_areas;
+#[cfg(test)]
+mod stores;
 #[cfg(test)]
 mod writes;
