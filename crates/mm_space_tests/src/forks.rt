@@ -22,8 +22,8 @@ fn a_child_reads_what_its_parent_does(rt: HostRuntime) -> Result<(), Fail> {
     Ok(())
 }
 
-/// Stores by three spaces, of which the second is the first's child and the third the second's: who stores how many bytes
-/// of which number, and the eight bytes at 0x1_0ff8 of each space after it.
+/// Stores by three spaces, of which the second is the first's child and the third the second's: who stores how many
+/// bytes of which number, and the eight bytes at 0x1_0ff8 of each space after it.
 #[rattlefmt::skip]
 const STORES: [(usize, u64, u8, u64, [u64; 3]); 6] = [
     (0, 0x1_0ff8, 1, 0x11, [0xa8a7_a6a5_a4a3_a211, LOW, LOW]),

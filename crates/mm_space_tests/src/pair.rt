@@ -6,9 +6,9 @@
 //! | 0x1_1000 | the second | the bytes 0xb1 to 0xb8, then zeros |
 //! | 0x1_4000 | one that may be written | zeros that nobody has written |
 //!
-//! In a shared area the first is its page 0, and the second its page 1. The areas in hand are `FIRST` and `THIRD`, of two
-//! pages, and `SHORT`, of one; `SECOND` isn't handed in. The tasks 1 and 2 have reserved the first page's last eight
-//! bytes, the task 3 the second page's first eight, and the task 4 the first eight at 0x1_4000.
+//! In a shared area the first is its page 0, and the second its page 1. The areas in hand are `FIRST` and `THIRD`, of
+//! two pages, and `SHORT`, of one; `SECOND` isn't handed in. The tasks 1 and 2 have reserved the first page's last
+//! eight bytes, the task 3 the second page's first eight, and the task 4 the first eight at 0x1_4000.
 
 use crate::fixture::{FIRST, Put, SECOND};
 use mm_areas::{Areas, Backing, Rights};
@@ -183,7 +183,7 @@ fn lay(
     Ok(())
 }
 
-/// An area of so many pages, of which the first ends with the bytes 0xa1 to 0xa8, and the second begins with 0xb1 to 0xb8.
+/// An area of so many pages: the first ends with the bytes 0xa1 to 0xa8, and the second begins with 0xb1 to 0xb8.
 fn area_of(alloc: Global, name: Area, pages: usize) -> Result<HandedArea, Fail> {
     let mut frames = Frames::zeros(alloc, pages)?;
     if frames.len() > 0 {

@@ -9,12 +9,14 @@ use std::alloc::Global;
 use std::process::Abort;
 use std::test::Fail;
 
-/// An address space of four pages to be read and written: two of its own at 0x1_0000, and `FIRST`'s two at 0x4_0000.
+/// An address space of six pages to be read and written: two of its own at 0x1_0000, and `FIRST`'s two at 0x4_0000 and
+/// once more at 0x7_0000.
 fn space_of(alloc: Global) -> Result<Space, Fail> {
     let mut areas = Areas::new(alloc, 4096);
     let rights = Rights::READ | Rights::WRITE;
     areas.map(alloc, Some(0x1_0000), 8192, rights, Backing::Zeros)?;
     areas.map(alloc, Some(0x4_0000), 8192, rights, Backing::Of(FIRST))?;
+    areas.map(alloc, Some(0x7_0000), 8192, rights, Backing::Of(FIRST))?;
     Ok(Space::of(alloc, areas))
 }
 
@@ -25,8 +27,8 @@ fn hand_of(alloc: Global) -> Result<Handed, Fail> {
     Ok(handed)
 }
 
-/// Stores about the granule of the eight bytes from 8 on: where each begins, of how many bytes, and whether another task's
-/// reservation of the granule stays.
+/// Stores about the granule of the eight bytes from 8 on: where each begins, of how many bytes, and whether another
+/// task's reservation of the granule stays.
 #[rattlefmt::skip]
 const ABOUT_A_GRANULE: [(u8, u8, bool); 23] = [
     (0x07, 1, true),
@@ -57,8 +59,15 @@ const ABOUT_A_GRANULE: [(u8, u8, bool); 23] = [
 /// Loads that reserve in that granule: where each begins, and of how many bytes.
 const WITHIN_A_GRANULE: [(u8, u8); 3] = [(0x08, 8), (0x08, 4), (0x0c, 4)];
 
-/// Where pages begin: two private ones, and two of an area.
-const PAGES: [u64; 4] = [0x1_0000, 0x1_1000, 0x4_0000, 0x4_1000];
+/// Where a page begins that is reserved in, and one that is stored to: the same private page, or the same of an area.
+const PAGES: [(u64, u64); 6] = [
+    (0x1_0000, 0x1_0000),
+    (0x1_1000, 0x1_1000),
+    (0x4_0000, 0x4_0000),
+    (0x4_1000, 0x7_1000),
+    (0x7_0000, 0x4_0000),
+    (0x7_1000, 0x7_1000),
+];
 
 /// An address space and another of the same area, with what both reach.
 #[derive(Drop)]
@@ -118,7 +127,7 @@ fn expect_outlived(
     (at, width): (u8, u8),
     stays: bool,
 ) -> Result<(), Fail> {
-    for page in PAGES {
+    for (page, stored) in PAGES {
         let reserved = Reservation {
             task: 1,
             address: page + u64::from(from),
@@ -126,7 +135,7 @@ fn expect_outlived(
         };
         let put = Put {
             task: 2,
-            at: page + u64::from(at),
+            at: stored + u64::from(at),
             width,
             value: 0,
         };
@@ -171,7 +180,8 @@ fn a_store_over_a_pages_end_ends_the_reservations_on_both_sides(
     Ok(())
 }
 
-/// What a store-conditional is told, once a load has reserved the eight bytes at 8: of which address and of how many bytes.
+/// What a store-conditional is told, once a load has reserved the eight bytes at 8: of which address and of how many
+/// bytes it is.
 const CONDITIONALS: [(u64, u8, bool); 6] = [
     (0x08, 8, true),
     (0x08, 4, false),
@@ -189,7 +199,7 @@ fn a_reservation_is_of_just_its_address_and_width_and_serves_once(
     let mut handed = hand_of(alloc)?;
     let mut space = space_of(alloc)?;
     for (at, width, told) in CONDITIONALS {
-        for base in [0x1_0000, 0x4_0000, 0x4_1000] {
+        for base in [0x1_0000, 0x4_0000, 0x7_1000] {
             space.reserve(&mut handed, 1, base + 8, 8)?;
             assert!(rt; !space.take(&mut handed, 2, base + at, width));
             assert_eq!(rt;
@@ -206,7 +216,7 @@ fn a_reservation_is_of_just_its_address_and_width_and_serves_once(
 }
 
 /// Two loads that reserve one after the other, in private pages and in an area.
-const IN_TURN: [(u64, u64); 8] = [
+const IN_TURN: [(u64, u64); 9] = [
     (0x1_0008, 0x1_0010),
     (0x1_0008, 0x1_000c),
     (0x1_0008, 0x4_0008),
@@ -214,6 +224,7 @@ const IN_TURN: [(u64, u64); 8] = [
     (0x4_0008, 0x4_1008),
     (0x4_1008, 0x4_0008),
     (0x4_0008, 0x4_000c),
+    (0x4_0008, 0x7_0008),
     (0x4_0ff8, 0x4_1000),
 ];
 
@@ -319,8 +330,8 @@ fn a_reservation_is_lost_with_its_page_and_stays_beside(rt: HostRuntime) -> Resu
     Ok(())
 }
 
-/// Five tasks reserve the first and the last eight bytes of the page, the eight before it and behind it, and, in an area,
-/// eight at its place there.
+/// Five tasks reserve the first and the last eight bytes of the page, the eight before it and behind it, and eight in
+/// an area.
 fn each_loses_its_page(rt: &impl Abort, alloc: Global, change: Change) -> Result<(), Fail> {
     let both = Rights::READ | Rights::WRITE;
     let mut handed = hand_of(alloc)?;

@@ -10,7 +10,7 @@ use std::test::Fail;
 /// The bytes 0x11, 0x22 to 0x88, lowest first.
 const VALUE: u64 = 0x8877_6655_4433_2211;
 
-/// Each store over the end of the first page, with the first page's last eight bytes and the second's first eight after it.
+/// Each store over the end of the first page, with that page's last eight bytes and the second's first eight after it.
 #[rattlefmt::skip]
 const OVER_THE_END: [(u64, u8, u64, u64); 11] = [
     (0x1_0fff, 2, 0x11a7_a6a5_a4a3_a2a1, 0xb8b7_b6b5_b4b3_b222),
@@ -204,8 +204,8 @@ fn a_store_within_a_page_leaves_the_bytes_beside(rt: HostRuntime) -> Result<(), 
     Ok(())
 }
 
-/// Stores within a page, once where it has its bytes for itself, and once where it shares them with a child's. The other
-/// tasks' reservations of eight bytes are lost where those have changed.
+/// Stores within a page, once where it has its bytes for itself, and once where it shares them with a child's. The
+/// other tasks' reservations of eight bytes are lost where those have changed.
 fn each_leaves_the_bytes_beside(
     rt: &impl Abort,
     alloc: Global,
