@@ -1,5 +1,5 @@
 -- Bytes that are found again among others.
-use Rattle.std.proofs.Common.{◌≡◌, ℕ, zero, suc, ◌+◌, ◌-◌, ◌*◌, ◌^◌, ◌<◌, ◌≤◌, List, [], ◌∷◌, ◌++◌, length, take, drop, get_or, refl, sym, ap, ◌∙◌, arith, length-append}
+use Rattle.std.proofs.Common.{◌≡◌, ℕ, ◌+◌, ◌-◌, ◌*◌, ◌^◌, ◌<◌, List, [], ◌∷◌, ◌++◌, length, take, drop, get_or, refl, sym, ap, ◌∙◌, arith, length-append}
 use Rattle.std.specs.Prelude.{slice_range}
 use Rattle.std.specs.List.{flat_map}
 use Rattle.std.proofs.lemmas.List.{append_assoc, length-take-le, take_at, drop_at, drop_more, take-append-drop}
@@ -8,7 +8,8 @@ use Rattle.sn_bytes.specs.Fields.{field, little, little_bytes}
 use Rattle.sn_bytes.proofs.FieldWrites.{read_back}
 
 -- what stands between others
-pub between : (all before mid after : List ℕ) (at size : ℕ) → all ≡ before ++ (mid ++ after) → length before ≡ at → length mid ≡ size →
+pub between : (all before mid after : List ℕ) (at size : ℕ) → all ≡ before ++ (mid ++ after) →
+    length before ≡ at → length mid ≡ size →
     slice_range all at (at + size) ≡ mid
 between all before mid after at size same start long =
     let width : at + size - at ≡ size = omega arith in
@@ -29,13 +30,16 @@ one_word f xs k inside =
     ∙ ap (λ ys. flat_map f (take k xs) ++ flat_map f ys) (drop_more xs k 0 inside)
 
 -- lists joined in another order
-regrouped : (before left mid right after : List ℕ) → (before ++ (left ++ (mid ++ right))) ++ after ≡ (before ++ left) ++ (mid ++ (right ++ after))
+regrouped : (before left mid right after : List ℕ) →
+    (before ++ (left ++ (mid ++ right))) ++ after ≡ (before ++ left) ++ (mid ++ (right ++ after))
 regrouped before left mid right after =
-    ap (λ x. x ++ after) (sym (append_assoc before left (mid ++ right))) ∙ append_assoc (before ++ left) (mid ++ right) after
+    ap (λ x. x ++ after) (sym (append_assoc before left (mid ++ right)))
+    ∙ append_assoc (before ++ left) (mid ++ right) after
     ∙ ap (λ x. (before ++ left) ++ x) (append_assoc mid right after)
 
 -- it's found behind those before it
-pub string_found : (f : List ℕ → List ℕ) (xs : List (List ℕ)) (k : ℕ) (before after : List ℕ) (at size : ℕ) → k < length xs →
+pub string_found : (f : List ℕ → List ℕ) (xs : List (List ℕ)) (k : ℕ) (before after : List ℕ) (at size : ℕ) →
+    k < length xs →
     length before + length (flat_map f (take k xs)) ≡ at → length (f (get_or xs k [])) ≡ size →
     slice_range ((before ++ flat_map f xs) ++ after) at (at + size) ≡ f (get_or xs k [])
 string_found f xs k before after at size inside start long =
@@ -72,6 +76,8 @@ word_found words k after inside fits =
     let right = flat_map f (drop (k + 1) words) in
     let same : flat_map f words ++ after ≡ left ++ (mid ++ (right ++ after)) =
     ap (λ x. x ++ after) (one_word f words k inside) ∙ regrouped [] left mid right after in
-    let start : length left ≡ 8 * k = omega (arith, length-words (take k words), length-take-le k words (omega arith)) in
-    ap little (between (flat_map f words ++ after) left mid (right ++ after) (8 * k) 8 same start (eight (get_or words k 0)))
+    let start : length left ≡ 8 * k =
+    omega (arith, length-words (take k words), length-take-le k words (omega arith)) in
+    let size : length mid ≡ 8 = eight (get_or words k 0) in
+    ap little (between (flat_map f words ++ after) left mid (right ++ after) (8 * k) 8 same start size)
     ∙ word_back (get_or words k 0) fits

@@ -1,6 +1,6 @@
 -- What a program reads at the end of its stack.
-use Rattle.std.proofs.Common.{◌≡◌, ℕ, zero, suc, ◌+◌, ◌-◌, ◌*◌, ◌/◌, ◌^◌, ◌<◌, ◌≤◌, List, [], ◌∷◌, ◌++◌, length, take, drop, get_or, Some, refl, sym, ap, subst, ◌∙◌, arith, length-append}
-use Rattle.std.specs.Prelude.{All, replicate, slice_get, slice_range, sum_by}
+use Rattle.std.proofs.Common.{◌≡◌, ℕ, ◌+◌, ◌-◌, ◌*◌, ◌^◌, ◌<◌, ◌≤◌, List, [], ◌∷◌, ◌++◌, length, take, get_or, Some, refl, sym, ap, subst, ◌∙◌, arith, length-append}
+use Rattle.std.specs.Prelude.{All, replicate, slice_get, slice_range}
 use Rattle.std.specs.List.{flat_map}
 use Rattle.std.proofs.lemmas.List.{append-nil, append_assoc, get_or_append_left, get_or-append-add, length-replicate}
 use Rattle.std.proofs.lemmas.List.Elements.{All-from_recursion}
@@ -17,15 +17,20 @@ use Rattle.image_load.proofs.Found.{between, string_found, word_found, length-wo
 pub length-strings : (strings : List (List ℕ)) → length (strings_bytes strings) ≡ strings_length strings
 length-strings [] = refl
 length-strings (s ∷ strings) =
-    omega (arith, length-strings strings, length-append (s ++ 0 ∷ []) (strings_bytes strings), length-append s (0 ∷ []), sum_by-cons (λ string. length string + 1) s strings)
+    let first = length-append s (0 ∷ []) in
+    let bytes = length-append (s ++ 0 ∷ []) (strings_bytes strings) in
+    let sum = sum_by-cons (λ string. length string + 1) s strings in
+    omega (arith, length-strings strings, first, bytes, sum)
 
 length-addresses : (first : ℕ) (strings : List (List ℕ)) → length (addresses first strings) ≡ length strings
-length-addresses first strings = length-map-range_with_len (λ k. first + strings_length (take k strings)) 0 (length strings)
+length-addresses first strings =
+    length-map-range_with_len (λ k. first + strings_length (take k strings)) 0 (length strings)
 
 address_of : (first : ℕ) (strings : List (List ℕ)) (k : ℕ) → k < length strings →
     get_or (addresses first strings) k 0 ≡ first + strings_length (take k strings)
 address_of first strings k inside =
-    get_or-map-range_with_len (λ k. first + strings_length (take k strings)) 0 (length strings) k k 0 inside (omega arith)
+    let at = λ (n : ℕ). first + strings_length (take n strings) in
+    get_or-map-range_with_len at 0 (length strings) k k 0 inside (omega arith)
 
 -- a part of some words, with others before it and behind it
 part_of : (before part after : List ℕ) (k : ℕ) → k < length part →
@@ -61,7 +66,8 @@ record Words (start : ProgramStart) : Type 0 where
       get_or (stack_words start) (2 + length start.args + k) 0 ≡ env_address start + strings_length (take k start.env)
   pub envp_end : get_or (stack_words start) (2 + length start.args + length start.env) 0 ≡ 0
   pub auxv : (k : ℕ) → k < 14 →
-      get_or (stack_words start) (3 + length start.args + length start.env + k) 0 ≡ get_or (auxiliary_vector start.auxiliary) k 0
+      get_or (stack_words start) (3 + length start.args + length start.env + k) 0
+      ≡ get_or (auxiliary_vector start.auxiliary) k 0
 
 words_of : (start : ProgramStart) → Words start
 unfolding pointer_words stack_words
@@ -81,18 +87,22 @@ words_of start =
     let l4 = length-append (c ++ v ++ z ++ e) z in
     let l5 = length-append (c ++ v ++ z ++ e ++ z) x in
     let all = stack_words start in
-    let at : (before part after : List ℕ) (k i : ℕ) → all ≡ (before ++ part) ++ after → k < length part → length before + k ≡ i → get_or all i 0 ≡ get_or part k 0 =
+    let at : (before part after : List ℕ) (k i : ℕ) → all ≡ (before ++ part) ++ after → k < length part →
+    length before + k ≡ i → get_or all i 0 ≡ get_or part k 0 =
     λ before part after k i same inside place.
-    ap (λ l. get_or l i 0) same ∙ ap (λ j. get_or ((before ++ part) ++ after) j 0) (sym place) ∙ part_of before part after k inside in
+    ap (λ l. get_or l i 0) same ∙ ap (λ j. get_or ((before ++ part) ++ after) j 0) (sym place)
+    ∙ part_of before part after k inside in
     record {
       count = omega (arith, lv, le, l1, l2, l3, l4, l5);
       argc = at [] c (v ++ z ++ e ++ z ++ x) 0 0 (joined_5 [] c v z e z x) (omega arith) refl;
       argv = λ k inside.
           at c v (z ++ e ++ z ++ x) k (1 + k) (joined_4 c v z e z x) (omega (arith, lv)) refl
           ∙ address_of (args_address start) start.args k inside;
-      argv_end = at (c ++ v) z (e ++ z ++ x) 0 (1 + n) (joined_3 (c ++ v) z e z x) (omega arith) (omega (arith, lv, l1));
+      argv_end = at (c ++ v) z (e ++ z ++ x) 0 (1 + n) (joined_3 (c ++ v) z e z x) (omega arith)
+          (omega (arith, lv, l1));
       envp = λ k inside.
-          at (c ++ v ++ z) e (z ++ x) k (2 + n + k) (joined_2 (c ++ v ++ z) e z x) (omega (arith, le)) (omega (arith, lv, l1, l2))
+          at (c ++ v ++ z) e (z ++ x) k (2 + n + k) (joined_2 (c ++ v ++ z) e z x) (omega (arith, le))
+          (omega (arith, lv, l1, l2))
           ∙ address_of (env_address start) start.env k inside;
       envp_end = at (c ++ v ++ z ++ e) z x 0 (2 + n + m) refl (omega arith) (omega (arith, lv, le, l1, l2, l3));
       auxv = λ k inside.
@@ -156,7 +166,12 @@ record Places (start : ProgramStart) : Type 0 where
 places_of : (start : ProgramStart) → length start.args + length start.env ≤ 1024 →
     strings_room start.args + strings_room start.env ≤ 65536 → Places start
 places_of start few short =
-    record { strings = omega (arith, few, short); below = omega (arith, few, short); room = omega (arith, few, short); most = omega (arith, few, short) }
+    record {
+      strings = omega (arith, few, short);
+      below = omega (arith, few, short);
+      room = omega (arith, few, short);
+      most = omega (arith, few, short);
+    }
 
 -- the bytes of a stack, part by part, and what a program reads in them
 filled : (start : ProgramStart) → Loads start →
@@ -182,17 +197,22 @@ filled start loads =
     let below = places.below in
     let room = places.room in
     let lw : length w ≡ words_length start = omega (arith, length-words words, at.count) in
-    let lz : length z ≡ args_address start - words_length start - sp = length-replicate (args_address start - words_length start - sp) 0 in
+    let lz : length z ≡ args_address start - words_length start - sp =
+    length-replicate (args_address start - words_length start - sp) 0 in
     let la = length-strings start.args in
     let le = length-strings start.env in
-    let before_args : length (w ++ z) + sp ≡ args_address start = omega (arith, length-append w z, lw, lz, room, below) in
-    let before_env : length (w ++ z ++ a) + sp ≡ env_address start = omega (arith, length-append (w ++ z) a, before_args, la) in
-    let before_random : length (w ++ z ++ a ++ e) + sp ≡ 2 ^ 38 - 16 = omega (arith, length-append (w ++ z ++ a) e, before_env, le, strings) in
+    let before_args : length (w ++ z) + sp ≡ args_address start =
+    omega (arith, length-append w z, lw, lz, room, below) in
+    let before_env : length (w ++ z ++ a) + sp ≡ env_address start =
+    omega (arith, length-append (w ++ z) a, before_args, la) in
+    let before_random : length (w ++ z ++ a ++ e) + sp ≡ 2 ^ 38 - 16 =
+    omega (arith, length-append (w ++ z ++ a) e, before_env, le, strings) in
     let word : (i v : ℕ) → i < n + m + 17 → get_or words i 0 ≡ v → v < 2 ^ 64 → word_at stack i ≡ v =
     λ i v inside is fits.
     ap (field 8 (8 * i)) (joined_4 [] w z a e r)
     ∙ word_found words i (z ++ a ++ e ++ r) (omega (arith, inside, at.count)) (omega (arith, is, fits)) ∙ is in
-    let follow : (i v : ℕ) (bytes : List ℕ) → word_at stack i ≡ v → AreBytesAt stack v bytes → AreBytesAt stack (word_at stack i) bytes =
+    let follow : (i v : ℕ) (bytes : List ℕ) → word_at stack i ≡ v → AreBytesAt stack v bytes →
+    AreBytesAt stack (word_at stack i) bytes =
     λ i v bytes is stands. subst (λ v. AreBytesAt stack v bytes) (sym is) stands in
     let arg_stands : (k : ℕ) (string : List ℕ) → slice_get start.args k ≡ Some string →
     AreBytesAt stack (args_address start + strings_length (take k start.args)) (terminated string) =
@@ -202,7 +222,8 @@ filled start loads =
     let size = length (terminated string) in (
       omega (arith, room),
       ap (λ bytes. slice_range bytes place (place + size)) (joined_2 (w ++ z) a e r)
-          ∙ string_found terminated start.args k (w ++ z) (e ++ r) place size (slice_get_within start.args k string given)
+          ∙ string_found terminated start.args k (w ++ z) (e ++ r) place size
+          (slice_get_within start.args k string given)
           (omega (arith, before_args, length-strings (take k start.args))) (ap (λ s. length (terminated s)) item)
           ∙ ap terminated item,
     ) in
@@ -232,14 +253,16 @@ filled start loads =
           let inside = slice_get_within start.args k string given in
           let v = args_address start + strings_length (take k start.args) in
           follow (1 + k) v (terminated string)
-          (word (1 + k) v (omega (arith, inside)) (at.argv k inside) (omega (arith, strings, length_within start.args k)))
+          (word (1 + k) v (omega (arith, inside)) (at.argv k inside)
+          (omega (arith, strings, length_within start.args k)))
           (arg_stands k string given);
       argv_end = word (1 + n) 0 (omega arith) at.argv_end (omega arith);
       envp = λ k string given.
           let inside = slice_get_within start.env k string given in
           let v = env_address start + strings_length (take k start.env) in
           follow (2 + n + k) v (terminated string)
-          (word (2 + n + k) v (omega (arith, inside)) (at.envp k inside) (omega (arith, strings, length_within start.env k)))
+          (word (2 + n + k) v (omega (arith, inside)) (at.envp k inside)
+          (omega (arith, strings, length_within start.env k)))
           (env_stands k string given);
       envp_end = word (2 + n + m) 0 (omega arith) at.envp_end (omega arith);
       auxv = auxv;
@@ -265,19 +288,26 @@ filled_length start few short random =
     let room = places.room in
     let count = (words_of start).count in
     let lw = length-words words in
-    let lz : length z ≡ args_address start - words_length start - sp = length-replicate (args_address start - words_length start - sp) 0 in
+    let lz : length z ≡ args_address start - words_length start - sp =
+    length-replicate (args_address start - words_length start - sp) 0 in
     let la = length-strings start.args in
     let le = length-strings start.env in
-    omega (arith, lw, count, lz, la, le, strings, below, room, random, length-append w z, length-append (w ++ z) a, length-append (w ++ z ++ a) e, length-append (w ++ z ++ a ++ e) r)
+    let l1 = length-append w z in
+    let l2 = length-append (w ++ z) a in
+    let l3 = length-append (w ++ z ++ a) e in
+    let l4 = length-append (w ++ z ++ a ++ e) r in
+    omega (arith, lw, count, lz, la, le, strings, below, room, random, l1, l2, l3, l4)
 
 -- what a program reads, and how many bytes there are, where they are those of the definition
 pub stack_read : (start : ProgramStart) (stack : OpeningStack) → length start.args + length start.env ≤ 1024 →
     strings_room start.args + strings_room start.env ≤ 65536 → length start.random ≡ 16 →
-    All (λ word. word < 2 ^ 64) (auxiliary_vector start.auxiliary) → stack.sp ≡ stack_pointer start → stack.bytes ≡ stack_bytes start → IsStackOf start stack
+    All (λ word. word < 2 ^ 64) (auxiliary_vector start.auxiliary) → stack.sp ≡ stack_pointer start →
+    stack.bytes ≡ stack_bytes start → IsStackOf start stack
 stack_read start stack few short random words sp bytes =
     let loads : Loads start =
     record { few = few; short = short; random = random; words = words } in
-    let same : record { sp = stack_pointer start; bytes = stack_bytes start } ≡ stack = λ i. record { sp = sym sp i; bytes = sym bytes i } in
+    let same : record { sp = stack_pointer start; bytes = stack_bytes start } ≡ stack =
+    λ i. record { sp = sym sp i; bytes = sym bytes i } in
     subst (IsStackOf start) same (filled start loads)
 
 pub stack_length : (start : ProgramStart) (stack : OpeningStack) → length start.args + length start.env ≤ 1024 →

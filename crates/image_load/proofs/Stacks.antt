@@ -1,5 +1,5 @@
 -- The parts of a stack, one more string and one more word at a time.
-use Rattle.std.proofs.Common.{◌≡◌, ℕ, suc, ◌+◌, ◌-◌, ◌*◌, ◌^◌, ◌<◌, ◌≤◌, List, [], ◌∷◌, ◌++◌, length, take, get_or, min, sym, ap, ◌∙◌, refl, arith, length-append}
+use Rattle.std.proofs.Common.{◌≡◌, ℕ, ◌+◌, ◌-◌, ◌<◌, ◌≤◌, List, [], ◌∷◌, ◌++◌, length, take, get_or, sym, ap, ◌∙◌, arith}
 use Rattle.std.specs.Prelude.{replicate}
 use Rattle.std.specs.List.{flat_map}
 use Rattle.std.proofs.lemmas.List.{append-nil, append_assoc, take_more, take-replicate}
@@ -19,18 +19,21 @@ pub flat_more : {X : Type 0} (f : X → List ℕ) (xs : List X) (k : ℕ) (d : X
     old ++ flat_map f (take (k + 1) xs) ≡ (old ++ flat_map f (take k xs)) ++ f (get_or xs k d)
 flat_more f xs k d old inside =
     ap (λ ys. old ++ flat_map f ys) (take_more xs k d inside)
-    ∙ ap (λ bs. old ++ bs) (flat_map-append f (take k xs) (get_or xs k d ∷ []) ∙ ap (λ bs. flat_map f (take k xs) ++ bs) (append-nil (f (get_or xs k d))))
+    ∙ ap (λ bs. old ++ bs) (flat_map-append f (take k xs) (get_or xs k d ∷ [])
+    ∙ ap (λ bs. flat_map f (take k xs) ++ bs) (append-nil (f (get_or xs k d))))
     ∙ sym (append_assoc old (flat_map f (take k xs)) (f (get_or xs k d)))
 
 -- one more address
 pub address_more : (first : ℕ) (strings : List (List ℕ)) (k : ℕ) (old : List ℕ) →
     old ++ flat_map (little_bytes 8) (first_addresses first strings (k + 1))
-    ≡ (old ++ flat_map (little_bytes 8) (first_addresses first strings k)) ++ little_bytes 8 (first + strings_length (take k strings))
+    ≡ (old ++ flat_map (little_bytes 8) (first_addresses first strings k))
+    ++ little_bytes 8 (first + strings_length (take k strings))
 address_more first strings k old =
     let at = λ (n : ℕ). first + strings_length (take n strings) in
     let one = first_addresses first strings k in
     ap (λ ws. old ++ flat_map (little_bytes 8) ws) (map-range_with_len_more at 0 k k (omega arith))
-    ∙ ap (λ bs. old ++ bs) (flat_map-append (little_bytes 8) one (at k ∷ []) ∙ ap (λ bs. flat_map (little_bytes 8) one ++ bs) (append-nil (little_bytes 8 (at k))))
+    ∙ ap (λ bs. old ++ bs) (flat_map-append (little_bytes 8) one (at k ∷ [])
+    ∙ ap (λ bs. flat_map (little_bytes 8) one ++ bs) (append-nil (little_bytes 8 (at k))))
     ∙ sym (append_assoc old (flat_map (little_bytes 8) one) (little_bytes 8 (at k)))
 
 -- a word alone
@@ -84,7 +87,8 @@ stack_laid start first second gap b0 b1 b2 b3 b4 b5 b6 at behind zeros e0 e1 e2 
     ∙ ap (λ a. flat_map f (pointer_words a second start.args start.env)) at
     ∙ ap (λ e. flat_map f (pointer_words (args_address start) e start.args start.env)) behind in
     let words2 : b2 ≡ flat_map f (p ++ v) = e2 ∙ ap (λ b. b ++ flat_map f v) words1 ∙ sym (flat_map-append f p v) in
-    let s3 = e3 ∙ ap (λ g. b2 ++ replicate g 0) zeros ∙ ap (λ b. b ++ replicate (args_address start - words_length start - stack_pointer start) 0) words2 in
+    let gap_is = args_address start - words_length start - stack_pointer start in
+    let s3 = e3 ∙ ap (λ g. b2 ++ replicate g 0) zeros ∙ ap (λ b. b ++ replicate gap_is 0) words2 in
     let s4 = e4 ∙ ap (λ b. b ++ strings_bytes start.args) s3 in
     let s5 = e5 ∙ ap (λ b. b ++ strings_bytes start.env) s4 in
     e6 ∙ ap (λ b. b ++ start.random) s5

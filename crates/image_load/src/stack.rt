@@ -116,12 +116,15 @@ fn laid_out(
 ) -> Result<OpeningStack, Memory>
     requires strings { length args.now + length env.now ≤ 1024 }
     requires room { strings_room args.now + strings_room env.now ≤ 65536 }
-    ensures sp { let start : ProgramStart = record { args = args.now; env = env.now; random = random.now; auxiliary = auxiliary.now } in
+    ensures sp { let start : ProgramStart =
+        record { args = args.now; env = env.now; random = random.now; auxiliary = auxiliary.now } in
         IfOk result (λ stack. stack.sp ≡ stack_pointer start) }
-    ensures bytes { let start : ProgramStart = record { args = args.now; env = env.now; random = random.now; auxiliary = auxiliary.now } in
+    ensures bytes { let start : ProgramStart =
+        record { args = args.now; env = env.now; random = random.now; auxiliary = auxiliary.now } in
         IfOk result (λ stack. stack.bytes ≡ stack_bytes start) }
     ensures top { IfOk result (λ stack. stack.sp + length stack.bytes ≡ 2 ^ 38) }
-    ensures read { let start : ProgramStart = record { args = args.now; env = env.now; random = random.now; auxiliary = auxiliary.now } in
+    ensures read { let start : ProgramStart =
+        record { args = args.now; env = env.now; random = random.now; auxiliary = auxiliary.now } in
         IfOk result (IsStackOf start) }
 {
     let args_length = strings_length(args);

@@ -7,7 +7,12 @@ use Rattle.image_load.proofs.stack.laid_out.Goals as goal
 pub returns-clause-bytes : goal.returns-clause-bytes
 returns-clause-bytes c =
     let start : ProgramStart =
-    record { args = c.args.args.now; env = c.args.env.now; random = c.args.random.now; auxiliary = c.args.auxiliary.now } in
+    record {
+      args = c.args.args.now;
+      env = c.args.env.now;
+      random = c.args.random.now;
+      auxiliary = c.args.auxiliary.now;
+    } in
     let args_long = c.strings_length-args_length.ensures in
     let env_long = c.strings_length.ensures in
     let few = c.requires.strings in
@@ -22,7 +27,12 @@ returns-clause-bytes c =
 pub returns-clause-top : goal.returns-clause-top
 returns-clause-top c =
     let start : ProgramStart =
-    record { args = c.args.args.now; env = c.args.env.now; random = c.args.random.now; auxiliary = c.args.auxiliary.now } in
+    record {
+      args = c.args.args.now;
+      env = c.args.env.now;
+      random = c.args.random.now;
+      auxiliary = c.args.auxiliary.now;
+    } in
     let args_long = c.strings_length-args_length.ensures in
     let env_long = c.strings_length.ensures in
     stack_length start (record { sp = _; bytes = _ }) c.requires.strings c.requires.room c.told-random
@@ -32,7 +42,12 @@ returns-clause-top c =
 pub returns-clause-read : goal.returns-clause-read
 returns-clause-read c =
     let start : ProgramStart =
-    record { args = c.args.args.now; env = c.args.env.now; random = c.args.random.now; auxiliary = c.args.auxiliary.now } in
+    record {
+      args = c.args.args.now;
+      env = c.args.env.now;
+      random = c.args.random.now;
+      auxiliary = c.args.auxiliary.now;
+    } in
     let args_long = c.strings_length-args_length.ensures in
     let env_long = c.strings_length.ensures in
     stack_read start _ c.requires.strings c.requires.room c.told-random c.put_auxiliary.ensures.fits

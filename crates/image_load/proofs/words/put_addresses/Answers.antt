@@ -18,7 +18,8 @@ loop-string-preserved c =
     let bytes = ap length c.as_bytes.ensures in
     let more = length_more strings k string c.loop-string-test.true in
     record {
-      words = c.in_ok-put_u64.ensures.ok ∙ (ap (λ out. out ++ little_bytes 8 c.loop-string.address) c.loop-string.invariant.words
+      words = c.in_ok-put_u64.ensures.ok
+          ∙ (ap (λ out. out ++ little_bytes 8 c.loop-string.address) c.loop-string.invariant.words
           ∙ (ap (λ address. so_far ++ little_bytes 8 address) behind ∙ sym (address_more first strings k old)));
       behind = omega (arith, behind, item, bytes, more);
     }

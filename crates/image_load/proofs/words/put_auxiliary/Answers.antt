@@ -1,4 +1,4 @@
-use Rattle.std.proofs.Common.{ℕ, List, [], ◌∷◌, ◌++◌, ◌∙◌, get_or, sym, ap}
+use Rattle.std.proofs.Common.{◌++◌, ◌∙◌, get_or, sym, ap}
 use Rattle.sn_bytes.specs.Fields.{little_bytes}
 use Rattle.image_load.specs.Stacks.{auxiliary_vector}
 use Rattle.image_load.proofs.Stacks.{flat_more}
