@@ -1,1 +1,2 @@
 pub mod PageRights
+pub mod Stacks

@@ -13,4 +13,8 @@ page_rights rights = rights_of rights.read rights.write rights.execute
 -- ELF-64 Object File Format, Program Loading
 abbrev pub joined : ImageRights → ImageRights → ImageRights
 joined first second =
-    record { read = first.read || second.read; write = first.write || second.write; execute = first.execute || second.execute }
+    record {
+      read = first.read || second.read;
+      write = first.write || second.write;
+      execute = first.execute || second.execute;
+    }

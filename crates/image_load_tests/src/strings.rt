@@ -1,0 +1,55 @@
+//! Strings that the tests start programs with.
+
+use image_load::{Auxiliary, LoadErr, Opening, OpeningStack, opening_stack};
+use sn_base::List;
+use sn_text::Text;
+use std::alloc::Global;
+use std::test::Fail;
+
+/// What a program finds by `AT_RANDOM`.
+pub const RANDOM: [u8; 16] = [1, 2, 3, 4, 5, 6, 7, 8, 9, 10, 11, 12, 13, 14, 15, 16];
+
+/// What a program is told of its image.
+pub const AUXILIARY: Auxiliary = Auxiliary {
+    headers: 0x10040,
+    header_count: 2,
+    entry: 0x10100,
+};
+
+/// The strings of these bytes.
+pub fn texts(alloc: Global, strings: &[&[u8]]) -> Result<List<Text>, Fail> {
+    let mut texts = List::new(alloc);
+    for string in strings {
+        texts.push(Text::from_slice(alloc, string)?)?;
+    }
+    Ok(texts)
+}
+
+/// A string of so many letters.
+pub fn letters(alloc: Global, length: usize) -> Result<Text, Fail> {
+    let mut text = Text::new(alloc);
+    for _ in 0..length {
+        text.extend(b"x")?;
+    }
+    Ok(text)
+}
+
+/// So many empty strings.
+pub fn empty_strings(alloc: Global, count: usize) -> Result<List<Text>, Fail> {
+    let mut texts = List::new(alloc);
+    for _ in 0..count {
+        texts.push(Text::new(alloc))?;
+    }
+    Ok(texts)
+}
+
+/// The stack of a program with these strings.
+pub fn stack_of(alloc: Global, args: &[Text], env: &[Text]) -> Result<OpeningStack, LoadErr> {
+    let opening = Opening {
+        args,
+        env,
+        random: RANDOM,
+        auxiliary: AUXILIARY,
+    };
+    opening_stack(alloc, &opening)
+}
