@@ -54,14 +54,14 @@ fn what_is_stored_through_one_view_of_an_area_each_other_loads(
         assert!(rt; place < spaces.len());
         let put = Put {
             task: 1,
-            at: base + offset,
+            at: base.wrapping_add(offset),
             width,
             value,
         };
         put.make(alloc, &mut spaces[place], &mut handed)?;
         for (base, place) in VIEWS {
             assert!(rt; place < spaces.len());
-            let seen = load(&spaces[place], &handed, base + offset, width);
+            let seen = load(&spaces[place], &handed, base.wrapping_add(offset), width);
             assert_eq!(rt; seen, Ok(value), "{width} bytes at {offset:x} by {view}");
         }
     }
