@@ -10,22 +10,22 @@ use Rattle.rv_exec.specs.declared.flow.Flow.TheVariants as flows
 -- a task with its registers, over what is told of its memory
 -- profile
 pub record Going (State : Type 0) : Type 0 where
-  pub memory : State
+  pub acting : State
   pub registers : Regs
 
 abbrev pub going : {State : Type 0} → State → Regs → Going State
-going memory registers = record { memory = memory; registers = registers }
+going acting registers = record { acting = acting; registers = registers }
 
 -- a task after an instruction that neither traps nor calls nor touches an area that is not handed in
 -- RISC-V Unprivileged ISA 20191213, 1.2
 abbrev pub went_by : {State : Type 0} → (Write → State → State) → State → Done → Option (Going State)
-went_by write memory (Goes r ws) = Some (going (all_after write ws memory) r)
-went_by write memory Calls = None
-went_by write memory (Traps signal) = None
-went_by write memory (Touches area) = None
+went_by write acting (Goes r ws) = Some (going (all_after write ws acting) r)
+went_by write acting Calls = None
+went_by write acting (Traps signal) = None
+went_by write acting (Touches area) = None
 
 abbrev pub one_more : {State : Type 0} → (State → Memory) → (Write → State → State) → Going State → Option (Going State)
-one_more seen write g = went_by write g.memory (exec (seen g.memory) g.registers)
+one_more seen write g = went_by write g.acting (exec (seen g.acting) g.registers)
 
 -- after so many instructions, none of which traps, calls or touches an area that is not handed in
 -- the same

@@ -34,7 +34,7 @@ is_memory_after is_same m (Stores at width value) = record {
   room = λ address below. refl;
   reserves = λ address size. refl;
 }
-is_memory_after is_same m (Reserves at width) = record {
+is_memory_after is_same m (Reserves at width) = λ value is. record {
   code = refl;
   data_ = refl;
   room = refl;

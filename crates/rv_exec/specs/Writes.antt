@@ -41,11 +41,12 @@ pub record Reserving (reserves : (address width : ℕ) → Bool) (before after :
   pub room : after.room ≡ before.room
   pub reserves_ : (address size : ℕ) → after.reserves address size ≡ reserves address size
 
--- memory after a write, where so much is told of which addresses are of one byte
+-- memory after a write, where so much is told of which addresses are of one byte; a reservation is made of an address that may be read
 -- RISC-V Unprivileged ISA 20191213, 2.6, Load and Store Instructions; 8.2, Load-Reserved/Store-Conditional Instructions
 abbrev pub IsAfter : (is_same : (a b : ℕ) → Bool) → Write → (before after : Memory) → Type 0
 IsAfter is_same (Stores at width value) before after = Stored is_same at width value before after
-IsAfter is_same (Reserves at width) before after = Reserving (λ address size. (address == at) && (size == width)) before after
+IsAfter is_same (Reserves at width) before after =
+    (value : ℕ) → before.data_ at ≡ Holds value → Reserving (λ address size. (address == at) && (size == width)) before after
 IsAfter is_same (Releases at) before after = Reserving (λ address size. false) before after
 
 -- what is told of memory after some writes, one after another, by what it is after each
