@@ -1,0 +1,2 @@
+mod SameTask
+mod Turned

@@ -10,7 +10,7 @@ use sn_base::Memory;
 use std::alloc::Global;
 
 /// A task at work over its address space, with the shared areas that it reaches, and guesses at where pages lie.
-#[derive(Debug, Drop)]
+#[derive(Drop)]
 pub(crate) struct Acting {
     pub(crate) alloc: Global,
     pub(crate) task: u32,
