@@ -1,0 +1,2 @@
+mod Ready
+pub mod RowsThere
