@@ -65,6 +65,7 @@ impl Mem for Acting {
         self.space.reserve(&mut self.handed, self.task, at, width)
     }
 
+    #[tactic(auto, using(crate::proofs::Ready::as_ready))]
     fn take(&mut self, at: u64, width: u8) -> bool {
         self.space.take(&mut self.handed, self.task, at, width)
     }
