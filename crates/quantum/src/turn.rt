@@ -1,6 +1,6 @@
 //! A turn of a run: the instructions of a page by its decoded words, or one exactly.
 
-ghost use Rattle.std.specs.Prelude.{◌≡◌, ◌+◌, ◌-◌, ◌≤◌, ◌<◌, Some};
+ghost use Rattle.std.specs.Prelude.{◌≡◌, ◌+◌, ◌-◌, ◌/◌, ◌^◌, ◌≤◌, ◌<◌, Some};
 ghost use Rattle.rv_exec.specs.Courses.{EndsBy};
 ghost use Rattle.quantum.specs.Instructions.{next_done, ran};
 ghost use Rattle.quantum.specs.Turns.{TurnsTo, acting_of};
@@ -63,7 +63,7 @@ impl Acting {
         ensures few { result.count ≤ most }
         ensures ended { EndsBy (next_done (record { acting = acting_of self.new; registers = regs.new })) result.count most result.flow }
     {
-        let page = regs.pc / 4096;
+        let page = page_of(regs.pc);
         if !self.space.decode(self.alloc, page) {
             return refused();
         }
@@ -119,4 +119,12 @@ fn refused() -> RowRun
         count: 0,
         flow: Flow::Refused,
     }
+}
+
+/// The page of an address.
+fn page_of(address: u64) -> u64
+    ensures page { result ≡ address / 4096 }
+    ensures low { result < 2 ^ 52 }
+{
+    address / 4096
 }
