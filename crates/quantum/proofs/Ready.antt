@@ -9,4 +9,5 @@ pub as_ready : (space other : Space) (handed others : Handed) → AreAsReady spa
     → (at count : ℕ) → is_ready other others at count ≡ is_ready space handed at count
 unfolding is_ready
 as_ready space other handed others alike at zero = refl
-as_ready space other handed others alike at (suc n) = ap₂ (λ first rest. first && rest) (alike at) (as_ready space other handed others alike (behind at) n)
+as_ready space other handed others alike at (suc n) =
+    ap₂ (λ first rest. first && rest) (alike at) (as_ready space other handed others alike (behind at) n)

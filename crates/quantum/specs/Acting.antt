@@ -7,7 +7,7 @@ use Rattle.rv_exec.specs.Writes.{Write, Stores, Reserves, Releases}
 use Rattle.mm_areas.specs.Contents.{bytes_at}
 use Rattle.mm_areas.specs.DecodedWords.{row_at}
 use Rattle.mm_areas.specs.Hints.{allows_at}
-use Rattle.mm_areas.specs.Pages.{Held, Bytes, PageOf, Mapped}
+use Rattle.mm_areas.specs.Pages.{Held, Bytes, PageOf, Mapped, Pages}
 use Rattle.mm_space.specs.Accesses.{byte_at, executable, page_number, page_offset, readable, writable}
 use Rattle.mm_space.specs.Puts.{after_stored}
 use Rattle.mm_space.specs.Reserves.{after_reserved, after_taken, is_held_at}
@@ -55,7 +55,9 @@ is_same_mapped a b None n = (a % 2 ^ 64) == (b % 2 ^ 64)
 
 abbrev pub is_same : Acting → (a b : ℕ) → Bool
 is_same acting a b =
-    is_same_mapped a b (map.get acting.reach.space.mapping.pages (page_number a)) (map.get acting.reach.space.mapping.pages (page_number b))
+    is_same_mapped a b
+    (map.get acting.reach.space.mapping.pages (page_number a))
+    (map.get acting.reach.space.mapping.pages (page_number b))
 
 -- whether bytes are a whole page's: those of a private page always are
 -- getpagesize(2): 4,096 bytes
@@ -63,10 +65,13 @@ abbrev pub is_whole : Option (List ℕ) → Bool
 is_whole None = false
 is_whole (Some bytes) = length bytes == 4096
 
--- the instructions of a page's words, of a private page that may be executed
--- RISC-V Unprivileged ISA 20191213, 1.5; mmap(2), PROT_EXEC
+-- whether a page is a private one that may be executed
+-- mmap(2), MAP_PRIVATE and PROT_EXEC
+abbrev pub has_instrs : Pages → (page : ℕ) → Bool
+has_instrs pages page = nat_lt page (2 ^ 52) && (allows_at pages page executable && is_whole (bytes_at pages page))
+
+-- the instructions of such a page's words
+-- RISC-V Unprivileged ISA 20191213, 1.5
 abbrev pub instrs_of : Acting → (page : ℕ) → Option (List (Option Instr))
 instrs_of a page =
-    if nat_lt page (2 ^ 52) && (allows_at a.reach.space.mapping.pages page executable && is_whole (bytes_at a.reach.space.mapping.pages page))
-    then row_at a.reach.space.mapping.pages page
-    else None
+    if has_instrs a.reach.space.mapping.pages page then row_at a.reach.space.mapping.pages page else None

@@ -25,26 +25,32 @@ seen_by_right false same value old new is = barred_stays same value
 
 -- ---- one element of a list
 
-set_here : (bytes : List ℕ) (offset value : ℕ) → as_byte (slice_get (slice_set bytes offset value) offset) ≡ with_value (as_byte (slice_get bytes offset)) value
+set_here : (bytes : List ℕ) (offset value : ℕ)
+    → as_byte (slice_get (slice_set bytes offset value) offset) ≡ with_value (as_byte (slice_get bytes offset)) value
 set_here [] offset value = refl
 set_here (b ∷ bs) zero value = refl
 set_here (b ∷ bs) (suc offset) value = set_here bs offset value
 
-set_elsewhere : {X : Type 0} → (xs : List X) (index : ℕ) (x : X) (other : ℕ) → (index ≡ other → ⊥) → slice_get (slice_set xs index x) other ≡ slice_get xs other
+set_elsewhere : {X : Type 0} → (xs : List X) (index : ℕ) (x : X) (other : ℕ) → (index ≡ other → ⊥)
+    → slice_get (slice_set xs index x) other ≡ slice_get xs other
 set_elsewhere [] index x other apart = refl
 set_elsewhere (y ∷ ys) zero x zero apart = absurd (apart refl)
 set_elsewhere (y ∷ ys) zero x (suc other) apart = refl
 set_elsewhere (y ∷ ys) (suc index) x zero apart = refl
-set_elsewhere (y ∷ ys) (suc index) x (suc other) apart = set_elsewhere ys index x other (λ same. apart (ap (λ n. suc n) same))
+set_elsewhere (y ∷ ys) (suc index) x (suc other) apart =
+    set_elsewhere ys index x other (λ same. apart (ap (λ n. suc n) same))
 
-changed_here : (pages : List (List ℕ)) (page : ℕ) (change : List ℕ → List ℕ) → slice_get (frames.with_change pages page change) page ≡ option_map change (slice_get pages page)
+changed_here : (pages : List (List ℕ)) (page : ℕ) (change : List ℕ → List ℕ)
+    → slice_get (frames.with_change pages page change) page ≡ option_map change (slice_get pages page)
 changed_here [] page change = refl
 changed_here (p ∷ ps) zero change = refl
 changed_here (p ∷ ps) (suc page) change = changed_here ps page change
 
 -- ---- a byte of a page, and of an area's pages
 
-pub byte_set : (bytes : List ℕ) (offset value other : ℕ) → as_byte (slice_get (slice_set bytes offset value) other) ≡ valued_if (offset == other) value (as_byte (slice_get bytes other))
+pub byte_set : (bytes : List ℕ) (offset value other : ℕ)
+    → as_byte (slice_get (slice_set bytes offset value) other)
+    ≡ valued_if (offset == other) value (as_byte (slice_get bytes other))
 byte_set bytes offset value other = by (cases_eq offset other)
   where
     new : ℕ → Byte
@@ -61,32 +67,40 @@ byte_set bytes offset value other = by (cases_eq offset other)
         ap as_byte (set_elsewhere bytes offset value other apart)
         ∙ sym (ap (λ (test : Bool). valued_if test value (old other)) (ne_eqb offset other apart))
 
-byte_changed : (page : Option (List ℕ)) (offset value other : ℕ) → as_byte (option_and_then (λ bytes. slice_get bytes other) (option_map (λ bytes. slice_set bytes offset value) page))
-    ≡ valued_if (offset == other) value (as_byte (option_and_then (λ bytes. slice_get bytes other) page))
+-- the byte at an offset of a page that may not be there
+-- profile
+abbrev byte_of : (offset : ℕ) → Option (List ℕ) → Byte
+byte_of offset page = as_byte (option_and_then (λ bytes. slice_get bytes offset) page)
+
+byte_changed : (page : Option (List ℕ)) (offset value other : ℕ)
+    → byte_of other (option_map (λ bytes. slice_set bytes offset value) page)
+    ≡ valued_if (offset == other) value (byte_of other page)
 byte_changed None offset value other = barred_stays (offset == other) value
 byte_changed (Some bytes) offset value other = byte_set bytes offset value other
 
-pub byte_in_pages : (pages : List (List ℕ)) (page offset value number other : ℕ) → as_byte (frames.byte_at (frames.with_change pages page (λ bytes. slice_set bytes offset value)) number other)
+pub byte_in_pages : (pages : List (List ℕ)) (page offset value number other : ℕ)
+    → as_byte (frames.byte_at (frames.with_change pages page (λ bytes. slice_set bytes offset value)) number other)
     ≡ valued_if ((page == number) && (offset == other)) value (as_byte (frames.byte_at pages number other))
 byte_in_pages pages page offset value number other = by (cases_eq page number)
   where
     change : List ℕ → List ℕ
     change bytes = slice_set bytes offset value
 
-    byte_of : Option (List ℕ) → Byte
-    byte_of found = as_byte (option_and_then (λ bytes. slice_get bytes other) found)
-
     new : ℕ → Byte
-    new n = byte_of (slice_get (frames.with_change pages page change) n)
+    new n = byte_of other (slice_get (frames.with_change pages page change) n)
 
     old : ℕ → Byte
-    old n = byte_of (slice_get pages n)
+    old n = byte_of other (slice_get pages n)
 
-    by : (page ≡ number) ⊎ (page ≡ number → ⊥) → new number ≡ valued_if ((page == number) && (offset == other)) value (old number)
+    tested : Bool → Byte
+    tested test = valued_if (test && (offset == other)) value (old number)
+
+    by : (page ≡ number) ⊎ (page ≡ number → ⊥) → new number ≡ tested (page == number)
     by (inl same) =
-        ap new (sym same) ∙ ap byte_of (changed_here pages page change) ∙ byte_changed (slice_get pages page) offset value other
+        ap new (sym same) ∙ ap (byte_of other) (changed_here pages page change)
+        ∙ byte_changed (slice_get pages page) offset value other
         ∙ ap (λ n. valued_if (offset == other) value (old n)) same
-        ∙ sym (ap (λ (test : Bool). valued_if (test && (offset == other)) value (old number)) (eq-eqb page number same))
+        ∙ sym (ap tested (eq-eqb page number same))
     by (inr apart) =
-        ap byte_of (set_elsewhere pages page (change (frames.page_at pages page)) number apart)
-        ∙ sym (ap (λ (test : Bool). valued_if (test && (offset == other)) value (old number)) (ne_eqb page number apart))
+        ap (byte_of other) (set_elsewhere pages page (change (frames.page_at pages page)) number apart)
+        ∙ sym (ap tested (ne_eqb page number apart))

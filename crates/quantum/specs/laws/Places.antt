@@ -12,7 +12,8 @@ held_itself : (address : ℕ) (held : Held) → is_same_held address address hel
 held_itself address (Bytes bytes) = eq-eqb (address % 2 ^ 64) (address % 2 ^ 64) refl
 held_itself address (PageOf name number) =
     and_from (is_area name name) ((number == number) && (page_offset address == page_offset address)) (area_itself name)
-    (and_from (number == number) (page_offset address == page_offset address) (eq-eqb number number refl) (eq-eqb (page_offset address) (page_offset address) refl))
+    (and_from (number == number) (page_offset address == page_offset address)
+    (eq-eqb number number refl) (eq-eqb (page_offset address) (page_offset address) refl))
 
 mapped_itself : (address : ℕ) (found : Option Mapped) → is_same_mapped address address found found ≡ true
 mapped_itself address None = eq-eqb (address % 2 ^ 64) (address % 2 ^ 64) refl

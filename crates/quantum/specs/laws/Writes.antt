@@ -6,7 +6,8 @@ use Rattle.quantum.specs.laws.Held.{held_stored}
 use Rattle.quantum.specs.laws.Reserving.{bytes_left, bytes_reserved, held_reserved, none_held}
 use Rattle.quantum.specs.laws.Stores.{bytes_stored}
 
-pub written : (acting : Acting) (write : Write) → IsAfter (is_same acting) write (memory_of acting) (memory_of (after_write write acting))
+pub written : (acting : Acting) (write : Write)
+    → IsAfter (is_same acting) write (memory_of acting) (memory_of (after_write write acting))
 written acting (Stores at width value) = record {
   code = λ address small. bytes_stored executable acting.task at width value acting.reach address;
   data_ = λ address small. bytes_stored readable acting.task at width value acting.reach address;
