@@ -84,6 +84,7 @@ impl Page {
     }
 
     /// Puts so many of a number's bytes into a page whose bytes are its own, and answers whether it has.
+    #[inline(always)]
     pub(crate) fn put_number(&mut self, offset: usize, width: u8, value: u64) -> bool
         ensures fits { IsTrue result ↔ ((is_own_content self.old.content ≡ true) × IsInPage offset width) }
         ensures bytes { OnTrue result (mapped_by self.new ≡

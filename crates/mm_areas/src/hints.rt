@@ -15,6 +15,7 @@ impl Page {
     ghost use Rattle.mm_areas.specs.Rights.{has};
 
     /// The number of so many bytes from an offset on, where the page has a right and bytes of its own.
+    #[inline(always)]
     fn number_allowed(&self, offset: usize, width: u8, right: Rights) -> Option<u64>
         ensures { SomeIff result
             ((has self.now.rights right ≡ true) ×
@@ -31,6 +32,7 @@ impl Page {
     }
 
     /// Puts so many of a number's bytes from an offset on, where the page has a right and its bytes are its own.
+    #[inline(always)]
     fn put_allowed(&mut self, offset: usize, width: u8, value: u64, right: Rights) -> bool
         ensures fits { IsTrue result ↔ ((is_own_content self.old.content ≡ true) ×
             (has self.old.rights right ≡ true) × IsInPage offset width) }
@@ -68,6 +70,7 @@ impl Areas {
     }
 
     /// Whether a hint is right.
+    #[inline(always)]
     fn is_near(&self, hint: usize, page: u64) -> bool
         ensures { result ≡ is_hint self.now hint page }
     {
@@ -79,6 +82,7 @@ impl Areas {
 
     /// The number of so many bytes of a private page from an offset on, the lowest first: `None` too where the hint is
     /// wrong or the page hasn't the right.
+    #[inline(always)]
     pub fn number_near(
         &self,
         hint: usize,
@@ -101,6 +105,7 @@ impl Areas {
 
     /// Puts so many of a number's bytes into a page from an offset on, the lowest first, where the page's bytes are its
     /// own, and answers whether it has: not where the hint is wrong or the page hasn't the right. It takes no memory.
+    #[inline(always)]
     pub fn put_number_near(
         &mut self,
         hint: usize,

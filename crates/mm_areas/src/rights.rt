@@ -58,6 +58,7 @@ impl Rights {
     }
 
     /// Whether a right is among them.
+    #[inline(always)]
     pub fn allows(self, right: Rights) -> bool
         ensures { result ≡ has self right }
     {

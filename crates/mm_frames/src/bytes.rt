@@ -31,6 +31,7 @@ impl Bytes {
     ghost use Rattle.mm_frames.specs.Bytes.{bytes_in, is_own_in};
 
     /// The bytes, to read.
+    #[inline(always)]
     pub(crate) fn array(&self) -> &[u8; 4096]
         ensures { result.now ≡ bytes_in self.now }
     {
@@ -107,6 +108,7 @@ impl Bytes {
     /// Puts so many of a number's bytes from an offset on, and answers whether it has: not where the bytes aren't own,
     /// the page doesn't reach so far, or no access is so wide.
     #[tactic(auto, using(crate::proofs::Owned::same_own))]
+    #[inline(always)]
     pub(crate) fn put_number(&mut self, offset: usize, width: u8, value: u64) -> bool
         ensures fits { IsTrue result ↔ ((is_own_in self.old ≡ true) × IsInPage offset width) }
         ensures bytes { OnTrue result (bytes_in self.new ≡ with_number (bytes_in self.old) offset width value) }

@@ -68,6 +68,7 @@ impl Frame {
 
     /// The number of so many bytes from an offset on, the lowest first: `None` where the page doesn't reach so far,
     /// and for a width that no access has.
+    #[inline(always)]
     pub fn number(&self, offset: usize, width: u8) -> Option<u64>
         ensures { SomeIff result (IsInPage offset width) (number_in (bytes_of self.now) offset width) }
     {
@@ -160,6 +161,7 @@ impl Frame {
 
     /// Puts so many of a number's bytes from an offset on, the lowest first, and answers whether it has: exactly where
     /// the frame is own, the page reaches so far and an access is so wide. It takes no memory.
+    #[inline(always)]
     pub fn put_number(&mut self, offset: usize, width: u8, value: u64) -> bool
         ensures fits { IsTrue result ↔ ((is_own self.old ≡ true) × IsInPage offset width) }
         ensures bytes { OnTrue result (bytes_of self.new ≡ with_number (bytes_of self.old) offset width value) }

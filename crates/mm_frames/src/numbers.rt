@@ -13,6 +13,7 @@ pub(crate) fn is_whole(bytes: &[u8; 4096])
 
 /// The number of so many bytes from an offset on, or `None` where the page doesn't reach so far or no access is so
 /// wide.
+#[inline(always)]
 pub(crate) fn number_at(bytes: &[u8; 4096], offset: usize, width: u8) -> Option<u64>
     ensures { SomeIff result (IsInPage offset width) (number_in bytes.now offset width) }
 {
@@ -25,6 +26,7 @@ pub(crate) fn number_at(bytes: &[u8; 4096], offset: usize, width: u8) -> Option<
     }
 }
 
+#[inline(always)]
 fn half_at(bytes: &[u8; 4096], offset: usize) -> u16
     requires { offset + 2 ≤ 4096 }
     ensures { result ≡ number_in bytes.now offset 2 }
@@ -32,6 +34,7 @@ fn half_at(bytes: &[u8; 4096], offset: usize) -> u16
     u16::from_le_bytes([bytes[offset], bytes[offset + 1]])
 }
 
+#[inline(always)]
 pub(crate) fn word_at(bytes: &[u8; 4096], offset: usize) -> u32
     requires { offset + 4 ≤ 4096 }
     ensures { result ≡ number_in bytes.now offset 4 }
@@ -44,6 +47,7 @@ pub(crate) fn word_at(bytes: &[u8; 4096], offset: usize) -> u32
     ])
 }
 
+#[inline(always)]
 fn double_at(bytes: &[u8; 4096], offset: usize) -> u64
     requires { offset + 8 ≤ 4096 }
     ensures { result ≡ number_in bytes.now offset 8 }
@@ -80,6 +84,7 @@ pub(crate) fn put_bytes(bytes: &mut [u8; 4096], offset: usize, run: &[u8])
 
 /// Puts so many of a number's bytes from an offset on, and answers whether it has: not where the page doesn't reach so
 /// far, or no access is so wide.
+#[inline(always)]
 pub(crate) fn put_number(bytes: &mut [u8; 4096], offset: usize, width: u8, value: u64) -> bool
     ensures fits { IsTrue result ↔ (IsInPage offset width) }
     ensures bytes { OnTrue result (bytes.new ≡ with_number bytes.old offset width value) }
@@ -96,6 +101,7 @@ pub(crate) fn put_number(bytes: &mut [u8; 4096], offset: usize, width: u8, value
     true
 }
 
+#[inline(always)]
 fn put_lowest(bytes: &mut [u8; 4096], offset: usize, value: u64)
     requires { offset < 4096 }
     ensures bytes { bytes.new ≡ slice_set bytes.old offset (value % 256) }
@@ -105,6 +111,7 @@ fn put_lowest(bytes: &mut [u8; 4096], offset: usize, value: u64)
 }
 
 #[tactic(auto, unfolding(crate::specs::Numbers::with_number))]
+#[inline(always)]
 fn put_single(bytes: &mut [u8; 4096], offset: usize, value: u64)
     requires { offset < 4096 }
     ensures bytes { bytes.new ≡ with_number bytes.old offset 1 value }
@@ -114,6 +121,7 @@ fn put_single(bytes: &mut [u8; 4096], offset: usize, value: u64)
 }
 
 #[tactic(auto, unfolding(crate::specs::Numbers::with_number))]
+#[inline(always)]
 fn put_half(bytes: &mut [u8; 4096], offset: usize, value: u64)
     requires { offset + 2 ≤ 4096 }
     ensures bytes { bytes.new ≡ with_number bytes.old offset 2 value }
@@ -124,6 +132,7 @@ fn put_half(bytes: &mut [u8; 4096], offset: usize, value: u64)
 }
 
 #[tactic(auto, unfolding(crate::specs::Numbers::with_number))]
+#[inline(always)]
 fn put_word(bytes: &mut [u8; 4096], offset: usize, value: u64)
     requires { offset + 4 ≤ 4096 }
     ensures bytes { bytes.new ≡ with_number bytes.old offset 4 value }
@@ -139,6 +148,7 @@ fn put_word(bytes: &mut [u8; 4096], offset: usize, value: u64)
 }
 
 #[tactic(auto, unfolding(crate::specs::Numbers::with_number))]
+#[inline(always)]
 fn put_double(bytes: &mut [u8; 4096], offset: usize, value: u64)
     requires { offset + 8 ≤ 4096 }
     ensures bytes { bytes.new ≡ with_number bytes.old offset 8 value }

@@ -32,6 +32,7 @@ impl Hints {
     }
 
     /// The guess at a page.
+    #[inline(always)]
     fn of(&self, page: u64) -> usize {
         self.regions[(page % 64) as usize]
     }
@@ -46,19 +47,31 @@ impl Space {
     /// The number of so many bytes at an address, where they lie in one private page that may be read: the one that
     /// `load` answers, whichever areas are handed in. `None` elsewhere. Of a page met before it costs one test of the
     /// guess and of the right. It takes no memory.
+    #[inline(always)]
     pub fn load_near(&self, hints: &mut Hints, at: u64, width: u8) -> Option<u64>
         ensures near { IfSome result (LoadsNear readable (space_of self.now) at width) }
     {
         let page = at / 4096;
-        if let Some(number) = self.number_by(hints.of(page), at, width) {
-            return Some(number);
+        match self.number_by(hints.of(page), at, width) {
+            Some(number) => Some(number),
+            None => self.load_anew(hints, at, width),
         }
+    }
+
+    /// The same by a new guess at the page, which is kept.
+    #[cold]
+    #[inline(never)]
+    fn load_anew(&self, hints: &mut Hints, at: u64, width: u8) -> Option<u64>
+        ensures near { IfSome result (LoadsNear readable (space_of self.now) at width) }
+    {
+        let page = at / 4096;
         let hint = self.areas.hint(page);
         hints.keep(page, hint);
         self.number_by(hint, at, width)
     }
 
     /// The number of so many bytes at an address by a guess at the page.
+    #[inline(always)]
     fn number_by(&self, hint: usize, at: u64, width: u8) -> Option<u64>
         ensures near { IfSome result (LoadsNear readable (space_of self.now) at width) }
     {
@@ -70,6 +83,7 @@ impl Space {
     /// Stores so many of a number's bytes at an address for a task, where they lie in one page that may be written and
     /// has its bytes for itself, as `store` does, whichever areas are handed in; and answers whether it has. Elsewhere it
     /// does nothing. It takes no memory.
+    #[inline(always)]
     pub fn store_near(
         &mut self,
         hints: &mut Hints,
@@ -86,14 +100,30 @@ impl Space {
     {
         let page = at / 4096;
         if self.store_by(hints.of(page), task, at, width, value) {
-            return true;
+            true
+        } else {
+            self.store_anew(hints, task, at, width, value)
         }
+    }
+
+    /// The same by a new guess at the page, which is kept.
+    #[cold]
+    #[inline(never)]
+    fn store_anew(&mut self, hints: &mut Hints, task: u32, at: u64, width: u8, value: u64) -> bool
+        requires { IsWidth width }
+        ensures done { OnTrue result (StoresNear (space_of self.old) (space_of self.new) task at width value) }
+        ensures apart { OnTrue result ((page : ℕ) → (page ≡ at / 4096 → ⊥) → map_of.get (space_of self.new).mapping.pages page
+            ≡ map_of.get (space_of self.old).mapping.pages page) }
+        ensures unchanged { OnFalse result (space_of self.new ≡ space_of self.old) }
+    {
+        let page = at / 4096;
         let hint = self.areas.hint(page);
         hints.keep(page, hint);
         self.store_by(hint, task, at, width, value)
     }
 
     /// Stores by a guess at the page.
+    #[inline(always)]
     pub(crate) fn store_by(
         &mut self,
         hint: usize,

@@ -7,6 +7,7 @@ use rv_table::Instr;
 
 /// Whether a branch is taken: `a` is what rs1 holds, and `b` what rs2 holds. An instruction that is no branch is not.
 #[tactic(auto, unfolding(crate::specs::Branches::is_taken))]
+#[inline(always)]
 pub fn is_taken(instr: &Instr, a: u64, b: u64) -> bool
     ensures { result ≡ is_taken instr.now a b }
 {

@@ -10,6 +10,7 @@ use rv_table::Instr;
 /// The value that an instruction computes: `a` is what rs1 holds, or pc for AUIPC, and `b` what rs2 holds. An instruction
 /// that computes none has 0.
 #[tactic(auto, unfolding(crate::specs::Values::value_of))]
+#[inline(always)]
 pub fn alu(instr: &Instr, a: u64, b: u64) -> u64
     ensures { result ≡ value_of instr.now a b }
 {

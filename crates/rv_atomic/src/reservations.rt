@@ -90,6 +90,7 @@ impl Reservations {
 
     /// Ends the other tasks' reservations of each granule in which a byte of a store lies. It takes no memory.
     #[tactic(auto, using(crate::proofs::Singles::single_after_store))]
+    #[inline(always)]
     pub fn stored(&mut self, task: u32, at: u64, width: u8)
         requires { IsWidth width }
         ensures { self.new ≡ after_store self.old task at width }
