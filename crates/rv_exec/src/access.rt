@@ -1,9 +1,9 @@
 //! How an instruction reaches memory: exactly, or by what is at hand.
 
-ghost use Rattle.std.specs.Prelude.{◌≡◌, ◌≢◌, ℕ, Bool, true, false, OnSome};
+ghost use Rattle.std.specs.Prelude.{◌≡◌, ◌≢◌, ℕ, Bool, true, false, IfSome};
 ghost use Rattle.std.specs.Bool.{OnTrue, OnFalse};
 ghost use Rattle.rv_table.specs.Words.{IsWidth};
-ghost use Rattle.rv_table.specs.Bytes.{Shared, loaded};
+ghost use Rattle.rv_table.specs.Bytes.{Shared, Value, loaded};
 ghost use Rattle.rv_exec.specs.Execution.{both};
 ghost use Rattle.rv_exec.specs.Flows.{GivesAs, LetsAs, RefusesAs};
 ghost use Rattle.rv_exec.specs.Loads.{refused_by};
@@ -34,14 +34,12 @@ pub(crate) trait Access {
         ensures same { M.told mem.new ≡ M.told mem.old }
         ensures page { page self.new ≡ page self.old };
 
-    /// The number of so many bytes at an address, each of which may be read and written. Where there is one, a store
-    /// there takes no memory.
+    /// The number of so many bytes at an address, each of which may be read, and, where it is exact, written.
     fn operand<M: Mem>(&mut self, mem: &mut M, at: u64, width: u8) -> Option<u64>
         requires { IsWidth width }
-        ensures number { GivesAs is_exact (why self.new)
+        ensures number { IfSome result (λ n. loaded (M.seen (M.told mem.old)).data_ at width ≡ Value n) }
+        ensures exact { is_exact ≡ true → GivesAs true (why self.new)
             (both (loaded (M.seen (M.told mem.old)).data_ at width) (loaded (M.seen (M.told mem.old)).room at width)) result }
-        ensures ready { OnSome result (M.is_ready mem.new at width ≡ true) }
-        ensures exact { OnSome result (is_exact ≡ true) }
         ensures lean { M.takes_memory ≡ false → why self.old ≢ Step.Memory → why self.new ≢ Step.Memory }
         ensures same { M.told mem.new ≡ M.told mem.old }
         ensures page { page self.new ≡ page self.old };
@@ -71,10 +69,10 @@ pub(crate) trait Access {
     fn reserve<M: Mem>(&mut self, mem: &mut M, at: u64, width: u8) -> bool
         requires { IsWidth width }
         ensures why { OnFalse result (is_exact ≡ true → why self.new ≡ Step.Memory) }
-        ensures exact { OnTrue result (is_exact ≡ true) }
         ensures lean { M.takes_memory ≡ false → why self.old ≢ Step.Memory → why self.new ≢ Step.Memory }
         ensures ok { OnTrue result (M.told mem.new ≡ M.after (Reserves at width) (M.told mem.old)) }
         ensures unchanged { OnFalse result (M.told mem.new ≡ M.told mem.old) }
+        ensures row { M.instrs (M.told mem.new) (page self.old) ≡ M.instrs (M.told mem.old) (page self.old) }
         ensures page { page self.new ≡ page self.old };
 }
 
@@ -194,8 +192,8 @@ impl Access for Near {
     }
 
     #[inline(always)]
-    fn operand<M: Mem>(&mut self, _mem: &mut M, _at: u64, _width: u8) -> Option<u64> {
-        None
+    fn operand<M: Mem>(&mut self, mem: &mut M, at: u64, width: u8) -> Option<u64> {
+        mem.load_near(at, width)
     }
 
     #[inline(always)]
@@ -211,8 +209,7 @@ impl Access for Near {
         mem.store_near(at, width, value)
     }
 
-    #[inline(always)]
-    fn reserve<M: Mem>(&mut self, _mem: &mut M, _at: u64, _width: u8) -> bool {
-        false
+    fn reserve<M: Mem>(&mut self, mem: &mut M, at: u64, width: u8) -> bool {
+        mem.reserve(at, width).is_ok()
     }
 }

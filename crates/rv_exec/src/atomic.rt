@@ -1,6 +1,6 @@
 //! Atomic instructions: load-reserved, store-conditional, and atomic memory operations.
 
-ghost use Rattle.std.specs.Prelude.{◌≡◌, ◌≢◌, true, false, Ok};
+ghost use Rattle.std.specs.Prelude.{◌≡◌, ◌≢◌, ◌%◌, true, false, Ok};
 ghost use Rattle.rv_table.specs.Bytes.{AllowsAs, loaded};
 ghost use Rattle.rv_table.specs.Registers.{reg};
 ghost use Rattle.rv_exec.specs.Execution.{conditional, load_reserved, operates, store_conditional};
@@ -31,6 +31,7 @@ pub(crate) fn load_reserved<M: Mem, A: Access>(
     ensures row { A.is_exact ≡ false →
         M.instrs (M.told mem.new) (A.page access.old) ≡ M.instrs (M.told mem.old) (A.page access.old) }
     ensures page { A.page access.new ≡ A.page access.old }
+    ensures aligned { regs.old.pc % 4 ≡ 0 → regs.new.pc % 4 ≡ 0 }
 {
     let at = regs.read(rs1);
     if at % u64::from(kind.width()) != 0 {
@@ -65,6 +66,7 @@ pub(crate) fn store_conditional<M: Mem, A: Access>(
     ensures row { A.is_exact ≡ false →
         M.instrs (M.told mem.new) (A.page access.old) ≡ M.instrs (M.told mem.old) (A.page access.old) }
     ensures page { A.page access.new ≡ A.page access.old }
+    ensures aligned { regs.old.pc % 4 ≡ 0 → regs.new.pc % 4 ≡ 0 }
 {
     let at = regs.read(rs1);
     if at % u64::from(kind.width()) != 0 {
@@ -95,6 +97,7 @@ fn store_if_reserved<M: Mem, A: Access>(
         regs.old regs.new (M.told mem.old) (M.told mem.new) result }
     ensures lean { M.takes_memory ≡ false → A.why access.old ≢ Step.Memory → A.why access.new ≢ Step.Memory }
     ensures page { A.page access.new ≡ A.page access.old }
+    ensures aligned { regs.old.pc % 4 ≡ 0 → regs.new.pc % 4 ≡ 0 }
 {
     let width = kind.width();
     let is_reserved = mem.take(at, width);
@@ -127,6 +130,7 @@ pub(crate) fn operate<M: Mem, A: Access>(
     ensures row { A.is_exact ≡ false →
         M.instrs (M.told mem.new) (A.page access.old) ≡ M.instrs (M.told mem.old) (A.page access.old) }
     ensures page { A.page access.new ≡ A.page access.old }
+    ensures aligned { regs.old.pc % 4 ≡ 0 → regs.new.pc % 4 ≡ 0 }
 {
     let at = regs.read(rs1);
     let width = kind.width();

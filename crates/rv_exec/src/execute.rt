@@ -1,6 +1,6 @@
 //! What each instruction does: a row a line.
 
-ghost use Rattle.std.specs.Prelude.{◌≡◌, ◌≢◌, false};
+ghost use Rattle.std.specs.Prelude.{◌≡◌, ◌≢◌, ◌%◌, false};
 ghost use Rattle.rv_exec.specs.Execution.{done_by};
 ghost use Rattle.rv_exec.specs.Flows.{FlowsAs};
 ghost use Rattle.rv_exec.specs.declared.outcome.Step.TheVariants as Step;
@@ -25,6 +25,7 @@ pub(crate) fn execute<M: Mem, A: Access>(regs: &mut Regs, mem: &mut M, access: &
     ensures row { A.is_exact ≡ false →
         M.instrs (M.told mem.new) (A.page access.old) ≡ M.instrs (M.told mem.old) (A.page access.old) }
     ensures page { A.page access.new ≡ A.page access.old }
+    ensures aligned { regs.old.pc % 4 ≡ 0 → regs.new.pc % 4 ≡ 0 }
 {
     match *instr {
         Instr::Lui { rd, .. } => put(regs, rd, alu(instr, 0, 0)),

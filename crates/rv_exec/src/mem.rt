@@ -73,6 +73,7 @@ pub trait Mem {
         requires { IsWidth width }
         ensures lean { takes_memory ≡ false → IsOk result }
         ensures ok { OnOk result (told self.new ≡ after (Reserves at width) (told self.old)) }
+        ensures rows { (page : ℕ) → instrs (told self.new) page ≡ instrs (told self.old) page }
         ensures err { OnErr result (told self.new ≡ told self.old) };
 
     /// Ends the task's reservation, and answers whether it was of just that address and so many bytes.

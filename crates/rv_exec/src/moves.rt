@@ -1,6 +1,6 @@
 //! What changes registers alone: values, jumps and branches.
 
-ghost use Rattle.std.specs.Prelude.{◌≡◌};
+ghost use Rattle.std.specs.Prelude.{◌≡◌, ◌%◌};
 ghost use Rattle.rv_table.specs.Registers.{reg, with_reg, gone_on};
 ghost use Rattle.rv_table.specs.Words.{sum};
 ghost use Rattle.rv_alu.specs.Branches.{is_taken};
@@ -17,6 +17,7 @@ use rv_table::{Instr, Reg, Regs};
 pub(crate) fn put(regs: &mut Regs, rd: Reg, value: u64) -> Flow
     ensures next { result ≡ Flow.Next }
     ensures regs { regs.new ≡ gone_on (with_reg regs.old rd value) }
+    ensures aligned { regs.old.pc % 4 ≡ 0 → regs.new.pc % 4 ≡ 0 }
 {
     regs.write(rd, value);
     go_on(regs)
@@ -27,6 +28,7 @@ pub(crate) fn put(regs: &mut Regs, rd: Reg, value: u64) -> Flow
 pub(crate) fn go_on(regs: &mut Regs) -> Flow
     ensures next { result ≡ Flow.Next }
     ensures regs { regs.new ≡ gone_on regs.old }
+    ensures aligned { regs.old.pc % 4 ≡ 0 → regs.new.pc % 4 ≡ 0 }
 {
     regs.go_on();
     Flow::Next
@@ -35,7 +37,8 @@ pub(crate) fn go_on(regs: &mut Regs) -> Flow
 /// Jumps to an address, with the next instruction's address in a register.
 #[inline(always)]
 pub(crate) fn jump(regs: &mut Regs, rd: Reg, target: u64) -> Flow
-    ensures { MovesAs (jumped regs.old rd target) regs.old regs.new result }
+    ensures done { MovesAs (jumped regs.old rd target) regs.old regs.new result }
+    ensures aligned { regs.old.pc % 4 ≡ 0 → regs.new.pc % 4 ≡ 0 }
 {
     if target % 4 != 0 {
         return Flow::Trap(7);
@@ -49,7 +52,8 @@ pub(crate) fn jump(regs: &mut Regs, rd: Reg, target: u64) -> Flow
 /// Jumps so far from a register's address, its lowest bit cleared.
 #[inline(always)]
 pub(crate) fn jump_to_register(regs: &mut Regs, rd: Reg, rs1: Reg, offset: u64) -> Flow
-    ensures { MovesAs (jumped regs.old rd (even (sum (reg regs.old rs1) offset))) regs.old regs.new result }
+    ensures done { MovesAs (jumped regs.old rd (even (sum (reg regs.old rs1) offset))) regs.old regs.new result }
+    ensures aligned { regs.old.pc % 4 ≡ 0 → regs.new.pc % 4 ≡ 0 }
 {
     let target = regs.read(rs1).wrapping_add(offset);
     jump(regs, rd, target - target % 2)
@@ -58,7 +62,8 @@ pub(crate) fn jump_to_register(regs: &mut Regs, rd: Reg, rs1: Reg, offset: u64) 
 /// Jumps so far where a branch is taken, with no address in a register, and else goes on.
 #[inline(always)]
 pub(crate) fn branch(regs: &mut Regs, instr: &Instr, rs1: Reg, rs2: Reg, offset: u64) -> Flow
-    ensures { MovesAs (branched regs.old (is_taken instr.now (reg regs.old rs1) (reg regs.old rs2)) (sum regs.old.pc offset)) regs.old regs.new result }
+    ensures done { MovesAs (branched regs.old (is_taken instr.now (reg regs.old rs1) (reg regs.old rs2)) (sum regs.old.pc offset)) regs.old regs.new result }
+    ensures aligned { regs.old.pc % 4 ≡ 0 → regs.new.pc % 4 ≡ 0 }
 {
     if is_taken(instr, regs.read(rs1), regs.read(rs2)) {
         jump(regs, Reg::new(0), regs.pc.wrapping_add(offset))
@@ -72,6 +77,7 @@ pub(crate) fn branch(regs: &mut Regs, instr: &Instr, rs1: Reg, rs2: Reg, offset:
 pub(crate) fn compute(regs: &mut Regs, instr: &Instr, rd: Reg, rs1: Reg) -> Flow
     ensures next { result ≡ Flow.Next }
     ensures regs { regs.new ≡ gone_on (with_reg regs.old rd (value_of instr.now (reg regs.old rs1) 0)) }
+    ensures aligned { regs.old.pc % 4 ≡ 0 → regs.new.pc % 4 ≡ 0 }
 {
     let value = alu(instr, regs.read(rs1), 0);
     put(regs, rd, value)
@@ -82,6 +88,7 @@ pub(crate) fn compute(regs: &mut Regs, instr: &Instr, rd: Reg, rs1: Reg) -> Flow
 pub(crate) fn combine(regs: &mut Regs, instr: &Instr, rd: Reg, rs1: Reg, rs2: Reg) -> Flow
     ensures next { result ≡ Flow.Next }
     ensures regs { regs.new ≡ gone_on (with_reg regs.old rd (value_of instr.now (reg regs.old rs1) (reg regs.old rs2))) }
+    ensures aligned { regs.old.pc % 4 ≡ 0 → regs.new.pc % 4 ≡ 0 }
 {
     let value = alu(instr, regs.read(rs1), regs.read(rs2));
     put(regs, rd, value)

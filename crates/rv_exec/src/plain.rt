@@ -1,6 +1,6 @@
 //! Loads and stores.
 
-ghost use Rattle.std.specs.Prelude.{◌≡◌, ◌≢◌, false};
+ghost use Rattle.std.specs.Prelude.{◌≡◌, ◌≢◌, ◌%◌, false};
 ghost use Rattle.rv_table.specs.Registers.{reg};
 ghost use Rattle.rv_table.specs.Words.{IsWidth, sum};
 ghost use Rattle.rv_exec.specs.Execution.{loads, stores};
@@ -32,6 +32,7 @@ pub(crate) fn load<M: Mem, A: Access>(
     ensures row { A.is_exact ≡ false →
         M.instrs (M.told mem.new) (A.page access.old) ≡ M.instrs (M.told mem.old) (A.page access.old) }
     ensures page { A.page access.new ≡ A.page access.old }
+    ensures aligned { regs.old.pc % 4 ≡ 0 → regs.new.pc % 4 ≡ 0 }
 {
     let at = regs.read(rs1).wrapping_add(imm);
     match access.load(mem, at, kind.width()) {
@@ -59,6 +60,7 @@ pub(crate) fn store<M: Mem, A: Access>(
     ensures row { A.is_exact ≡ false →
         M.instrs (M.told mem.new) (A.page access.old) ≡ M.instrs (M.told mem.old) (A.page access.old) }
     ensures page { A.page access.new ≡ A.page access.old }
+    ensures aligned { regs.old.pc % 4 ≡ 0 → regs.new.pc % 4 ≡ 0 }
 {
     let at = regs.read(rs1).wrapping_add(imm);
     if access.store(mem, at, width, regs.read(rs2)) {

@@ -30,22 +30,32 @@ pub fn run_row<M: Mem>(regs: &mut Regs, mem: &mut M, row: &[Option<Instr>], most
 {
     let page = regs.pc / 4096;
     let mut near = Near { page };
+    if row.len() != 1024 {
+        return left(0);
+    }
+    if regs.pc % 4 != 0 {
+        return left(0);
+    }
     for count in 0..most {
-        let flow = if regs.pc / 4096 == page && regs.pc % 4 == 0 {
-            run_one(regs, mem, &mut near, row)
-        } else {
-            return RowRun {
-                count,
-                flow: Flow::Next,
-            };
-        };
-        match flow {
+        if regs.pc / 4096 != page {
+            return left(count);
+        }
+        match run_one(regs, mem, &mut near, row) {
             Flow::Next => {}
             flow => return RowRun { count, flow },
         }
     }
+    left(most)
+}
+
+/// So many instructions were done, and the task has left the page, or there may be no more.
+#[inline(always)]
+fn left(count: u32) -> RowRun
+    ensures count { result.count ≡ count }
+    ensures flow { result.flow ≡ Flow.Next }
+{
     RowRun {
-        count: most,
+        count,
         flow: Flow::Next,
     }
 }
@@ -60,6 +70,7 @@ fn run_one<M: Mem>(regs: &mut Regs, mem: &mut M, near: &mut Near, row: &[Option<
         regs.old regs.new (M.told mem.old) (M.told mem.new) result }
     ensures row { M.instrs (M.told mem.new) near.new.page ≡ Some row.now }
     ensures page { near.new.page ≡ near.old.page }
+    ensures aligned { regs.new.pc % 4 ≡ 0 }
 {
     match row.get((regs.pc % 4096 / 4) as usize) {
         Some(word) => match word {

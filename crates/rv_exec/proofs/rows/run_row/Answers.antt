@@ -1,7 +1,7 @@
 use Rattle.std.proofs.Common.{◌≡◌, ◌/◌, Some, refl, sym, ap, ◌∙◌}
 use Rattle.rv_exec.specs.Courses.{going}
 use Rattle.rv_exec.specs.declared.outcome.Step.TheVariants as outcomes
-use Rattle.rv_exec.proofs.Courses.{ran_zero}
+use Rattle.rv_exec.proofs.Courses.{ran_still, ran_zero}
 use Rattle.rv_exec.proofs.InRows.{one_more_ran}
 use Rattle.rv_exec.proofs.rows.run_row.Goals as goal
 
@@ -12,18 +12,25 @@ loop-count-init g c = record {
   page = refl;
   near = refl;
   row = refl;
+  aligned = c.if-regs-ne0.false;
 }
 
 pub loop-count-preserved : goal.loop-count-preserved
 loop-count-preserved g c = record {
   has_run =
       one_more_ran g.M.Mem.seen g.M.Mem.after outcomes.Next c.loop-count.count (going (g.M.Mem.told c.args.mem.now) c.args.regs.now)
-      c.loop-count.regs c.run_one-flow.new.regs (g.M.Mem.told c.loop-count.mem) (g.M.Mem.told c.run_one-flow.new.mem) c.run_one-flow.result
-      c.loop-count.invariant.has_run c.run_one-flow.ensures.done c.in-Next.is;
+      c.loop-count.regs c.run_one.new.regs (g.M.Mem.told c.loop-count.mem) (g.M.Mem.told c.run_one.new.mem) c.run_one.result
+      c.loop-count.invariant.has_run c.run_one.ensures.done c.in-Next.is;
   words =
-      ap (g.M.Mem.instrs (g.M.Mem.told c.run_one-flow.new.mem)) (sym (c.run_one-flow.ensures.page ∙ c.loop-count.invariant.near))
-      ∙ c.run_one-flow.ensures.row;
+      ap (g.M.Mem.instrs (g.M.Mem.told c.run_one.new.mem)) (sym (c.run_one.ensures.page ∙ c.loop-count.invariant.near))
+      ∙ c.run_one.ensures.row;
   page = refl;
-  near = c.run_one-flow.ensures.page ∙ c.loop-count.invariant.near;
+  near = c.run_one.ensures.page ∙ c.loop-count.invariant.near;
   row = refl;
+  aligned = c.run_one.ensures.aligned;
 }
+
+pub returns-then-regs-ne0-clause-ran : goal.returns-then-regs-ne0-clause-ran
+returns-then-regs-ne0-clause-ran g c =
+    ran_still g.M.Mem.seen g.M.Mem.after c.left-then-regs-ne0.result.count c.args.regs.now (g.M.Mem.told c.args.mem.now) (g.M.Mem.told c.args.mem.now)
+    c.left-then-regs-ne0.ensures.count refl

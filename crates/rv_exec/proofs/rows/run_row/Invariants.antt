@@ -1,4 +1,4 @@
-use Rattle.std.proofs.Common.{◌≡◌, ◌/◌, Some}
+use Rattle.std.proofs.Common.{◌≡◌, ◌/◌, ◌%◌, Some}
 use Rattle.rv_exec.specs.Courses.{going, ran}
 use Rattle.rv_exec.proofs.rows.run_row.Given as goal
 
@@ -9,6 +9,7 @@ pub record IsRunning (g : goal.Over) (l : Rattle.rv_exec.proofs.rows.run_row.Lts
   pub page : l.page ≡ l.fn.regs.pc / 4096
   pub near : l.near.page ≡ l.page
   pub row : l.row ≡ l.fn.row
+  pub aligned : l.regs.pc % 4 ≡ 0
 
 abbrev pub invariant-loop-count : goal.invariant-loop-count
 invariant-loop-count g l = IsRunning g l
