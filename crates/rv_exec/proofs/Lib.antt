@@ -1,4 +1,3 @@
-mod Accesses
 mod Exactly
 mod InRows
 mod MovesOverMemory

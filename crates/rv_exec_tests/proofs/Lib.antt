@@ -1,0 +1,3 @@
+mod Accesses
+mod OtherPages
+mod Stores

@@ -1,0 +1,4 @@
+pub mod MemoryAfter
+pub mod Pages
+pub mod Places
+pub mod laws
