@@ -1,3 +1,4 @@
 mod Accesses
 mod OtherPages
 mod Stores
+mod Words

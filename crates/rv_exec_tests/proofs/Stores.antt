@@ -8,7 +8,7 @@ use Rattle.rv_table.specs.declared.error.Area.{Area}
 use Rattle.rv_table.specs.Bytes.{Byte, Barred, Holds, InArea, Memory, behind}
 use Rattle.rv_exec.specs.Writes.{Stores, stored_byte, with_value}
 use Rattle.rv_exec_tests.specs.MemoryAfter.{memory_after}
-use Rattle.rv_exec_tests.specs.Places.{allows, distance, reached}
+use Rattle.rv_exec_tests.specs.Places.{allows, distance, in_run, reached}
 
 -- ---- what may not be accessed stays so
 
@@ -39,20 +39,19 @@ byte_of_run true None old new at width value address h = h refl
 byte_of_run true (Some area) old new at width value address h = sym (stored_area area at width value address)
 byte_of_run false area old new at width value address h = sym (stored_barred at width value address)
 
-behind_from : (from address : ℕ) → from < 2 ^ 64 → address < 2 ^ 64 → (from + distance from address) % 2 ^ 64 ≡ address
-behind_from from address a b = omega arith
+behind_from : (from address : ℕ) → address < 2 ^ 64 → (from + distance from address) % 2 ^ 64 ≡ address
+behind_from from address low = omega arith
 
-pub stored_run : (from count : ℕ) (area : Option Area) (old new : List ℕ) (at width value : ℕ) → from < 2 ^ 64 → length old ≡ count
+pub stored_run : (from count : ℕ) (area : Option Area) (old new : List ℕ) (at width value : ℕ) → length old ≡ count
     → ((k : ℕ) → k < length old → Holds (slice_index new k) ≡ stored_byte nat_eq at width value ((from + k) % 2 ^ 64) (Holds (slice_index old k)))
-    → (λ address. if nat_lt address (2 ^ 64) && nat_lt (distance from address) count then option_map_or InArea area (Holds (slice_index new (distance from address))) else Barred)
-    ≡ (λ address. stored_byte nat_eq at width value address (if nat_lt address (2 ^ 64) && nat_lt (distance from address) count then option_map_or InArea area (Holds (slice_index old (distance from address))) else Barred))
-stored_run from count area old new at width value low long h = fun_ext λ address.
+    → in_run from count area new ≡ (λ address. stored_byte nat_eq at width value address (in_run from count area old address))
+stored_run from count area old new at width value long h = fun_ext λ address.
     byte_of_run (nat_lt address (2 ^ 64) && nat_lt (distance from address) count) area (slice_index old (distance from address)) (slice_index new (distance from address)) at width value address
     (λ inside.
-      let parts = and_parts (nat_lt address (2 ^ 64)) (nat_lt (distance from address) count) inside in
-      h (distance from address) (rw long (ltb-true (distance from address) count parts.1))
-      ∙ ap (λ to. stored_byte nat_eq at width value to (Holds (slice_index old (distance from address))))
-      (behind_from from address low (ltb-true address (2 ^ 64) parts.0)))
+    let parts = and_parts (nat_lt address (2 ^ 64)) (nat_lt (distance from address) count) inside in
+    h (distance from address) (rw long (ltb-true (distance from address) count parts.1))
+    ∙ ap (λ to. stored_byte nat_eq at width value to (Holds (slice_index old (distance from address))))
+    (behind_from from address (ltb-true address (2 ^ 64) parts.0)))
 
 -- ---- bytes as far as there is a right to them
 

@@ -1,4 +1,4 @@
+pub mod Decoded
 pub mod MemoryAfter
 pub mod Pages
 pub mod Places
-pub mod laws

@@ -5,6 +5,7 @@ ghost use Rattle.std.specs.Option.{option_or};
 ghost use Rattle.rv_table.specs.Words.{IsWidth};
 ghost use Rattle.rv_table.specs.Bytes.{AnswersAs, Byte, Holds, first_area, first_barred, loaded, number_from, or_area, or_barred, value_in};
 ghost use Rattle.rv_exec.specs.Writes.{stored_byte};
+ghost use Rattle.rv_exec_tests.specs.Places.{allows};
 
 use rv_table::{Area, MemErr};
 
@@ -31,15 +32,9 @@ pub struct Run<const N: usize> {
 }
 
 impl<const N: usize> Bytes for Run<N> {
-    ghost use Rattle.std.specs.Prelude.{◌^◌, ◌&&◌, nat_lt, if◌then◌else◌, slice_index};
-    ghost use Rattle.std.specs.Option.{option_map_or};
-    ghost use Rattle.rv_table.specs.Bytes.{Holds, Barred, InArea};
-    ghost use Rattle.rv_exec_tests.specs.Places.{distance};
+    ghost use Rattle.rv_exec_tests.specs.Places.{in_run};
 
-    ghost byte_at = { λ run address.
-        if nat_lt address (2 ^ 64) && nat_lt (distance run.from address) N
-        then option_map_or InArea run.area (Holds (slice_index run.bytes (distance run.from address)))
-        else Barred };
+    ghost byte_at = { λ run. in_run run.from N run.area run.bytes };
 
     fn is_barred(&self, at: u64) -> bool {
         at.wrapping_sub(self.from) >= N as u64
@@ -65,6 +60,7 @@ impl<const N: usize> Bytes for Run<N> {
 
 impl<const N: usize> Run<N> {
     /// Stores so many of a number's bytes, the lowest first, at an address, where bytes of the run lie there.
+    #[tactic(auto, using(crate::proofs::Stores::stored_run))]
     pub fn put(&mut self, at: u64, width: u8, value: u64)
         requires { IsWidth width }
         ensures { ⟦<Run<N> as Bytes>⟧.byte_at self.new ≡ (λ address. stored_byte nat_eq at width value address (⟦<Run<N> as Bytes>⟧.byte_at self.old address)) }
@@ -114,15 +110,15 @@ impl Right {
 
 /// A run's bytes, as far as there is a right to them.
 #[derive(Clone, Copy)]
-pub struct Reached<'a, const N: usize> {
-    pub run: &'a Run<N>,
+pub struct Reached<const N: usize> {
+    pub run: Run<N>,
     pub right: Right,
 }
 
-impl<'a, const N: usize> Bytes for Reached<'a, N> {
+impl<const N: usize> Bytes for Reached<N> {
     ghost use Rattle.rv_exec_tests.specs.Places.{reached};
 
-    ghost byte_at = { λ bytes. reached bytes.right.is_granted bytes.right.lacking (⟦<Run<N> as Bytes>⟧.byte_at bytes.run.now) };
+    ghost byte_at = { λ bytes. reached bytes.right.is_granted bytes.right.lacking (⟦<Run<N> as Bytes>⟧.byte_at bytes.run) };
 
     fn is_barred(&self, at: u64) -> bool {
         !self.right.allows(at) || self.run.is_barred(at)
@@ -156,6 +152,7 @@ fn put(bytes: &mut [u8], from: u64, at: u64, width: u8, value: u64)
 }
 
 /// What a byte at an address holds after a store at another address.
+#[tactic(auto, using(crate::proofs::Accesses::stored_step, crate::proofs::Accesses::stored_none))]
 fn put_byte(byte: u8, address: u64, at: u64, width: u8, value: u64) -> u8
     ensures { Holds result ≡ stored_byte nat_eq at width value address (Holds byte) }
 {

@@ -59,7 +59,7 @@ impl<const C: usize> Small<C> {
         ensures lean { result ≢ Err MemErr.Memory }
     {
         let bytes = Reached {
-            run: &self.data,
+            run: self.data,
             right: self.readable,
         };
         access(&bytes, at, width)
@@ -72,7 +72,7 @@ impl<const C: usize> Small<C> {
         ensures lean { result ≢ Err MemErr.Memory }
     {
         let bytes = Reached {
-            run: &self.data,
+            run: self.data,
             right: self.writable,
         };
         match access(&bytes, at, width) {
@@ -98,7 +98,7 @@ impl<const C: usize> Mem for Small<C> {
     ghost use Rattle.rv_exec_tests.specs.MemoryAfter.{is_memory_after, memory_after};
     ghost use Rattle.rv_exec_tests.specs.Pages.{instrs_of};
     ghost use Rattle.rv_exec_tests.specs.Places.{itself, reached};
-    ghost use Rattle.rv_exec_tests.specs.laws.Decoded.{decoded};
+    ghost use Rattle.rv_exec_tests.specs.Decoded.{decoded};
 
     ghost State = { Seen };
 
@@ -187,7 +187,6 @@ impl<const C: usize> Mem for Small<C> {
         }
     }
 
-    #[tactic(auto, using(crate::proofs::Stores::apart))]
     fn store_near(&mut self, at: u64, width: u8, value: u64) -> bool {
         if !self.is_near || at % 4096 + u64::from(width) > 4096 {
             return false;

@@ -62,8 +62,8 @@ of_page : (code : ℕ → Byte) (page : ℕ) → are_words code (4096 * page) 10
 of_page code page h = record {
   whole = length_from code (4096 * page) 1024;
   each = λ k below.
-    subst (IsOfWord (loaded code (4096 * page + 4 * k) 4)) (sym (each_from code (4096 * page) 1024 k below))
-    (of_word (loaded code (4096 * page + 4 * k) 4) (word_from code (4096 * page) 1024 k h below));
+      subst (IsOfWord (loaded code (4096 * page + 4 * k) 4)) (sym (each_from code (4096 * page) 1024 k below))
+      (of_word (loaded code (4096 * page + 4 * k) 4) (word_from code (4096 * page) 1024 k h below));
 }
 
 pub decoded : (code : ℕ → Byte) (page : ℕ) (words : List (Option Instr)) → instrs_of code page ≡ Some words → AreOfPage code page words
