@@ -27,7 +27,8 @@ memory_after is_same (Releases at) m = record {
 
 -- it is what the write says
 -- RISC-V Unprivileged ISA 20191213, 2.6, Load and Store Instructions; 8.2, Load-Reserved/Store-Conditional Instructions
-pub is_memory_after : (is_same : (a b : ℕ) → Bool) (m : Memory) (write : Write) → IsAfter is_same write m (memory_after is_same write m)
+pub is_memory_after : (is_same : (a b : ℕ) → Bool) (m : Memory) (write : Write)
+    → IsAfter is_same write m (memory_after is_same write m)
 is_memory_after is_same m (Stores at width value) = record {
   code = λ address below. refl;
   data_ = λ address below. refl;

@@ -34,4 +34,6 @@ are_words code at (suc n) = are_words code at n && is_value (loaded code (at + 4
 -- getpagesize(2): 4,096 bytes
 abbrev pub instrs_of : (code : ℕ → Byte) → (page : ℕ) → Option (List (Option Instr))
 instrs_of code page =
-    if nat_lt page (2 ^ 52) && are_words code (4096 * page) 1024 then Some (instrs_from code (4096 * page) 1024) else None
+    if nat_lt page (2 ^ 52) && are_words code (4096 * page) 1024
+    then Some (instrs_from code (4096 * page) 1024)
+    else None

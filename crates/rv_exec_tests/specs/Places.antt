@@ -11,7 +11,7 @@ use Rattle.rv_table.specs.Bytes.{Byte, Barred, Holds, InArea}
 abbrev pub distance : (from to : ℕ) → ℕ
 distance from to = (to + (2 ^ 64 - from % 2 ^ 64)) % 2 ^ 64
 
--- the byte at an address, where so many lie from another address on, which hold what they hold or all lie in a shared area
+-- the byte at an address, where so many lie from another address on, which hold what they hold or all lie in an area
 -- mmap(2)
 abbrev pub in_run : (from count : ℕ) → (area : Option Area) → (bytes : List ℕ) → (address : ℕ) → Byte
 in_run from count area bytes address =

@@ -81,7 +81,7 @@ fn gone_on(mut regs: Regs) -> Regs {
     regs
 }
 
-/// A memory in which that word stands at an address, with these bytes to be read and written, and without a reservation.
+/// A memory in which that word stands at an address, with these bytes to be read and written, and no reservation.
 fn memory_of(at: u64, word: u32, data: Run<16>) -> Memory {
     Small {
         code: Run {

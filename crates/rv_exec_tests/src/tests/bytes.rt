@@ -63,7 +63,8 @@ impl<const N: usize> Run<N> {
     #[tactic(auto, using(crate::proofs::Stores::stored_run))]
     pub fn put(&mut self, at: u64, width: u8, value: u64)
         requires { IsWidth width }
-        ensures { ⟦<Run<N> as Bytes>⟧.byte_at self.new ≡ (λ address. stored_byte nat_eq at width value address (⟦<Run<N> as Bytes>⟧.byte_at self.old address)) }
+        ensures { ⟦<Run<N> as Bytes>⟧.byte_at self.new ≡
+            (λ address. stored_byte nat_eq at width value address (⟦<Run<N> as Bytes>⟧.byte_at self.old address)) }
     {
         put(&mut self.bytes, self.from, at, width, value);
     }
@@ -118,7 +119,8 @@ pub struct Reached<const N: usize> {
 impl<const N: usize> Bytes for Reached<N> {
     ghost use Rattle.rv_exec_tests.specs.Places.{reached};
 
-    ghost byte_at = { λ bytes. reached bytes.right.is_granted bytes.right.lacking (⟦<Run<N> as Bytes>⟧.byte_at bytes.run) };
+    ghost byte_at = { λ bytes.
+        reached bytes.right.is_granted bytes.right.lacking (⟦<Run<N> as Bytes>⟧.byte_at bytes.run) };
 
     fn is_barred(&self, at: u64) -> bool {
         !self.right.allows(at) || self.run.is_barred(at)
@@ -144,7 +146,8 @@ impl<const N: usize> Bytes for Reached<N> {
 /// Stores so many of a number's bytes, the lowest first, at an address, into the bytes from another address on.
 fn put(bytes: &mut [u8], from: u64, at: u64, width: u8, value: u64)
     requires { IsWidth width }
-    ensures { (k : ℕ) → k < length bytes.old → Holds (slice_index bytes.new k) ≡ stored_byte nat_eq at width value ((from + k) % 2 ^ 64) (Holds (slice_index bytes.old k)) }
+    ensures { (k : ℕ) → k < length bytes.old → Holds (slice_index bytes.new k) ≡
+        stored_byte nat_eq at width value ((from + k) % 2 ^ 64) (Holds (slice_index bytes.old k)) }
 {
     for (place, byte) in bytes.iter_mut().enumerate() {
         *byte = put_byte(*byte, from.wrapping_add(place as u64), at, width, value);

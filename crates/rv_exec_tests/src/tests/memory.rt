@@ -19,8 +19,8 @@ pub struct Reserved {
     pub width: u8,
 }
 
-/// The memory of a task: so many bytes that may be executed, sixteen bytes that may be read and written where it says so,
-/// and the task's reservation. A store changes both where they lie over one another.
+/// The memory of a task: so many bytes that may be executed, sixteen bytes that may be read and written where it says
+/// so, and the task's reservation. A store changes both where they lie over one another.
 #[derive(Clone, Copy, Debug, PartialEq, Eq)]
 pub struct Small<const C: usize> {
     pub code: Run<C>,
@@ -55,7 +55,10 @@ impl<const C: usize> Small<C> {
     /// The number of so many bytes at an address, each of which may be read.
     fn number(&self, at: u64, width: u8) -> Result<u64, MemErr>
         requires { IsWidth width }
-        ensures answer { AnswersAs (loaded (reached self.now.readable.is_granted self.now.readable.lacking (⟦<Run<16> as Bytes>⟧.byte_at self.now.data)) at width) result }
+        ensures answer { AnswersAs (loaded
+            (reached self.now.readable.is_granted self.now.readable.lacking
+            (⟦<Run<16> as Bytes>⟧.byte_at self.now.data))
+            at width) result }
         ensures lean { result ≢ Err MemErr.Memory }
     {
         let bytes = Reached {
@@ -68,7 +71,10 @@ impl<const C: usize> Small<C> {
     /// Whether each of so many bytes at an address may be written.
     fn room(&self, at: u64, width: u8) -> Result<(), MemErr>
         requires { IsWidth width }
-        ensures answer { AllowsAs (loaded (reached self.now.writable.is_granted self.now.writable.lacking (⟦<Run<16> as Bytes>⟧.byte_at self.now.data)) at width) result }
+        ensures answer { AllowsAs (loaded
+            (reached self.now.writable.is_granted self.now.writable.lacking
+            (⟦<Run<16> as Bytes>⟧.byte_at self.now.data))
+            at width) result }
         ensures lean { result ≢ Err MemErr.Memory }
     {
         let bytes = Reached {
@@ -84,7 +90,8 @@ impl<const C: usize> Small<C> {
     /// Stores so many of a number's bytes at an address, where bytes of memory lie there.
     fn put(&mut self, at: u64, width: u8, value: u64)
         requires { IsWidth width }
-        ensures { ⟦<Small<C> as Mem>⟧.told self.new ≡ memory_after nat_eq (Stores at width value) (⟦<Small<C> as Mem>⟧.told self.old) }
+        ensures { ⟦<Small<C> as Mem>⟧.told self.new ≡
+            memory_after nat_eq (Stores at width value) (⟦<Small<C> as Mem>⟧.told self.old) }
     {
         self.code.put(at, width, value);
         self.data.put(at, width, value);
@@ -106,7 +113,8 @@ impl<const C: usize> Mem for Small<C> {
       code = ⟦<Run<C> as Bytes>⟧.byte_at memory.code;
       data_ = reached memory.readable.is_granted memory.readable.lacking (⟦<Run<16> as Bytes>⟧.byte_at memory.data);
       room = reached memory.writable.is_granted memory.writable.lacking (⟦<Run<16> as Bytes>⟧.byte_at memory.data);
-      reserves = λ address width. option_map_or (λ reserved. (reserved.address == address) && (reserved.width == width)) memory.reserved false;
+      reserves = λ address width. option_map_or
+          (λ reserved. (reserved.address == address) && (reserved.width == width)) memory.reserved false;
     } };
 
     ghost seen = { λ state. state };

@@ -27,14 +27,15 @@ pub fn page_of(from: u64, first: usize, words: &[u32]) -> Run<4096> {
 }
 
 /// The decoded words of a page, where each may be executed.
-#[tactic(auto, using(crate::proofs::Words::no_words, crate::proofs::Words::no_instrs, crate::proofs::Words::next_word, crate::proofs::Words::next_instr, crate::proofs::Words::whole_page))]
+#[tactic(auto, using(crate::proofs::Words::no_words, crate::proofs::Words::no_instrs, crate::proofs::Words::next_word, crate::proofs::Words::next_instr, crate::proofs::Words::whole_page,))]
 pub fn row_of<const N: usize>(
     alloc: Global,
     code: &Run<N>,
     page: u64,
 ) -> Result<Option<Vec<Option<Instr>>>, AllocFailed<Option<Instr>>>
     requires { page < 2 ^ 52 }
-    ensures { IfOk result (λ row. IfSome row (λ row. instrs_of (⟦<Run<N> as Bytes>⟧.byte_at code.now) page ≡ Some row.items)) }
+    ensures { IfOk result (λ row.
+        IfSome row (λ row. instrs_of (⟦<Run<N> as Bytes>⟧.byte_at code.now) page ≡ Some row.items)) }
 {
     let mut row = Vec::new(alloc);
     for place in 0..1024 {

@@ -1,8 +1,8 @@
 //! Instructions that compute a value of two registers, those on words, and fences.
 use super::*;
 
-/// An instruction's word; the first register that it reads and what that holds, and the second; the one that it writes and
-/// what that holds then.
+/// An instruction's word; the first register that it reads and what that holds, and the second; the one that it writes
+/// and what that holds then.
 type OfTwo = (u32, usize, u64, usize, u64, usize, u64);
 
 #[rattlefmt::skip]

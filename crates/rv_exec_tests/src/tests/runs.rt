@@ -1,5 +1,5 @@
-//! Runs of a page's decoded words: how many instructions each does, where it ends, and what it leaves. Where a run did so
-//! many instructions, as many steps leave the same.
+//! Runs of a page's decoded words: how many instructions each does, where it ends, and what it leaves. As many steps
+//! as a run did instructions leave the same.
 use super::*;
 use pages::{Paged, page_of, row_of};
 use rv_exec::{Flow, RowRun, run_row};
@@ -337,7 +337,8 @@ fn a_word_that_a_step_stores_into_the_page_is_run_next(rt: HostRuntime) -> Resul
     let addi_x5_x0_77 = 0x04d0_0293;
     let mut task = task_of(&[NOP, sw_x7_0_x6, NOP, ECALL]);
     task.memory.data.from = PC + 8;
-    task.memory.data.bytes = [0x13, 0, 0, 0, 0x73, 0, 0, 0, 0, 0, 0, 0, 0, 0, 0, 0];
+    task.memory.data.bytes[0] = 0x13;
+    task.memory.data.bytes[4] = 0x73;
     task.regs.x[6] = PC + 8;
     task.regs.x[7] = addi_x5_x0_77;
     let mut task = ran(&rt, rt.alloc(), &task, 1000, 1, Flow::Refused)?;
