@@ -1,4 +1,3 @@
-mod Accesses
 pub mod Courses
 mod Exactly
 mod InRows

@@ -16,8 +16,8 @@ use Rattle.rv_exec.specs.Writes.{Write, Stores, Reserves, Releases, all_after}
 use Rattle.rv_exec.specs.declared.outcome.Step.{Step}
 use Rattle.rv_exec.specs.declared.outcome.Step.TheVariants as steps
 
--- what an instruction comes to: the task goes on with these registers once so much is written, calls the system, traps with
--- a signal, or touches a shared area that is not handed in
+-- what an instruction comes to: the task goes on with these registers once so much is written, calls the system, traps
+-- with a signal, or touches a shared area that is not handed in
 -- RISC-V Unprivileged ISA 20191213, 1.6, Exceptions, Traps, and Interrupts; signal(7)
 pub data Done : Type 0 where
   Goes : Regs → List Write → Done
@@ -76,31 +76,36 @@ aligned address width done = if nat_eq (address % width) 0 then done else Traps 
 -- a store of so many of a number's bytes; plain stores need no alignment
 -- RISC-V Unprivileged ISA 20191213, 2.6 and 5.3, Load and Store Instructions
 abbrev pub stores : Memory → Regs → (address width value : ℕ) → Done
-stores m r address width value = allowed (loaded m.room address width) (Goes (gone_on r) (Stores address width value ∷ []))
+stores m r address width value =
+    allowed (loaded m.room address width) (Goes (gone_on r) (Stores address width value ∷ []))
 
 -- a load that leaves a reservation
 -- RISC-V Unprivileged ISA 20191213, 8.2, LR
 abbrev pub reserving : Regs → (rd address width : ℕ) → (ℕ → ℕ) → Accessed → Done
-reserving r rd address width extend (Value value) = Goes (gone_on (with_reg r rd (extend value))) (Reserves address width ∷ [])
+reserving r rd address width extend (Value value) =
+    Goes (gone_on (with_reg r rd (extend value))) (Reserves address width ∷ [])
 reserving r rd address width extend (Fault bad) = Traps 11
 reserving r rd address width extend (Shared area) = Touches area
 
 abbrev pub load_reserved : Memory → Regs → (rd address width : ℕ) → (ℕ → ℕ) → Done
-load_reserved m r rd address width extend = aligned address width (reserving r rd address width extend (loaded m.data_ address width))
+load_reserved m r rd address width extend =
+    aligned address width (reserving r rd address width extend (loaded m.data_ address width))
 
--- a store where the task has the reservation of just that address and width, and a register that tells of it: 0 where it
--- stored, else 1. It ends the reservation in either case
+-- a store where the task has the reservation of just that address and width, and a register that tells of it: 0 where
+-- it stored, else 1. It ends the reservation in either case
 -- RISC-V Unprivileged ISA 20191213, 8.2, SC; that it needs the right to store where it fails too: profile
 abbrev pub conditional : Regs → (rd address width value : ℕ) → Bool → Done
-conditional r rd address width value true = Goes (gone_on (with_reg r rd 0)) (Releases address ∷ Stores address width value ∷ [])
+conditional r rd address width value true =
+    Goes (gone_on (with_reg r rd 0)) (Releases address ∷ Stores address width value ∷ [])
 conditional r rd address width value false = Goes (gone_on (with_reg r rd 1)) (Releases address ∷ [])
 
 abbrev pub store_conditional : Memory → Regs → (rd address width value : ℕ) → Done
 store_conditional m r rd address width value =
-    aligned address width (allowed (loaded m.room address width) (conditional r rd address width value (m.reserves address width)))
+    aligned address width
+    (allowed (loaded m.room address width) (conditional r rd address width value (m.reserves address width)))
 
--- an access to bytes that needs both the right to read and the right to write: a byte that lacks one of them goes before one in a
--- shared area
+-- an access to bytes that needs both the right to read and the right to write: a byte that lacks one of them goes before
+-- one in a shared area
 -- signal(7), SIGSEGV 11; that it goes first: profile
 abbrev pub both : (data_ room : Accessed) → Accessed
 both (Fault bad) room = Fault bad
@@ -114,13 +119,15 @@ both (Shared area) (Shared other) = Shared other
 -- an atomic memory operation: a register gets what memory held, and memory what the operation makes of it
 -- RISC-V Unprivileged ISA 20191213, 8.4, Atomic Memory Operations
 abbrev pub operating : Regs → Instr → (rd address width b : ℕ) → (ℕ → ℕ) → Accessed → Done
-operating r i rd address width b extend (Value old) = Goes (gone_on (with_reg r rd (extend old))) (Stores address width (stored_by i (extend old) b) ∷ [])
+operating r i rd address width b extend (Value old) =
+    Goes (gone_on (with_reg r rd (extend old))) (Stores address width (stored_by i (extend old) b) ∷ [])
 operating r i rd address width b extend (Fault bad) = Traps 11
 operating r i rd address width b extend (Shared area) = Touches area
 
 abbrev pub operates : Memory → Regs → Instr → (rd address width b : ℕ) → (ℕ → ℕ) → Done
 operates m r i rd address width b extend =
-    aligned address width (operating r i rd address width b extend (both (loaded m.data_ address width) (loaded m.room address width)))
+    aligned address width
+    (operating r i rd address width b extend (both (loaded m.data_ address width) (loaded m.room address width)))
 
 -- what an instruction does; fences do nothing, since a task's own accesses are in order
 -- RISC-V Unprivileged ISA 20191213, 2.4 to 2.8, 3.1, 5.2 to 5.3, 7.1 to 7.2, 8.2 and 8.4; signal(7), SIGTRAP 5
@@ -235,7 +242,8 @@ exec m r = by_word m r (loaded m.code r.pc 4)
 -- a step did as the instruction does, to registers and to what is told of memory; what traps, calls or touches an area
 -- changes nothing, nor does want of memory
 -- RISC-V Unprivileged ISA 20191213, 1.6
-abbrev pub StepsAs : {State : Type 0} → (Write → State → State) → Done → (before after : Regs) → (old new : State) → Step → Type 0
+abbrev pub StepsAs : {State : Type 0} → (Write → State → State) → Done → (before after : Regs) → (old new : State)
+    → Step → Type 0
 StepsAs write (Goes r ws) before after old new steps.Next = (after ≡ r) × (new ≡ all_after write ws old)
 StepsAs write Calls before after old new steps.Call = (after ≡ before) × (new ≡ old)
 StepsAs write (Traps signal) before after old new (steps.Trap told) = (told ≡ signal) × (after ≡ before) × (new ≡ old)

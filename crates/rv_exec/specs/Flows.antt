@@ -47,14 +47,17 @@ MovesAs Calls before after flows.Call = after ≡ before
 MovesAs (Traps signal) before after (flows.Trap told) = (told ≡ signal) × (after ≡ before)
 MovesAs done before after _ = ⊥
 
--- a flow is as the instruction does, to registers and to what is told of memory; what traps, calls or is refused changes nothing, and
--- is refused, where it is exact, for that cause
+-- a flow is as the instruction does, to registers and to what is told of memory; what traps, calls or is refused
+-- changes nothing, and is refused, where it is exact, for that cause
 -- RISC-V Unprivileged ISA 20191213, 1.6
-abbrev pub FlowsAs : {State : Type 0} → (Write → State → State) → (is_exact : Bool) → (why : Step) → Done → (before after : Regs) → (old new : State) → Flow → Type 0
+abbrev pub FlowsAs : {State : Type 0} → (Write → State → State) → (is_exact : Bool) → (why : Step) → Done
+    → (before after : Regs) → (old new : State) → Flow → Type 0
 FlowsAs write is_exact why (Goes r ws) before after old new flows.Next = (after ≡ r) × (new ≡ all_after write ws old)
 FlowsAs write is_exact why Calls before after old new flows.Call = (after ≡ before) × (new ≡ old)
-FlowsAs write is_exact why (Traps signal) before after old new (flows.Trap told) = (told ≡ signal) × (after ≡ before) × (new ≡ old)
-FlowsAs write is_exact why done before after old new flows.Refused = (after ≡ before) × (new ≡ old) × (is_exact ≡ true → IsCause done why)
+FlowsAs write is_exact why (Traps signal) before after old new (flows.Trap told) =
+    (told ≡ signal) × (after ≡ before) × (new ≡ old)
+FlowsAs write is_exact why done before after old new flows.Refused =
+    (after ≡ before) × (new ≡ old) × (is_exact ≡ true → IsCause done why)
 FlowsAs write is_exact why done before after old new _ = ⊥
 
 -- what a flow of exact accesses comes to, by why the last refused one was

@@ -58,11 +58,13 @@ pub(crate) trait Access {
     fn store<M: Mem>(&mut self, mem: &mut M, at: u64, width: u8, value: u64) -> bool
         requires { IsWidth width }
         ensures room { LetsAs is_exact (why self.new) (loaded (M.seen (M.told mem.old)).room at width) result }
-        ensures ready { is_exact ≡ true → M.is_ready mem.old at width ≡ true → OnFalse result (why self.new ≢ Step.Memory) }
+        ensures ready { is_exact ≡ true → M.is_ready mem.old at width ≡ true →
+            OnFalse result (why self.new ≢ Step.Memory) }
         ensures lean { M.takes_memory ≡ false → why self.old ≢ Step.Memory → why self.new ≢ Step.Memory }
         ensures ok { OnTrue result (M.told mem.new ≡ M.after (Stores at width value) (M.told mem.old)) }
         ensures unchanged { OnFalse result (M.told mem.new ≡ M.told mem.old) }
-        ensures row { is_exact ≡ false → M.instrs (M.told mem.new) (page self.old) ≡ M.instrs (M.told mem.old) (page self.old) }
+        ensures row { is_exact ≡ false →
+            M.instrs (M.told mem.new) (page self.old) ≡ M.instrs (M.told mem.old) (page self.old) }
         ensures page { page self.new ≡ page self.old };
 
     /// Puts the task's reservation of an address and so many bytes in the place of the one that it had.
@@ -90,8 +92,8 @@ impl Exact {
         self.why = refused(refusal);
     }
 
-    /// Keeps why an access that reads and writes was refused, of which a byte to be read lies in a shared area: a byte that
-    /// may not be written goes first.
+    /// Keeps why an access that reads and writes was refused, of which a byte to be read lies in a shared area: a byte
+    /// that may not be written goes first.
     fn refuse_shared<M: Mem>(&mut self, mem: &mut M, at: u64, width: u8, area: Area)
         requires { IsWidth width }
         ensures cause { RefusesAs (both (Shared area) (loaded (M.seen (M.told mem.old)).room at width)) self.new.why }

@@ -111,8 +111,8 @@ fn store_if_reserved<M: Mem, A: Access>(
     }
 }
 
-/// Puts what memory holds at an address into a register, and what the instruction makes of it and of another number into
-/// its place.
+/// Puts what memory holds at an address into a register, and what the instruction makes of it and of another number
+/// into its place.
 pub(crate) fn operate<M: Mem, A: Access>(
     regs: &mut Regs,
     mem: &mut M,
@@ -124,7 +124,8 @@ pub(crate) fn operate<M: Mem, A: Access>(
     rs2: Reg,
 ) -> Flow
     ensures done { FlowsAs M.after A.is_exact (A.why access.new)
-        (operates (M.seen (M.told mem.old)) regs.old instr.now rd (reg regs.old rs1) (width_of kind) (reg regs.old rs2) (extend_of kind))
+        (operates (M.seen (M.told mem.old)) regs.old instr.now rd (reg regs.old rs1) (width_of kind) (reg regs.old rs2)
+        (extend_of kind))
         regs.old regs.new (M.told mem.old) (M.told mem.new) result }
     ensures lean { M.takes_memory ≡ false → A.why access.old ≢ Step.Memory → A.why access.new ≢ Step.Memory }
     ensures row { A.is_exact ≡ false →

@@ -14,7 +14,8 @@ use rv_table::{Instr, Regs, decode};
 /// Does the next instruction of a task. It takes no memory but what its memory's own calls take.
 #[tactic(auto, unfolding(crate::specs::Execution::exec))]
 pub fn step<M: Mem>(regs: &mut Regs, mem: &mut M) -> Step
-    ensures done { StepsAs M.after (exec (M.seen (M.told mem.old)) regs.old) regs.old regs.new (M.told mem.old) (M.told mem.new) result }
+    ensures done { StepsAs M.after (exec (M.seen (M.told mem.old)) regs.old)
+        regs.old regs.new (M.told mem.old) (M.told mem.new) result }
     ensures lean { M.takes_memory ≡ false → result ≢ Step.Memory }
 {
     match mem.fetch(regs.pc) {
@@ -25,7 +26,8 @@ pub fn step<M: Mem>(regs: &mut Regs, mem: &mut M) -> Step
 
 /// Does the instruction of a word, if it has one.
 fn run_word<M: Mem>(regs: &mut Regs, mem: &mut M, word: u32) -> Step
-    ensures done { StepsAs M.after (by_rows (M.seen (M.told mem.old)) regs.old (rows_of word)) regs.old regs.new (M.told mem.old) (M.told mem.new) result }
+    ensures done { StepsAs M.after (by_rows (M.seen (M.told mem.old)) regs.old (rows_of word))
+        regs.old regs.new (M.told mem.old) (M.told mem.new) result }
     ensures lean { M.takes_memory ≡ false → result ≢ Step.Memory }
 {
     match decode(word) {
@@ -37,7 +39,8 @@ fn run_word<M: Mem>(regs: &mut Regs, mem: &mut M, word: u32) -> Step
 /// Does an instruction by exact accesses.
 #[tactic(auto, using(crate::proofs::Exactly::step_done, crate::proofs::Exactly::step_lean))]
 fn run_exactly<M: Mem>(regs: &mut Regs, mem: &mut M, instr: &Instr) -> Step
-    ensures done { StepsAs M.after (done_by (M.seen (M.told mem.old)) regs.old instr.now) regs.old regs.new (M.told mem.old) (M.told mem.new) result }
+    ensures done { StepsAs M.after (done_by (M.seen (M.told mem.old)) regs.old instr.now)
+        regs.old regs.new (M.told mem.old) (M.told mem.new) result }
     ensures lean { M.takes_memory ≡ false → result ≢ Step.Memory }
 {
     let mut exact = Exact { why: Step::Next };

@@ -57,8 +57,8 @@ pub trait Mem {
         ensures lean { takes_memory ≡ false → result ≢ Err MemErr.Memory }
         ensures same { told self.new ≡ told self.old };
 
-    /// Stores so many of a number's bytes, the lowest first, at an address, each of which may be written, and ends other
-    /// tasks' reservations of the granules that it meets. It needs no alignment. A refusal changes nothing.
+    /// Stores so many of a number's bytes, the lowest first, at an address, each of which may be written, and ends
+    /// other tasks' reservations of the granules that it meets. It needs no alignment. A refusal changes nothing.
     fn store(&mut self, at: u64, width: u8, value: u64) -> Result<(), MemErr>
         requires { IsWidth width }
         ensures room { AllowsAs (loaded (seen (told self.old)).room at width) result }
@@ -67,8 +67,8 @@ pub trait Mem {
         ensures ok { OnOk result (told self.new ≡ after (Stores at width value) (told self.old)) }
         ensures err { OnErr result (told self.new ≡ told self.old) };
 
-    /// Puts the task's reservation of an address and so many bytes in the place of the one that it had. A refusal changes
-    /// nothing.
+    /// Puts the task's reservation of an address and so many bytes in the place of the one that it had. A refusal
+    /// changes nothing.
     fn reserve(&mut self, at: u64, width: u8) -> Result<(), Memory>
         requires { IsWidth width }
         ensures lean { takes_memory ≡ false → IsOk result }
@@ -88,17 +88,19 @@ pub trait Mem {
         ensures number { IfSome result (λ n. loaded (seen (told self.old)).data_ at width ≡ Value n) }
         ensures same { told self.new ≡ told self.old };
 
-    /// Stores as `store` does, where that is granted, takes no memory, and is at hand, in the page of the address alone; and
-    /// answers whether it has. It may do nothing at any address.
+    /// Stores as `store` does, where that is granted, takes no memory, and is at hand, in the page of the address alone;
+    /// and answers whether it has. It may do nothing at any address.
     fn store_near(&mut self, at: u64, width: u8, value: u64) -> bool
         requires { IsWidth width }
         ensures room { OnTrue result (AllowsAs (loaded (seen (told self.old)).room at width) (Ok tt)) }
         ensures ok { OnTrue result (told self.new ≡ after (Stores at width value) (told self.old)) }
-        ensures rows { OnTrue result ((page : ℕ) → (page ≡ at / 4096 → ⊥) → instrs (told self.new) page ≡ instrs (told self.old) page) }
+        ensures rows { OnTrue result ((page : ℕ) → (page ≡ at / 4096 → ⊥) →
+            instrs (told self.new) page ≡ instrs (told self.old) page) }
         ensures unchanged { OnFalse result (told self.new ≡ told self.old) };
 
     /// After a write, memory is what the write says.
-    ghost written: { (state : State) → (write : Write) → IsAfter (is_same state) write (seen state) (seen (after write state)) };
+    ghost written: { (state : State) → (write : Write) →
+        IsAfter (is_same state) write (seen state) (seen (after write state)) };
 
     /// An address is of its own byte.
     ghost itself: { (state : State) → (address : ℕ) → address < 2 ^ 64 → is_same state address address ≡ true };

@@ -62,7 +62,9 @@ pub(crate) fn jump_to_register(regs: &mut Regs, rd: Reg, rs1: Reg, offset: u64) 
 /// Jumps so far where a branch is taken, with no address in a register, and else goes on.
 #[inline(always)]
 pub(crate) fn branch(regs: &mut Regs, instr: &Instr, rs1: Reg, rs2: Reg, offset: u64) -> Flow
-    ensures done { MovesAs (branched regs.old (is_taken instr.now (reg regs.old rs1) (reg regs.old rs2)) (sum regs.old.pc offset)) regs.old regs.new result }
+    ensures done { MovesAs
+        (branched regs.old (is_taken instr.now (reg regs.old rs1) (reg regs.old rs2)) (sum regs.old.pc offset))
+        regs.old regs.new result }
     ensures aligned { regs.old.pc % 4 ≡ 0 → regs.new.pc % 4 ≡ 0 }
 {
     if is_taken(instr, regs.read(rs1), regs.read(rs2)) {
@@ -87,7 +89,8 @@ pub(crate) fn compute(regs: &mut Regs, instr: &Instr, rd: Reg, rs1: Reg) -> Flow
 #[inline(always)]
 pub(crate) fn combine(regs: &mut Regs, instr: &Instr, rd: Reg, rs1: Reg, rs2: Reg) -> Flow
     ensures next { result ≡ Flow.Next }
-    ensures regs { regs.new ≡ gone_on (with_reg regs.old rd (value_of instr.now (reg regs.old rs1) (reg regs.old rs2))) }
+    ensures regs { regs.new ≡
+        gone_on (with_reg regs.old rd (value_of instr.now (reg regs.old rs1) (reg regs.old rs2))) }
     ensures aligned { regs.old.pc % 4 ≡ 0 → regs.new.pc % 4 ≡ 0 }
 {
     let value = alu(instr, regs.read(rs1), regs.read(rs2));

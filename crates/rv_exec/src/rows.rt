@@ -18,12 +18,13 @@ pub struct RowRun {
     pub flow: Flow,
 }
 
-/// Does instructions of the page that a task stands in, at most so many, by the page's decoded words, as `step` does each.
-/// It ends where the task leaves the page (`Next`), where the next instruction calls the system or traps, and where it
-/// reaches for memory that isn't at hand, or stores into its own page (`Refused`): then `step` is asked.
+/// Does instructions of the page that a task stands in, at most so many, by the page's decoded words, as `step` does
+/// each. It ends where the task leaves the page (`Next`), where the next instruction calls the system or traps, and
+/// where it reaches for memory that isn't at hand, or stores into its own page (`Refused`): then `step` is asked.
 pub fn run_row<M: Mem>(regs: &mut Regs, mem: &mut M, row: &[Option<Instr>], most: u32) -> RowRun
     requires { M.instrs (M.told mem.old) (regs.old.pc / 4096) ≡ Some row.now }
-    ensures ran { ran M.seen M.after result.count (going (M.told mem.old) regs.old) ≡ Some (going (M.told mem.new) regs.new) }
+    ensures ran { ran M.seen M.after result.count (going (M.told mem.old) regs.old) ≡
+        Some (going (M.told mem.new) regs.new) }
     ensures few { result.count ≤ most }
     ensures ended { EndsBy (exec (M.seen (M.told mem.new)) regs.new) result.count most result.flow }
     ensures row { M.instrs (M.told mem.new) (regs.old.pc / 4096) ≡ Some row.now }

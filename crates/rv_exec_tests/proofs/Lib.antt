@@ -1,0 +1,4 @@
+mod Accesses
+mod OtherPages
+mod Stores
+mod Words

@@ -1,0 +1,4 @@
+pub mod Decoded
+pub mod MemoryAfter
+pub mod Pages
+pub mod Places

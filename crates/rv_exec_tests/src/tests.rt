@@ -1,0 +1,146 @@
+//! Single steps of a task: what its registers and its memory are before and after, and what the step comes to. An
+//! assembler made the words, and an emulator of the RISC-V ran them; what lies round the end of the addresses, what
+//! traps and with which signal, and which of two traps goes first, goes by the manual and by this project's choices.
+
+use bytes::{Right, Run};
+use memory::{Memory, Reserved, Small};
+use operations::OPERATIONS;
+use rv_exec::{Step, step};
+use rv_table::{Area, Regs};
+use std::process::Abort;
+
+mod branches;
+mod bytes;
+mod edges;
+mod jumps;
+mod loads;
+mod memory;
+mod operations;
+mod order;
+mod pages;
+mod refusals;
+mod registers;
+mod reservations;
+mod runs;
+mod stores;
+mod traps;
+mod values;
+mod wanting;
+
+/// Where a task stands in these tests, unless they say otherwise.
+const PC: u64 = 0x4_0000;
+
+/// Where its sixteen bytes lie that can be read and written.
+const DATA: u64 = 0x2_0000;
+
+/// Sixteen bytes of zero.
+const ZEROS: Run<16> = Run {
+    from: DATA,
+    bytes: [0; 16],
+    area: None,
+};
+
+/// A shared area.
+const AREA: Area = Area { place: 7, index: 1 };
+
+/// Sixteen bytes of a shared area.
+const SHARED: Run<16> = Run {
+    from: DATA,
+    bytes: [1; 16],
+    area: Some(AREA),
+};
+
+/// A reservation of the first word of those bytes.
+const HELD: Option<Reserved> = Some(Reserved {
+    address: DATA,
+    width: 4,
+});
+
+/// The registers of a task: each but x0 holds a number of its own.
+fn regs_at(pc: u64) -> Regs {
+    let mut regs = Regs { pc, x: [0; 32] };
+    let mut number = 0_u64;
+    for place in 0..32 {
+        regs.x[place] = number;
+        number = number.wrapping_add(0x0101_0101_0101_0101);
+    }
+    regs
+}
+
+/// The registers of a task with these numbers in x6 and x7.
+fn regs_with(a: u64, b: u64) -> Regs {
+    let mut regs = regs_at(PC);
+    regs.x[6] = a;
+    regs.x[7] = b;
+    regs
+}
+
+/// Registers at the next instruction.
+fn gone_on(mut regs: Regs) -> Regs {
+    regs.pc = PC + 4;
+    regs
+}
+
+/// A memory in which that word stands at an address, with these bytes to be read and written, and no reservation.
+fn memory_of(at: u64, word: u32, data: Run<16>) -> Memory {
+    Small {
+        code: Run {
+            from: at,
+            bytes: word.to_le_bytes(),
+            area: None,
+        },
+        data,
+        readable: Right::EACH,
+        writable: Right::EACH,
+        reserved: None,
+        accesses: 4,
+        ready: false,
+        is_near: true,
+    }
+}
+
+/// That a step comes to what it should, and leaves the registers and the memory that it should.
+fn expect_written(
+    rt: &impl Abort,
+    before: Regs,
+    memory: Memory,
+    step_wanted: Step,
+    after: Regs,
+    written: Memory,
+) {
+    let mut regs = before;
+    let mut left = memory;
+    let word = u32::from_le_bytes(memory.code.bytes);
+    assert_eq!(rt; step(&mut regs, &mut left), step_wanted, "{word:08x}");
+    assert_eq!(rt; regs, after, "{word:08x}");
+    left.accesses = written.accesses;
+    left.ready = written.ready;
+    assert_eq!(rt; left, written, "{word:08x}");
+}
+
+/// That a step comes to what it should, leaves the registers that it should, and changes nothing in memory.
+fn expect(rt: &impl Abort, before: Regs, memory: Memory, step_wanted: Step, after: Regs) {
+    expect_written(rt, before, memory, step_wanted, after, memory);
+}
+
+/// That a step changes nothing, and comes to what it should.
+fn expect_unmoved(rt: &impl Abort, regs: Regs, memory: Memory, step_wanted: Step) {
+    expect(rt, regs, memory, step_wanted, regs);
+}
+
+/// An instruction's word; the register that it reads and what that holds; the one that it writes and what that holds
+/// then.
+type Row = (u32, usize, u64, usize, u64);
+
+/// That the instructions of rows write that one register, and move on to the next instruction.
+fn expect_values(rt: &impl Abort, data: Run<16>, rows: &[Row]) {
+    for &(word, rs1, before, rd, value) in rows {
+        assert!(rt; rs1 < 32 && rd < 32);
+        let mut regs = regs_at(PC);
+        regs.x[rs1] = before;
+        let mut after = regs;
+        after.x[rd] = value;
+        after.pc = PC + 4;
+        expect(rt, regs, memory_of(PC, word, data), Step::Next, after);
+    }
+}
