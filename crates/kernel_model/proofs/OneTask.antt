@@ -11,7 +11,7 @@ use Rattle.mount_file.specs.declared.mounts.Program.{Program}
 use Rattle.kernel_model.specs.declared.opening.Opening.{Opening}
 use Rattle.kernel_model.specs.declared.opening.Given.{Given}
 use Rattle.kernel_model.specs.Parts.{run}
-use Rattle.kernel_model.specs.Image.{count_up}
+use Rattle.kernel_model.specs.Numbers.{count_up}
 use Rattle.kernel_model.specs.FileTree.{Nodes, plain, plain_node, root_node, child_node, numbered_in}
 use Rattle.kernel_model.specs.Opening.{opening_of, is_of, same_list, same_mount, same_place, same_folder, same_flag, begins, tasks_begun, task_begun, bare, execve_of, Opens, Misfits}
 use Rattle.kernel_model.proofs.OneRoot.{one, same_bytes}

@@ -1,5 +1,5 @@
 -- Openings done in place: what an execve and an opening leave, by what they answer.
-use Rattle.std.specs.Prelude.{◌≡◌, ⊤, List, Result, Ok, Err}
+use Rattle.std.specs.Prelude.{◌≡◌, ⊤, false, List, Result, Ok, Err}
 use Rattle.sn_errno.specs.declared.errno.Errno.{Errno}
 use Rattle.elf_image.specs.declared.image.Image.{Image as Elf}
 use Rattle.kernel_model.specs.declared.kernel.Kernel.{Kernel}
@@ -8,7 +8,9 @@ use Rattle.kernel_model.specs.declared.walking.Execved.TheVariants as answers
 use Rattle.kernel_model.specs.declared.plain.OpeningErr.{OpeningErr}
 use Rattle.kernel_model.specs.declared.plain.OpeningErr.TheVariants.{Image, Misfit, Memory}
 use Rattle.kernel_model.specs.Parts.{Change, changed}
-use Rattle.kernel_model.specs.Opening.{Executed, Starts, Fails, Unfit, Begun, Refuses, Misfits}
+use Rattle.mount_file.specs.declared.mounts.Program.{Program}
+use Rattle.kernel_model.specs.Arguments.{is_too_long}
+use Rattle.kernel_model.specs.Opening.{HasRoom, Executed, Starts, Fails, Unfit, Begun, Refuses, Misfits}
 
 -- an execve in place answers what it does, and does its changes
 -- execve(2)
@@ -23,6 +25,20 @@ abbrev pub IsByImage : Result Elf Errno → Execved → Type 0
 IsByImage image (answers.Starts elf) = image ≡ Ok elf
 IsByImage image (answers.Fails errno) = image ≡ Err errno
 IsByImage image answers.Unfit = ⊥
+
+-- an image that an execve starts has no more pages than may be mapped
+-- execve(2), ENOMEM
+abbrev pub IsRoomy : Execved → Type 0
+IsRoomy (answers.Starts image) = HasRoom image
+IsRoomy (answers.Fails errno) = ⊤
+IsRoomy answers.Unfit = ⊤
+
+-- and the strings of its program are neither too many nor too long
+-- execve(2), E2BIG
+abbrev pub MayStart : Program → Execved → Type 0
+MayStart program (answers.Starts image) = (is_too_long program.args program.env ≡ false) × HasRoom image
+MayStart program (answers.Fails errno) = ⊤
+MayStart program answers.Unfit = ⊤
 
 -- an opening is refused so: an execve failed, its record fits no task, or want of memory
 -- execve(2), ERRORS; profile

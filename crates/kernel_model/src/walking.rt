@@ -5,9 +5,9 @@ ghost use Rattle.std.specs.FinMap as map;
 ghost use Rattle.std.specs.List.{list_any};
 ghost use Rattle.kernel_model.specs.FileTree.{owner_executes};
 ghost use Rattle.kernel_model.specs.Faulted.{has_any};
-ghost use Rattle.kernel_model.specs.Opening.{image_in, executed, numbered_image, walk_of, draws_just, above_last, by_walk, name_in_path, execve_of};
+ghost use Rattle.kernel_model.specs.Opening.{HasRoom, image_in, executed, numbered_image, walk_of, draws_just, above_last, by_walk, name_in_path, execve_of};
 ghost use Rattle.kernel_model.specs.Parts.{parts, run as outcome};
-ghost use Rattle.kernel_model.specs.Beginnings.{Executes};
+ghost use Rattle.kernel_model.specs.Beginnings.{Executes, IsRoomy, MayStart};
 
 use crate::numbering::LAST_NUMBER;
 use crate::{Fresh, Given, Kernel, is_too_long, read_executable};
@@ -30,6 +30,7 @@ const ROOT: u64 = 1;
 struct Walk {
     draws: bool,
     image: Result<Image, Errno>,
+    ghost pages: { IfOk image HasRoom },
 }
 
 impl Walk {
@@ -52,10 +53,12 @@ pub enum Execved {
 }
 
 impl Execved {
-    ghost use Rattle.kernel_model.specs.Beginnings.{IsByImage};
+    ghost use Rattle.kernel_model.specs.Beginnings.{IsByImage, IsRoomy};
 
     fn by_image(image: Result<Image, Errno>) -> Execved
-        ensures { IsByImage image result }
+        requires { IfOk image HasRoom }
+        ensures image { IsByImage image result }
+        ensures pages { IsRoomy result }
     {
         match image {
             Ok(image) => Execved::Starts(image),
@@ -66,7 +69,8 @@ impl Execved {
 
 /// The image of a file's bytes, as execve takes it.
 fn image_in(alloc: Global, bytes: &[u8]) -> Result<Result<Image, Errno>, Memory>
-    ensures { IfOk result (λ image. image ≡ image_in bytes.now) }
+    ensures image { IfOk result (λ image. image ≡ image_in bytes.now) }
+    ensures pages { IfOk result (λ image. IfOk image HasRoom) }
 {
     if LONGEST_IMAGE < bytes.len() {
         return Ok(Err(Errno::ENOEXEC));
@@ -82,7 +86,8 @@ fn owner_executes(tree: &Tree) -> bool
 
 /// The image of a node, or the error with which execve refuses it.
 fn executed(alloc: Global, tree: &Tree) -> Result<Result<Image, Errno>, Memory>
-    ensures { IfOk result (λ image. image ≡ executed tree.now) }
+    ensures image { IfOk result (λ image. image ≡ executed tree.now) }
+    ensures pages { IfOk result (λ image. IfOk image HasRoom) }
 {
     if !owner_executes(tree) {
         return Ok(Err(Errno::EACCES));
@@ -124,7 +129,8 @@ fn any_above_last(fresh: &[Fresh]) -> bool
 impl Kernel {
     /// The image of the node of a number, or the error with which execve refuses it.
     fn numbered_image(&self, alloc: Global, ino: u64) -> Result<Result<Image, Errno>, Memory>
-        ensures { IfOk result (λ image. image ≡ numbered_image (map.get self.now.nodes ino)) }
+        ensures image { IfOk result (λ image. image ≡ numbered_image (map.get self.now.nodes ino)) }
+        ensures pages { IfOk result (λ image. IfOk image HasRoom) }
     {
         match self.nodes.get(ino) {
             Some(node) => executed(alloc, &node.tree),
@@ -166,7 +172,9 @@ impl Kernel {
         program: &Program,
         given: &Given,
     ) -> Result<Execved, Memory>
-        ensures { IfOk result (Executes (outcome (parts self.old) (execve_of program.now given.now)) self.old self.new) }
+        ensures does { IfOk result
+            (Executes (outcome (parts self.old) (execve_of program.now given.now)) self.old self.new) }
+        ensures may { IfOk result (MayStart program.now) }
     {
         let name = name_in_path(&program.path);
         if is_too_long(program) {
@@ -184,7 +192,9 @@ impl Kernel {
         given: &Given,
         walk: Walk,
     ) -> Result<Execved, Memory>
-        ensures { IfOk result (Executes (outcome (parts self.old) (by_walk name.now given.now (record { draws = walk.draws; image = walk.image }))) self.old self.new) }
+        ensures does { IfOk result (Executes (outcome (parts self.old)
+            (by_walk name.now given.now (record { draws = walk.draws; image = walk.image }))) self.old self.new) }
+        ensures pages { IfOk result IsRoomy }
     {
         if given.rises.is_empty() {
             return self.execve_unfailed(alloc, name, given, walk);
@@ -207,7 +217,9 @@ impl Kernel {
         walk: Walk,
     ) -> Result<Execved, Memory>
         requires { has_any given.now.rises ≡ false }
-        ensures { IfOk result (Executes (outcome (parts self.old) (by_walk name.now given.now (record { draws = walk.draws; image = walk.image }))) self.old self.new) }
+        ensures does { IfOk result (Executes (outcome (parts self.old)
+            (by_walk name.now given.now (record { draws = walk.draws; image = walk.image }))) self.old self.new) }
+        ensures pages { IfOk result IsRoomy }
     {
         let Walk { draws, image } = walk;
         let fresh = given.fresh.as_slice();
