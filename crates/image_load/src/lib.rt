@@ -20,6 +20,7 @@
 //! bytes below the stack's end, are choices of this project. No locks.
 #![tactic(auto)]
 
+mod loading;
 mod rights;
 mod stack;
 mod strings;
@@ -27,5 +28,6 @@ mod strings;
 mod tests;
 mod words;
 
+pub use loading::{Loaded, load};
 pub use rights::{joined, page_rights};
-pub use stack::{Auxiliary, LoadErr, Opening, OpeningStack, opening_stack};
+pub use stack::{Auxiliary, LoadErr, OpeningStack, Program, opening_stack};
