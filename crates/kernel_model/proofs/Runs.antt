@@ -12,8 +12,8 @@ use Rattle.rv_exec.specs.Execution as done
 use Rattle.mm_areas.specs.Pages.{Held, Bytes, PageOf, Mapped}
 use Rattle.mm_space.specs.Accesses.{page_number, page_offset}
 use Rattle.mm_space.specs.Handing.{AreaState, InHand}
-use Rattle.mm_space.specs.Puts.{with_area, put_held, put_mapped, put_byte, put_bytes}
-use Rattle.mm_space.specs.Reserves.{reserve_held, reserve_mapped, leave_held, leave_mapped}
+use Rattle.mm_space.specs.Puts.{with_area, put_in_area, put_held, put_mapped, put_byte, put_bytes}
+use Rattle.mm_space.specs.Reserves.{reserve_in_area, reserve_held, reserve_mapped, leave_in_area, leave_held, leave_mapped}
 use Rattle.mm_space.specs.Spaces.{AddressSpace, Reach}
 use Rattle.quantum.specs.Acting.{Acting, acting_on, memory_of, after_write}
 use Rattle.quantum.specs.Instructions.{Going, went_by, one_more, ran}
@@ -71,7 +71,7 @@ ran_short n count g h so_far short stopped =
 module _ (task page offset value : ℕ) (r : Reach) (none : r.hand ≡ []) where
   put_held_alone : (held : Held) → (put_held task page offset value held r).hand ≡ []
   put_held_alone (Bytes bytes) = none
-  put_held_alone (PageOf name number) = ap (λ hand. with_area name _ hand) none
+  put_held_alone (PageOf name number) = ap (λ hand. with_area name (put_in_area task number offset value) hand) none
 
   put_mapped_alone : (m : Option Mapped) → (put_mapped task page offset value m r).hand ≡ []
   put_mapped_alone None = none
@@ -95,7 +95,7 @@ reserve_alone task offset (Some m) hand none = by m.held
   where
     by : (held : Held) → reserve_held task offset held hand ≡ []
     by (Bytes bytes) = none
-    by (PageOf name number) = ap (λ h. with_area name _ h) none
+    by (PageOf name number) = ap (λ h. with_area name (reserve_in_area task number offset) h) none
 
 leave_alone : (task : ℕ) (m : Option Mapped) (hand : List InHand) → hand ≡ [] → leave_mapped task m hand ≡ []
 leave_alone task None hand none = none
@@ -103,15 +103,15 @@ leave_alone task (Some m) hand none = by m.held
   where
     by : (held : Held) → leave_held task held hand ≡ []
     by (Bytes bytes) = none
-    by (PageOf name number) = ap (λ h. with_area name _ h) none
+    by (PageOf name number) = ap (λ h. with_area name (leave_in_area task) h) none
 
 -- no write brings one into hand, and the task stays
 write_alone : (w : Write) (a : Acting) → a.reach.hand ≡ [] → (after_write w a).reach.hand ≡ []
 write_alone (Stores at width value) a none = put_bytes_alone a.task at width value a.reach none
 write_alone (Reserves at width) a none =
     reserve_alone a.task (page_offset at) (map.get a.reach.space.mapping.pages (page_number at)) a.reach.hand none
-write_alone (Releases at) a none =
-    leave_alone a.task (map.get a.reach.space.mapping.pages (page_number at)) a.reach.hand none
+write_alone Releases a none =
+    leave_alone a.task (map.get a.reach.space.mapping.pages (page_number 0)) a.reach.hand none
 
 writes_alone : (ws : List Write) (a : Acting) → a.reach.hand ≡ [] → (all_after after_write ws a).reach.hand ≡ []
 writes_alone [] a none = none
@@ -129,12 +129,11 @@ one_alone a (done.Touches area) h none e = absurd (cc e)
 ran_alone : (n : ℕ) (g h : Going) → g.acting.reach.hand ≡ [] → ran n g ≡ Some h → h.acting.reach.hand ≡ []
 ran_alone zero g h none e =
     let is : h ≡ g = cc (e, ran_none g) in ap (λ (x : Going). x.acting.reach.hand) is ∙ none
-ran_alone (suc n) g h none e = by (ran n g) refl (sym (ran_suc n g) ∙ e)
+ran_alone (suc n) g h none e = by (ran n g) (λ m so_far. ran_alone n g m none so_far) (sym (ran_suc n g) ∙ e)
   where
-    by : (o : Option Going) → ran n g ≡ o → option_and_then one_more o ≡ Some h → h.acting.reach.hand ≡ []
-    by None so_far e = absurd (cc e)
-    by (Some m) so_far e =
-        one_alone m.acting (exec (memory_of m.acting) m.registers) h (ran_alone n g m none so_far) e
+    by : (o : Option Going) → ((m : Going) → o ≡ Some m → m.acting.reach.hand ≡ []) → option_and_then one_more o ≡ Some h → h.acting.reach.hand ≡ []
+    by None before e = absurd (cc e)
+    by (Some m) before e = one_alone m.acting (exec (memory_of m.acting) m.registers) h (before m refl) e
 
 -- ---- what a run tells of the kernel
 

@@ -11,6 +11,7 @@ use Rattle.kernel_model.specs.Instructions.{next_of}
 use Rattle.sn_errno.specs.declared.errno.Errno.TheVariants.{EIO}
 use Rattle.kernel_model.specs.declared.kernel.Kernel.{Kernel}
 use Rattle.kernel_model.specs.declared.kernel.Task.{Task}
+use Rattle.kernel_model.specs.declared.running.Running.{Running}
 use Rattle.kernel_model.specs.declared.kernel.Part.{Part}
 use Rattle.kernel_model.specs.declared.kernel.Part.TheVariants.{OfTask, OfSpace, OfNode, OfConsole, OfFaults}
 use Rattle.kernel_model.specs.declared.opening.Given.{Given}
@@ -21,8 +22,9 @@ use Rattle.kernel_model.specs.declared.traps.Next.TheVariants.{Goes, Calls, Trap
 use Rattle.sn_errno.specs.Errors.{reply_of}
 use Rattle.kernel_model.specs.Registers.{replied}
 use Rattle.kernel_model.specs.Faulted.{has_any, is_in_order, Nodes_so_far, faulted, risen, number_all, all_known}
-use Rattle.kernel_model.specs.Step.{Running, live, task_of, if_running, row_of, entry_row, at_call, by_given, failing, with_reply, with_registers, task_change, answered, stepped, step}
+use Rattle.kernel_model.specs.Step.{live, task_of, if_running, row_of, entry_row, at_call, by_given, failing, with_reply, with_registers, task_change, answered, stepped, step}
 use Rattle.kernel_model.specs.Rows.{call_row}
+use Rattle.kernel_model.specs.declared.calls.Outcome.{Outcome}
 use Rattle.kernel_model.specs.Parts.{Holds, Parts, parts, done, run, ◌>>=◌, Change, put, changed}
 use Rattle.kernel_model.specs.InPlace.{with_nodes, numbered, changed_by, is_quiet, stands_at}
 use Rattle.kernel_model.proofs.OneRoot.{run_bind}
@@ -213,6 +215,27 @@ call_is s e number r task call args given reply same some is at =
     ∙ ap (λ x. run s (row_of x r)) is
     ∙ ap (λ n. run s (at_call n call args reply given r.task r.space (next_of (acting_in n r.space) r.task.registers))) (sym (same ∙ ap task_of is))
     ∙ stands s number call args reply given r.task r.space (next_of (acting_in number r.space) r.task.registers) at
+
+-- the row of a call that its task stands at, where the kernel was kept as it was
+module _ (k kept : Kernel) (e : Entry) (number task no : ℕ) (args : Args) (given : Given) (reply told : ℤ) (running : Running)
+    (same : kept ≡ k) (of : number ≡ task_of e) (some : run (parts k) (live number) ≡ Some running)
+    (is : e ≡ Call task no args given reply) (value : told ≡ reply)
+    (at : stands_at no args running.task (next_of (acting_in number running.space) running.task.registers) ≡ true) where
+  pub row_given : run (parts k) (entry_row e) ≡ run (parts kept) (by_given number running.task running.space no args told given)
+  row_given =
+      call_is (parts k) e number running task no args given reply of some is at
+      ∙ ap (λ v. run (parts k) (by_given number running.task running.space no args v given)) (sym value)
+      ∙ ap (λ x. run (parts x) (by_given number running.task running.space no args told given)) (sym same)
+
+  -- that drew nothing and met nothing: by what it comes to
+  pub row_quiet : (space : AddressSpace) (o : Outcome) → space ≡ running.space → is_quiet given ≡ true
+      → run (parts kept) (call_row no args space) ≡ o
+      → run (parts k) (entry_row e) ≡ run (parts kept) (answered number running.task told o)
+  row_quiet space o here quiet row =
+      row_given
+      ∙ call_quiet (parts kept) number running.task running.space no args told given quiet
+      ∙ ap (λ x. run (parts kept) (answered number running.task told x))
+      (ap (λ s. run (parts kept) (call_row no args s)) (sym here) ∙ row)
 
 -- ---- a whole step
 

@@ -1,5 +1,5 @@
 -- The opening: the state after the opening execves, from the mount file, the granted trees and the record of what was drawn and met.
-use Rattle.std.specs.Prelude.{ℕ, ◌+◌, ◌≤◌, ◌==◌, nat_eq, nat_lt, List, [], ◌∷◌, length, map, drop, Bool, true, false, ◌&&◌, not, Option, Some, None, Result, Ok, Err, if◌then◌else◌}
+use Rattle.std.specs.Prelude.{ℕ, ◌+◌, ◌==◌, nat_eq, nat_lt, nat_le, List, [], ◌∷◌, length, map, drop, Bool, true, false, ◌&&◌, not, Option, Some, None, Result, Ok, Err, if◌then◌else◌}
 use Rattle.std.specs.List.{list_any}
 use Rattle.std.specs.Str.{bytes_eq}
 use Rattle.std.specs.FinMap as map
@@ -33,12 +33,12 @@ use Rattle.kernel_model.specs.Parts.{parts, Prog, done, look, run, ◌>>=◌, Ch
 
 -- an image as execve takes it: of an executable regular file of at most 67,108,864 bytes, with at most 16,384 pages
 -- execve(2), ERRORS: EACCES, ENOEXEC, ENOMEM; a link answers ELOOP so far; the numbers and the order: profile
-abbrev pub HasRoom : Image → Type 0
-HasRoom image = pages_mapped image ≤ 16384
+abbrev pub has_room : Image → Bool
+has_room image = nat_le (pages_mapped image) 16384
 
 abbrev pub image_within : Option Image → Result Image Errno
 image_within None = Err ENOEXEC
-image_within (Some image) = if nat_lt 16384 (pages_mapped image) then Err ENOMEM else Ok image
+image_within (Some image) = if has_room image then Ok image else Err ENOMEM
 
 abbrev pub image_in : List ℕ → Result Image Errno
 image_in bytes = if nat_lt 67108864 (length bytes) then Err ENOEXEC else image_within (image_of bytes)

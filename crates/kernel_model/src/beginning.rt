@@ -2,10 +2,10 @@
 
 ghost use Rattle.std.specs.Prelude.{◌≡◌, ◌+◌, ◌<◌, ◌≤◌, ◌^◌, false, length, IfOk, OnOk, IfErr};
 ghost use Rattle.kernel_model.specs.declared.kernel.Kernel.{Kernel as AKernel};
-ghost use Rattle.kernel_model.specs.Opening.{Begun, HasRoom, Opens, rooted, bare, with_task, execve_of, task_begun, tasks_begun};
+ghost use Rattle.kernel_model.specs.Opening.{Begun, Opens, rooted, bare, with_task, execve_of, task_begun, tasks_begun};
 ghost use Rattle.kernel_model.specs.Arguments.{is_too_long};
 ghost use Rattle.kernel_model.specs.Parts.{parts, run as outcome};
-ghost use Rattle.kernel_model.specs.Beginnings.{IsRefusedBy};
+ghost use Rattle.kernel_model.specs.Beginnings.{HasRoom, IsRefusedBy};
 
 use crate::walking::Execved;
 use crate::{Given, Kernel, Node, Opened, OpeningErr, Running};
@@ -77,10 +77,10 @@ impl Kernel {
     ) -> Result<(), OpeningErr>
         ensures ok { OnOk result ((rest : AKernel → Begun) →
             task_begun rest (with_task seed.now number program.now) number self.old
-                (outcome (parts self.old) (execve_of program.now given.now)) ≡ rest self.new) }
+            (outcome (parts self.old) (execve_of program.now given.now)) ≡ rest self.new) }
         ensures refused { IfErr result (λ e. (rest : AKernel → Begun) →
             IsRefusedBy (task_begun rest (with_task seed.now number program.now) number self.old
-                (outcome (parts self.old) (execve_of program.now given.now))) e) }
+            (outcome (parts self.old) (execve_of program.now given.now))) e) }
     {
         match self.execve(alloc, program, given)? {
             Execved::Starts(image) => {

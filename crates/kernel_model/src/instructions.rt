@@ -21,7 +21,7 @@ pub struct Ran {
 
 /// Runs the instructions of a task, until as many have run, or the next one traps or calls. Want of memory leaves what
 /// some of them, fewer than asked for, have left.
-#[tactic(auto, using(crate::proofs::Runs::same_going))]
+#[tactic(auto, using(crate::proofs::Runs::run_in_space, crate::proofs::Runs::next_in_space))]
 pub fn run(
     alloc: Global,
     task: u32,
@@ -62,6 +62,7 @@ pub fn run(
 
 /// What the next instruction of a task does. Where it goes on, the address space is as it is behind it, so that this is
 /// for a copy.
+#[tactic(auto, using(crate::proofs::Runs::next_told, crate::proofs::Runs::next_kept))]
 pub fn next(
     alloc: Global,
     task: u32,

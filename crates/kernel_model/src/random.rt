@@ -24,8 +24,8 @@ fn key_of(seed: &[u8]) -> [u8; 32]
     ensures { (k : ℕ) → k < 32 → slice_index result k ≡ slice_index seed.now k }
 {
     let mut key = [0; 32];
-    for (place, byte) in key.iter_mut().enumerate() {
-        *byte = seed.get(place).copied().unwrap_or(0);
+    for place in 0..32 {
+        key[place] = if place < seed.len() { seed[place] } else { 0 };
     }
     key
 }

@@ -15,6 +15,7 @@ use std::alloc::Global;
 const QUANTUM: u32 = 10_000;
 
 /// Runs a task's next instructions, if so many of them neither trap nor call.
+#[tactic(auto, using(crate::proofs::Runs::row_ran, crate::proofs::Runs::row_short))]
 pub(crate) fn run_row(
     alloc: Global,
     number: u32,

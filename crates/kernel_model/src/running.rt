@@ -2,7 +2,8 @@
 
 ghost use Rattle.std.specs.Prelude.{◌≡◌, false, IfOk};
 ghost use Rattle.kernel_model.specs.Arguments.{is_too_long};
-ghost use Rattle.kernel_model.specs.Opening.{HasRoom, space_opened, task_opened};
+ghost use Rattle.kernel_model.specs.Opening.{space_opened, task_opened};
+ghost use Rattle.kernel_model.specs.Beginnings.{HasRoom};
 
 use crate::random::opening_random;
 use crate::{GuestSpace, Life, Task};

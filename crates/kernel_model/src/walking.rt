@@ -1,13 +1,13 @@
 //! The walk of an opening execve, and the image that it comes to.
 
-ghost use Rattle.std.specs.Prelude.{◌≡◌, false, IfOk};
+ghost use Rattle.std.specs.Prelude.{◌≡◌, true, false, IfOk};
 ghost use Rattle.std.specs.FinMap as map;
 ghost use Rattle.std.specs.List.{list_any};
 ghost use Rattle.kernel_model.specs.FileTree.{owner_executes};
 ghost use Rattle.kernel_model.specs.Faulted.{has_any};
-ghost use Rattle.kernel_model.specs.Opening.{HasRoom, image_in, executed, numbered_image, walk_of, draws_just, above_last, by_walk, name_in_path, execve_of};
+ghost use Rattle.kernel_model.specs.Opening.{image_in, executed, numbered_image, walk_of, draws_just, above_last, by_walk, name_in_path, execve_of};
 ghost use Rattle.kernel_model.specs.Parts.{parts, run as outcome};
-ghost use Rattle.kernel_model.specs.Beginnings.{Executes, IsRoomy, MayStart};
+ghost use Rattle.kernel_model.specs.Beginnings.{Executes, IsFrom, MayStart, fits};
 
 use crate::numbering::LAST_NUMBER;
 use crate::{Fresh, Given, Kernel, is_too_long, read_executable};
@@ -30,12 +30,13 @@ const ROOT: u64 = 1;
 struct Walk {
     draws: bool,
     image: Result<Image, Errno>,
-    ghost pages: { IfOk image HasRoom },
+    ghost pages: { fits image ≡ true },
 }
 
 impl Walk {
     fn refused(errno: Errno) -> Walk
-        ensures { result ≡ record { draws = false; image = Err errno } }
+        ensures draws { result.draws ≡ false }
+        ensures image { result.image ≡ Err errno }
     {
         Walk {
             draws: false,
@@ -53,12 +54,10 @@ pub enum Execved {
 }
 
 impl Execved {
-    ghost use Rattle.kernel_model.specs.Beginnings.{IsByImage, IsRoomy};
+    ghost use Rattle.kernel_model.specs.Beginnings.{IsByImage};
 
     fn by_image(image: Result<Image, Errno>) -> Execved
-        requires { IfOk image HasRoom }
-        ensures image { IsByImage image result }
-        ensures pages { IsRoomy result }
+        ensures { IsByImage image result }
     {
         match image {
             Ok(image) => Execved::Starts(image),
@@ -70,7 +69,7 @@ impl Execved {
 /// The image of a file's bytes, as execve takes it.
 fn image_in(alloc: Global, bytes: &[u8]) -> Result<Result<Image, Errno>, Memory>
     ensures image { IfOk result (λ image. image ≡ image_in bytes.now) }
-    ensures pages { IfOk result (λ image. IfOk image HasRoom) }
+    ensures pages { IfOk result (λ image. fits image ≡ true) }
 {
     if LONGEST_IMAGE < bytes.len() {
         return Ok(Err(Errno::ENOEXEC));
@@ -87,7 +86,7 @@ fn owner_executes(tree: &Tree) -> bool
 /// The image of a node, or the error with which execve refuses it.
 fn executed(alloc: Global, tree: &Tree) -> Result<Result<Image, Errno>, Memory>
     ensures image { IfOk result (λ image. image ≡ executed tree.now) }
-    ensures pages { IfOk result (λ image. IfOk image HasRoom) }
+    ensures pages { IfOk result (λ image. fits image ≡ true) }
 {
     if !owner_executes(tree) {
         return Ok(Err(Errno::EACCES));
@@ -130,7 +129,7 @@ impl Kernel {
     /// The image of the node of a number, or the error with which execve refuses it.
     fn numbered_image(&self, alloc: Global, ino: u64) -> Result<Result<Image, Errno>, Memory>
         ensures image { IfOk result (λ image. image ≡ numbered_image (map.get self.now.nodes ino)) }
-        ensures pages { IfOk result (λ image. IfOk image HasRoom) }
+        ensures pages { IfOk result (λ image. fits image ≡ true) }
     {
         match self.nodes.get(ino) {
             Some(node) => executed(alloc, &node.tree),
@@ -194,7 +193,7 @@ impl Kernel {
     ) -> Result<Execved, Memory>
         ensures does { IfOk result (Executes (outcome (parts self.old)
             (by_walk name.now given.now (record { draws = walk.draws; image = walk.image }))) self.old self.new) }
-        ensures pages { IfOk result IsRoomy }
+        ensures from { IfOk result (IsFrom walk.image) }
     {
         if given.rises.is_empty() {
             return self.execve_unfailed(alloc, name, given, walk);
@@ -219,7 +218,7 @@ impl Kernel {
         requires { has_any given.now.rises ≡ false }
         ensures does { IfOk result (Executes (outcome (parts self.old)
             (by_walk name.now given.now (record { draws = walk.draws; image = walk.image }))) self.old self.new) }
-        ensures pages { IfOk result IsRoomy }
+        ensures from { IfOk result (IsFrom walk.image) }
     {
         let Walk { draws, image } = walk;
         let fresh = given.fresh.as_slice();
