@@ -4,6 +4,7 @@ pub mod AreaRuns
 pub mod Near
 pub mod NearPuts
 pub mod NumberBounds
+pub mod OtherPages
 pub mod PageRuns
 pub mod Placed
 pub mod PutPieces

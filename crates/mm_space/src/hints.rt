@@ -1,7 +1,8 @@
 //! Loads and stores by hints: the fast form, which answers nothing wide and leaves what it can't do to the exact one.
 
-ghost use Rattle.std.specs.Prelude.{◌≡◌, ◌+◌, ◌/◌, ◌%◌, ◌<◌, IfSome};
+ghost use Rattle.std.specs.Prelude.{◌≡◌, ℕ, ◌+◌, ◌/◌, ◌%◌, ◌<◌, IfSome};
 ghost use Rattle.std.specs.Bool.{OnTrue, OnFalse};
+ghost use Rattle.std.specs.FinMap as map_of;
 ghost use Rattle.rv_table.specs.Words.{IsWidth};
 ghost use Rattle.mm_space.specs.Accesses.{LoadsNear, readable};
 ghost use Rattle.mm_space.specs.Places.{AreAsReady};
@@ -79,6 +80,8 @@ impl Space {
     ) -> bool
         requires { IsWidth width }
         ensures done { OnTrue result (StoresNear (space_of self.old) (space_of self.new) task at width value) }
+        ensures apart { OnTrue result ((page : ℕ) → (page ≡ at / 4096 → ⊥) → map_of.get (space_of self.new).mapping.pages page
+            ≡ map_of.get (space_of self.old).mapping.pages page) }
         ensures unchanged { OnFalse result (space_of self.new ≡ space_of self.old) }
     {
         let page = at / 4096;
@@ -101,6 +104,8 @@ impl Space {
     ) -> bool
         requires { IsWidth width }
         ensures done { OnTrue result (StoresNear (space_of self.old) (space_of self.new) task at width value) }
+        ensures apart { OnTrue result ((page : ℕ) → (page ≡ at / 4096 → ⊥) → map_of.get (space_of self.new).mapping.pages page
+            ≡ map_of.get (space_of self.old).mapping.pages page) }
         ensures unchanged { OnFalse result (space_of self.new ≡ space_of self.old) }
         ensures ready { OnFalse result ((handed : Handed) → AreAsReady self.old self.new handed handed) }
     {

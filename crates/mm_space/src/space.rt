@@ -49,4 +49,19 @@ impl Space {
         let areas = self.areas.fork(alloc)?;
         Ok(Space::of(alloc, areas))
     }
+
+    /// The same address space once more, with its reservations: private pages have the same bytes, which both share until
+    /// one of them writes. An `Err` leaves this one as it was.
+    pub fn copy(&mut self, alloc: Global) -> Result<Space, Memory>
+        ensures copied { IfOk result (λ other. space_of other ≡ space_of self.old) }
+        ensures kept { space_of self.new ≡ space_of self.old }
+    {
+        let reservations = self.reservations.copy(alloc)?;
+        let areas = self.areas.fork(alloc)?;
+        Ok(Space {
+            areas,
+            reservations,
+            decoded: Decoded::none(),
+        })
+    }
 }

@@ -1,3 +1,4 @@
 mod Accesses
+mod Exactly
+mod InRows
 mod MovesOverMemory
-mod Stores

@@ -92,12 +92,24 @@ load_reserved m r rd address width extend = aligned address width (reserving r r
 -- stored, else 1. It ends the reservation in either case
 -- RISC-V Unprivileged ISA 20191213, 8.2, SC; that it needs the right to store where it fails too: profile
 abbrev pub conditional : Regs → (rd address width value : ℕ) → Bool → Done
-conditional r rd address width value true = Goes (gone_on (with_reg r rd 0)) (Releases ∷ Stores address width value ∷ [])
-conditional r rd address width value false = Goes (gone_on (with_reg r rd 1)) (Releases ∷ [])
+conditional r rd address width value true = Goes (gone_on (with_reg r rd 0)) (Releases address ∷ Stores address width value ∷ [])
+conditional r rd address width value false = Goes (gone_on (with_reg r rd 1)) (Releases address ∷ [])
 
 abbrev pub store_conditional : Memory → Regs → (rd address width value : ℕ) → Done
 store_conditional m r rd address width value =
     aligned address width (allowed (loaded m.room address width) (conditional r rd address width value (m.reserves address width)))
+
+-- an access to bytes that needs both the right to read and the right to write: a byte that lacks one of them goes before one in a
+-- shared area
+-- signal(7), SIGSEGV 11; that it goes first: profile
+abbrev pub both : (data_ room : Accessed) → Accessed
+both (Fault bad) room = Fault bad
+both (Value value) (Value old) = Value value
+both (Value value) (Fault bad) = Fault bad
+both (Value value) (Shared area) = Shared area
+both (Shared area) (Value old) = Shared area
+both (Shared area) (Fault bad) = Fault bad
+both (Shared area) (Shared other) = Shared other
 
 -- an atomic memory operation: a register gets what memory held, and memory what the operation makes of it
 -- RISC-V Unprivileged ISA 20191213, 8.4, Atomic Memory Operations
@@ -108,7 +120,7 @@ operating r i rd address width b extend (Shared area) = Touches area
 
 abbrev pub operates : Memory → Regs → Instr → (rd address width b : ℕ) → (ℕ → ℕ) → Done
 operates m r i rd address width b extend =
-    aligned address width (allowed (loaded m.room address width) (operating r i rd address width b extend (loaded m.data_ address width)))
+    aligned address width (operating r i rd address width b extend (both (loaded m.data_ address width) (loaded m.room address width)))
 
 -- what an instruction does; fences do nothing, since a task's own accesses are in order
 -- RISC-V Unprivileged ISA 20191213, 2.4 to 2.8, 3.1, 5.2 to 5.3, 7.1 to 7.2, 8.2 and 8.4; signal(7), SIGTRAP 5
@@ -219,16 +231,6 @@ by_word m r (Shared area) = Touches area
 -- RISC-V Unprivileged ISA 20191213, 1.2 and 1.5
 unfoldable pub exec : Memory → Regs → Done
 exec m r = by_word m r (loaded m.code r.pc 4)
-
--- a step did as the instruction does, where that changes registers alone
--- RISC-V Unprivileged ISA 20191213, 1.6
-abbrev pub MovesAs : Done → (before after : Regs) → Step → Type 0
-MovesAs (Goes r []) before after steps.Next = after ≡ r
-MovesAs Calls before after steps.Call = after ≡ before
-MovesAs (Traps signal) before after (steps.Trap told) = (told ≡ signal) × (after ≡ before)
-MovesAs (Touches area) before after (steps.Shared told) = (told ≡ area) × (after ≡ before)
-MovesAs done before after steps.Memory = after ≡ before
-MovesAs done before after _ = ⊥
 
 -- a step did as the instruction does, to registers and to what is told of memory; what traps, calls or touches an area
 -- changes nothing, nor does want of memory

@@ -1,8 +1,7 @@
 -- The kinds of loads, by the bytes that they take and by how their number is extended.
-use Rattle.std.specs.Prelude.{◌≡◌, ⊤, ℕ, Result, Ok, Err}
+use Rattle.std.specs.Prelude.{ℕ}
 use Rattle.rv_table.specs.declared.error.MemErr.{MemErr}
 use Rattle.rv_table.specs.declared.error.MemErr.TheVariants as refusals
-use Rattle.rv_table.specs.Bytes.{Accessed, Value, Fault, Shared}
 use Rattle.rv_exec.specs.Execution.{extended}
 use Rattle.rv_exec.specs.declared.load.Load.{Load}
 use Rattle.rv_exec.specs.declared.load.Load.TheVariants.{Byte, Half, Word, Double, UnsignedByte, UnsignedHalf, UnsignedWord}
@@ -37,12 +36,3 @@ abbrev pub refused_by : MemErr → Step
 refused_by (refusals.Fault address) = steps.Trap 11
 refused_by (refusals.Shared area) = steps.Shared area
 refused_by refusals.Memory = steps.Memory
-
--- an answer is what an access comes to: a byte without the right ends the task's group with SIGSEGV
--- signal(7), SIGSEGV 11
-abbrev pub AccessesAs : Accessed → Result ℕ Step → Type 0
-AccessesAs (Value value) (Ok told) = told ≡ value
-AccessesAs (Fault address) (Err (steps.Trap signal)) = signal ≡ 11
-AccessesAs (Shared area) (Err (steps.Shared told)) = told ≡ area
-AccessesAs accessed (Err steps.Memory) = ⊤
-AccessesAs _ _ = ⊥

@@ -1,21 +1,30 @@
-//! What each instruction does.
+//! What each instruction does: a row a line.
 
 ghost use Rattle.std.specs.Prelude.{◌≡◌, ◌≢◌, false};
-ghost use Rattle.rv_exec.specs.Execution.{done_by, StepsAs};
+ghost use Rattle.rv_exec.specs.Execution.{done_by};
+ghost use Rattle.rv_exec.specs.Flows.{FlowsAs};
+ghost use Rattle.rv_exec.specs.declared.outcome.Step.TheVariants as Step;
 
-use crate::access::{load, store};
+use crate::access::Access;
 use crate::atomic::{load_reserved, operate, store_conditional};
 use crate::load::Load;
 use crate::moves::{branch, combine, compute, go_on, jump, jump_to_register, put};
-use crate::{Mem, Step};
+use crate::plain::{load, store};
+use crate::{Flow, Mem};
 use rv_alu::alu;
 use rv_table::{Instr, Regs};
 
-/// Does an instruction.
+/// Does an instruction, by a way to reach memory.
+#[inline(always)]
+#[rattlefmt::skip]
 #[tactic(auto, unfolding(crate::specs::Execution::done_by), using(crate::proofs::MovesOverMemory::moved))]
-pub(crate) fn execute<M: Mem>(regs: &mut Regs, mem: &mut M, instr: &Instr) -> Step
-    ensures done { StepsAs M.after (done_by (M.seen (M.told mem.old)) regs.old instr.now) regs.old regs.new (M.told mem.old) (M.told mem.new) result }
-    ensures lean { M.takes_memory ≡ false → result ≢ Step.Memory }
+pub(crate) fn execute<M: Mem, A: Access>(regs: &mut Regs, mem: &mut M, access: &mut A, instr: &Instr) -> Flow
+    ensures done { FlowsAs M.after A.is_exact (A.why access.new) (done_by (M.seen (M.told mem.old)) regs.old instr.now)
+        regs.old regs.new (M.told mem.old) (M.told mem.new) result }
+    ensures lean { M.takes_memory ≡ false → A.why access.old ≢ Step.Memory → A.why access.new ≢ Step.Memory }
+    ensures row { A.is_exact ≡ false →
+        M.instrs (M.told mem.new) (A.page access.old) ≡ M.instrs (M.told mem.old) (A.page access.old) }
+    ensures page { A.page access.new ≡ A.page access.old }
 {
     match *instr {
         Instr::Lui { rd, .. } => put(regs, rd, alu(instr, 0, 0)),
@@ -28,55 +37,13 @@ pub(crate) fn execute<M: Mem>(regs: &mut Regs, mem: &mut M, instr: &Instr) -> St
         Instr::Bge { rs1, rs2, imm } => branch(regs, instr, rs1, rs2, imm),
         Instr::Bltu { rs1, rs2, imm } => branch(regs, instr, rs1, rs2, imm),
         Instr::Bgeu { rs1, rs2, imm } => branch(regs, instr, rs1, rs2, imm),
-        Instr::Lb { rd, rs1, imm } => load(
-            regs,
-            mem,
-            Load::Byte,
-            rd,
-            regs.read(rs1).wrapping_add(imm),
-        ),
-        Instr::Lh { rd, rs1, imm } => load(
-            regs,
-            mem,
-            Load::Half,
-            rd,
-            regs.read(rs1).wrapping_add(imm),
-        ),
-        Instr::Lw { rd, rs1, imm } => load(
-            regs,
-            mem,
-            Load::Word,
-            rd,
-            regs.read(rs1).wrapping_add(imm),
-        ),
-        Instr::Ld { rd, rs1, imm } => load(
-            regs,
-            mem,
-            Load::Double,
-            rd,
-            regs.read(rs1).wrapping_add(imm),
-        ),
-        Instr::Lbu { rd, rs1, imm } => load(
-            regs,
-            mem,
-            Load::UnsignedByte,
-            rd,
-            regs.read(rs1).wrapping_add(imm),
-        ),
-        Instr::Lhu { rd, rs1, imm } => load(
-            regs,
-            mem,
-            Load::UnsignedHalf,
-            rd,
-            regs.read(rs1).wrapping_add(imm),
-        ),
-        Instr::Lwu { rd, rs1, imm } => load(
-            regs,
-            mem,
-            Load::UnsignedWord,
-            rd,
-            regs.read(rs1).wrapping_add(imm),
-        ),
+        Instr::Lb { rd, rs1, imm } => load(regs, mem, access, Load::Byte, rd, rs1, imm),
+        Instr::Lh { rd, rs1, imm } => load(regs, mem, access, Load::Half, rd, rs1, imm),
+        Instr::Lw { rd, rs1, imm } => load(regs, mem, access, Load::Word, rd, rs1, imm),
+        Instr::Ld { rd, rs1, imm } => load(regs, mem, access, Load::Double, rd, rs1, imm),
+        Instr::Lbu { rd, rs1, imm } => load(regs, mem, access, Load::UnsignedByte, rd, rs1, imm),
+        Instr::Lhu { rd, rs1, imm } => load(regs, mem, access, Load::UnsignedHalf, rd, rs1, imm),
+        Instr::Lwu { rd, rs1, imm } => load(regs, mem, access, Load::UnsignedWord, rd, rs1, imm),
         Instr::Addi { rd, rs1, .. } => compute(regs, instr, rd, rs1),
         Instr::Slti { rd, rs1, .. } => compute(regs, instr, rd, rs1),
         Instr::Sltiu { rd, rs1, .. } => compute(regs, instr, rd, rs1),
@@ -98,8 +65,8 @@ pub(crate) fn execute<M: Mem>(regs: &mut Regs, mem: &mut M, instr: &Instr) -> St
         Instr::And { rd, rs1, rs2 } => combine(regs, instr, rd, rs1, rs2),
         Instr::Fence => go_on(regs),
         Instr::FenceI => go_on(regs),
-        Instr::Ecall => Step::Call,
-        Instr::Ebreak => Step::Trap(5),
+        Instr::Ecall => Flow::Call,
+        Instr::Ebreak => Flow::Trap(5),
         Instr::Addiw { rd, rs1, .. } => compute(regs, instr, rd, rs1),
         Instr::Slliw { rd, rs1, .. } => compute(regs, instr, rd, rs1),
         Instr::Srliw { rd, rs1, .. } => compute(regs, instr, rd, rs1),
@@ -122,213 +89,31 @@ pub(crate) fn execute<M: Mem>(regs: &mut Regs, mem: &mut M, instr: &Instr) -> St
         Instr::Divuw { rd, rs1, rs2 } => combine(regs, instr, rd, rs1, rs2),
         Instr::Remw { rd, rs1, rs2 } => combine(regs, instr, rd, rs1, rs2),
         Instr::Remuw { rd, rs1, rs2 } => combine(regs, instr, rd, rs1, rs2),
-        Instr::Sb { rs1, rs2, imm } => store(
-            regs,
-            mem,
-            regs.read(rs1).wrapping_add(imm),
-            1,
-            regs.read(rs2),
-        ),
-        Instr::Sh { rs1, rs2, imm } => store(
-            regs,
-            mem,
-            regs.read(rs1).wrapping_add(imm),
-            2,
-            regs.read(rs2),
-        ),
-        Instr::Sw { rs1, rs2, imm } => store(
-            regs,
-            mem,
-            regs.read(rs1).wrapping_add(imm),
-            4,
-            regs.read(rs2),
-        ),
-        Instr::Sd { rs1, rs2, imm } => store(
-            regs,
-            mem,
-            regs.read(rs1).wrapping_add(imm),
-            8,
-            regs.read(rs2),
-        ),
-        Instr::LrW { rd, rs1 } => load_reserved(regs, mem, Load::Word, rd, regs.read(rs1)),
-        Instr::ScW { rd, rs1, rs2 } => store_conditional(
-            regs,
-            mem,
-            Load::Word,
-            rd,
-            regs.read(rs1),
-            regs.read(rs2),
-        ),
-        Instr::AmoswapW { rd, rs1, rs2 } => operate(
-            regs,
-            mem,
-            instr,
-            Load::Word,
-            rd,
-            regs.read(rs1),
-            regs.read(rs2),
-        ),
-        Instr::AmoaddW { rd, rs1, rs2 } => operate(
-            regs,
-            mem,
-            instr,
-            Load::Word,
-            rd,
-            regs.read(rs1),
-            regs.read(rs2),
-        ),
-        Instr::AmoxorW { rd, rs1, rs2 } => operate(
-            regs,
-            mem,
-            instr,
-            Load::Word,
-            rd,
-            regs.read(rs1),
-            regs.read(rs2),
-        ),
-        Instr::AmoandW { rd, rs1, rs2 } => operate(
-            regs,
-            mem,
-            instr,
-            Load::Word,
-            rd,
-            regs.read(rs1),
-            regs.read(rs2),
-        ),
-        Instr::AmoorW { rd, rs1, rs2 } => operate(
-            regs,
-            mem,
-            instr,
-            Load::Word,
-            rd,
-            regs.read(rs1),
-            regs.read(rs2),
-        ),
-        Instr::AmominW { rd, rs1, rs2 } => operate(
-            regs,
-            mem,
-            instr,
-            Load::Word,
-            rd,
-            regs.read(rs1),
-            regs.read(rs2),
-        ),
-        Instr::AmomaxW { rd, rs1, rs2 } => operate(
-            regs,
-            mem,
-            instr,
-            Load::Word,
-            rd,
-            regs.read(rs1),
-            regs.read(rs2),
-        ),
-        Instr::AmominuW { rd, rs1, rs2 } => operate(
-            regs,
-            mem,
-            instr,
-            Load::Word,
-            rd,
-            regs.read(rs1),
-            regs.read(rs2),
-        ),
-        Instr::AmomaxuW { rd, rs1, rs2 } => operate(
-            regs,
-            mem,
-            instr,
-            Load::Word,
-            rd,
-            regs.read(rs1),
-            regs.read(rs2),
-        ),
-        Instr::LrD { rd, rs1 } => load_reserved(regs, mem, Load::Double, rd, regs.read(rs1)),
-        Instr::ScD { rd, rs1, rs2 } => store_conditional(
-            regs,
-            mem,
-            Load::Double,
-            rd,
-            regs.read(rs1),
-            regs.read(rs2),
-        ),
-        Instr::AmoswapD { rd, rs1, rs2 } => operate(
-            regs,
-            mem,
-            instr,
-            Load::Double,
-            rd,
-            regs.read(rs1),
-            regs.read(rs2),
-        ),
-        Instr::AmoaddD { rd, rs1, rs2 } => operate(
-            regs,
-            mem,
-            instr,
-            Load::Double,
-            rd,
-            regs.read(rs1),
-            regs.read(rs2),
-        ),
-        Instr::AmoxorD { rd, rs1, rs2 } => operate(
-            regs,
-            mem,
-            instr,
-            Load::Double,
-            rd,
-            regs.read(rs1),
-            regs.read(rs2),
-        ),
-        Instr::AmoandD { rd, rs1, rs2 } => operate(
-            regs,
-            mem,
-            instr,
-            Load::Double,
-            rd,
-            regs.read(rs1),
-            regs.read(rs2),
-        ),
-        Instr::AmoorD { rd, rs1, rs2 } => operate(
-            regs,
-            mem,
-            instr,
-            Load::Double,
-            rd,
-            regs.read(rs1),
-            regs.read(rs2),
-        ),
-        Instr::AmominD { rd, rs1, rs2 } => operate(
-            regs,
-            mem,
-            instr,
-            Load::Double,
-            rd,
-            regs.read(rs1),
-            regs.read(rs2),
-        ),
-        Instr::AmomaxD { rd, rs1, rs2 } => operate(
-            regs,
-            mem,
-            instr,
-            Load::Double,
-            rd,
-            regs.read(rs1),
-            regs.read(rs2),
-        ),
-        Instr::AmominuD { rd, rs1, rs2 } => operate(
-            regs,
-            mem,
-            instr,
-            Load::Double,
-            rd,
-            regs.read(rs1),
-            regs.read(rs2),
-        ),
-        Instr::AmomaxuD { rd, rs1, rs2 } => operate(
-            regs,
-            mem,
-            instr,
-            Load::Double,
-            rd,
-            regs.read(rs1),
-            regs.read(rs2),
-        ),
+        Instr::Sb { rs1, rs2, imm } => store(regs, mem, access, rs1, imm, 1, rs2),
+        Instr::Sh { rs1, rs2, imm } => store(regs, mem, access, rs1, imm, 2, rs2),
+        Instr::Sw { rs1, rs2, imm } => store(regs, mem, access, rs1, imm, 4, rs2),
+        Instr::Sd { rs1, rs2, imm } => store(regs, mem, access, rs1, imm, 8, rs2),
+        Instr::LrW { rd, rs1 } => load_reserved(regs, mem, access, Load::Word, rd, rs1),
+        Instr::ScW { rd, rs1, rs2 } => store_conditional(regs, mem, access, Load::Word, rd, rs1, rs2),
+        Instr::AmoswapW { rd, rs1, rs2 } => operate(regs, mem, access, instr, Load::Word, rd, rs1, rs2),
+        Instr::AmoaddW { rd, rs1, rs2 } => operate(regs, mem, access, instr, Load::Word, rd, rs1, rs2),
+        Instr::AmoxorW { rd, rs1, rs2 } => operate(regs, mem, access, instr, Load::Word, rd, rs1, rs2),
+        Instr::AmoandW { rd, rs1, rs2 } => operate(regs, mem, access, instr, Load::Word, rd, rs1, rs2),
+        Instr::AmoorW { rd, rs1, rs2 } => operate(regs, mem, access, instr, Load::Word, rd, rs1, rs2),
+        Instr::AmominW { rd, rs1, rs2 } => operate(regs, mem, access, instr, Load::Word, rd, rs1, rs2),
+        Instr::AmomaxW { rd, rs1, rs2 } => operate(regs, mem, access, instr, Load::Word, rd, rs1, rs2),
+        Instr::AmominuW { rd, rs1, rs2 } => operate(regs, mem, access, instr, Load::Word, rd, rs1, rs2),
+        Instr::AmomaxuW { rd, rs1, rs2 } => operate(regs, mem, access, instr, Load::Word, rd, rs1, rs2),
+        Instr::LrD { rd, rs1 } => load_reserved(regs, mem, access, Load::Double, rd, rs1),
+        Instr::ScD { rd, rs1, rs2 } => store_conditional(regs, mem, access, Load::Double, rd, rs1, rs2),
+        Instr::AmoswapD { rd, rs1, rs2 } => operate(regs, mem, access, instr, Load::Double, rd, rs1, rs2),
+        Instr::AmoaddD { rd, rs1, rs2 } => operate(regs, mem, access, instr, Load::Double, rd, rs1, rs2),
+        Instr::AmoxorD { rd, rs1, rs2 } => operate(regs, mem, access, instr, Load::Double, rd, rs1, rs2),
+        Instr::AmoandD { rd, rs1, rs2 } => operate(regs, mem, access, instr, Load::Double, rd, rs1, rs2),
+        Instr::AmoorD { rd, rs1, rs2 } => operate(regs, mem, access, instr, Load::Double, rd, rs1, rs2),
+        Instr::AmominD { rd, rs1, rs2 } => operate(regs, mem, access, instr, Load::Double, rd, rs1, rs2),
+        Instr::AmomaxD { rd, rs1, rs2 } => operate(regs, mem, access, instr, Load::Double, rd, rs1, rs2),
+        Instr::AmominuD { rd, rs1, rs2 } => operate(regs, mem, access, instr, Load::Double, rd, rs1, rs2),
+        Instr::AmomaxuD { rd, rs1, rs2 } => operate(regs, mem, access, instr, Load::Double, rd, rs1, rs2),
     }
 }

@@ -29,13 +29,16 @@ mod access;
 mod atomic;
 mod cycle;
 mod execute;
+mod flow;
 mod load;
 mod mem;
 mod moves;
 mod outcome;
-#[cfg(test)]
-mod tests;
+mod plain;
+mod rows;
 
 pub use cycle::step;
+pub use flow::Flow;
 pub use mem::Mem;
 pub use outcome::Step;
+pub use rows::{RowRun, run_row};

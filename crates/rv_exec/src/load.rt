@@ -1,12 +1,11 @@
 //! What loads take, and what a register gets of it.
 
-ghost use Rattle.std.specs.Prelude.{◌≡◌, ◌≢◌, false};
+ghost use Rattle.std.specs.Prelude.{◌≡◌};
 ghost use Rattle.rv_table.specs.Words.{IsWidth};
-ghost use Rattle.rv_table.specs.Bytes.{loaded};
 ghost use Rattle.rv_exec.specs.Execution.{extended};
-ghost use Rattle.rv_exec.specs.Loads.{width_of, extend_of, refused_by, AccessesAs};
+ghost use Rattle.rv_exec.specs.Loads.{width_of, extend_of, refused_by};
 
-use crate::{Mem, Step};
+use crate::Step;
 use rv_table::MemErr;
 
 /// A kind of load, by the manual's names: bytes, half-words, words and double words, with their sign or without.
@@ -23,6 +22,7 @@ pub(crate) enum Load {
 
 impl Load {
     /// How many bytes it takes.
+    #[inline(always)]
     pub(crate) fn width(self) -> u8
         ensures width { result ≡ width_of self }
         ensures is_width { IsWidth result }
@@ -39,6 +39,7 @@ impl Load {
     }
 
     /// What a register gets of its number.
+    #[inline(always)]
     pub(crate) fn extend(self, value: u64) -> u64
         ensures { result ≡ extend_of self value }
     {
@@ -50,18 +51,6 @@ impl Load {
             Load::UnsignedByte => value,
             Load::UnsignedHalf => value,
             Load::UnsignedWord => value,
-        }
-    }
-
-    /// The number at an address, or why there is none.
-    pub(crate) fn number<M: Mem>(self, mem: &mut M, at: u64) -> Result<u64, Step>
-        ensures number { AccessesAs (loaded (M.seen (M.told mem.old)).data_ at (width_of self)) result }
-        ensures lean { M.takes_memory ≡ false → result ≢ Err Step.Memory }
-        ensures same { M.told mem.new ≡ M.told mem.old }
-    {
-        match mem.load(at, self.width()) {
-            Ok(value) => Ok(value),
-            Err(refusal) => Err(refused(refusal)),
         }
     }
 }
@@ -77,6 +66,7 @@ pub(crate) fn refused(refusal: MemErr) -> Step
     }
 }
 
+#[inline(always)]
 fn extended_byte(value: u64) -> u64
     ensures { result ≡ extended 7 value }
 {
@@ -88,6 +78,7 @@ fn extended_byte(value: u64) -> u64
     }
 }
 
+#[inline(always)]
 fn extended_half(value: u64) -> u64
     ensures { result ≡ extended 15 value }
 {
@@ -99,6 +90,7 @@ fn extended_half(value: u64) -> u64
     }
 }
 
+#[inline(always)]
 fn extended_word(value: u64) -> u64
     ensures { result ≡ extended 31 value }
 {

@@ -1,8 +1,11 @@
 //! Memory as instructions use it.
 
-ghost use Rattle.std.specs.Prelude.{◌≡◌, ◌≢◌, ℕ, Bool, true, false, IsOk, OnOk, OnErr};
+ghost use Rattle.std.specs.Prelude.{◌≡◌, ◌≢◌, ℕ, ◌/◌, ◌<◌, ◌^◌, Bool, true, false, Ok, List, Option, Some, IsOk, IfSome, OnOk, OnErr};
+ghost use Rattle.std.specs.Bool.{OnTrue, OnFalse};
+ghost use Rattle.rv_table.specs.declared.instr.Instr.{Instr};
 ghost use Rattle.rv_table.specs.Words.{IsWidth};
-ghost use Rattle.rv_table.specs.Bytes.{Memory as Seen, AnswersAs, AllowsAs, loaded};
+ghost use Rattle.rv_table.specs.Bytes.{Memory as Seen, AnswersAs, AllowsAs, Value, loaded};
+ghost use Rattle.rv_exec.specs.Rows.{AreOfPage};
 ghost use Rattle.rv_exec.specs.Writes.{Write, Stores, Reserves, Releases, IsAfter};
 
 use rv_table::MemErr;
@@ -20,6 +23,12 @@ pub trait Mem {
 
     /// What is told of it after a write.
     ghost after: { Write → State → State };
+
+    /// Whether two addresses are of one byte of memory, as where it is mapped twice.
+    ghost is_same: { State → (a b : ℕ) → Bool };
+
+    /// The instructions of a page's words, decoded, of a page that may be executed and has them.
+    ghost instrs: { State → (page : ℕ) → Option (List (Option Instr)) };
 
     /// Whether a store of so many bytes there is sure not to want memory.
     ghost is_ready: { Self → (at width : ℕ) → Bool };
@@ -69,9 +78,31 @@ pub trait Mem {
     /// Ends the task's reservation, and answers whether it was of just that address and so many bytes.
     fn take(&mut self, at: u64, width: u8) -> bool
         ensures held { result ≡ (seen (told self.old)).reserves at width }
-        ensures ended { told self.new ≡ after Releases (told self.old) }
+        ensures ended { told self.new ≡ after (Releases at) (told self.old) }
         ensures ready { is_ready self.new at width ≡ is_ready self.old at width };
 
+    /// What `load` answers, where that is a number and at hand: a fast form of it, which may do nothing at any address.
+    fn load_near(&mut self, at: u64, width: u8) -> Option<u64>
+        requires { IsWidth width }
+        ensures number { IfSome result (λ n. loaded (seen (told self.old)).data_ at width ≡ Value n) }
+        ensures same { told self.new ≡ told self.old };
+
+    /// Stores as `store` does, where that is granted, takes no memory, and is at hand, in the page of the address alone; and
+    /// answers whether it has. It may do nothing at any address.
+    fn store_near(&mut self, at: u64, width: u8, value: u64) -> bool
+        requires { IsWidth width }
+        ensures room { OnTrue result (AllowsAs (loaded (seen (told self.old)).room at width) (Ok tt)) }
+        ensures ok { OnTrue result (told self.new ≡ after (Stores at width value) (told self.old)) }
+        ensures rows { OnTrue result ((page : ℕ) → (page ≡ at / 4096 → ⊥) → instrs (told self.new) page ≡ instrs (told self.old) page) }
+        ensures unchanged { OnFalse result (told self.new ≡ told self.old) };
+
     /// After a write, memory is what the write says.
-    ghost written: { (state : State) → (write : Write) → IsAfter write (seen state) (seen (after write state)) };
+    ghost written: { (state : State) → (write : Write) → IsAfter (is_same state) write (seen state) (seen (after write state)) };
+
+    /// An address is of its own byte.
+    ghost itself: { (state : State) → (address : ℕ) → address < 2 ^ 64 → is_same state address address ≡ true };
+
+    /// A page's instructions are those of its words.
+    ghost decoded: { (state : State) → (page : ℕ) → (words : List (Option Instr)) → instrs state page ≡ Some words →
+        AreOfPage (seen state).code page words };
 }

@@ -1,0 +1,4 @@
+pub mod Acting
+pub mod Ends
+pub mod Instructions
+pub mod laws

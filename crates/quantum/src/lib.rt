@@ -1,0 +1,7 @@
+//! Runs of a task's instructions over its address space.
+#![tactic(auto)]
+
+mod acting;
+mod run;
+
+pub use run::{QuantumEnd, run_at_most, run_quantum};

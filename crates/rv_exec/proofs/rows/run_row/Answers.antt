@@ -1,0 +1,28 @@
+use Rattle.std.proofs.Common.{◌≡◌, ◌/◌, Some, refl, sym, ap, ◌∙◌}
+use Rattle.rv_exec.specs.Courses.{going}
+use Rattle.rv_exec.specs.declared.outcome.Step.TheVariants as outcomes
+use Rattle.rv_exec.proofs.InRows.{one_more_ran, ran_none}
+use Rattle.rv_exec.proofs.rows.run_row.Goals as goal
+
+pub loop-count-init : goal.loop-count-init
+loop-count-init g c = record {
+  has_run = ran_none g.M.Mem.seen g.M.Mem.after (going (g.M.Mem.told c.args.mem.now) c.args.regs.now);
+  words = c.requires;
+  page = refl;
+  near = refl;
+  row = refl;
+}
+
+pub loop-count-preserved : goal.loop-count-preserved
+loop-count-preserved g c = record {
+  has_run =
+      one_more_ran g.M.Mem.seen g.M.Mem.after outcomes.Next c.loop-count.count (going (g.M.Mem.told c.args.mem.now) c.args.regs.now)
+      c.loop-count.regs c.run_one-flow.new.regs (g.M.Mem.told c.loop-count.mem) (g.M.Mem.told c.run_one-flow.new.mem) c.run_one-flow.result
+      c.loop-count.invariant.has_run c.run_one-flow.ensures.done c.in-Next.is;
+  words =
+      ap (g.M.Mem.instrs (g.M.Mem.told c.run_one-flow.new.mem)) (sym (c.run_one-flow.ensures.page ∙ c.loop-count.invariant.near))
+      ∙ c.run_one-flow.ensures.row;
+  page = refl;
+  near = c.run_one-flow.ensures.page ∙ c.loop-count.invariant.near;
+  row = refl;
+}
