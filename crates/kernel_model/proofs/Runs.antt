@@ -16,7 +16,9 @@ use Rattle.mm_space.specs.Puts.{with_area, put_in_area, put_held, put_mapped, pu
 use Rattle.mm_space.specs.Reserves.{reserve_in_area, reserve_held, reserve_mapped, leave_in_area, leave_held, leave_mapped}
 use Rattle.mm_space.specs.Spaces.{AddressSpace, Reach}
 use Rattle.quantum.specs.Acting.{Acting, acting_on, memory_of, after_write}
-use Rattle.quantum.specs.Instructions.{Going, went_by, one_more, ran}
+use Rattle.rv_exec.specs.Courses as courses
+use Rattle.rv_exec.specs.Courses.{ran as ran_over}
+use Rattle.quantum.specs.Instructions.{Going, ran}
 use Rattle.kernel_model.specs.declared.kernel.Task.{Task}
 use Rattle.kernel_model.specs.declared.running.Running.{Running}
 use Rattle.kernel_model.specs.declared.traps.Next.{Next}
@@ -28,14 +30,22 @@ use Rattle.kernel_model.specs.Step.{after_run, run_changes, run_row, with_regist
 
 -- ---- one behind another
 
+-- a task after an instruction's work, and after one instruction
+-- RISC-V Unprivileged ISA 20191213, 1.2
+abbrev went_by : Acting → Done → Option Going
+went_by a done = courses.went_by after_write a done
+
+abbrev one_more : Going → Option Going
+one_more g = courses.one_more memory_of after_write g
+
 -- no instruction changes nothing
 pub ran_none : (g : Going) → ran 0 g ≡ Some g
-unfolding ran
+unfolding ran_over
 ran_none g = refl
 
 -- the last of so many instructions runs behind the others
 ran_suc : (n : ℕ) (g : Going) → ran (suc n) g ≡ option_and_then one_more (ran n g)
-unfolding ran
+unfolding ran_over
 ran_suc n g = refl
 
 pub ran_last : (n : ℕ) (g : Going) → ran (n + 1) g ≡ option_and_then one_more (ran n g)
@@ -110,8 +120,8 @@ write_alone : (w : Write) (a : Acting) → a.reach.hand ≡ [] → (after_write 
 write_alone (Stores at width value) a none = put_bytes_alone a.task at width value a.reach none
 write_alone (Reserves at width) a none =
     reserve_alone a.task (page_offset at) (map.get a.reach.space.mapping.pages (page_number at)) a.reach.hand none
-write_alone Releases a none =
-    leave_alone a.task (map.get a.reach.space.mapping.pages (page_number 0)) a.reach.hand none
+write_alone (Releases at) a none =
+    leave_alone a.task (map.get a.reach.space.mapping.pages (page_number at)) a.reach.hand none
 
 writes_alone : (ws : List Write) (a : Acting) → a.reach.hand ≡ [] → (all_after after_write ws a).reach.hand ≡ []
 writes_alone [] a none = none
