@@ -1,6 +1,6 @@
 -- What a row gives for the entry that the machine makes.
 use Rattle.std.proofs.Common.{◌≡◌, ◌⊎◌, inl, inr, ℕ, zero, suc, ◌+◌, ◌≤◌, Bool, true, false, List, [], ◌∷◌, refl, ap, sym, ◌∙◌, arith, ℤ}
-use Rattle.std.specs.Prelude.{Result, Ok, Err, IfOk, Some, None, if◌then◌else◌, ◌&&◌, ◌||◌, not, ◌==◌, nat_eq, nat_le, option_map}
+use Rattle.std.specs.Prelude.{Result, Ok, Err, IfOk, OnErr, Some, None, if◌then◌else◌, ◌&&◌, ◌||◌, not, ◌==◌, nat_eq, nat_le, option_map}
 use Rattle.std.specs.Ordering.{int_eq, nat_cmp}
 use Rattle.std.specs.FinMap as map
 use Rattle.sn_base.proofs.Maps.{get-insert_same, insert-insert}
@@ -18,7 +18,10 @@ use Rattle.rv_table.specs.declared.regs.Regs.{Regs}
 use Rattle.quantum.specs.Instructions.{Going, ran}
 use Rattle.kernel_model.specs.Spaces.{acting_in, going_in}
 use Rattle.kernel_model.specs.Instructions.{StopsAt, goes_on, next_of}
-use Rattle.kernel_model.proofs.Runs.{nothing_ran, row_ran}
+use Rattle.kernel_model.proofs.Runs.{nothing_ran, ran_none, row_ran}
+use Rattle.kernel_model.specs.declared.instructions.Ran.{Ran}
+use Rattle.sentry_run.specs.declared.machine.Machine.{Machine}
+use Rattle.sentry_run.specs.MachineKernel.{HasRunPart}
 use Rattle.kernel_model.specs.FileTree.{Nodes}
 use Rattle.kernel_model.specs.History.{has_next, is_whole}
 use Rattle.kernel_model.proofs.OneRoot.{run_bind}
@@ -187,3 +190,53 @@ pub whole_ok : {E : Type 0} (r : Result Entry E) (task : Task) (space : AddressS
     → IfOk r (λ entry. (nodes : Nodes) (failed : map.FinMap nat_cmp ℕ) (n : ℕ) → is_whole entry (kernel_with task space console nodes failed n) ≡ true)
 whole_ok (Ok entry) task space console e w = λ nodes failed n. whole_of entry task space console nodes failed n e w
 whole_ok (Err x) task space console e w = tt
+
+-- ---- behind a run of no instruction
+
+-- where nothing ran, task and address space are as they were
+pub none_ok : {E : Type 0} (r : Result Ran E) (space after : AddressSpace) (task task' : Task)
+    → IfOk r (λ o. ran o.count (going_in 1 space task.registers) ≡ Some (going_in 1 after task'.registers))
+    → task' ≡ with_registers task task'.registers → IfOk r (λ o. o.count ≡ 0 → (task' ≡ task) × (after ≡ space))
+none_ok (Ok o) space after task task' told is = λ none. none_left o.count space after task task' told is none
+none_ok (Err x) space after task task' told is = tt
+
+-- an entry from a task and an address space that are those of the machine
+module _ (task0 task task' : Task) (space0 space : AddressSpace) (console console' : List ℕ) (e : task ≡ task0) (f : space ≡ space0)
+    (l : task0.life ≡ Live) (p : task0.space ≡ 1) where
+  step_from : (entry : Entry) → task_of entry ≡ 1 → ((s : Parts) → s OfConsole ≡ console → Changes console console' task' (run s (row_of entry (record { task = task; space = space }))))
+      → (nodes : Nodes) (failed : map.FinMap nat_cmp ℕ) (n : ℕ) → step (kernel_with task0 space0 console nodes failed n) entry ≡ Some (kernel_with task' space console' nodes failed (n + 1))
+  step_from entry of row nodes failed n =
+      ap (λ (t : Task). step (kernel_with t space0 console nodes failed n) entry) (sym e)
+      ∙ ap (λ (s : AddressSpace). step (kernel_with task s console nodes failed n) entry) (sym f)
+      ∙ step_changes entry task task' space console console' nodes failed n (ap (λ (t : Task). t.life) e ∙ l) (ap (λ (t : Task). t.space) e ∙ p) of row
+
+  pub step_same : {E : Type 0} (r : Result Entry E) → IfOk r (λ entry. task_of entry ≡ 1)
+      → IfOk r (λ entry. (s : Parts) → s OfConsole ≡ console → Changes console console' task' (run s (row_of entry (record { task = task; space = space }))))
+      → IfOk r (λ entry. (nodes : Nodes) (failed : map.FinMap nat_cmp ℕ) (n : ℕ) → step (kernel_with task0 space0 console nodes failed n) entry ≡ Some (kernel_with task' space console' nodes failed (n + 1)))
+  step_same (Ok entry) of row = step_from entry of row
+  step_same (Err x) of row = tt
+
+-- the same of one that changes its task alone
+pub step_alone : (entry : Entry) (task0 task task' : Task) (space0 space : AddressSpace) (console : List ℕ) → task ≡ task0 → space ≡ space0 → task0.life ≡ Live → task0.space ≡ 1 → task_of entry ≡ 1
+    → ((s : Parts) → run s (row_of entry (record { task = task; space = space })) ≡ Some (task_change 1 task' ∷ []))
+    → (nodes : Nodes) (failed : map.FinMap nat_cmp ℕ) (n : ℕ) → step (kernel_with task0 space0 console nodes failed n) entry ≡ Some (kernel_with task' space console nodes failed (n + 1))
+step_alone entry task0 task task' space0 space console e f l p of row =
+    step_from task0 task task' space0 space console console e f l p entry of (λ s same. inl (refl, row s))
+
+-- a machine as it was lacked memory for the first instruction
+pub part_none : (before after : Machine) → after.task ≡ before.task → after.space ≡ before.space → after.console ≡ before.console → HasRunPart before after
+part_none before after e f g = record {
+  count = 0;
+  few = omega arith;
+  has_run =
+      ran_none (going_in 1 before.space before.task.registers)
+      ∙ ap (λ (s : AddressSpace). Some (going_in 1 s before.task.registers)) (sym f)
+      ∙ ap (λ (t : Task). Some (going_in 1 after.space t.registers)) (sym e);
+  task = e ∙ ap (λ (t : Task). with_registers before.task t.registers) (sym e);
+  console = g;
+}
+
+-- what two facts of a failure say of it
+pub on_err : {T E A B C : Type 0} (r : Result T E) → (A → B → C) → OnErr r A → OnErr r B → OnErr r C
+on_err (Ok x) f a b = tt
+on_err (Err x) f a b = f a b
