@@ -1,3 +1,8 @@
 pub mod Found
 pub mod StackReads
 pub mod Stacks
+pub mod Runs
+pub mod PageBytes
+pub mod PageCounts
+pub mod Firsts
+pub mod Opened

@@ -20,12 +20,13 @@
 //! bytes below the stack's end, are choices of this project. No locks.
 #![tactic(auto)]
 
+mod counts;
 mod loading;
+mod pages;
+mod places;
 mod rights;
 mod stack;
 mod strings;
-#[cfg(test)]
-mod tests;
 mod words;
 
 pub use loading::{Loaded, load};
