@@ -6,3 +6,4 @@ pub mod PageBytes
 pub mod PageCounts
 pub mod Firsts
 pub mod Opened
+pub mod Made

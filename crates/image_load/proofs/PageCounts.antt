@@ -5,6 +5,7 @@ use Rattle.std.specs.Option.{is_some}
 use Rattle.std.specs.Cmp.{nat_cmp_total}
 use Rattle.std.specs.FinMap.{get, insert, contains_key, len, len-insert, len-empty}
 use Rattle.std.specs.Ordering.{nat_cmp}
+use Rattle.std.proofs.lemmas.Bool.{false≢true}
 use Rattle.std.proofs.lemmas.Bool.Decides.{nat_tests}
 use Rattle.sn_base.proofs.Maps.{get_of_empty}
 use Rattle.elf_image.specs.declared.image.Segment.{Segment}
@@ -30,29 +31,34 @@ laid_grows first (m ∷ ms) pages = omega (arith, laid_grows (suc first) ms page
 
 -- ---- which pages there are
 
-in_run : (all ss : List Segment) (s : Segment) (q : ℕ) → first_page s ≤ q → q < first_page s + page_count s →
-    get (segments_laid all (s ∷ ss)) q ≡ Some (image_page all q)
-in_run all ss s q low high =
-    let run = run_of (image_page all) (first_page s) (page_count s) in
-    let long = length-run (image_page all) (first_page s) (page_count s) in
-    let there : first_page s + (q - first_page s) ≡ q = omega arith in
-    get-laid_at (first_page s) run (segments_laid all ss) q low (omega (arith, long))
-    ∙ get-run (image_page all) (first_page s) (page_count s) (q - first_page s) (omega arith)
+pub in_run : (all : List Segment) (pages : Pages) (first count q : ℕ) → first ≤ q → q < first + count →
+    get (laid first (run_of (image_page all) first count) pages) q ≡ Some (image_page all q)
+in_run all pages first count q low high =
+    let there : first + (q - first) ≡ q = omega arith in
+    get-laid_at first (run_of (image_page all) first count) pages q low (omega (arith, length-run (image_page all) first count))
+    ∙ get-run (image_page all) first count (q - first) (omega arith)
     ∙ ap (λ n. Some (image_page all n)) there
 
-out_of_run : (all ss : List Segment) (s : Segment) (q : ℕ) → (q < first_page s) ⊎ (first_page s + page_count s ≤ q) →
-    get (segments_laid all (s ∷ ss)) q ≡ get (segments_laid all ss) q
-out_of_run all ss s q apart =
-    let run = run_of (image_page all) (first_page s) (page_count s) in
-    let long = length-run (image_page all) (first_page s) (page_count s) in
-    get-laid_apart (first_page s) run (segments_laid all ss) q (elim apart [ inl low ↦ inl low | inr high ↦ inr (omega (arith, long)) ])
+pub out_of_run : (all : List Segment) (pages : Pages) (first count q : ℕ) → (q < first) ⊎ (first + count ≤ q) →
+    get (laid first (run_of (image_page all) first count) pages) q ≡ get pages q
+out_of_run all pages first count q apart =
+    let long = length-run (image_page all) first count in
+    get-laid_apart first (run_of (image_page all) first count) pages q (elim apart [ inl low ↦ inl low | inr high ↦ inr (omega (arith, long)) ])
 
 -- just those that a segment meets
 pub met_there : (all ss : List Segment) (q : ℕ) → contains_key (segments_laid all ss) q ≡ is_met_by ss q
 met_there all [] q = ap is_some (get_of_empty q)
 met_there all (s ∷ ss) q = elim (where_page (first_page s) (page_count s) q) [
-  | inl w ↦ ap is_some (in_run all ss s q w.0 w.1) ∙ sym (ap (λ b. b || is_met_by ss q) w.2)
-  | inr w ↦ ap is_some (out_of_run all ss s q w.0) ∙ met_there all ss q ∙ sym (ap (λ b. b || is_met_by ss q) w.1)
+  | inl w ↦ ap is_some (in_run all (segments_laid all ss) (first_page s) (page_count s) q w.0 w.1) ∙ sym (ap (λ b. b || is_met_by ss q) w.2)
+  | inr w ↦ ap is_some (out_of_run all (segments_laid all ss) (first_page s) (page_count s) q w.0) ∙ met_there all ss q ∙ sym (ap (λ b. b || is_met_by ss q) w.1)
+]
+
+-- each of them is as it is in the image
+pub known_page : (all ss : List Segment) (q : ℕ) → contains_key (segments_laid all ss) q ≡ true → get (segments_laid all ss) q ≡ Some (image_page all q)
+known_page all [] q there = absurd (false≢true (sym (ap is_some (get_of_empty q)) ∙ there))
+known_page all (s ∷ ss) q there = elim (where_page (first_page s) (page_count s) q) [
+  | inl w ↦ in_run all (segments_laid all ss) (first_page s) (page_count s) q w.0 w.1
+  | inr w ↦ out_of_run all (segments_laid all ss) (first_page s) (page_count s) q w.0 ∙ known_page all ss q (sym (ap is_some (out_of_run all (segments_laid all ss) (first_page s) (page_count s) q w.0)) ∙ there)
 ]
 
 -- none from the page 2^25 on
@@ -61,7 +67,7 @@ none_above all [] q placed high = get_of_empty q
 none_above all (s ∷ ss) q placed high =
     let here = placed 0 s (omega arith) in
     let end : first_page s + page_count s ≤ 2 ^ 25 = omega (arith, here) in
-    out_of_run all ss s q (inr (omega arith)) ∙ none_above all ss q (λ k d below. placed (suc k) d (omega arith)) high
+    out_of_run all (segments_laid all ss) (first_page s) (page_count s) q (inr (omega arith)) ∙ none_above all ss q (λ k d below. placed (suc k) d (omega arith)) high
 
 -- ---- how many there are
 

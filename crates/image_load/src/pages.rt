@@ -1,6 +1,6 @@
 //! The pages of a program, made from its image and from the end of its stack.
 
-ghost use Rattle.std.specs.Prelude.{◌≡◌, ℕ, ◌≤◌, ◌^◌, All, IfOk, OnOk, map};
+ghost use Rattle.std.specs.Prelude.{◌≡◌, ℕ, ◌+◌, ◌-◌, ◌<◌, ◌≤◌, ◌^◌, if◌then◌else◌, All, IfOk, OnOk, map};
 ghost use Rattle.std.specs.FinMap as map_of;
 ghost use Rattle.elf_image.specs.Loadable.{first_page, page_count, IsPlaced};
 ghost use Rattle.mm_frames.specs.Frames.{bytes_of};
@@ -80,21 +80,51 @@ fn image_page(alloc: Global, segments: &[Segment], page: u64) -> Result<Page, Me
     })
 }
 
-/// The pages that a segment meets, each as it is in an image of all segments.
-fn segment_pages(alloc: Global, all: &[Segment], segment: &Segment) -> Result<Vec<Page>, Memory>
-    ensures { IfOk result (λ pages. map mapped_by pages.items
-        ≡ run_of (image_page all.now) (first_page segment.now) (page_count segment.now)) }
+/// So many pages of an image, one behind another, from the first on.
+fn image_pages(
+    alloc: Global,
+    segments: &[Segment],
+    first: u64,
+    count: u64,
+) -> Result<Vec<Page>, Memory>
+    requires { first + count ≤ 2 ^ 26 }
+    ensures { IfOk result (λ pages. map mapped_by pages.items ≡ run_of (image_page segments.now) first count) }
 {
-    let first = first_page(segment);
-    let count = page_count(segment);
     let mut pages = Vec::with_capacity(alloc, count as usize)?;
     for n in 0..count {
-        pages.push(image_page(alloc, all, first + n)?)?;
+        pages.push(image_page(alloc, segments, first + n)?)?;
     }
     Ok(pages)
 }
 
-/// Maps the pages that segments meet, a run for each of them, with the break at its start.
+/// Whether a page is mapped.
+fn is_mapped(areas: &Areas, page: u64) -> bool
+    ensures { result ≡ map_of.contains_key (mapping areas.now).pages page }
+{
+    areas.page(page).is_some()
+}
+
+/// The first of a segment's pages that is to be made: the one behind its first page where that is mapped already.
+fn first_to_make(areas: &Areas, segment: &Segment) -> u64
+    ensures { let first = first_page segment.now in
+        result ≡ first + (if map_of.contains_key (mapping areas.now).pages first then 1 else 0) }
+{
+    let first = first_page(segment);
+    first + u64::from(is_mapped(areas, first))
+}
+
+/// The number behind the last of a segment's pages that is to be made: its last page where that is mapped already.
+fn end_to_make(areas: &Areas, segment: &Segment) -> u64
+    requires { 0 < page_count segment.now }
+    ensures { let last = first_page segment.now + page_count segment.now - 1 in
+        result ≡ last + (if map_of.contains_key (mapping areas.now).pages last then 0 else 1) }
+{
+    let last = first_page(segment) + page_count(segment) - 1;
+    last + u64::from(!is_mapped(areas, last))
+}
+
+/// Maps the pages that segments meet, a run for each of them, with the break at its start. Segments that have no address
+/// in common can meet the same page only at their ends: such a page is made once.
 pub(crate) fn laid_segments(
     alloc: Global,
     all: &[Segment],
@@ -110,7 +140,10 @@ pub(crate) fn laid_segments(
         [] => Ok(Areas::new(alloc, start)),
         [first, rest @ ..] => {
             let mut areas = laid_segments(alloc, all, rest, start)?;
-            areas.lay(first_page(first), segment_pages(alloc, all, first)?)?;
+            let from = first_to_make(&areas, first);
+            let end = end_to_make(&areas, first);
+            let pages = image_pages(alloc, all, from, end.saturating_sub(from))?;
+            areas.lay(from, pages)?;
             Ok(areas)
         }
     }
