@@ -67,7 +67,8 @@ image_page segments page =
 -- a page of the stack, to be read and written
 -- execve(2); System V ABI, Process Initialization
 abbrev pub stack_page : (sp : ℕ) → List ℕ → (page : ℕ) → Mapped
-stack_page sp bytes page = record { rights = rights_of true true false; held = Bytes (page_bytes (stack_byte sp bytes) page) }
+stack_page sp bytes page =
+    record { rights = rights_of true true false; held = Bytes (page_bytes (stack_byte sp bytes) page) }
 
 -- ---- the pages of an address space
 

@@ -12,8 +12,8 @@
 //! want of memory (`fault`). `opening_stack` gives exactly `stack_pointer` and `stack_bytes` (`sp`, `bytes`), which end
 //! at 2^38 (`top`). The stack pointer is a multiple of 16 (`aligned`) that leaves room for the words below the strings
 //! (`room`), and the greatest such (`greatest`). A program that reads there finds argc, the pointers, their ends and
-//! the auxiliary vector, and follows each pointer to its string and a NUL (`read`). `page_rights` has each right exactly
-//! where the image has it, and `joined` each that one of both has (`read`, `write`, `execute`).
+//! the auxiliary vector, and follows each pointer to its string and a NUL (`read`). `page_rights` has each right
+//! exactly where the image has it, and `joined` each that one of both has (`read`, `write`, `execute`).
 //!
 //! Not said: that memory suffices, and how much is taken. That a page of no byte of the file takes none for its bytes,
 //! and that a page that two segments meet is made once, is in the code alone.

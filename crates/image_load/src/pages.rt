@@ -123,8 +123,8 @@ fn end_to_make(areas: &Areas, segment: &Segment) -> u64
     last + u64::from(!is_mapped(areas, last))
 }
 
-/// Maps the pages that segments meet, a run for each of them, with the break at its start. Segments that have no address
-/// in common can meet the same page only at their ends: such a page is made once.
+/// Maps the pages that segments meet, a run for each of them, with the break at its start. Segments that have no
+/// address in common can meet the same page only at their ends: such a page is made once.
 pub(crate) fn laid_segments(
     alloc: Global,
     all: &[Segment],
