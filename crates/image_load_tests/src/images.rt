@@ -43,7 +43,7 @@ pub fn file_of(alloc: Global, entry: u64, parts: &[Part]) -> Result<List<u8>, Fa
     put_u32(&mut file, 0)?;
     put_u16(&mut file, 64)?;
     put_u16(&mut file, 56)?;
-    put_u16(&mut file, parts.len() as u16)?;
+    put_u16(&mut file, (parts.len() % 65_536) as u16)?;
     put_u16(&mut file, 0)?;
     put_u32(&mut file, 0)?;
     for part in parts {
