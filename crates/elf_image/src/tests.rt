@@ -169,8 +169,8 @@ fn a_segment_of_no_bytes_meets_none_and_is_left_out(rt: HostRuntime) -> Result<(
 }
 
 /// Bytes of `TWO_SEGMENTS` by their places, other values there, and where its table of headers is in memory then. The
-/// table's 112 bytes are those from 64 to 176; the first segment's part of the file begins at the byte that 72 tells, has
-/// as many as 96 tells, and stands at 65,536; the second's are told by 128 and 152, and stand at 65,720.
+/// table's 112 bytes are those from 64 to 176; the first segment's part of the file begins at the byte that 72 tells,
+/// has as many as 96 tells, and stands at 65,536; the second's are told by 128 and 152, and stand at 65,720.
 const TABLES: [(&[(usize, u8)], u64); 11] = [
     (&[], 65_600),
     (&[(96, 176)], 65_600),

@@ -1,6 +1,6 @@
 -- The pages that a program begins with: those that its image's segments meet, and those of its stack.
 use Rattle.std.specs.Prelude.{ℕ, ◌+◌, ◌-◌, ◌*◌, ◌^◌, List, [], ◌∷◌, length, map, slice_index, Bool, true, false, if◌then◌else◌}
-use Rattle.std.specs.List.{range_with_len}
+use Rattle.std.specs.List.{list_any, range_with_len}
 use Rattle.std.specs.FinMap as fin
 use Rattle.elf_image.specs.declared.image.Rights.{Rights as ImageRights}
 use Rattle.elf_image.specs.declared.image.Segment.{Segment}
@@ -25,15 +25,20 @@ abbrev pub image_byte : List Segment → (address : ℕ) → ℕ
 image_byte [] address = 0
 image_byte (s ∷ ss) address = byte_over s.address s.bytes address (image_byte ss address)
 
--- the byte of a stack at an address: from the stack pointer up what stands there, and 0 below
+-- the byte of a stack at an address: what stands there from the stack pointer up, and 0 below
 -- execve(2); mmap(2), MAP_ANONYMOUS: the bytes are zeros
-abbrev pub stack_byte : ProgramStart → (address : ℕ) → ℕ
-stack_byte start address = byte_over (stack_pointer start) (stack_bytes start) address 0
+abbrev pub stack_byte : (sp : ℕ) → List ℕ → (address : ℕ) → ℕ
+stack_byte sp bytes address = byte_over sp bytes address 0
+
+-- what a function tells of so many numbers, one after another, from the first on
+-- profile
+unfoldable pub run_of : {A : Type 0} → (ℕ → A) → (first count : ℕ) → List A
+run_of tells first count = map tells (range_with_len first count)
 
 -- the bytes of a page by its number, of which each is told by its address
 -- getpagesize(2): 4,096 bytes
-unfoldable pub page_bytes : (ℕ → ℕ) → (page : ℕ) → List ℕ
-page_bytes byte page = map byte (range_with_len (4096 * page) 4096)
+abbrev pub page_bytes : (ℕ → ℕ) → (page : ℕ) → List ℕ
+page_bytes byte page = run_of byte (4096 * page) 4096
 
 -- ---- pages by their numbers
 
@@ -41,6 +46,11 @@ page_bytes byte page = map byte (range_with_len (4096 * page) 4096)
 -- ELF-64 Object File Format, p_vaddr and p_memsz; getpagesize(2)
 abbrev pub is_met : Segment → (page : ℕ) → Bool
 is_met segment page = is_within (first_page segment) (page_count segment) page
+
+-- one of these segments meets a page
+-- ELF-64 Object File Format, p_vaddr and p_memsz; getpagesize(2)
+abbrev pub is_met_by : List Segment → (page : ℕ) → Bool
+is_met_by segments page = list_any (λ segment. is_met segment page) segments
 
 -- what the segments that meet a page want of it, all together
 -- ELF-64 Object File Format, p_flags; that a page has the rights of each: profile
@@ -56,13 +66,9 @@ image_page segments page =
 
 -- a page of the stack, to be read and written
 -- execve(2); System V ABI, Process Initialization
-abbrev pub stack_page : ProgramStart → (page : ℕ) → Mapped
-stack_page start page = record { rights = rights_of true true false; held = Bytes (page_bytes (stack_byte start) page) }
-
--- so many pages one behind another, from the first on
--- mmap(2)
-unfoldable pub run_of : (ℕ → Mapped) → (first count : ℕ) → List Mapped
-run_of page first count = map page (range_with_len first count)
+abbrev pub stack_page : (sp : ℕ) → List ℕ → (page : ℕ) → Mapped
+stack_page sp bytes page =
+    record { rights = rights_of true true false; held = Bytes (page_bytes (stack_byte sp bytes) page) }
 
 -- ---- the pages of an address space
 
@@ -91,7 +97,9 @@ stack_first = 2 ^ 26 - stack_count
 -- the pages that a program begins with: its image's, and its stack's
 -- execve(2)
 unfoldable pub opening_pages : Loadable → ProgramStart → Pages
-opening_pages image start = laid stack_first (run_of (stack_page start) stack_first stack_count) (image_pages image)
+opening_pages image start =
+    let pages = run_of (stack_page (stack_pointer start) (stack_bytes start)) stack_first stack_count in
+    laid stack_first pages (image_pages image)
 
 -- how many pages a program begins with: those of its image, each of them once, and those of its stack
 -- getrlimit(2), RLIMIT_AS and RLIMIT_STACK

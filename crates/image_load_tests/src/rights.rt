@@ -1,5 +1,6 @@
 //! Rights of an image's pages, each by the bits of mmap(2).
-use super::*;
+
+use image_load::{joined, page_rights};
 use mm_areas::Rights;
 
 fn of_image(read: bool, write: bool, execute: bool) -> elf_image::Rights {
@@ -33,8 +34,7 @@ fn a_page_has_the_rights_that_its_image_has(rt: HostRuntime) {
 fn a_page_of_two_segments_has_the_rights_of_both(rt: HostRuntime) {
     let code = of_image(true, false, true);
     let heap = of_image(false, true, false);
-    let page = joined(code, heap);
-    assert!(rt; page.allows(Rights::READ | Rights::WRITE | Rights::EXECUTE));
-    let twice = joined(code, code);
-    assert!(rt; twice.allows(Rights::READ | Rights::EXECUTE) && !twice.allows(Rights::WRITE));
+    assert_eq!(rt; joined(code, heap), of_image(true, true, true));
+    assert_eq!(rt; joined(heap, heap), heap);
+    assert_eq!(rt; joined(code, code), code);
 }
