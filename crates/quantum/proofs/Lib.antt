@@ -1,0 +1,4 @@
+mod Ready
+mod RowsThere
+mod SameTask
+mod Turned

@@ -1,9 +1,10 @@
 -- What a task's instructions reach, as memory: its address space, and the shared areas that are handed in.
-use Rattle.std.specs.Prelude.{ℕ, ◌^◌, ◌%◌, ◌==◌, ◌&&◌, nat_lt, Bool, List, Option, Some, None, if◌then◌else◌}
+use Rattle.std.specs.Prelude.{ℕ, ◌^◌, ◌%◌, ◌==◌, ◌&&◌, nat_lt, Bool, false, List, length, Option, Some, None, if◌then◌else◌}
 use Rattle.std.specs.FinMap as map
 use Rattle.rv_table.specs.declared.instr.Instr.{Instr}
 use Rattle.rv_table.specs.Bytes.{Memory}
 use Rattle.rv_exec.specs.Writes.{Write, Stores, Reserves, Releases}
+use Rattle.mm_areas.specs.Contents.{bytes_at}
 use Rattle.mm_areas.specs.DecodedWords.{row_at}
 use Rattle.mm_areas.specs.Hints.{allows_at}
 use Rattle.mm_areas.specs.Pages.{Held, Bytes, PageOf, Mapped}
@@ -56,10 +57,16 @@ abbrev pub is_same : Acting → (a b : ℕ) → Bool
 is_same acting a b =
     is_same_mapped a b (map.get acting.reach.space.mapping.pages (page_number a)) (map.get acting.reach.space.mapping.pages (page_number b))
 
+-- whether bytes are a whole page's: those of a private page always are
+-- getpagesize(2): 4,096 bytes
+abbrev pub is_whole : Option (List ℕ) → Bool
+is_whole None = false
+is_whole (Some bytes) = length bytes == 4096
+
 -- the instructions of a page's words, of a private page that may be executed
 -- RISC-V Unprivileged ISA 20191213, 1.5; mmap(2), PROT_EXEC
 abbrev pub instrs_of : Acting → (page : ℕ) → Option (List (Option Instr))
 instrs_of a page =
-    if nat_lt page (2 ^ 52) && allows_at a.reach.space.mapping.pages page executable
+    if nat_lt page (2 ^ 52) && (allows_at a.reach.space.mapping.pages page executable && is_whole (bytes_at a.reach.space.mapping.pages page))
     then row_at a.reach.space.mapping.pages page
     else None

@@ -3,6 +3,8 @@ use Rattle.std.specs.Prelude.{◌≡◌, ⊤, ℕ, ◌<◌, Some}
 use Rattle.rv_exec.specs.Execution.{Calls, Traps, Touches}
 use Rattle.quantum.specs.declared.run.QuantumEnd.{QuantumEnd}
 use Rattle.quantum.specs.declared.run.QuantumEnd.TheVariants as ends
+use Rattle.quantum.specs.declared.turn.Stop.{Stop}
+use Rattle.quantum.specs.declared.turn.Stop.TheVariants as stops
 use Rattle.quantum.specs.Instructions.{Going, next_done, ran}
 
 -- so many instructions as the end tells lead from one state to the other
@@ -40,3 +42,11 @@ LacksMemory old new most (ends.Call count) = ⊤
 LacksMemory old new most (ends.Trap count signal) = ⊤
 LacksMemory old new most (ends.Shared count area) = ⊤
 LacksMemory old new most ends.Memory = (n : ℕ) × (n < most) × (ran n old ≡ Some new)
+
+-- how a run ends by what stops it, after so many instructions
+-- profile
+abbrev pub end_of : (count : ℕ) → Stop → QuantumEnd
+end_of count stops.Call = ends.Call count
+end_of count (stops.Trap signal) = ends.Trap count signal
+end_of count (stops.Shared area) = ends.Shared count area
+end_of count stops.Memory = ends.Memory

@@ -1,4 +1,5 @@
 pub mod Acting
 pub mod Ends
 pub mod Instructions
+pub mod Turns
 pub mod laws

@@ -10,7 +10,7 @@ use sn_base::Memory;
 use std::alloc::Global;
 
 /// A task at work over its address space, with the shared areas that it reaches, and guesses at where pages lie.
-#[derive(Debug, Drop)]
+#[derive(Drop)]
 pub(crate) struct Acting {
     pub(crate) alloc: Global,
     pub(crate) task: u32,
@@ -65,6 +65,7 @@ impl Mem for Acting {
         self.space.reserve(&mut self.handed, self.task, at, width)
     }
 
+    #[tactic(auto, using(crate::proofs::Ready::as_ready))]
     fn take(&mut self, at: u64, width: u8) -> bool {
         self.space.take(&mut self.handed, self.task, at, width)
     }

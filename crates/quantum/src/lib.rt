@@ -3,5 +3,6 @@
 
 mod acting;
 mod run;
+mod turn;
 
 pub use run::{QuantumEnd, run_at_most, run_quantum};

@@ -11,6 +11,7 @@ use Rattle.rv_exec.specs.Execution.{Done, Goes, Calls, Traps, Touches, by_rows, 
 use Rattle.rv_exec.specs.Flows.{FlowsAs}
 use Rattle.rv_exec.specs.Rows.{AreOfPage, IsOfRows, IsOfWord, done_if}
 use Rattle.rv_exec.specs.Writes.{Write}
+use Rattle.rv_exec.proofs.Courses.{ran_suc}
 use Rattle.rv_exec.specs.declared.flow.Flow.{Flow}
 use Rattle.rv_exec.specs.declared.flow.Flow.TheVariants as flows
 use Rattle.rv_exec.specs.declared.outcome.Step.{Step}
@@ -62,15 +63,6 @@ went_next write why (Goes q ws) r after old new h = λ i. Some (going (sym h.1 i
 went_next write why Calls r after old new h = absurd h
 went_next write why (Traps signal) r after old new h = absurd h
 went_next write why (Touches area) r after old new h = absurd h
-
-ran_suc : {State : Type 0} → (seen : State → Memory) → (write : Write → State → State) → (n : ℕ) (start : Going State)
-    → ran seen write (suc n) start ≡ option_and_then (one_more seen write) (ran seen write n start)
-unfolding ran
-ran_suc seen write n start = refl
-
-pub ran_none : {State : Type 0} → (seen : State → Memory) → (write : Write → State → State) → (start : Going State) → ran seen write 0 start ≡ Some start
-unfolding ran
-ran_none seen write start = refl
 
 pub one_more_ran : {State : Type 0} → (seen : State → Memory) → (write : Write → State → State) → (why : Step) → (n : ℕ) (start : Going State) (r after : Regs) (old new : State) (flow : Flow)
     → ran seen write n start ≡ Some (going old r) → FlowsAs write false why (exec (seen old) r) r after old new flow → flow ≡ flows.Next

@@ -1,4 +1,5 @@
 mod Accesses
+pub mod Courses
 mod Exactly
 mod InRows
 mod MovesOverMemory

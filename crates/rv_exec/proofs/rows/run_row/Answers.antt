@@ -1,12 +1,13 @@
 use Rattle.std.proofs.Common.{◌≡◌, ◌/◌, Some, refl, sym, ap, ◌∙◌}
 use Rattle.rv_exec.specs.Courses.{going}
 use Rattle.rv_exec.specs.declared.outcome.Step.TheVariants as outcomes
-use Rattle.rv_exec.proofs.InRows.{one_more_ran, ran_none}
+use Rattle.rv_exec.proofs.Courses.{ran_zero}
+use Rattle.rv_exec.proofs.InRows.{one_more_ran}
 use Rattle.rv_exec.proofs.rows.run_row.Goals as goal
 
 pub loop-count-init : goal.loop-count-init
 loop-count-init g c = record {
-  has_run = ran_none g.M.Mem.seen g.M.Mem.after (going (g.M.Mem.told c.args.mem.now) c.args.regs.now);
+  has_run = ran_zero g.M.Mem.seen g.M.Mem.after (going (g.M.Mem.told c.args.mem.now) c.args.regs.now);
   words = c.requires;
   page = refl;
   near = refl;

@@ -1,0 +1,11 @@
+pub mod Bytes
+pub mod Decoded
+pub mod Hands
+pub mod Pages
+pub mod Places
+pub mod Puts
+pub mod Reservations
+pub mod Held
+pub mod Reserving
+pub mod Stores
+pub mod Writes
