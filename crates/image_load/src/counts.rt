@@ -14,7 +14,7 @@ const MOST_PAGES: u64 = 16_320;
 
 /// Whether an image and a stack have more pages than may be mapped. It takes no memory, and goes over no more pages
 /// than may be mapped for each segment.
-pub(crate) fn has_too_many_pages(image: &Image) -> bool
+pub fn has_too_many_pages(image: &Image) -> bool
     ensures { result ≡ nat_lt most_pages (pages_mapped image.now) }
 {
     MOST_PAGES < capped_pages(image.segments.as_slice())

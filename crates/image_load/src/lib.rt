@@ -9,10 +9,11 @@
 //! Proved of `load`: it gives exactly `opening_space` (`space`) and `opening_registers` (`registers`), of as many pages
 //! as `pages_mapped` counts (`pages`). `TooBig` comes exactly where the strings are too many or too long (`faulty`),
 //! and else `Limit` exactly where there are more than 16,384 pages (`limited`), whatever the memory; else an error is
-//! want of memory (`fault`). `opening_stack` gives exactly `stack_pointer` and `stack_bytes` (`sp`, `bytes`), which end
-//! at 2^38 (`top`). The stack pointer is a multiple of 16 (`aligned`) that leaves room for the words below the strings
-//! (`room`), and the greatest such (`greatest`). A program that reads there finds argc, the pointers, their ends and
-//! the auxiliary vector, and follows each pointer to its string and a NUL (`read`). `page_rights` has each right
+//! want of memory (`fault`). `has_too_many_pages` is that test of the pages alone. `opening_stack` gives exactly
+//! `stack_pointer` and `stack_bytes` (`sp`, `bytes`), which end at 2^38 (`top`). The stack pointer is a multiple of 16
+//! (`aligned`) that leaves room for the words below the strings (`room`), and the greatest such (`greatest`). A program
+//! that reads there finds argc, the pointers, their ends and the auxiliary vector, and follows each pointer to its
+//! string and a NUL (`read`). `page_rights` has each right
 //! exactly where the image has it, and `joined` each that one of both has (`read`, `write`, `execute`).
 //!
 //! Not said: that memory suffices, and how much is taken. That a page of no byte of the file takes none for its bytes,
@@ -32,6 +33,7 @@ mod stack;
 mod strings;
 mod words;
 
+pub use counts::has_too_many_pages;
 pub use loading::{Loaded, load};
 pub use rights::{joined, page_rights};
 pub use stack::{Auxiliary, LoadErr, OpeningStack, Program, opening_stack};

@@ -55,6 +55,3 @@ pub use registers::{args_of, call_of, reply};
 pub use running::Running;
 pub use step::locality;
 pub use traps::Next;
-
-#[cfg(test)]
-mod tests;

@@ -1,7 +1,11 @@
+//! A plain kernel, by entries that fit and others that do not.
+
 ghost use Rattle.std.specs.Prelude.{◌≡◌, length, IfOk};
 
-use crate::{Args, Entry, Fresh, Given, Life, Opened, Opening, OpeningErr, Plain, Rise, locality};
 use host_node::Tree;
+use kernel_model::{
+    Args, Entry, Fresh, Given, Life, Opened, Opening, OpeningErr, Plain, Rise, locality,
+};
 use mount_file::{Mount, Mounts, Program};
 use sn_base::{List, Memory};
 use sn_errno::Errno;
@@ -27,7 +31,7 @@ const DRAWN: Drawn = Drawn {
     rise: 0,
 };
 
-fn mount_list(alloc: Global) -> Result<List<Mount>, Fail> {
+pub fn mount_list(alloc: Global) -> Result<List<Mount>, Fail> {
     let mut names = Route::new(alloc);
     names.push(name_of(alloc, b"srv")?)?;
     let mut mounts = List::new(alloc);
@@ -100,7 +104,7 @@ fn record(alloc: Global, drawn: Drawn) -> Result<Opening, Fail> {
 }
 
 /// A root that may be searched, with a node under `init`.
-fn root_of(alloc: Global, child: Option<Tree>) -> Result<List<Tree>, Fail> {
+pub fn root_of(alloc: Global, child: Option<Tree>) -> Result<List<Tree>, Fail> {
     let mut root = Tree::directory(alloc, 0o755);
     if let Some(tree) = child {
         root.put(name_of(alloc, b"init")?, tree)?;
@@ -110,7 +114,7 @@ fn root_of(alloc: Global, child: Option<Tree>) -> Result<List<Tree>, Fail> {
     Ok(trees)
 }
 
-fn guest(alloc: Global) -> Result<Option<Tree>, Fail> {
+pub fn guest(alloc: Global) -> Result<Option<Tree>, Fail> {
     Ok(Some(Tree::file(0o755, List::from_slice(alloc, &GUEST)?)))
 }
 

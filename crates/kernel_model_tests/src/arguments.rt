@@ -1,4 +1,6 @@
-use crate::is_too_long;
+//! The strings that a program may be started with.
+
+use kernel_model::is_too_long;
 use mount_file::Program;
 use sn_base::List;
 use sn_text::Text;
