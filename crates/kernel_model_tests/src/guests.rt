@@ -39,7 +39,5 @@ pub fn opened(alloc: Global, number: u32, file: &[u8]) -> Result<Running, Fail> 
     if is_too_long(&program) {
         return Err(Fail::new("too long"));
     }
-    Ok(Running::opened(
-        alloc, &[0; 32], number, &program, &image,
-    )?)
+    Ok(Running::opened(alloc, &[0; 32], number, &program, &image)?)
 }

@@ -17,7 +17,11 @@ fn a_guest_begins_with_its_pages_and_its_stack(rt: HostRuntime) -> Result<(), Fa
     let code = Rights::READ | Rights::EXECUTE;
     assert!(rt; areas.page(16).is_some_and(|page| page.rights == code));
     let stack = Rights::READ | Rights::WRITE;
-    assert!(rt; areas.page(67_108_863).is_some_and(|page| page.rights == stack));
+    assert!(rt;
+        areas
+            .page(67_108_863)
+            .is_some_and(|page| page.rights == stack)
+    );
     assert!(rt; areas.page(67_108_799).is_none());
     assert_eq!(rt; guest.task.group, 1);
     assert_eq!(rt; guest.task.space, 1);
@@ -39,8 +43,14 @@ fn a_page_of_two_segments_has_the_bytes_and_rights_of_both(rt: HostRuntime) -> R
     assert!(rt; areas.page(16).is_some_and(|page| page.rights == all));
     let some = guest.space.read(rt.alloc(), 65_536, 184)?.ok_or("no file")?;
     assert_eq!(rt; some.as_slice(), TWO_SEGMENTS.as_slice());
-    let second = guest.space.read(rt.alloc(), 65_720, 9)?.ok_or("no second segment")?;
-    assert_eq!(rt; second.as_slice(), [0x73, 0, 0, 0, 0x6f, 0, 0, 0, 0].as_slice());
+    let second = guest
+        .space
+        .read(rt.alloc(), 65_720, 9)?
+        .ok_or("no second segment")?;
+    assert_eq!(rt;
+        second.as_slice(),
+        [0x73, 0, 0, 0, 0x6f, 0, 0, 0, 0].as_slice()
+    );
     let writable = Rights::READ | Rights::WRITE;
     assert!(rt; areas.page(17).is_some_and(|page| page.rights == writable));
     Ok(())
@@ -100,9 +110,15 @@ fn what_may_not_be_executed_traps_with_signal_11(rt: HostRuntime) -> Result<(), 
         count: 0,
         next: Next::Traps(11),
     };
-    assert_eq!(rt; run(alloc, 1, &mut guest.task.registers, &mut guest.space, 10)?, traps);
+    assert_eq!(rt;
+        run(alloc, 1, &mut guest.task.registers, &mut guest.space, 10)?,
+        traps
+    );
     guest.task.registers.pc = 65_536 + 152;
-    assert_eq!(rt; next(alloc, 1, &guest.task.registers, &mut guest.space)?, Next::Traps(4));
+    assert_eq!(rt;
+        next(alloc, 1, &guest.task.registers, &mut guest.space)?,
+        Next::Traps(4)
+    );
     Ok(())
 }
 

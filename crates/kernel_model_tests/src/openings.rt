@@ -80,10 +80,13 @@ fn each_opening_task_has_its_own_strings_and_random_bytes(rt: HostRuntime) -> Re
         assert_eq!(rt; task.life, Life::Live);
         assert_eq!(rt; task.registers.read(Reg::new(2)), sp);
         let space = plain.kernel.spaces.get(number).ok_or("no space")?;
-        let argc = space.read(alloc, sp, 16)?.ok_or("no stack")?;
-        assert_eq!(rt; argc.as_slice()[..8], [1, 0, 0, 0, 0, 0, 0, 0]);
-        assert_eq!(rt; argc.as_slice()[8..], at.to_le_bytes());
-        let string = space.read(alloc, at, argument.len() as u64)?.ok_or("no string")?;
+        let argc = space.read(alloc, sp, 8)?.ok_or("no stack")?;
+        assert_eq!(rt; argc.as_slice(), [1, 0, 0, 0, 0, 0, 0, 0].as_slice());
+        let argv = space.read(alloc, sp + 8, 8)?.ok_or("no pointer")?;
+        assert_eq!(rt; argv.as_slice(), at.to_le_bytes().as_slice());
+        let string = space
+            .read(alloc, at, argument.len() as u64)?
+            .ok_or("no string")?;
         assert_eq!(rt; string.as_slice(), argument);
         let random = space.read(alloc, 0x3f_ffff_fff0, 1)?.ok_or("no end")?;
         assert_eq!(rt; random.as_slice(), [first].as_slice());
