@@ -15,8 +15,10 @@ use Rattle.kernel_model.specs.Opening.{has_room, Executed, Starts, Fails, Unfit,
 -- an execve in place answers what it does, and does its changes
 -- execve(2)
 abbrev pub Executes : Executed → Kernel → Kernel → Execved → Type 0
-Executes does before after (answers.Starts image) = (changes : List Change) × (does ≡ Starts image changes) × (after ≡ changed changes before)
-Executes does before after (answers.Fails errno) = (changes : List Change) × (does ≡ Fails errno changes) × (after ≡ changed changes before)
+Executes does before after (answers.Starts image) =
+    (changes : List Change) × (does ≡ Starts image changes) × (after ≡ changed changes before)
+Executes does before after (answers.Fails errno) =
+    (changes : List Change) × (does ≡ Fails errno changes) × (after ≡ changed changes before)
 Executes does before after answers.Unfit = does ≡ Unfit
 
 -- an execve answers with its image or its error

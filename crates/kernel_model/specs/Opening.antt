@@ -1,4 +1,4 @@
--- The opening: the state after the opening execves, from the mount file, the granted trees and the record of what was drawn and met.
+-- The opening: the state after the opening execves, from the mount file, the granted trees and the record of both.
 use Rattle.std.specs.Prelude.{ℕ, ◌+◌, ◌==◌, nat_eq, nat_lt, nat_le, List, [], ◌∷◌, length, map, drop, Bool, true, false, ◌&&◌, not, Option, Some, None, Result, Ok, Err, if◌then◌else◌}
 use Rattle.std.specs.List.{list_any}
 use Rattle.std.specs.Str.{bytes_eq}
@@ -67,7 +67,9 @@ walked_to (Known ino) = look (OfNode ino) (λ node. done (record { draws = false
 abbrev pub walked_from : List ℕ → Option Node → Prog Walked
 walked_from name None = done (record { draws = false; image = Err ENOENT })
 walked_from name (Some root) =
-    if owner_executes root.tree then walked_to (child_at name root) else done (record { draws = false; image = Err EACCES })
+    if owner_executes root.tree
+    then walked_to (child_at name root)
+    else done (record { draws = false; image = Err EACCES })
 
 -- the walk of an opening execve: one name, from the root of the mount at `/`, whose number is 1
 -- path_resolution(7); execve(2), ERRORS: EACCES, ENOENT
@@ -107,7 +109,8 @@ above_last f = nat_lt last_number f.ino
 
 abbrev pub by_walk : List ℕ → Given → Walked → Prog Executed
 by_walk name given walked =
-    if has_any given.rises then (if is_in_order given then (faulted given >>= λ changes. done (failed_by changes)) else done Unfit)
+    if has_any given.rises
+    then (if is_in_order given then (faulted given >>= λ changes. done (failed_by changes)) else done Unfit)
     else if not (draws_just walked.draws name given.fresh) then done Unfit
     else if list_any above_last given.fresh then done (Fails ENFILE [])
     else (number_all given.fresh [] >>= λ nodes. done (by_numbers walked.image nodes))
@@ -145,7 +148,14 @@ rooted first (tree ∷ trees) = map.insert (rooted (first + 1) trees) first (roo
 -- the kernel before its first task
 -- profile
 abbrev pub bare : List Shape → Kernel
-bare trees = record { tasks = map.empty; spaces = map.empty; nodes = rooted 1 trees; console = []; failed = map.empty; entries = 0 }
+bare trees = record {
+  tasks = map.empty;
+  spaces = map.empty;
+  nodes = rooted 1 trees;
+  console = [];
+  failed = map.empty;
+  entries = 0;
+}
 
 -- what the opening task of that number begins with, of this image and with its strings
 -- execve(2)
@@ -224,7 +234,8 @@ abbrev pub is_of : Mounts → Opening → Bool
 is_of mounts opening =
     same_list same_mount opening.mounts mounts.mounts
     && same_list nat_eq opening.roots (count_up 1 (length mounts.mounts))
-    && begins (same_list bytes_eq) (map (λ (o : Opened). o.words) opening.tasks) (map (λ (p : Program). p.args) mounts.tasks)
+    && begins (same_list bytes_eq) (map (λ (o : Opened). o.words) opening.tasks)
+    (map (λ (p : Program). p.args) mounts.tasks)
 
 -- the opening of a mount file over the granted trees, a directory for each mount in order
 -- profile

@@ -23,7 +23,8 @@ is_written_to descriptor = (descriptor == 1) || (descriptor == 2)
 -- bytes that come behind those of a console: it has at most 1,048,576, and takes all of them or none
 -- write(2), ENOSPC; the number: profile
 abbrev pub appended : List ℕ → List ℕ → Outcome
-appended bytes console = if nat_le (length console + length bytes) 1048576 then Writes bytes else Returns (reply_of ENOSPC)
+appended bytes console =
+    if nat_le (length console + length bytes) 1048576 then Writes bytes else Returns (reply_of ENOSPC)
 
 -- a buffer that is written to the console; one of which a byte may not be read is refused before anything is taken
 -- write(2), EFAULT

@@ -49,7 +49,8 @@ live task = look (OfTask task) found
 -- a task with other registers, and one that ended
 -- profile
 abbrev pub with_registers : Task → Regs → Task
-with_registers task registers = record { group = task.group; space = task.space; registers = registers; life = task.life }
+with_registers task registers =
+    record { group = task.group; space = task.space; registers = registers; life = task.life }
 
 abbrev pub ended : Task → Life → Task
 ended task life = record { group = task.group; space = task.space; registers = task.registers; life = life }
@@ -74,7 +75,8 @@ run_row number n r =
 -- End: the next instruction traps with that signal, which ends the group
 -- signal(7), Term; profile
 abbrev pub end_at : ℕ → ℕ → Task → Next → Option (List Change)
-end_at number signal task (Traps s) = if s == signal then Some (task_change number (ended task (Killed signal)) ∷ []) else None
+end_at number signal task (Traps s) =
+    if s == signal then Some (task_change number (ended task (Killed signal)) ∷ []) else None
 end_at number signal task Goes = None
 end_at number signal task Calls = None
 
@@ -85,27 +87,35 @@ end_row number signal r = end_at number signal r.task (next_of (acting_in number
 -- syscall(2); write(2)
 abbrev pub taken_by : ℕ → Task → List ℕ → List ℕ → List Change
 taken_by number task bytes console =
-    (OfConsole, console ++ bytes) ∷ task_change number (with_registers task (replied task.registers (pos (length bytes)))) ∷ []
+    (OfConsole, console ++ bytes)
+    ∷ task_change number (with_registers task (replied task.registers (pos (length bytes)))) ∷ []
 
 abbrev pub answered : ℕ → Task → ℤ → Outcome → Prog (Option (List Change))
 answered number task reply (Returns value) =
-    done (if int_eq reply value then Some (task_change number (with_registers task (replied task.registers value)) ∷ []) else None)
+    done (if int_eq reply value
+    then Some (task_change number (with_registers task (replied task.registers value)) ∷ [])
+    else None)
 answered number task reply (Exits code) =
     done (if int_eq reply (pos 0) then Some (task_change number (ended task (Exited code)) ∷ []) else None)
 answered number task reply (Writes bytes) =
-    if int_eq reply (pos (length bytes)) then look OfConsole (λ console. done (Some (taken_by number task bytes console))) else done None
+    if int_eq reply (pos (length bytes))
+    then look OfConsole (λ console. done (Some (taken_by number task bytes console)))
+    else done None
 
 -- a call in which a host call failed answers EIO
 -- profile
 abbrev pub with_reply : ℕ → Task → ℤ → Option (List Change) → Option (List Change)
 with_reply number task reply None = None
 with_reply number task reply (Some changes) =
-    if int_eq reply (reply_of EIO) then Some (changes ++ task_change number (with_registers task (replied task.registers (reply_of EIO))) ∷ []) else None
+    if int_eq reply (reply_of EIO)
+    then Some (changes ++ task_change number (with_registers task (replied task.registers (reply_of EIO))) ∷ [])
+    else None
 
 abbrev pub failing : ℕ → Task → ℤ → Given → Prog (Option (List Change))
 failing number task reply given = faulted given >>= λ changes. done (with_reply number task reply changes)
 
--- a call by what it met: with a rise it failed; else it draws just the numbers that its row names, and no row so far names one
+-- a call by what it met: with a rise it failed; else it draws just the numbers that its row names, and no row so far
+-- names one
 -- profile
 abbrev pub by_given : ℕ → Task → AddressSpace → ℕ → Args → ℤ → Given → Prog (Option (List Change))
 by_given number task space call args reply given =
@@ -120,7 +130,9 @@ same_args a b = (a.a0 == b.a0) && (a.a1 == b.a1) && (a.a2 == b.a2) && (a.a3 == b
 -- syscall(2), riscv; RISC-V Unprivileged ISA 20191213, 2.8
 abbrev pub at_call : ℕ → ℕ → Args → ℤ → Given → Task → AddressSpace → Next → Prog (Option (List Change))
 at_call number call args reply given task space Calls =
-    if (call_of task.registers == call) && same_args (args_of task.registers) args then by_given number task space call args reply given else done None
+    if (call_of task.registers == call) && same_args (args_of task.registers) args
+    then by_given number task space call args reply given
+    else done None
 at_call number call args reply given task space Goes = done None
 at_call number call args reply given task space (Traps signal) = done None
 
@@ -128,7 +140,8 @@ at_call number call args reply given task space (Traps signal) = done None
 -- profile
 abbrev pub row_of : Entry → Running → Prog (Option (List Change))
 row_of (Run task n) r = done (run_row task n r)
-row_of (Call task call args given reply) r = at_call task call args reply given r.task r.space (next_of (acting_in task r.space) r.task.registers)
+row_of (Call task call args given reply) r =
+    at_call task call args reply given r.task r.space (next_of (acting_in task r.space) r.task.registers)
 row_of (Sleep task) r = done None
 row_of (End task signal) r = done (end_row task signal r)
 

@@ -12,7 +12,8 @@ use rv_table::Regs;
 use sn_base::Memory;
 use std::alloc::Global;
 
-/// A run of instructions: how many they are, and what the next one does. It is `Goes` where all that were asked for ran.
+/// A run of instructions: how many they are, and what the next one does, which is `Goes` where all that were asked for
+/// ran.
 #[derive(Clone, Copy, Debug, PartialEq, Eq)]
 pub struct Ran {
     pub count: u32,

@@ -102,7 +102,8 @@ fn are_numbers(numbers: &[u64], first: u64, count: u64) -> bool
 
 /// Whether the words of tasks are the arguments of the first of the programs.
 fn begin_words(tasks: &[Opened], programs: &[Program]) -> bool
-    ensures { result ≡ begins (same_list bytes_eq) (map (λ (o : AnOpened). o.words) tasks.now) (map (λ (p : AProgram). p.args) programs.now) }
+    ensures { result ≡ begins (same_list bytes_eq) (map (λ (o : AnOpened). o.words) tasks.now)
+        (map (λ (p : AProgram). p.args) programs.now) }
 {
     let [first, others @ ..] = tasks else {
         return true;

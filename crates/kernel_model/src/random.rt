@@ -8,8 +8,8 @@ use rand_core::SeedableRng;
 use rand_core::utils::NextWord;
 
 /// The sixteen random bytes that the opening task of that number finds by `AT_RANDOM`: the first four words of the
-/// stream 2^32 plus its number, each with its lowest byte first. The seed is the mount file's: 32 bytes, or as if filled
-/// up with zeros.
+/// stream 2^32 plus its number, each with its lowest byte first. The seed is the mount file's, 32 bytes, and a shorter
+/// one is filled up with zeros.
 ///
 /// getauxval(3), AT_RANDOM.
 #[tactic(auto, using(crate::proofs::Keys::same_bytes))]

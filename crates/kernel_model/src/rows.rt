@@ -65,7 +65,8 @@ pub(crate) fn end_row(
 
 /// A task after a call that returns a value, if that is the reply.
 pub(crate) fn returned(task: Task, reply: i64, value: i64) -> Option<Task>
-    ensures { (number : ℕ) (s : Parts) → run_in s (answered number task reply (Outcome.Returns value)) ≡ one_task number result }
+    ensures { (number : ℕ) (s : Parts) →
+        run_in s (answered number task reply (Outcome.Returns value)) ≡ one_task number result }
 {
     if reply == value {
         Some(replied(task, value))
@@ -76,7 +77,8 @@ pub(crate) fn returned(task: Task, reply: i64, value: i64) -> Option<Task>
 
 /// A task whose group exits with a code, if the reply is 0.
 pub(crate) fn exited(task: Task, reply: i64, code: u8) -> Option<Task>
-    ensures { (number : ℕ) (s : Parts) → run_in s (answered number task reply (Outcome.Exits code)) ≡ one_task number result }
+    ensures { (number : ℕ) (s : Parts) →
+        run_in s (answered number task reply (Outcome.Exits code)) ≡ one_task number result }
 {
     if reply == 0 {
         Some(ended(task, Life::Exited(code)))

@@ -80,7 +80,8 @@ impl Kernel {
     /// memory leaves the kernel as it was.
     pub(crate) fn change(&mut self, alloc: Global, entry: &Entry) -> Result<bool, Memory>
         ensures fits { IfOk result (λ b. b ≡ is_some (outcome_in (parts self.old) (entry_row entry.now))) }
-        ensures ok { OnOk result (self.new ≡ unwrap_or (changed_by (outcome_in (parts self.old) (entry_row entry.now)) self.old) self.old) }
+        ensures ok { OnOk result
+            (self.new ≡ unwrap_or (changed_by (outcome_in (parts self.old) (entry_row entry.now)) self.old) self.old) }
         ensures err { OnErr result (self.new ≡ self.old) }
     {
         let number = entry.task();
@@ -187,8 +188,10 @@ impl Kernel {
     /// Answers a call by what it comes to, where the reply is that.
     fn answer(&mut self, caller: Caller, reply: i64, outcome: Outcome) -> Result<bool, Memory>
         requires { IsTrue (map.contains_key self.old.tasks caller.number) }
-        ensures fits { IfOk result (λ b. b ≡ is_some (outcome_in (parts self.old) (answered caller.number caller.task reply outcome))) }
-        ensures ok { OnOk result (self.new ≡ unwrap_or (changed_by (outcome_in (parts self.old) (answered caller.number caller.task reply outcome)) self.old) self.old) }
+        ensures fits { IfOk result (λ b.
+            b ≡ is_some (outcome_in (parts self.old) (answered caller.number caller.task reply outcome))) }
+        ensures ok { OnOk result (self.new ≡ unwrap_or (changed_by
+            (outcome_in (parts self.old) (answered caller.number caller.task reply outcome)) self.old) self.old) }
         ensures err { OnErr result (self.new ≡ self.old) }
     {
         match outcome {
@@ -207,8 +210,11 @@ impl Kernel {
     /// Takes the bytes of a write behind those of the console, where the reply is their number.
     fn take_bytes(&mut self, caller: Caller, reply: i64, bytes: &[u8]) -> Result<bool, Memory>
         requires { IsTrue (map.contains_key self.old.tasks caller.number) }
-        ensures fits { IfOk result (λ b. b ≡ is_some (outcome_in (parts self.old) (answered caller.number caller.task reply (Writes bytes.now)))) }
-        ensures ok { OnOk result (self.new ≡ unwrap_or (changed_by (outcome_in (parts self.old) (answered caller.number caller.task reply (Writes bytes.now))) self.old) self.old) }
+        ensures fits { IfOk result (λ b. b ≡ is_some
+            (outcome_in (parts self.old) (answered caller.number caller.task reply (Writes bytes.now)))) }
+        ensures ok { OnOk result (self.new ≡ unwrap_or (changed_by
+            (outcome_in (parts self.old) (answered caller.number caller.task reply (Writes bytes.now)))
+            self.old) self.old) }
         ensures err { OnErr result (self.new ≡ self.old) }
     {
         if !is_count(reply, bytes.len()) {
@@ -230,8 +236,11 @@ impl Kernel {
     ) -> Result<bool, Memory>
         requires has { IsTrue (map.contains_key self.old.tasks caller.number) }
         requires loud { is_quiet given.now ≡ false }
-        ensures fits { (space : AddressSpace) (no : ℕ) (args : AnArgs) → IfOk result (λ b. b ≡ is_some (outcome_in (parts self.old) (by_given caller.number caller.task space no args reply given.now))) }
-        ensures ok { (space : AddressSpace) (no : ℕ) (args : AnArgs) → OnOk result (self.new ≡ unwrap_or (changed_by (outcome_in (parts self.old) (by_given caller.number caller.task space no args reply given.now)) self.old) self.old) }
+        ensures fits { (space : AddressSpace) (no : ℕ) (args : AnArgs) → IfOk result (λ b. b ≡ is_some
+            (outcome_in (parts self.old) (by_given caller.number caller.task space no args reply given.now))) }
+        ensures ok { (space : AddressSpace) (no : ℕ) (args : AnArgs) → OnOk result (self.new ≡ unwrap_or (changed_by
+            (outcome_in (parts self.old) (by_given caller.number caller.task space no args reply given.now))
+            self.old) self.old) }
         ensures err { OnErr result (self.new ≡ self.old) }
     {
         if given.rises.is_empty() {
@@ -252,8 +261,10 @@ impl Kernel {
         given: &Given,
     ) -> Result<bool, Memory>
         requires { IsTrue (map.contains_key self.old.tasks caller.number) }
-        ensures fits { IfOk result (λ b. b ≡ is_some (outcome_in (parts self.old) (failing caller.number caller.task reply given.now))) }
-        ensures ok { OnOk result (self.new ≡ unwrap_or (changed_by (outcome_in (parts self.old) (failing caller.number caller.task reply given.now)) self.old) self.old) }
+        ensures fits { IfOk result (λ b.
+            b ≡ is_some (outcome_in (parts self.old) (failing caller.number caller.task reply given.now))) }
+        ensures ok { OnOk result (self.new ≡ unwrap_or (changed_by
+            (outcome_in (parts self.old) (failing caller.number caller.task reply given.now)) self.old) self.old) }
         ensures err { OnErr result (self.new ≡ self.old) }
     {
         if !is_failure(reply) {
@@ -275,7 +286,11 @@ impl Kernel {
 /// - `rest`: each part that an entry does not change holds what it held.
 /// - `touched`: what the changed parts hold after the entry depends on nothing but the parts that it reads.
 pub fn locality()
-    ensures same { (a b : AKernel) (e : AnEntry) → AgreeOn (used a e) (parts a) (parts b) → (used b e ≡ used a e) × (outcome_in (parts b) (entry_row e) ≡ outcome_in (parts a) (entry_row e)) }
-    ensures rest { (k next : AKernel) (e : AnEntry) → step k e ≡ Some next → (p : APart) → ¬ IsIn p (touches k e) → parts next p ≡ parts k p }
-    ensures touched { (a b next other : AKernel) (e : AnEntry) → AgreeOn (used a e) (parts a) (parts b) → step a e ≡ Some next → step b e ≡ Some other → (p : APart) → IsIn p (touches a e) → parts next p ≡ parts other p }
+    ensures same { (a b : AKernel) (e : AnEntry) → AgreeOn (used a e) (parts a) (parts b) →
+        (used b e ≡ used a e) × (outcome_in (parts b) (entry_row e) ≡ outcome_in (parts a) (entry_row e)) }
+    ensures rest { (k next : AKernel) (e : AnEntry) → step k e ≡ Some next →
+        (p : APart) → ¬ IsIn p (touches k e) → parts next p ≡ parts k p }
+    ensures touched { (a b next other : AKernel) (e : AnEntry) → AgreeOn (used a e) (parts a) (parts b) →
+        step a e ≡ Some next → step b e ≡ Some other →
+        (p : APart) → IsIn p (touches a e) → parts next p ≡ parts other p }
 {}

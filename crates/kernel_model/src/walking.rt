@@ -139,7 +139,8 @@ impl Kernel {
 
     /// Walks from the root of the mount at `/` to a name.
     fn walk(&self, alloc: Global, name: &[u8]) -> Result<Walk, Memory>
-        ensures { IfOk result (λ w. outcome (parts self.now) (walk_of name.now) ≡ record { draws = w.draws; image = w.image }) }
+        ensures { IfOk result (λ w.
+            outcome (parts self.now) (walk_of name.now) ≡ record { draws = w.draws; image = w.image }) }
     {
         let Some(root) = self.nodes.get(ROOT) else {
             return Ok(Walk::refused(Errno::ENOENT));
