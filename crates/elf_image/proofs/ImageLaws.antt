@@ -111,8 +111,9 @@ entry_there entry hs none = (grind (arith, nat_tests), grind (arith, nat_tests))
 
 -- the image of a file without a fault starts in its code
 pub starts_in_code : (bytes : List ℕ) (entry : ℕ) (ss : List Segment) → image_fault bytes ≡ None → entry ≡ (file_header bytes).e_entry →
-    ss ≡ segments_of bytes (program_headers bytes) → StartsInCode (record { entry = entry; segments = ss })
-starts_in_code bytes entry ss none start same =
+    ss ≡ segments_of bytes (program_headers bytes) → (headers count : ℕ) →
+    StartsInCode (record { entry = entry; segments = ss; headers = headers; header_count = count })
+starts_in_code bytes entry ss none start same headers count =
     let entered = entry_there (file_header bytes).e_entry (program_headers bytes) (without_fault bytes none).entered in
     let there = some_start bytes (file_header bytes).e_entry (program_headers bytes) entered.0 in
     record {

@@ -2,11 +2,14 @@
 use Rattle.std.specs.Prelude.{◌≡◌, ℕ, ◌+◌, ◌-◌, ◌/◌, ◌%◌, ◌^◌, ◌<◌, ◌≤◌, List, length, All, Any, IsTrue, sum_by}
 use Rattle.elf_image.specs.declared.image.Segment.{Segment}
 
--- where the image starts, and its loadable segments in the file's order
--- ELF-64 Object File Format, e_entry, PT_LOAD
+-- where the image starts, its loadable segments in the file's order, and where in memory the table of its program
+-- headers stands, of how many headers
+-- ELF-64 Object File Format, e_entry, PT_LOAD; e_phoff, e_phnum
 pub record Loadable : Type 0 where
   pub entry : ℕ
   pub segments : List Segment
+  pub headers : ℕ
+  pub header_count : ℕ
 
 -- the number of the first page of a segment
 -- getpagesize(2): 4,096 bytes

@@ -1,8 +1,9 @@
 //! The file header and the program headers, as they stand in the bytes.
 
-ghost use Rattle.std.specs.Prelude.{◌≡◌, ◌+◌, ◌≤◌, length};
+ghost use Rattle.std.specs.Prelude.{◌≡◌, ◌+◌, ◌*◌, ◌≤◌, length};
 ghost use Rattle.elf_image.specs.Faults.{is_misplaced, is_executed, meet};
 ghost use Rattle.elf_image.specs.Headers.{file_header, program_header, is_interpreter, is_load, is_loaded};
+ghost use Rattle.elf_image.specs.Images.{holds_table};
 
 use sn_bytes::{u16_at, u32_at, u64_at};
 
@@ -81,6 +82,15 @@ pub(crate) fn program_header(bytes: &[u8], offset: usize) -> ProgramHeader
     }
 }
 
+impl FileHeader {
+    /// The offset behind the program header table.
+    fn table_end(&self) -> u128
+        ensures { result ≡ self.now.e_phoff + 56 * self.now.e_phnum }
+    {
+        u128::from(self.e_phoff) + HEADER_SIZE as u128 * u128::from(self.e_phnum)
+    }
+}
+
 impl ProgramHeader {
     /// Whether the header names an interpreter.
     pub(crate) fn is_interpreter(&self) -> bool
@@ -129,6 +139,13 @@ impl ProgramHeader {
             && self.p_flags % 2 == 1
             && self.p_vaddr <= address
             && u128::from(address) < self.memory_end()
+    }
+
+    /// Whether what the segment has of the file holds the whole program header table.
+    pub(crate) fn holds_table(&self, file: &FileHeader) -> bool
+        ensures { result ≡ holds_table file.now self.now }
+    {
+        self.is_load() && self.p_offset <= file.e_phoff && file.table_end() <= self.file_end()
     }
 
     fn file_end(&self) -> u128

@@ -1,14 +1,15 @@
 //! Executable images, and how one is read from a file.
 
-ghost use Rattle.std.specs.Prelude.{◌≡◌, ◌+◌, ◌≤◌, IfOk, IfErr, OnOk, ◌∷◌, [], ◌++◌, false, length, AllPairs};
+ghost use Rattle.std.specs.Prelude.{◌≡◌, ◌+◌, ◌*◌, ◌≤◌, IfOk, IfErr, OnOk, ◌∷◌, [], ◌++◌, false, length, AllPairs};
 ghost use Rattle.std.specs.List.{list_any};
 ghost use Rattle.elf_image.specs.Faults.{is_misplaced, image_fault, IsFaultOf};
 ghost use Rattle.elf_image.specs.Loadable.{AreApart, StartsInCode};
-ghost use Rattle.elf_image.specs.Images.{rights_of, segment_of, segments_of, image_in};
+ghost use Rattle.elf_image.specs.Headers.{file_header, program_headers};
+ghost use Rattle.elf_image.specs.Images.{rights_of, segment_of, segments_of, headers_in_memory, image_in};
 ghost use Rattle.elf_image.specs.declared.fault.ImageFault.{ImageFault as Fault};
 
 use crate::fault::{ImageFault, image_fault};
-use crate::header::{ProgramHeader, file_header};
+use crate::header::{FileHeader, ProgramHeader, file_header};
 use crate::table::Headers;
 use sn_base::{List, Memory};
 use std::alloc::Global;
@@ -35,12 +36,21 @@ pub struct Segment {
     pub rights: Rights,
 }
 
-/// An executable image: where it starts, and its loadable segments in the file's order. There are at most 64, each of
-/// at least one byte and of no fewer than the file has, between the addresses 4,096 and 2^37.
+/// An executable image: where it starts, its loadable segments in the file's order, and where it finds the table of its
+/// program headers. There are at most 64 segments, each of at least one byte and of no fewer than the file has, between
+/// the addresses 4,096 and 2^37.
 #[derive(Debug, Drop)]
 pub struct Image {
     pub entry: u64,
     pub segments: List<Segment>,
+    /// The address in memory of the table of program headers, or 0 where no segment's part of the file holds all of it.
+    ///
+    /// ELF-64 Object File Format, `e_phoff`; getauxval(3), `AT_PHDR`.
+    pub headers: u64,
+    /// How many program headers there are, with those that aren't loadable.
+    ///
+    /// ELF-64 Object File Format, `e_phnum`; getauxval(3), `AT_PHNUM`.
+    pub header_count: u64,
 }
 
 impl Model for Image {
@@ -48,7 +58,12 @@ impl Model for Image {
 
     ghost Value = { Loadable };
 
-    ghost view = { λ a. record { entry = a.entry; segments = a.segments } };
+    ghost view = { λ a. record {
+      entry = a.entry;
+      segments = a.segments;
+      headers = a.headers;
+      header_count = a.header_count;
+    } };
 
     ghost invariant = { λ a. AreLoadable a.segments };
 }
@@ -74,7 +89,25 @@ pub fn read_image(alloc: Global, bytes: &[u8]) -> Result<Image, ImageFault>
     Ok(Image {
         entry: file.e_entry,
         segments,
+        headers: headers_in_memory(bytes, &file),
+        header_count: u64::from(file.e_phnum),
     })
+}
+
+/// Where the program header table stands in memory: in the first segment whose part of the file holds all of it, or 0
+/// where none does.
+fn headers_in_memory(bytes: &[u8], file: &FileHeader) -> u64
+    requires same { file.now ≡ file_header bytes.now }
+    requires inside { file.now.e_phoff + 56 * file.now.e_phnum ≤ length bytes.now }
+    requires placed { list_any (is_misplaced (length bytes.now)) (program_headers bytes.now) ≡ false }
+    ensures { result ≡ headers_in_memory file.now (program_headers bytes.now) }
+{
+    for header in Headers::new(bytes, file) {
+        if header.holds_table(file) {
+            return header.p_vaddr + (file.e_phoff - header.p_offset);
+        }
+    }
+    0
 }
 
 fn rights_of(flags: u32) -> Rights

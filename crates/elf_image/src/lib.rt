@@ -1,10 +1,12 @@
 //! Executable files: whether bytes are an ELF-64 executable for RISC-V, and the image that they are.
 //!
-//! A caller hands in a file's bytes and gets an `Image`: where the program starts, and its loadable segments
-//! in the file's order, each with its address, its size, what the file has of it, and its rights. Contracts
-//! see an image as a record of these (`Loadable`), and the bytes as the numbers that stand in them.
+//! A caller hands in a file's bytes and gets an `Image`: where the program starts, its loadable segments in the
+//! file's order, each with its address, its size, what the file has of it, and its rights, and where in memory the
+//! table of program headers stands. Contracts see an image as a record of these (`Loadable`), and the bytes as the
+//! numbers that stand in them.
 //!
-//! Proved of `read_image`: what it gives is `image_in` of the bytes (`ok`), and it gives something only where
+//! Proved of `read_image`: what it gives is `image_in` of the bytes (`ok`), with the table's address in the first
+//! segment that holds all of it, or 0 (`headers_in_memory`); and it gives something only where
 //! the bytes have no fault (`sound`); its segments have no address in common (`apart`), and it starts in one that
 //! may be executed (`starts`); a refusal tells the first fault in the order of `ImageFault`, or want of memory, for
 //! bytes without one (`fault`); bytes with a fault are refused with that one, whatever the memory (`faulty`).

@@ -167,3 +167,47 @@ fn a_segment_of_no_bytes_meets_none_and_is_left_out(rt: HostRuntime) -> Result<(
     assert_eq!(rt; image.segments.len(), 1);
     Ok(())
 }
+
+/// Bytes of `TWO_SEGMENTS` by their places, other values there, and where its table of headers is in memory then. The
+/// table's 112 bytes are those from 64 to 176; the first segment's part of the file begins at the byte that 72 tells,
+/// has as many as 96 tells, and stands at 65,536; the second's are told by 128 and 152, and stand at 65,720.
+const TABLES: [(&[(usize, u8)], u64); 11] = [
+    (&[], 65_600),
+    (&[(96, 176)], 65_600),
+    (&[(96, 175)], 0),
+    (&[(72, 64), (96, 112)], 65_536),
+    (&[(72, 65), (96, 112)], 0),
+    (&[(96, 64)], 0),
+    (&[(96, 175), (128, 64), (152, 112)], 65_720),
+    (&[(96, 175), (128, 60), (152, 124)], 65_724),
+    (&[(96, 175), (128, 60), (152, 115)], 0),
+    (&[(128, 64), (152, 112)], 65_600),
+    (
+        &[(24, 0xb8), (64, 2), (124, 7), (128, 60), (152, 124)],
+        65_724,
+    ),
+];
+
+#[test]
+fn the_table_of_headers_is_where_the_first_segment_has_all_of_it(
+    rt: HostRuntime,
+) -> Result<(), Fail> {
+    for (damages, headers) in TABLES {
+        let mut file = TWO_SEGMENTS;
+        for (place, value) in damages {
+            damage(&mut file, *place, *value);
+        }
+        let image = read_image(rt.alloc(), &file)?;
+        assert_eq!(rt; image.headers, headers, "with {damages:?}");
+        assert_eq!(rt; image.header_count, 2);
+    }
+    Ok(())
+}
+
+#[test]
+fn a_guest_of_one_segment_has_its_one_header_in_memory(rt: HostRuntime) -> Result<(), Fail> {
+    let image = read_image(rt.alloc(), &GUEST)?;
+    assert_eq!(rt; image.headers, 65_600);
+    assert_eq!(rt; image.header_count, 1);
+    Ok(())
+}

@@ -1,3 +1,9 @@
 pub mod Found
 pub mod StackReads
 pub mod Stacks
+pub mod Runs
+pub mod PageBytes
+pub mod PageCounts
+pub mod Firsts
+pub mod Opened
+pub mod Made

@@ -1,2 +1,4 @@
 pub mod PageRights
 pub mod Stacks
+pub mod Pages
+pub mod Loading

@@ -15,6 +15,19 @@ pub record ProgramStart : Type 0 where
   pub random : List ℕ
   pub auxiliary : Auxiliary
 
+-- what a program is given: its strings, and sixteen random bytes
+-- execve(2); getauxval(3), AT_RANDOM
+pub record ProgramGiven : Type 0 where
+  pub args : List (List ℕ)
+  pub env : List (List ℕ)
+  pub random : List ℕ
+
+-- what it is started with, by what it's given and what it's told of its image
+-- execve(2); getauxval(3)
+abbrev pub started : ProgramGiven → Auxiliary → ProgramStart
+started given auxiliary =
+    record { args = given.args; env = given.env; random = given.random; auxiliary = auxiliary }
+
 -- the bytes of strings that stand one after another, each with its NUL
 -- execve(2): null-terminated strings
 abbrev pub strings_bytes : List (List ℕ) → List ℕ
@@ -35,12 +48,17 @@ strings_room strings = strings_length strings + 8 * length strings
 abbrev pub IsTooBig : (args env : List (List ℕ)) → Type 0
 IsTooBig args env = (1024 < length args + length env) ⊎ (65536 < strings_room args + strings_room env)
 
+-- they are few enough, and short enough
+-- execve(2), E2BIG; the two numbers: profile
+abbrev pub AreShort : (args env : List (List ℕ)) → Type 0
+AreShort args env = (length args + length env ≤ 1024) × (strings_room args + strings_room env ≤ 65536)
+
 -- what a refusal may tell of strings: that they are too big, or want of memory where they aren't
 -- execve(2), E2BIG and ENOMEM; order of the errors: profile
 abbrev pub IsFaultOf : (args env : List (List ℕ)) → LoadErr → Type 0
 IsFaultOf args env TooBig = IsTooBig args env
 IsFaultOf args env Limit = ⊥
-IsFaultOf args env Memory = (length args + length env ≤ 1024) × (strings_room args + strings_room env ≤ 65536)
+IsFaultOf args env Memory = AreShort args env
 
 -- the first address above the stack
 -- profile

@@ -19,18 +19,18 @@ pub fn page_rights(rights: elf_image::Rights) -> Rights
     Rights::of(rights.read, rights.write, rights.execute)
 }
 
-/// The rights of a page that two segments meet.
+/// What two segments that meet a page want of it.
 ///
 /// ELF-64 Object File Format, Program Loading.
-pub fn joined(first: elf_image::Rights, second: elf_image::Rights) -> Rights
-    ensures rights { result ≡ page_rights (joined first second) }
-    ensures read { has result (record { 0 = 1 }) ≡ (first.read || second.read) }
-    ensures write { has result (record { 0 = 2 }) ≡ (first.write || second.write) }
-    ensures execute { has result (record { 0 = 4 }) ≡ (first.execute || second.execute) }
+pub fn joined(first: elf_image::Rights, second: elf_image::Rights) -> elf_image::Rights
+    ensures rights { result ≡ joined first second }
+    ensures read { result.read ≡ (first.read || second.read) }
+    ensures write { result.write ≡ (first.write || second.write) }
+    ensures execute { result.execute ≡ (first.execute || second.execute) }
 {
-    Rights::of(
-        first.read || second.read,
-        first.write || second.write,
-        first.execute || second.execute,
-    )
+    elf_image::Rights {
+        read: first.read || second.read,
+        write: first.write || second.write,
+        execute: first.execute || second.execute,
+    }
 }

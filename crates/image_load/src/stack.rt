@@ -1,7 +1,7 @@
 //! The end of an opening task's stack: its strings, and the words that tell where they stand.
 
 ghost use Rattle.std.specs.Prelude.{◌≡◌, ◌+◌, ◌%◌, ◌^◌, ◌<◌, ◌≤◌, ◌++◌, length, replicate, IfOk, IfErr, OnOk};
-ghost use Rattle.image_load.specs.Stacks.{IsFaultOf, IsStackOf, IsTooBig, ProgramStart, args_address, stack_bytes, stack_pointer, strings_room, words_length};
+ghost use Rattle.image_load.specs.Stacks.{IsFaultOf, IsStackOf, IsTooBig, ProgramStart, args_address, stack_bytes, started, stack_pointer, strings_room, words_length};
 ghost use Rattle.image_load.specs.declared.stack.LoadErr.TheVariants.{Memory as WantOfMemory};
 
 use crate::strings::{is_too_big, put_strings, strings_length};
@@ -24,27 +24,25 @@ pub struct Auxiliary {
     pub entry: u64,
 }
 
-/// What a program is started with. Contracts see it with the bytes of its strings.
+/// What a program is given. Contracts see it with the bytes of its strings (`ProgramGiven`).
 ///
 /// execve(2); getauxval(3).
 #[derive(Debug, Drop)]
-pub struct Opening<'a> {
+pub struct Program<'a> {
     /// The arguments, in order.
     pub args: &'a [Text],
     /// The environment, in order.
     pub env: &'a [Text],
-    /// What a program finds by `AT_RANDOM`.
+    /// What it finds by `AT_RANDOM`.
     pub random: [u8; 16],
-    /// What it's told of its image.
-    pub auxiliary: Auxiliary,
 }
 
-impl<'a> Model for Opening<'a> {
-    ghost use Rattle.image_load.specs.Stacks.{ProgramStart};
+impl<'a> Model for Program<'a> {
+    ghost use Rattle.image_load.specs.Stacks.{ProgramGiven};
 
-    ghost Value = { ProgramStart };
+    ghost Value = { ProgramGiven };
 
-    ghost view = { λ a. record { args = a.args.now; env = a.env.now; random = a.random; auxiliary = a.auxiliary } };
+    ghost view = { λ a. record { args = a.args.now; env = a.env.now; random = a.random } };
 }
 
 /// What stands at the end of a stack, which is at 2^38.
@@ -82,32 +80,32 @@ pub(crate) const STACK_TOP: u64 = 1 << 38;
 /// words that tell where they stand.
 ///
 /// `TooBig` comes before `Memory`, and nothing is allocated for what is refused.
-pub fn opening_stack(alloc: Global, opening: &Opening<'_>) -> Result<OpeningStack, LoadErr>
-    ensures sp { IfOk result (λ stack. stack.sp ≡ stack_pointer opening.now) }
-    ensures bytes { IfOk result (λ stack. stack.bytes ≡ stack_bytes opening.now) }
+pub fn opening_stack(
+    alloc: Global,
+    program: &Program<'_>,
+    auxiliary: &Auxiliary,
+) -> Result<OpeningStack, LoadErr>
+    ensures sp { IfOk result (λ stack. stack.sp ≡ stack_pointer (started program.now auxiliary.now)) }
+    ensures bytes { IfOk result (λ stack. stack.bytes ≡ stack_bytes (started program.now auxiliary.now)) }
     ensures aligned { IfOk result (λ stack. stack.sp % 16 ≡ 0) }
-    ensures room { IfOk result (λ stack. stack.sp + words_length opening.now ≤ args_address opening.now) }
-    ensures greatest { IfOk result (λ stack. args_address opening.now < stack.sp + words_length opening.now + 16) }
+    ensures room { let start = started program.now auxiliary.now in
+        IfOk result (λ stack. stack.sp + words_length start ≤ args_address start) }
+    ensures greatest { let start = started program.now auxiliary.now in
+        IfOk result (λ stack. args_address start < stack.sp + words_length start + 16) }
     ensures top { IfOk result (λ stack. stack.sp + length stack.bytes ≡ 2 ^ 38) }
-    ensures read { IfOk result (IsStackOf opening.now) }
-    ensures fault { IfErr result (IsFaultOf opening.now.args opening.now.env) }
-    ensures faulty { IsTooBig opening.now.args opening.now.env → result ≡ Err LoadErr.TooBig }
+    ensures read { IfOk result (IsStackOf (started program.now auxiliary.now)) }
+    ensures fault { IfErr result (IsFaultOf program.now.args program.now.env) }
+    ensures faulty { IsTooBig program.now.args program.now.env → result ≡ Err LoadErr.TooBig }
 {
-    if is_too_big(opening.args, opening.env) {
+    if is_too_big(program.args, program.env) {
         return Err(LoadErr::TooBig);
     }
-    let stack = laid_out(
-        alloc,
-        opening.args,
-        opening.env,
-        &opening.random,
-        &opening.auxiliary,
-    )?;
+    let stack = laid_out(alloc, program.args, program.env, &program.random, auxiliary)?;
     Ok(stack)
 }
 
 /// The end of the stack, of strings that aren't too big.
-fn laid_out(
+pub(crate) fn laid_out(
     alloc: Global,
     args: &[Text],
     env: &[Text],

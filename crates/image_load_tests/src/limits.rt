@@ -1,7 +1,7 @@
 //! The stack pointer at each length of a string, and strings that are just short enough and few enough.
 
 use crate::strings::{RANDOM, empty_strings, letters, stack_of};
-use image_load::{Auxiliary, LoadErr, Opening, opening_stack};
+use image_load::{Auxiliary, LoadErr, Program, opening_stack};
 use sn_bytes::u64_at;
 use std::test::Fail;
 
@@ -102,20 +102,20 @@ fn strings_may_take_65536_bytes_with_their_pointers(rt: HostRuntime) -> Result<(
 
 #[test]
 fn an_image_without_a_table_in_memory_has_0_at_phdr(rt: HostRuntime) -> Result<(), Fail> {
-    let opening = Opening {
+    let program = Program {
         args: &[],
         env: &[],
         random: RANDOM,
-        auxiliary: Auxiliary {
-            headers: 0,
-            header_count: 64,
-            entry: 0x1f_ffff_fffc,
-        },
     };
-    let Ok(stack) = opening_stack(rt.alloc(), &opening) else {
+    let auxiliary = Auxiliary {
+        headers: 0,
+        header_count: 64,
+        entry: 0x1f_ffff_fffc,
+    };
+    let Ok(stack) = opening_stack(rt.alloc(), &program, &auxiliary) else {
         panic!(rt; "no stack");
     };
-    let auxiliary = [
+    let words = [
         3,
         0,
         4,
@@ -131,7 +131,7 @@ fn an_image_without_a_table_in_memory_has_0_at_phdr(rt: HostRuntime) -> Result<(
         0,
         0,
     ];
-    for (index, word) in auxiliary.iter().enumerate() {
+    for (index, word) in words.iter().enumerate() {
         assert_eq!(rt;
             u64_at(stack.bytes.as_slice(), 8 * (3 + index)),
             Some(*word),

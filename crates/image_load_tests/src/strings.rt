@@ -1,6 +1,6 @@
 //! Strings that the tests start programs with.
 
-use image_load::{Auxiliary, LoadErr, Opening, OpeningStack, opening_stack};
+use image_load::{Auxiliary, LoadErr, OpeningStack, Program, opening_stack};
 use sn_base::List;
 use sn_text::Text;
 use std::alloc::Global;
@@ -45,11 +45,10 @@ pub fn empty_strings(alloc: Global, count: usize) -> Result<List<Text>, Fail> {
 
 /// The stack of a program with these strings.
 pub fn stack_of(alloc: Global, args: &[Text], env: &[Text]) -> Result<OpeningStack, LoadErr> {
-    let opening = Opening {
+    let program = Program {
         args,
         env,
         random: RANDOM,
-        auxiliary: AUXILIARY,
     };
-    opening_stack(alloc, &opening)
+    opening_stack(alloc, &program, &AUXILIARY)
 }

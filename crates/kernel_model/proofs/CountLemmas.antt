@@ -2,7 +2,7 @@
 use Rattle.std.proofs.Common.{◌≡◌, ℕ, zero, suc, ◌+◌, ◌-◌, ◌<◌, ◌≤◌, ◌≢◌, length, take, drop, take_all, length-drop, false, List, [], ◌∷◌, refl, ap, sym, ◌∙◌, arith, nat_eq}
 use Rattle.std.specs.Prelude.{◌&&◌, slice_index}
 use Rattle.std.proofs.lemmas.Bool.{eq-eqb, ne_eqb}
-use Rattle.kernel_model.specs.Image.{count_up}
+use Rattle.kernel_model.specs.Numbers.{count_up}
 use Rattle.kernel_model.specs.Opening.{same_list}
 
 -- the first of so many, and the others

@@ -1,11 +1,17 @@
 -- What the reading of an image tells of the image that bytes are.
-use Rattle.std.proofs.Common.{◌≡◌, ℕ, List, Option, Some, None, is_none, cond, refl, ap, sym, ◌∙◌}
+use Rattle.std.proofs.Common.{◌≡◌, ℕ, List, Option, Some, None, is_none, cond, refl, ap, sym, ◌∙◌, arith}
+use Rattle.std.specs.Prelude.{nat_le, nat_lt, not}
+use Rattle.std.proofs.lemmas.Bool.Decides.{nat_tests}
 use Rattle.elf_image.specs.declared.fault.ImageFault.{ImageFault}
 use Rattle.elf_image.specs.declared.fault.ImageFault.TheVariants.{Short, Magic, Class, Machine, Kind, Flags, Headers, Interp, Range, Overlap, Entry, Memory}
 use Rattle.elf_image.specs.declared.image.Image.{Image}
 use Rattle.elf_image.specs.Faults.{image_fault, IsFaultOf}
 use Rattle.elf_image.specs.Images.{image_in}
 use Rattle.kernel_model.specs.Image.{image_of}
+
+-- a test of the pages, the other way round
+pub room_test : (pages : ℕ) → nat_le pages 16384 ≡ not (nat_lt 16384 pages)
+room_test pages = grind (arith, nat_tests)
 
 by_fault : (bytes : List ℕ) (o : Option ImageFault) → image_fault bytes ≡ o → image_of bytes ≡ cond (is_none o) (Some (image_in bytes)) None
 unfolding image_of

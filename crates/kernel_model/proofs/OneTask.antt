@@ -11,9 +11,9 @@ use Rattle.mount_file.specs.declared.mounts.Program.{Program}
 use Rattle.kernel_model.specs.declared.opening.Opening.{Opening}
 use Rattle.kernel_model.specs.declared.opening.Given.{Given}
 use Rattle.kernel_model.specs.Parts.{run}
-use Rattle.kernel_model.specs.Image.{count_up}
+use Rattle.kernel_model.specs.Numbers.{count_up}
 use Rattle.kernel_model.specs.FileTree.{Nodes, plain, plain_node, root_node, child_node, numbered_in}
-use Rattle.kernel_model.specs.Opening.{opening_of, is_of, same_list, same_mount, same_place, same_folder, same_flag, begins, tasks_begun, task_begun, bare, execve_of, Opens, Misfits}
+use Rattle.kernel_model.specs.Opening.{opening_of, is_of, same_list, same_mount, same_place, same_folder, same_flag, begins, tasks_begun, task_begun, with_task, bare, execve_of, Opens, Misfits}
 use Rattle.kernel_model.proofs.OneRoot.{one, same_bytes}
 
 -- ---- the record of one task
@@ -55,11 +55,11 @@ record_fits m p given e f =
     words = ap (λ ps. begins (same_list bytes_eq) (p.args ∷ []) (map (λ (q : Program). q.args) ps)) f ∙ both (same_lists bytes_eq same_bytes p.args) refl
 
 -- the opening of one mount and one task is the execve of the task's program
-pub opening_by : (m : Mounts) (t : Shape) (p : Program) (given : Given) → length m.mounts ≡ 1 → m.tasks ≡ p ∷ [] → opening_of m (t ∷ []) (record_of m p given) ≡ task_begun (λ k. Opens k) 1 (bare (t ∷ [])) (run (one t) (execve_of p given))
+pub opening_by : (m : Mounts) (t : Shape) (p : Program) (given : Given) → length m.mounts ≡ 1 → m.tasks ≡ p ∷ [] → opening_of m (t ∷ []) (record_of m p given) ≡ task_begun (λ k. Opens k) (with_task m.seed 1 p) 1 (bare (t ∷ [])) (run (one t) (execve_of p given))
 unfolding opening_of
 opening_by m t p given e f =
-    ap (λ b. if b then tasks_begun 1 m.tasks (record { words = p.args; given = given } ∷ []) (bare (t ∷ [])) else Misfits 0) (record_fits m p given e f)
-    ∙ ap (λ ps. tasks_begun 1 ps (record { words = p.args; given = given } ∷ []) (bare (t ∷ []))) f
+    ap (λ b. if b then tasks_begun m.seed 1 m.tasks (record { words = p.args; given = given } ∷ []) (bare (t ∷ [])) else Misfits 0) (record_fits m p given e f)
+    ∙ ap (λ ps. tasks_begun m.seed 1 ps (record { words = p.args; given = given } ∷ []) (bare (t ∷ []))) f
 
 -- ---- the tree of the root
 

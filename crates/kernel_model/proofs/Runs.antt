@@ -1,189 +1,247 @@
--- Runs of instructions.
-use Rattle.std.proofs.Common.{◌≡◌, ℕ, suc, ◌+◌, false, List, [], ◌∷◌, Some, refl, ap, sym, ◌∙◌, ◌≢◌, add-one}
-use Rattle.std.specs.Prelude.{option_and_then}
+-- Runs of instructions: one behind another, with no shared area in hand.
+use Rattle.std.proofs.Common.{◌≡◌, ◌≢◌, ℕ, zero, suc, ◌+◌, ◌-◌, ◌≤◌, ◌<◌, Bool, true, false, cond, List, [], ◌∷◌, Option, Some, None, option_map, refl, sym, ap, ◌∙◌, subst, ◌⊎◌, inl, inr, arith, add-zero, add-one}
+use Rattle.std.specs.Prelude.{option_and_then, nat_le, ◌&&◌}
+use Rattle.std.proofs.lemmas.Bool.{le-leb}
+use Rattle.std.specs.FinMap as map
+use Rattle.rv_table.specs.declared.error.Area.{Area}
 use Rattle.rv_table.specs.declared.regs.Regs.{Regs}
-use Rattle.rv_exec.specs.Writes.{Write, all_after}
-use Rattle.rv_exec.specs.Execution.{Done, exec, StepsAs}
+use Rattle.rv_table.specs.Bytes.{behind}
+use Rattle.rv_exec.specs.Writes.{Write, Stores, Reserves, Releases, all_after}
+use Rattle.rv_exec.specs.Execution.{Done, exec}
 use Rattle.rv_exec.specs.Execution as done
-use Rattle.rv_exec.specs.declared.outcome.Step.{Step}
-use Rattle.rv_exec.specs.declared.outcome.Step.TheVariants as steps
+use Rattle.mm_areas.specs.Pages.{Held, Bytes, PageOf, Mapped}
+use Rattle.mm_space.specs.Accesses.{page_number, page_offset}
+use Rattle.mm_space.specs.Handing.{AreaState, InHand}
+use Rattle.mm_space.specs.Puts.{with_area, put_in_area, put_held, put_mapped, put_byte, put_bytes}
+use Rattle.mm_space.specs.Reserves.{reserve_in_area, reserve_held, reserve_mapped, leave_in_area, leave_held, leave_mapped}
+use Rattle.mm_space.specs.Spaces.{AddressSpace, Reach}
+use Rattle.quantum.specs.Acting.{Acting, acting_on, memory_of, after_write}
+use Rattle.rv_exec.specs.Courses as courses
+use Rattle.rv_exec.specs.Courses.{ran as ran_over}
+use Rattle.quantum.specs.Instructions.{Going, ran}
+use Rattle.kernel_model.specs.declared.kernel.Task.{Task}
+use Rattle.kernel_model.specs.declared.running.Running.{Running}
 use Rattle.kernel_model.specs.declared.traps.Next.{Next}
 use Rattle.kernel_model.specs.declared.traps.Next.TheVariants.{Goes, Calls, Traps}
-use Rattle.kernel_model.specs.Memory.{Acting, Pages, acting_on, memory_of, after_write}
-use Rattle.rv_atomic.specs.declared.reservations.Reservation.{Reservation}
-use Rattle.kernel_model.specs.declared.space.Space.{Space}
-use Rattle.kernel_model.specs.Instructions.{Going, next_by, next_of, goes_on, went_by, one_more, ran}
-use Rattle.kernel_model.specs.Drafts.{Drafting, after_drafted, going, laid_over}
+use Rattle.kernel_model.specs.Instructions.{StopsAt, next_by, next_of, goes_on}
+use Rattle.kernel_model.specs.Spaces.{acting_in, going_in, reach_of}
+use Rattle.kernel_model.specs.Parts.{Change}
+use Rattle.kernel_model.specs.Step.{after_run, run_changes, run_row, with_registers}
+
+-- ---- one behind another
+
+-- a task after an instruction's work, and after one instruction
+-- RISC-V Unprivileged ISA 20191213, 1.2
+abbrev went_by : Acting → Done → Option Going
+went_by a done = courses.went_by after_write a done
+
+abbrev one_more : Going → Option Going
+one_more g = courses.one_more memory_of after_write g
 
 -- no instruction changes nothing
 pub ran_none : (g : Going) → ran 0 g ≡ Some g
-unfolding ran
+unfolding ran_over
 ran_none g = refl
 
 -- the last of so many instructions runs behind the others
 ran_suc : (n : ℕ) (g : Going) → ran (suc n) g ≡ option_and_then one_more (ran n g)
-unfolding ran
+unfolding ran_over
 ran_suc n g = refl
 
 pub ran_last : (n : ℕ) (g : Going) → ran (n + 1) g ≡ option_and_then one_more (ran n g)
 ran_last n g = ap (λ m. ran m g) (add-one n) ∙ ran_suc n g
 
--- ---- what a step comes to, over a draft
+-- what stops runs no further
+none_further : (a : Acting) (done : Done) → goes_on (next_by done) ≡ false → went_by a done ≡ None
+none_further a (done.Goes r ws) stopped = cc
+none_further a done.Calls stopped = refl
+none_further a (done.Traps signal) stopped = refl
+none_further a (done.Touches area) stopped = refl
 
--- what a draft is told after some writes
-pub drafted : (ws : List Write) (d : Drafting) → all_after after_drafted ws d ≡ record { acting = all_after after_write ws d.acting; under = d.under }
-drafted [] d = refl
-drafted (w ∷ ws) d = drafted ws (after_drafted w d)
+stops : (g : Going) → goes_on (next_of g.acting g.registers) ≡ false → one_more g ≡ None
+stops g stopped = none_further g.acting (exec (memory_of g.acting) g.registers) stopped
 
--- the answer of a step, as that of the next instruction
-abbrev pub next_as : Step → Next
-next_as steps.Next = Goes
-next_as steps.Call = Calls
-next_as (steps.Trap signal) = Traps signal
-next_as (steps.Shared area) = Traps 11
-next_as steps.Memory = Traps 11
+-- behind an instruction that does not go on, none goes on
+none_goes_on : (n j : ℕ) (g : Going) → ran n g ≡ None → ran (n + j) g ≡ None
+none_goes_on n zero g e = ap (λ m. ran m g) (add-zero n) ∙ e
+none_goes_on n (suc j) g e =
+    let further : n + suc j ≡ n + j + 1 = omega arith in
+    ap (λ m. ran m g) further ∙ ran_last (n + j) g ∙ ap (option_and_then one_more) (none_goes_on n j g e)
 
--- the next instruction by what a step of it comes to
-pub next_is : (d d' : Drafting) (r r' : Regs) (step : Step) → StepsAs after_drafted (exec (memory_of d.acting) r) r r' d d' step → step ≢ steps.Memory → next_of d.acting r ≡ next_as step
-next_is d d' r r' step does lean = by (exec (memory_of d.acting) r) step does lean
+-- a run that stopped early is none of so many instructions
+ran_short : (n count : ℕ) (g h : Going) → ran n g ≡ Some h → n < count
+    → goes_on (next_of h.acting h.registers) ≡ false → ran count g ≡ None
+ran_short n count g h so_far short stopped =
+    let further : n + 1 + (count - (n + 1)) ≡ count = omega arith in
+    let none : ran (n + 1) g ≡ None = ran_last n g ∙ ap (option_and_then one_more) so_far ∙ stops h stopped in
+    sym (ap (λ m. ran m g) further) ∙ none_goes_on (n + 1) (count - (n + 1)) g none
+
+-- ---- with no area in hand
+
+module _ (task page offset value : ℕ) (r : Reach) (none : r.hand ≡ []) where
+  put_held_alone : (held : Held) → (put_held task page offset value held r).hand ≡ []
+  put_held_alone (Bytes bytes) = none
+  put_held_alone (PageOf name number) = ap (λ hand. with_area name (put_in_area task number offset value) hand) none
+
+  put_mapped_alone : (m : Option Mapped) → (put_mapped task page offset value m r).hand ≡ []
+  put_mapped_alone None = none
+  put_mapped_alone (Some m) = put_held_alone m.held
+
+put_byte_alone : (task address value : ℕ) (r : Reach) → r.hand ≡ [] → (put_byte task address value r).hand ≡ []
+put_byte_alone task address value r none =
+    put_mapped_alone task (page_number address) (page_offset address) value r none
+    (map.get r.space.mapping.pages (page_number address))
+
+put_bytes_alone : (task at count value : ℕ) (r : Reach) → r.hand ≡ [] → (put_bytes task at count value r).hand ≡ []
+unfolding put_bytes
+put_bytes_alone task at zero value r none = none
+put_bytes_alone task at (suc n) value r none =
+    put_byte_alone task at _ (put_bytes task (behind at) n _ r) (put_bytes_alone task (behind at) n _ r none)
+
+reserve_alone : (task offset : ℕ) (m : Option Mapped) (hand : List InHand) → hand ≡ []
+    → reserve_mapped task offset m hand ≡ []
+reserve_alone task offset None hand none = none
+reserve_alone task offset (Some m) hand none = by m.held
   where
-    by : (done : Done) (step : Step) → StepsAs after_drafted done r r' d d' step → step ≢ steps.Memory → next_by done ≡ next_as step
-    by (done.Goes q ws) steps.Next e lean = refl
-    by (done.Goes q ws) steps.Call e lean = absurd e
-    by (done.Goes q ws) (steps.Trap t) e lean = absurd e
-    by (done.Goes q ws) (steps.Shared a) e lean = absurd e
-    by done.Calls steps.Next e lean = absurd e
-    by done.Calls steps.Call e lean = refl
-    by done.Calls (steps.Trap t) e lean = absurd e
-    by done.Calls (steps.Shared a) e lean = absurd e
-    by (done.Traps s) steps.Next e lean = absurd e
-    by (done.Traps s) steps.Call e lean = absurd e
-    by (done.Traps s) (steps.Trap t) e lean = ap Traps (sym e.0)
-    by (done.Traps s) (steps.Shared a) e lean = absurd e
-    by (done.Touches b) steps.Next e lean = absurd e
-    by (done.Touches b) steps.Call e lean = absurd e
-    by (done.Touches b) (steps.Trap t) e lean = absurd e
-    by (done.Touches b) (steps.Shared a) e lean = refl
-    by done steps.Memory e lean = absurd (lean refl)
+    by : (held : Held) → reserve_held task offset held hand ≡ []
+    by (Bytes bytes) = none
+    by (PageOf name number) = ap (λ h. with_area name (reserve_in_area task number offset) h) none
 
--- the task of a draft stays, whatever is written
-same_task : (ws : List Write) (a : Acting) → (all_after after_write ws a).task ≡ a.task
-same_task [] a = refl
-same_task (w ∷ ws) a = same_task ws (after_write w a)
-
-pub task_stays : (d d' : Drafting) (r r' : Regs) (step : Step) → StepsAs after_drafted (exec (memory_of d.acting) r) r r' d d' step → d'.acting.task ≡ d.acting.task
-task_stays d d' r r' step does = by (exec (memory_of d.acting) r) step does
+leave_alone : (task : ℕ) (m : Option Mapped) (hand : List InHand) → hand ≡ [] → leave_mapped task m hand ≡ []
+leave_alone task None hand none = none
+leave_alone task (Some m) hand none = by m.held
   where
-    task_of : Drafting → ℕ
-    task_of x = x.acting.task
+    by : (held : Held) → leave_held task held hand ≡ []
+    by (Bytes bytes) = none
+    by (PageOf name number) = ap (λ h. with_area name (leave_in_area task) h) none
 
-    by : (done : Done) (step : Step) → StepsAs after_drafted done r r' d d' step → d'.acting.task ≡ d.acting.task
-    by (done.Goes q ws) steps.Next e = ap task_of (e.1 ∙ drafted ws d) ∙ same_task ws d.acting
-    by (done.Goes q ws) steps.Call e = absurd e
-    by (done.Goes q ws) (steps.Trap t) e = absurd e
-    by (done.Goes q ws) (steps.Shared a) e = absurd e
-    by (done.Goes q ws) steps.Memory e = ap task_of e.1
-    by done.Calls steps.Next e = absurd e
-    by done.Calls steps.Call e = ap task_of e.1
-    by done.Calls (steps.Trap t) e = absurd e
-    by done.Calls (steps.Shared a) e = absurd e
-    by done.Calls steps.Memory e = ap task_of e.1
-    by (done.Traps s) steps.Next e = absurd e
-    by (done.Traps s) steps.Call e = absurd e
-    by (done.Traps s) (steps.Trap t) e = ap task_of e.2
-    by (done.Traps s) (steps.Shared a) e = absurd e
-    by (done.Traps s) steps.Memory e = ap task_of e.1
-    by (done.Touches b) steps.Next e = absurd e
-    by (done.Touches b) steps.Call e = absurd e
-    by (done.Touches b) (steps.Trap t) e = absurd e
-    by (done.Touches b) (steps.Shared a) e = ap task_of e.2
-    by (done.Touches b) steps.Memory e = ap task_of e.1
+-- no write brings one into hand, and the task stays
+write_alone : (w : Write) (a : Acting) → a.reach.hand ≡ [] → (after_write w a).reach.hand ≡ []
+write_alone (Stores at width value) a none = put_bytes_alone a.task at width value a.reach none
+write_alone (Reserves at width) a none =
+    reserve_alone a.task (page_offset at) (map.get a.reach.space.mapping.pages (page_number at)) a.reach.hand none
+write_alone (Releases at) a none =
+    leave_alone a.task (map.get a.reach.space.mapping.pages (page_number at)) a.reach.hand none
 
--- the address space under a draft stays, whatever a step comes to
-pub under_stays : (d d' : Drafting) (r r' : Regs) (step : Step) → StepsAs after_drafted (exec (memory_of d.acting) r) r r' d d' step → d'.under ≡ d.under
-under_stays d d' r r' step does = by (exec (memory_of d.acting) r) step does
+writes_alone : (ws : List Write) (a : Acting) → a.reach.hand ≡ [] → (all_after after_write ws a).reach.hand ≡ []
+writes_alone [] a none = none
+writes_alone (w ∷ ws) a none = writes_alone ws (after_write w a) (write_alone w a none)
+
+one_alone : (a : Acting) (done : Done) (h : Going) → a.reach.hand ≡ [] → went_by a done ≡ Some h
+    → h.acting.reach.hand ≡ []
+one_alone a (done.Goes r ws) h none e =
+    let is : h ≡ record { acting = all_after after_write ws a; registers = r } = cc e in
+    ap (λ (g : Going). g.acting.reach.hand) is ∙ writes_alone ws a none
+one_alone a done.Calls h none e = absurd (cc e)
+one_alone a (done.Traps signal) h none e = absurd (cc e)
+one_alone a (done.Touches area) h none e = absurd (cc e)
+
+ran_alone : (n : ℕ) (g h : Going) → g.acting.reach.hand ≡ [] → ran n g ≡ Some h → h.acting.reach.hand ≡ []
+ran_alone zero g h none e =
+    let is : h ≡ g = cc (e, ran_none g) in ap (λ (x : Going). x.acting.reach.hand) is ∙ none
+ran_alone (suc n) g h none e = by (ran n g) (λ m so_far. ran_alone n g m none so_far) (sym (ran_suc n g) ∙ e)
   where
-    by : (done : Done) (step : Step) → StepsAs after_drafted done r r' d d' step → d'.under ≡ d.under
-    by (done.Goes q ws) steps.Next e = ap (λ (x : Drafting). x.under) (e.1 ∙ drafted ws d)
-    by (done.Goes q ws) steps.Call e = absurd e
-    by (done.Goes q ws) (steps.Trap t) e = absurd e
-    by (done.Goes q ws) (steps.Shared a) e = absurd e
-    by (done.Goes q ws) steps.Memory e = ap (λ (x : Drafting). x.under) e.1
-    by done.Calls steps.Next e = absurd e
-    by done.Calls steps.Call e = ap (λ (x : Drafting). x.under) e.1
-    by done.Calls (steps.Trap t) e = absurd e
-    by done.Calls (steps.Shared a) e = absurd e
-    by done.Calls steps.Memory e = ap (λ (x : Drafting). x.under) e.1
-    by (done.Traps s) steps.Next e = absurd e
-    by (done.Traps s) steps.Call e = absurd e
-    by (done.Traps s) (steps.Trap t) e = ap (λ (x : Drafting). x.under) e.2
-    by (done.Traps s) (steps.Shared a) e = absurd e
-    by (done.Traps s) steps.Memory e = ap (λ (x : Drafting). x.under) e.1
-    by (done.Touches b) steps.Next e = absurd e
-    by (done.Touches b) steps.Call e = absurd e
-    by (done.Touches b) (steps.Trap t) e = absurd e
-    by (done.Touches b) (steps.Shared a) e = ap (λ (x : Drafting). x.under) e.2
-    by (done.Touches b) steps.Memory e = ap (λ (x : Drafting). x.under) e.1
+    by : (o : Option Going) → ((m : Going) → o ≡ Some m → m.acting.reach.hand ≡ []) → option_and_then one_more o ≡ Some h → h.acting.reach.hand ≡ []
+    by None before e = absurd (cc e)
+    by (Some m) before e = one_alone m.acting (exec (memory_of m.acting) m.registers) h (before m refl) e
 
--- a step that goes on is one more instruction
-pub ran_on : (n : ℕ) (d0 d d' : Drafting) (r0 r r' : Regs) → ran n (going d0 r0) ≡ Some (going d r) → StepsAs after_drafted (exec (memory_of d.acting) r) r r' d d' steps.Next
-    → ran (n + 1) (going d0 r0) ≡ Some (going d' r')
-ran_on n d0 d d' r0 r r' so_far does =
-    ran_last n (going d0 r0) ∙ ap (option_and_then one_more) so_far ∙ by (exec (memory_of d.acting) r) does
-  where
-    by : (done : Done) → StepsAs after_drafted done r r' d d' steps.Next → went_by d.acting done ≡ Some (going d' r')
-    by (done.Goes q ws) e =
-        ap (λ (a : Acting). Some (record { acting = a; registers = q })) (sym (ap (λ (x : Drafting). x.acting) (e.1 ∙ drafted ws d)))
-        ∙ ap (λ q. Some (going d' q)) (sym e.0)
-    by done.Calls e = absurd e
-    by (done.Traps s) e = absurd e
-    by (done.Touches b) e = absurd e
+-- ---- what a run tells of the kernel
 
-stopped_next : (step : Step) → step ≢ steps.Next → goes_on (next_as step) ≡ false
-stopped_next steps.Next apart = absurd (apart refl)
-stopped_next steps.Call apart = refl
-stopped_next (steps.Trap t) apart = refl
-stopped_next (steps.Shared a) apart = refl
-stopped_next steps.Memory apart = refl
+-- a task with such memory in reach, where that is no area in hand
+alone : (task : ℕ) (r : Reach) → r.hand ≡ [] → acting_on task r ≡ acting_in task r.space
+alone task r none = ap (λ (hand : List InHand). acting_on task (record { space = r.space; hand = hand })) none
 
-same_after : (done : Done) (d d' : Drafting) (r r' : Regs) (step : Step) → StepsAs after_drafted done r r' d d' step → step ≢ steps.Next → going d' r' ≡ going d r
-same_after (done.Goes q ws) d d' r r' steps.Next e apart = absurd (apart refl)
-same_after (done.Goes q ws) d d' r r' steps.Call e apart = absurd e
-same_after (done.Goes q ws) d d' r r' (steps.Trap t) e apart = absurd e
-same_after (done.Goes q ws) d d' r r' (steps.Shared a) e apart = absurd e
-same_after (done.Goes q ws) d d' r r' steps.Memory e apart = ap (going d') e.0 ∙ ap (λ (x : Drafting). going x r) e.1
-same_after done.Calls d d' r r' steps.Next e apart = absurd (apart refl)
-same_after done.Calls d d' r r' steps.Call e apart = ap (going d') e.0 ∙ ap (λ (x : Drafting). going x r) e.1
-same_after done.Calls d d' r r' (steps.Trap t) e apart = absurd e
-same_after done.Calls d d' r r' (steps.Shared a) e apart = absurd e
-same_after done.Calls d d' r r' steps.Memory e apart = ap (going d') e.0 ∙ ap (λ (x : Drafting). going x r) e.1
-same_after (done.Traps s) d d' r r' steps.Next e apart = absurd (apart refl)
-same_after (done.Traps s) d d' r r' steps.Call e apart = absurd e
-same_after (done.Traps s) d d' r r' (steps.Trap t) e apart = ap (going d') e.1 ∙ ap (λ (x : Drafting). going x r) e.2
-same_after (done.Traps s) d d' r r' (steps.Shared a) e apart = absurd e
-same_after (done.Traps s) d d' r r' steps.Memory e apart = ap (going d') e.0 ∙ ap (λ (x : Drafting). going x r) e.1
-same_after (done.Touches b) d d' r r' steps.Next e apart = absurd (apart refl)
-same_after (done.Touches b) d d' r r' steps.Call e apart = absurd e
-same_after (done.Touches b) d d' r r' (steps.Trap t) e apart = absurd e
-same_after (done.Touches b) d d' r r' (steps.Shared a) e apart = ap (going d') e.1 ∙ ap (λ (x : Drafting). going x r) e.2
-same_after (done.Touches b) d d' r r' steps.Memory e apart = ap (going d') e.0 ∙ ap (λ (x : Drafting). going x r) e.1
+-- a run over no area in hand is one in the address space
+pub run_in_space : (n task : ℕ) (a b : Reach) (r r' : Regs) → a.hand ≡ []
+    → ran n (record { acting = acting_on task a; registers = r })
+    ≡ Some (record { acting = acting_on task b; registers = r' })
+    → ran n (going_in task a.space r) ≡ Some (going_in task b.space r')
+run_in_space n task a b r r' none told =
+    ap (λ (x : Acting). ran n (record { acting = x; registers = r })) (sym (alone task a none))
+    ∙ told
+    ∙ ap (λ (x : Acting). Some (record { acting = x; registers = r' }))
+    (alone task b (ran_alone n _ (record { acting = acting_on task b; registers = r' }) none told))
 
--- a step that does not go on leaves registers and address space, and what stands at them stops
-pub ran_stop : (n : ℕ) (d0 d d' : Drafting) (r0 r r' : Regs) (step : Step) → ran n (going d0 r0) ≡ Some (going d r) → StepsAs after_drafted (exec (memory_of d.acting) r) r r' d d' step → step ≢ steps.Next → step ≢ steps.Memory
-    → (ran n (going d0 r0) ≡ Some (going d' r')) × (goes_on (next_of d'.acting r') ≡ false)
-ran_stop n d0 d d' r0 r r' step so_far does apart lean =
-    let same : going d' r' ≡ going d r = same_after (exec (memory_of d.acting) r) d d' r r' step does apart in (
-      so_far ∙ ap Some (sym same),
-      ap (λ (g : Going). goes_on (next_of g.acting g.registers)) same ∙ ap goes_on (next_is d d' r r' step does lean) ∙ stopped_next step apart,
-    )
+-- and so is what the next instruction does there
+pub next_in_space : (n task : ℕ) (a b : Reach) (r r' : Regs) → a.hand ≡ []
+    → ran n (record { acting = acting_on task a; registers = r })
+    ≡ Some (record { acting = acting_on task b; registers = r' })
+    → next_of (acting_in task b.space) r' ≡ next_by (exec (memory_of (acting_on task b)) r')
+next_in_space n task a b r r' none told =
+    ap (λ (x : Acting). next_of x r')
+    (sym (alone task b (ran_alone n _ (record { acting = acting_on task b; registers = r' }) none told)))
 
--- ---- what a run leaves to an address space
+-- what went on neither calls nor traps
+went_on : (a : Acting) (done : Done) (h : Going) → went_by a done ≡ Some h → next_by done ≡ Goes
+went_on a (done.Goes r ws) h e = refl
+went_on a done.Calls h e = absurd (cc e)
+went_on a (done.Traps signal) h e = absurd (cc e)
+went_on a (done.Touches area) h e = absurd (cc e)
 
--- the address space that takes over what was kept of a draft is the draft's
-pub kept_is : (d : Drafting) (task : ℕ) (upper kept : Pages) (held left : List Reservation) (space under : Space) → d ≡ record { acting = acting_on task (record { pages = laid_over upper under.pages; reservations = held }); under = under } → under ≡ space
-    → kept ≡ upper → left ≡ held → d.acting ≡ acting_on task (record { pages = laid_over kept space.pages; reservations = left })
-kept_is d task upper kept held left space under is same k l =
-    ap (λ (x : Drafting). x.acting) is
-    ∙ ap (λ (u : Space). acting_on task (record { pages = laid_over upper u.pages; reservations = held })) same
-    ∙ ap (λ pages. acting_on task (record { pages = laid_over pages space.pages; reservations = held })) (sym k)
-    ∙ ap (λ rs. acting_on task (record { pages = laid_over kept space.pages; reservations = rs })) (sym l)
+-- nothing ran, so that all is as it was
+pub nothing_ran : (count : ℕ) (g h : Going) → ran count g ≡ Some h → count < 1 → h ≡ g
+nothing_ran count g h told few =
+    let none : count ≡ 0 = omega arith in
+    let start : ran count g ≡ Some g = ap (λ n. ran n g) none ∙ ran_none g in
+    cc (told, start)
+
+-- what the next instruction does, by a run of one
+pub next_told : (task : ℕ) (space after : AddressSpace) (r r' : Regs) (count : ℕ) (told : Next)
+    → ran count (going_in task space r) ≡ Some (going_in task after r')
+    → StopsAt 1 count told (next_of (acting_in task after) r') → told ≡ next_of (acting_in task space) r
+next_told task space after r r' count Goes ran_is all =
+    let g : Going = going_in task space r in
+    let one : one_more g ≡ Some (going_in task after r') =
+    sym (ran_last 0 g ∙ ap (option_and_then one_more) (ran_none g)) ∙ ap (λ n. ran n g) (sym all) ∙ ran_is in
+    sym (went_on (acting_in task space) (exec (memory_of (acting_in task space)) r) (going_in task after r') one)
+next_told task space after r r' count Calls ran_is stop =
+    let same : going_in task after r' ≡ going_in task space r = nothing_ran count _ _ ran_is stop.0 in
+    sym (sym (ap (λ (g : Going). next_of g.acting g.registers) same) ∙ stop.1)
+next_told task space after r r' count (Traps signal) ran_is stop =
+    let same : going_in task after r' ≡ going_in task space r = nothing_ran count _ _ ran_is stop.0 in
+    sym (sym (ap (λ (g : Going). next_of g.acting g.registers) same) ∙ stop.1)
+
+-- where it does not go on, the address space is as it was
+pub next_kept : (task : ℕ) (space after : AddressSpace) (r r' : Regs) (count : ℕ) (told : Next)
+    → ran count (going_in task space r) ≡ Some (going_in task after r')
+    → StopsAt 1 count told (next_of (acting_in task after) r') → goes_on told ≡ false → after ≡ space
+next_kept task space after r r' count Goes ran_is all stopped = absurd (cc stopped)
+next_kept task space after r r' count Calls ran_is stop stopped =
+    ap (λ (g : Going). g.acting.reach.space) (nothing_ran count _ _ ran_is stop.0)
+next_kept task space after r r' count (Traps signal) ran_is stop stopped =
+    ap (λ (g : Going). g.acting.reach.space) (nothing_ran count _ _ ran_is stop.0)
+
+-- ---- the row of a run
+
+module _ (number n : ℕ) (running : Running) (after : AddressSpace) (r : Regs) where
+  -- of so many instructions
+  pub row_ran : (task : Task) → ran n (going_in number running.space running.task.registers) ≡ Some (going_in number after r)
+      → 1 ≤ n → n ≤ 10000 → task ≡ with_registers running.task r
+      → run_row number n running ≡ Some (run_changes number (record { task = task; space = after }))
+  row_ran task told low high is =
+      ap (λ b. cond (b && nat_le n 10000) (option_map (λ g. run_changes number (after_run running.task g)) (ran n g)) None) (le-leb 1 n low)
+      ∙ ap (λ b. cond b (option_map (λ g. run_changes number (after_run running.task g)) (ran n g)) None) (le-leb n 10000 high)
+      ∙ ap (option_map (λ g. run_changes number (after_run running.task g))) told
+      ∙ ap (λ (t : Task). Some (run_changes number (record { task = t; space = after }))) (sym is)
+    where
+      g : Going
+      g = going_in number running.space running.task.registers
+
+  -- and of one that stopped before, which does not fit
+  pub row_short : (count : ℕ) (told : Next) → ran count (going_in number running.space running.task.registers) ≡ Some (going_in number after r)
+      → StopsAt n count told (next_of (acting_in number after) r) → count ≢ n → run_row number n running ≡ None
+  row_short count told ran_is stop apart =
+      ap (λ o. cond (nat_le 1 n && nat_le n 10000) (option_map (λ g. run_changes number (after_run running.task g)) o) None) (none told stop)
+      ∙ by (nat_le 1 n && nat_le n 10000)
+    where
+      g : Going
+      g = going_in number running.space running.task.registers
+
+      none : (told : Next) → StopsAt n count told (next_of (acting_in number after) r) → ran n g ≡ None
+      none Goes stop = absurd (apart stop)
+      none Calls stop = ran_short count n g (going_in number after r) ran_is stop.0 (ap goes_on stop.1)
+      none (Traps signal) stop = ran_short count n g (going_in number after r) ran_is stop.0 (ap goes_on stop.1)
+
+      by : (b : Bool) → cond {A = Option (List Change)} b None None ≡ None
+      by true = refl
+      by false = refl

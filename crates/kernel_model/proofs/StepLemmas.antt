@@ -6,23 +6,25 @@ use Rattle.std.specs.FinMap as map
 use Rattle.kernel_model.specs.declared.entry.Entry.{Entry}
 use Rattle.kernel_model.specs.declared.entry.Args.{Args}
 use Rattle.kernel_model.specs.declared.entry.Entry.TheVariants.{Call}
-use Rattle.kernel_model.specs.Memory.{acting_on}
+use Rattle.kernel_model.specs.Spaces.{acting_in}
 use Rattle.kernel_model.specs.Instructions.{next_of}
 use Rattle.sn_errno.specs.declared.errno.Errno.TheVariants.{EIO}
 use Rattle.kernel_model.specs.declared.kernel.Kernel.{Kernel}
 use Rattle.kernel_model.specs.declared.kernel.Task.{Task}
+use Rattle.kernel_model.specs.declared.running.Running.{Running}
 use Rattle.kernel_model.specs.declared.kernel.Part.{Part}
 use Rattle.kernel_model.specs.declared.kernel.Part.TheVariants.{OfTask, OfSpace, OfNode, OfConsole, OfFaults}
 use Rattle.kernel_model.specs.declared.opening.Given.{Given}
 use Rattle.kernel_model.specs.declared.opening.Fresh.{Fresh}
 use Rattle.kernel_model.specs.declared.traps.Next.{Next}
-use Rattle.kernel_model.specs.declared.space.Space.{Space}
+use Rattle.mm_space.specs.Spaces.{AddressSpace}
 use Rattle.kernel_model.specs.declared.traps.Next.TheVariants.{Goes, Calls, Traps}
 use Rattle.sn_errno.specs.Errors.{reply_of}
 use Rattle.kernel_model.specs.Registers.{replied}
 use Rattle.kernel_model.specs.Faulted.{has_any, is_in_order, Nodes_so_far, faulted, risen, number_all, all_known}
-use Rattle.kernel_model.specs.Step.{Running, live, task_of, if_running, row_of, entry_row, at_call, by_given, failing, with_reply, with_registers, task_change, answered, stepped, step}
+use Rattle.kernel_model.specs.Step.{live, task_of, if_running, row_of, entry_row, at_call, by_given, failing, with_reply, with_registers, task_change, answered, stepped, step}
 use Rattle.kernel_model.specs.Rows.{call_row}
+use Rattle.kernel_model.specs.declared.calls.Outcome.{Outcome}
 use Rattle.kernel_model.specs.Parts.{Holds, Parts, parts, done, run, ◌>>=◌, Change, put, changed}
 use Rattle.kernel_model.specs.InPlace.{with_nodes, numbered, changed_by, is_quiet, stands_at}
 use Rattle.kernel_model.proofs.OneRoot.{run_bind}
@@ -42,13 +44,13 @@ when_live s e number r same some = run_entry s e ∙ ap (λ n. run s (if_running
 
 -- ---- a call
 
-pub stands : (s : Parts) (number call : ℕ) (args : Args) (reply : ℤ) (given : Given) (task : Task) (space : Space) (next : Next) → stands_at call args task next ≡ true
+pub stands : (s : Parts) (number call : ℕ) (args : Args) (reply : ℤ) (given : Given) (task : Task) (space : AddressSpace) (next : Next) → stands_at call args task next ≡ true
     → run s (at_call number call args reply given task space next) ≡ run s (by_given number task space call args reply given)
 stands s number call args reply given task space Calls e = ap (λ b. run s (cond b (by_given number task space call args reply given) (done None))) e
 stands s number call args reply given task space Goes e = absurd (cc e)
 stands s number call args reply given task space (Traps signal) e = absurd (cc e)
 
-pub stands_not : (s : Parts) (number call : ℕ) (args : Args) (reply : ℤ) (given : Given) (task : Task) (space : Space) (next : Next) → stands_at call args task next ≡ false
+pub stands_not : (s : Parts) (number call : ℕ) (args : Args) (reply : ℤ) (given : Given) (task : Task) (space : AddressSpace) (next : Next) → stands_at call args task next ≡ false
     → run s (at_call number call args reply given task space next) ≡ None
 stands_not s number call args reply given task space Calls e = ap (λ b. run s (cond b (by_given number task space call args reply given) (done None))) e
 stands_not s number call args reply given task space Goes e = refl
@@ -60,7 +62,7 @@ has_any_not [] b e = ap not (sym (e.1 refl))
 has_any_not (x ∷ xs) true e = absurd (cc (e.0 refl))
 has_any_not (x ∷ xs) false e = refl
 
-module _ (s : Parts) (number : ℕ) (task : Task) (space : Space) (call : ℕ) (args : Args) (reply : ℤ) (given : Given) where
+module _ (s : Parts) (number : ℕ) (task : Task) (space : AddressSpace) (call : ℕ) (args : Args) (reply : ℤ) (given : Given) where
   -- a call with a rise failed,
   pub call_failing : has_any given.rises ≡ true → is_in_order given ≡ true → run s (by_given number task space call args reply given) ≡ run s (failing number task reply given)
   call_failing h o =
@@ -86,7 +88,7 @@ module _ (s : Parts) (number : ℕ) (task : Task) (space : Space) (call : ℕ) (
       ∙ run_bind s (call_row call args space) (answered number task reply)
 
 -- a call that drew nothing and met nothing is answered
-pub call_quiet : (s : Parts) (number : ℕ) (task : Task) (space : Space) (call : ℕ) (args : Args) (reply : ℤ) (given : Given) → is_quiet given ≡ true
+pub call_quiet : (s : Parts) (number : ℕ) (task : Task) (space : AddressSpace) (call : ℕ) (args : Args) (reply : ℤ) (given : Given) → is_quiet given ≡ true
     → run s (by_given number task space call args reply given) ≡ run s (answered number task reply (run s (call_row call args space)))
 call_quiet s number task space call args reply given h = by (has_any given.rises) (has_any given.fresh) refl refl h
   where
@@ -202,17 +204,38 @@ pub task_put : (k : Kernel) (number key : ℕ) (after task : Task) (tasks : map.
 task_put k number key after task tasks is same to = ap (λ m. record k { tasks = m }) (is ∙ ap (λ q. map.insert k.tasks q after) same ∙ ap (map.insert k.tasks number) to)
 
 -- a task that stands at a call, by the number that it was found under
-pub stands_as : (number n call : ℕ) (args : Args) (task : Task) (space : Space) (b : Bool) → n ≡ number → b ≡ stands_at call args task (next_of (acting_on n space) task.registers) → b ≡ true → stands_at call args task (next_of (acting_on number space) task.registers) ≡ true
-stands_as number n call args task space b same is holds = ap (λ x. stands_at call args task (next_of (acting_on x space) task.registers)) (sym same) ∙ sym is ∙ holds
+pub stands_as : (number n call : ℕ) (args : Args) (task : Task) (space : AddressSpace) (b : Bool) → n ≡ number → b ≡ stands_at call args task (next_of (acting_in n space) task.registers) → b ≡ true → stands_at call args task (next_of (acting_in number space) task.registers) ≡ true
+stands_as number n call args task space b same is holds = ap (λ x. stands_at call args task (next_of (acting_in x space) task.registers)) (sym same) ∙ sym is ∙ holds
 
 -- an entry of a call that its task stands at
 pub call_is : (s : Parts) (e : Entry) (number : ℕ) (r : Running) (task call : ℕ) (args : Args) (given : Given) (reply : ℤ) → number ≡ task_of e → run s (live number) ≡ Some r → e ≡ Call task call args given reply
-    → stands_at call args r.task (next_of (acting_on number r.space) r.task.registers) ≡ true → run s (entry_row e) ≡ run s (by_given number r.task r.space call args reply given)
+    → stands_at call args r.task (next_of (acting_in number r.space) r.task.registers) ≡ true → run s (entry_row e) ≡ run s (by_given number r.task r.space call args reply given)
 call_is s e number r task call args given reply same some is at =
     when_live s e number r same some
     ∙ ap (λ x. run s (row_of x r)) is
-    ∙ ap (λ n. run s (at_call n call args reply given r.task r.space (next_of (acting_on n r.space) r.task.registers))) (sym (same ∙ ap task_of is))
-    ∙ stands s number call args reply given r.task r.space (next_of (acting_on number r.space) r.task.registers) at
+    ∙ ap (λ n. run s (at_call n call args reply given r.task r.space (next_of (acting_in n r.space) r.task.registers))) (sym (same ∙ ap task_of is))
+    ∙ stands s number call args reply given r.task r.space (next_of (acting_in number r.space) r.task.registers) at
+
+-- the row of a call that its task stands at, where the kernel was kept as it was
+module _ (k kept : Kernel) (e : Entry) (number task no : ℕ) (args : Args) (given : Given) (reply told : ℤ) (running : Running)
+    (same : kept ≡ k) (of : number ≡ task_of e) (some : run (parts k) (live number) ≡ Some running)
+    (is : e ≡ Call task no args given reply) (value : told ≡ reply)
+    (at : stands_at no args running.task (next_of (acting_in number running.space) running.task.registers) ≡ true) where
+  pub row_given : run (parts k) (entry_row e) ≡ run (parts kept) (by_given number running.task running.space no args told given)
+  row_given =
+      call_is (parts k) e number running task no args given reply of some is at
+      ∙ ap (λ v. run (parts k) (by_given number running.task running.space no args v given)) (sym value)
+      ∙ ap (λ x. run (parts x) (by_given number running.task running.space no args told given)) (sym same)
+
+  -- that drew nothing and met nothing: by what it comes to
+  pub row_quiet : (space : AddressSpace) (o : Outcome) → space ≡ running.space → is_quiet given ≡ true
+      → run (parts kept) (call_row no args space) ≡ o
+      → run (parts k) (entry_row e) ≡ run (parts kept) (answered number running.task told o)
+  row_quiet space o here quiet row =
+      row_given
+      ∙ call_quiet (parts kept) number running.task running.space no args told given quiet
+      ∙ ap (λ x. run (parts kept) (answered number running.task told x))
+      (ap (λ s. run (parts kept) (call_row no args s)) (sym here) ∙ row)
 
 -- ---- a whole step
 

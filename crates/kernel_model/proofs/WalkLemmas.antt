@@ -1,6 +1,6 @@
 -- An opening execve, piece by piece.
 use Rattle.std.proofs.Common.{◌≡◌, ℕ, Bool, true, false, cond, List, [], Option, Some, None, Result, refl, ap, sym, ◌∙◌, subst, option_map}
-use Rattle.std.specs.Prelude.{not, IfOk}
+use Rattle.std.specs.Prelude.{Ok, Err, not, IfOk}
 use Rattle.sn_base.specs.declared.memory.Memory.{Memory}
 use Rattle.std.specs.List.{list_any}
 use Rattle.sn_errno.specs.declared.errno.Errno.{Errno}
@@ -16,7 +16,7 @@ use Rattle.kernel_model.specs.Parts.{parts, done, run, ◌>>=◌, Change, change
 use Rattle.kernel_model.specs.InPlace.{with_nodes, numbered, changed_by}
 use Rattle.kernel_model.specs.declared.walking.Execved.{Execved}
 use Rattle.kernel_model.specs.declared.walking.Execved.TheVariants as answers
-use Rattle.kernel_model.specs.Beginnings.{Executes, IsByImage}
+use Rattle.kernel_model.specs.Beginnings.{Executes, IsByImage, IsFrom, MayStart, fits}
 use Rattle.kernel_model.proofs.OneRoot.{run_bind}
 
 -- an execve that is not refused before it walks does as its walk comes out
@@ -86,6 +86,22 @@ pub executes_by : (does : Executed) (before after : Kernel) (image : Result Imag
 executes_by does before after image (answers.Starts elf) is (changes, e, a) = (changes, e ∙ ap (λ i. by_image i changes) is, a)
 executes_by does before after image (answers.Fails errno) is (changes, e, a) = (changes, e ∙ ap (λ i. by_image i changes) is, a)
 executes_by does before after image answers.Unfit is c = absurd is
+
+-- what an execve starts where its strings are too long: nothing
+pub none_starts : (program : Program) (errno : Errno) (image : Result Image Errno) (r : Result Execved Memory) → image ≡ Err errno
+    → IfOk r (IsFrom image) → IfOk r (MayStart program)
+none_starts program errno image (Err e) refused from = tt
+none_starts program errno image (Ok (answers.Starts elf)) refused from = absurd (cc (refused, from))
+none_starts program errno image (Ok (answers.Fails e)) refused from = tt
+none_starts program errno image (Ok answers.Unfit) refused from = tt
+
+-- and where they are not: an image that may be mapped
+pub fitting_starts : (program : Program) (image : Result Image Errno) (r : Result Execved Memory)
+    → is_too_long program.args program.env ≡ false → fits image ≡ true → IfOk r (IsFrom image) → IfOk r (MayStart program)
+fitting_starts program image (Err e) short room from = tt
+fitting_starts program image (Ok (answers.Starts elf)) short room from = (short, sym (ap fits from) ∙ room)
+fitting_starts program image (Ok (answers.Fails e)) short room from = tt
+fitting_starts program image (Ok answers.Unfit) short room from = tt
 
 -- what an execve in place does where its strings are too long
 pub as_refused : (k after : Kernel) (program : Program) (name : List ℕ) (given : Given) (draws : Bool) (image : Result Image Errno) (r : Result Execved Memory) → is_too_long program.args program.env ≡ true → name ≡ name_in_path program.path

@@ -34,7 +34,8 @@ nodes_of rises = map (λ (r : Rise). r.ino) rises
 -- profile
 abbrev pub is_in_order : Given → Bool
 is_in_order given =
-    ascend_from 0 (numbers_of given.fresh) && ascend_from 0 (nodes_of given.rises) && list_all (λ (r : Rise). nat_lt 0 r.count) given.rises
+    ascend_from 0 (numbers_of given.fresh) && ascend_from 0 (nodes_of given.rises)
+    && list_all (λ (r : Rise). nat_lt 0 r.count) given.rises
 
 -- nodes that a step has changed so far, the latest first
 -- profile
@@ -54,7 +55,8 @@ node_by None ino = look (OfNode ino) (λ node. done node)
 abbrev pub node_now : Nodes_so_far → ℕ → Prog (Option Node)
 node_now nodes ino = node_by (node_in ino nodes) ino
 
--- a child that is there and has no number gets one, where the number is free; one above the greatest is drawn and given to no node
+-- a child that is there and has no number gets one, where the number is free; one above the greatest is drawn and given
+-- to no node
 -- inode(7), st_ino; profile
 abbrev pub given_number : Nodes_so_far → Fresh → Node → Option Node → Child → Option Nodes_so_far
 given_number nodes fresh dir None (Unnumbered shape) =
@@ -68,7 +70,8 @@ number_at nodes fresh None taken = None
 number_at nodes fresh (Some dir) taken = given_number nodes fresh dir taken (child_at fresh.name dir)
 
 abbrev pub number_one : Nodes_so_far → Fresh → Prog (Option Nodes_so_far)
-number_one nodes fresh = node_now nodes fresh.dir >>= λ dir. node_now nodes fresh.ino >>= λ taken. done (number_at nodes fresh dir taken)
+number_one nodes fresh =
+    node_now nodes fresh.dir >>= λ dir. node_now nodes fresh.ino >>= λ taken. done (number_at nodes fresh dir taken)
 
 -- each fresh number in turn
 -- profile
@@ -84,7 +87,8 @@ number_all (f ∷ fresh) nodes = number_one nodes f >>= number_next (number_all 
 -- profile
 abbrev pub all_known : List Rise → Nodes_so_far → Prog Bool
 all_known [] nodes = done true
-all_known (r ∷ rises) nodes = node_now nodes r.ino >>= λ node. all_known rises nodes >>= λ rest. done (is_some node && rest)
+all_known (r ∷ rises) nodes =
+    node_now nodes r.ino >>= λ node. all_known rises nodes >>= λ rest. done (is_some node && rest)
 
 -- a count after a rise, by number
 -- profile: counts stop at 2^64 - 1
@@ -102,7 +106,8 @@ node_changes (entry ∷ entries) = node_changes entries ++ (OfNode entry.0, Some
 -- profile
 abbrev pub met : Given → Option Nodes_so_far → Bool → map.FinMap nat_cmp ℕ → Option (List Change)
 met given None known failed = None
-met given (Some nodes) known failed = if known then Some (node_changes nodes ++ (OfFaults, risen given.rises failed) ∷ []) else None
+met given (Some nodes) known failed =
+    if known then Some (node_changes nodes ++ (OfFaults, risen given.rises failed) ∷ []) else None
 
 abbrev pub all_known_in : List Rise → Option Nodes_so_far → Prog Bool
 all_known_in rises None = done false
@@ -110,4 +115,5 @@ all_known_in rises (Some nodes) = all_known rises nodes
 
 abbrev pub faulted : Given → Prog (Option (List Change))
 faulted given =
-    number_all given.fresh [] >>= λ nodes. all_known_in given.rises nodes >>= λ known. look OfFaults (λ failed. done (met given nodes known failed))
+    number_all given.fresh [] >>= λ nodes. all_known_in given.rises nodes >>= λ known.
+    look OfFaults (λ failed. done (met given nodes known failed))

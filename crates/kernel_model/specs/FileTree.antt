@@ -79,7 +79,8 @@ put_back plain_of (entry ∷ entries) shape = put_back plain_of entries (with_pl
 -- the tree of a node: what it holds, with its count of faults as it is now and its numbered children in their places
 -- inode(7)
 abbrev pub plain_node : (ℕ → Option Shape) → (ℕ → ℕ → ℕ) → ℕ → Node → Shape
-plain_node plain_of count ino node = put_back plain_of node.numbers (with_faults (count ino (faults_of node.tree)) node.tree)
+plain_node plain_of count ino node =
+    put_back plain_of node.numbers (with_faults (count ino (faults_of node.tree)) node.tree)
 
 -- the tree of the node of a number, without numbers; `count` gives its count of faults by its number and the count as
 -- it was granted. At most 65,536 nodes have numbers, so that no path through them is longer

@@ -8,10 +8,11 @@ use Rattle.kernel_model.specs.declared.kernel.Kernel.{Kernel}
 use Rattle.kernel_model.specs.declared.kernel.Task.{Task}
 use Rattle.kernel_model.specs.declared.kernel.Life.{Life}
 use Rattle.kernel_model.specs.declared.kernel.Life.TheVariants.{Live, Exited, Killed}
-use Rattle.kernel_model.specs.Memory.{acting_on}
+use Rattle.kernel_model.specs.Spaces.{acting_in}
 use Rattle.kernel_model.specs.Instructions.{next_of, goes_on}
 use Rattle.kernel_model.specs.Parts.{parts, run}
-use Rattle.kernel_model.specs.Step.{Running, live, step}
+use Rattle.kernel_model.specs.declared.running.Running.{Running}
+use Rattle.kernel_model.specs.Step.{live, step}
 
 -- the state after a list of entries, where each of their steps is defined
 -- profile
@@ -23,7 +24,7 @@ replay k (entry ∷ entries) = option_and_then (λ (next : Kernel). replay next 
 -- RISC-V Unprivileged ISA 20191213, 1.6, Exceptions, Traps, and Interrupts
 abbrev pub has_next : ℕ → Option Running → Bool
 has_next task None = false
-has_next task (Some r) = goes_on (next_of (acting_on task r.space) r.task.registers)
+has_next task (Some r) = goes_on (next_of (acting_in task r.space) r.task.registers)
 
 -- a Run is whole in the state that it leaves: it has 10,000 instructions, or the next one calls or traps
 -- profile

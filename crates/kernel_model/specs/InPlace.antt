@@ -16,7 +16,8 @@ use Rattle.kernel_model.specs.Registers.{args_of, call_of}
 use Rattle.kernel_model.specs.FileTree.{number_in}
 use Rattle.kernel_model.specs.Faulted.{has_any, Nodes_so_far, number_all, node_changes}
 use Rattle.kernel_model.specs.Parts.{parts, run, Change, changed}
-use Rattle.kernel_model.specs.Step.{task_change, same_args}
+use Rattle.kernel_model.specs.declared.running.Running.{Running}
+use Rattle.kernel_model.specs.Step.{run_changes, task_change, same_args}
 
 -- the kernel after changes, or None where there are none to do
 -- profile
@@ -60,6 +61,11 @@ is_quiet given = not (has_any given.rises) && not (has_any given.fresh)
 -- profile
 abbrev pub one_task : ℕ → Option Task → Option (List Change)
 one_task number task = option_map (λ (t : Task). task_change number t ∷ []) task
+
+-- the changes of a run that leaves its task and its address space so
+-- profile
+abbrev pub one_run : ℕ → Option Running → Option (List Change)
+one_run number after = option_map (run_changes number) after
 
 -- a task stands at a call of that number, with those arguments
 -- syscall(2), riscv; RISC-V Unprivileged ISA 20191213, 2.8

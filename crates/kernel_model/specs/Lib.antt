@@ -1,13 +1,9 @@
 pub mod Registers
-pub mod Memory
+pub mod SpaceCodes
+pub mod Spaces
 pub mod Instructions
-pub mod Drafts
-pub mod Drafted
-pub mod PutLaws
-pub mod PageLaws
-pub mod WriteLaws
+pub mod Random
 pub mod Image
-pub mod PageNumbers
 pub mod FileTree
 pub mod Parts
 pub mod Rows
@@ -15,9 +11,7 @@ pub mod Faulted
 pub mod Step
 pub mod History
 pub mod Words
-pub mod InPage
 pub mod InPlace
-pub mod AfterRuns
 pub mod Beginnings
 pub mod Printed
 pub mod Arguments

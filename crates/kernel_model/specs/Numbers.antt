@@ -1,5 +1,5 @@
 -- The inode numbers that a run drew.
-use Rattle.std.specs.Prelude.{◌≡◌, ℕ, ◌≤◌, ◌<◌, List, [], ◌++◌, length, Contains}
+use Rattle.std.specs.Prelude.{◌≡◌, ℕ, zero, suc, ◌+◌, ◌≤◌, ◌<◌, List, [], ◌∷◌, ◌++◌, length, Contains}
 use Rattle.std.specs.List.{flat_map}
 use Rattle.kernel_model.specs.declared.entry.Entry.{Entry}
 use Rattle.kernel_model.specs.declared.entry.Entry.TheVariants.{Run, Call, Sleep, End}
@@ -10,7 +10,12 @@ use Rattle.kernel_model.specs.declared.opening.Left.{Left}
 use Rattle.kernel_model.specs.declared.opening.LeftRise.{LeftRise}
 use Rattle.kernel_model.specs.FileTree.{last_number, Child, Missing, Known, Unnumbered}
 use Rattle.kernel_model.specs.Faulted.{numbers_of}
-use Rattle.kernel_model.specs.Image.{count_up}
+
+-- so many numbers from the first on, ascending
+-- profile
+unfoldable pub count_up : (first count : ℕ) → List ℕ
+count_up first zero = []
+count_up first (suc n) = first ∷ count_up (first + 1) n
 
 -- the numbers of an opening: the roots', and then the tasks'
 -- profile

@@ -1,5 +1,5 @@
--- The opening: the state after the opening execves, from the mount file, the granted trees and the record of what was drawn and met.
-use Rattle.std.specs.Prelude.{ℕ, ◌+◌, ◌==◌, nat_eq, nat_lt, List, [], ◌∷◌, length, map, drop, Bool, true, false, ◌&&◌, not, Option, Some, None, Result, Ok, Err, if◌then◌else◌}
+-- The opening: the state after the opening execves, from the mount file, the granted trees and the record of both.
+use Rattle.std.specs.Prelude.{ℕ, ◌+◌, ◌==◌, nat_eq, nat_lt, nat_le, List, [], ◌∷◌, length, map, drop, Bool, true, false, ◌&&◌, not, Option, Some, None, Result, Ok, Err, if◌then◌else◌}
 use Rattle.std.specs.List.{list_any}
 use Rattle.std.specs.Str.{bytes_eq}
 use Rattle.std.specs.FinMap as map
@@ -10,6 +10,8 @@ use Rattle.sn_errno.specs.declared.errno.Errno.TheVariants.{EIO, ENOENT, E2BIG, 
 use Rattle.elf_image.specs.declared.image.Image.{Image}
 use Rattle.kernel_model.specs.declared.kernel.Kernel.{Kernel}
 use Rattle.kernel_model.specs.declared.kernel.Node.{Node}
+use Rattle.kernel_model.specs.declared.kernel.Task.{Task}
+use Rattle.mm_space.specs.Spaces.{AddressSpace}
 use Rattle.kernel_model.specs.declared.kernel.Life.TheVariants.{Live}
 use Rattle.kernel_model.specs.declared.kernel.Part.TheVariants.{OfNode}
 use Rattle.mount_file.specs.declared.mounts.Mounts.{Mounts}
@@ -20,16 +22,23 @@ use Rattle.kernel_model.specs.declared.opening.Opened.{Opened}
 use Rattle.kernel_model.specs.declared.opening.Given.{Given}
 use Rattle.kernel_model.specs.declared.opening.Fresh.{Fresh}
 use Rattle.kernel_model.specs.Arguments.{is_too_long}
-use Rattle.kernel_model.specs.Image.{image_of, pages_mapped, space_of, registers_of, count_up}
+use Rattle.image_load.specs.Loading.{opening_space, opening_registers}
+use Rattle.image_load.specs.Pages.{pages_mapped}
+use Rattle.kernel_model.specs.Image.{image_of}
+use Rattle.kernel_model.specs.Numbers.{count_up}
+use Rattle.kernel_model.specs.Random.{opening_random}
 use Rattle.kernel_model.specs.FileTree.{Nodes, last_number, Child, Missing, Known, Unnumbered, child_at, root_node, owner_executes}
 use Rattle.kernel_model.specs.Faulted.{has_any, is_in_order, Nodes_so_far, number_all, node_changes, faulted}
 use Rattle.kernel_model.specs.Parts.{parts, Prog, done, look, run, ◌>>=◌, Change, changed}
 
 -- an image as execve takes it: of an executable regular file of at most 67,108,864 bytes, with at most 16,384 pages
 -- execve(2), ERRORS: EACCES, ENOEXEC, ENOMEM; a link answers ELOOP so far; the numbers and the order: profile
+abbrev pub has_room : Image → Bool
+has_room image = nat_le (pages_mapped image) 16384
+
 abbrev pub image_within : Option Image → Result Image Errno
 image_within None = Err ENOEXEC
-image_within (Some image) = if nat_lt 16384 (pages_mapped image) then Err ENOMEM else Ok image
+image_within (Some image) = if has_room image then Ok image else Err ENOMEM
 
 abbrev pub image_in : List ℕ → Result Image Errno
 image_in bytes = if nat_lt 67108864 (length bytes) then Err ENOEXEC else image_within (image_of bytes)
@@ -58,7 +67,9 @@ walked_to (Known ino) = look (OfNode ino) (λ node. done (record { draws = false
 abbrev pub walked_from : List ℕ → Option Node → Prog Walked
 walked_from name None = done (record { draws = false; image = Err ENOENT })
 walked_from name (Some root) =
-    if owner_executes root.tree then walked_to (child_at name root) else done (record { draws = false; image = Err EACCES })
+    if owner_executes root.tree
+    then walked_to (child_at name root)
+    else done (record { draws = false; image = Err EACCES })
 
 -- the walk of an opening execve: one name, from the root of the mount at `/`, whose number is 1
 -- path_resolution(7); execve(2), ERRORS: EACCES, ENOENT
@@ -98,7 +109,8 @@ above_last f = nat_lt last_number f.ino
 
 abbrev pub by_walk : List ℕ → Given → Walked → Prog Executed
 by_walk name given walked =
-    if has_any given.rises then (if is_in_order given then (faulted given >>= λ changes. done (failed_by changes)) else done Unfit)
+    if has_any given.rises
+    then (if is_in_order given then (faulted given >>= λ changes. done (failed_by changes)) else done Unfit)
     else if not (draws_just walked.draws name given.fresh) then done Unfit
     else if list_any above_last given.fresh then done (Fails ENFILE [])
     else (number_all given.fresh [] >>= λ nodes. done (by_numbers walked.image nodes))
@@ -136,14 +148,35 @@ rooted first (tree ∷ trees) = map.insert (rooted (first + 1) trees) first (roo
 -- the kernel before its first task
 -- profile
 abbrev pub bare : List Shape → Kernel
-bare trees = record { tasks = map.empty; spaces = map.empty; nodes = rooted 1 trees; console = []; failed = map.empty; entries = 0 }
+bare trees = record {
+  tasks = map.empty;
+  spaces = map.empty;
+  nodes = rooted 1 trees;
+  console = [];
+  failed = map.empty;
+  entries = 0;
+}
+
+-- what the opening task of that number begins with, of this image and with its strings
+-- execve(2)
+abbrev pub task_opened : (seed : List ℕ) → (number : ℕ) → Program → Image → Task
+task_opened seed number program image = record {
+  group = number;
+  space = number;
+  registers = opening_registers image program.args program.env (opening_random seed number);
+  life = Live;
+}
+
+abbrev pub space_opened : (seed : List ℕ) → (number : ℕ) → Program → Image → AddressSpace
+space_opened seed number program image =
+    opening_space image program.args program.env (opening_random seed number)
 
 -- the kernel with an opening task, which is a group of its own
 -- execve(2)
-abbrev pub with_task : ℕ → Image → Kernel → Kernel
-with_task number image k = record k {
-  tasks = map.insert k.tasks number (record { group = number; space = number; registers = registers_of image; life = Live });
-  spaces = map.insert k.spaces number (space_of image);
+abbrev pub with_task : (seed : List ℕ) → (number : ℕ) → Program → Image → Kernel → Kernel
+with_task seed number program image k = record k {
+  tasks = map.insert k.tasks number (task_opened seed number program image);
+  spaces = map.insert k.spaces number (space_opened seed number program image);
 }
 
 -- what an opening comes to: a kernel, or the errno of the first execve that fails, with the kernel that it leaves, or
@@ -156,16 +189,17 @@ pub data Begun : Type 0 where
 
 -- the opening tasks in order, the first of them with that number
 -- profile
-abbrev pub task_begun : (Kernel → Begun) → ℕ → Kernel → Executed → Begun
-task_begun rest number k (Starts image changes) = rest (with_task number image (changed changes k))
-task_begun rest number k (Fails errno changes) = Refuses (changed changes k) number errno
-task_begun rest number k Unfit = Misfits number
+abbrev pub task_begun : (Kernel → Begun) → (Image → Kernel → Kernel) → (number : ℕ) → Kernel → Executed → Begun
+task_begun rest begin number k (Starts image changes) = rest (begin image (changed changes k))
+task_begun rest begin number k (Fails errno changes) = Refuses (changed changes k) number errno
+task_begun rest begin number k Unfit = Misfits number
 
-abbrev pub tasks_begun : ℕ → List Program → List Opened → Kernel → Begun
-tasks_begun number [] opened k = Opens k
-tasks_begun number (p ∷ ps) [] k = Misfits number
-tasks_begun number (p ∷ ps) (o ∷ os) k =
-    task_begun (tasks_begun (number + 1) ps os) number k (run (parts k) (execve_of p o.given))
+abbrev pub tasks_begun : (seed : List ℕ) → (number : ℕ) → List Program → List Opened → Kernel → Begun
+tasks_begun seed number [] opened k = Opens k
+tasks_begun seed number (p ∷ ps) [] k = Misfits number
+tasks_begun seed number (p ∷ ps) (o ∷ os) k =
+    task_begun (tasks_begun seed (number + 1) ps os) (with_task seed number p) number k
+    (run (parts k) (execve_of p o.given))
 
 -- two lists have the same items, by a test of two items; and the first is a beginning of the second
 -- profile
@@ -200,9 +234,11 @@ abbrev pub is_of : Mounts → Opening → Bool
 is_of mounts opening =
     same_list same_mount opening.mounts mounts.mounts
     && same_list nat_eq opening.roots (count_up 1 (length mounts.mounts))
-    && begins (same_list bytes_eq) (map (λ (o : Opened). o.words) opening.tasks) (map (λ (p : Program). p.args) mounts.tasks)
+    && begins (same_list bytes_eq) (map (λ (o : Opened). o.words) opening.tasks)
+    (map (λ (p : Program). p.args) mounts.tasks)
 
 -- the opening of a mount file over the granted trees, a directory for each mount in order
 -- profile
 unfoldable pub opening_of : Mounts → List Shape → Opening → Begun
-opening_of mounts trees opening = if is_of mounts opening then tasks_begun 1 mounts.tasks opening.tasks (bare trees) else Misfits 0
+opening_of mounts trees opening =
+    if is_of mounts opening then tasks_begun mounts.seed 1 mounts.tasks opening.tasks (bare trees) else Misfits 0

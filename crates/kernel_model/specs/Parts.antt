@@ -7,13 +7,13 @@ use Rattle.kernel_model.specs.declared.kernel.Task.{Task}
 use Rattle.kernel_model.specs.declared.kernel.Node.{Node}
 use Rattle.kernel_model.specs.declared.kernel.Part.{Part}
 use Rattle.kernel_model.specs.declared.kernel.Part.TheVariants.{OfTask, OfSpace, OfNode, OfConsole, OfFaults}
-use Rattle.kernel_model.specs.declared.space.Space.{Space}
+use Rattle.mm_space.specs.Spaces.{AddressSpace}
 
 -- what a part holds
 -- profile
 abbrev pub Holds : Part → Type 0
 Holds (OfTask task) = Option Task
-Holds (OfSpace space) = Option Space
+Holds (OfSpace space) = Option AddressSpace
 Holds (OfNode ino) = Option Node
 Holds OfConsole = List ℕ
 Holds OfFaults = map.FinMap nat_cmp ℕ

@@ -48,7 +48,9 @@ abbrev pub argument_text : ℕ → List ℕ
 argument_text a = codes " " ++ signed_decimal (cast_signed w64 a)
 
 abbrev pub arguments_text : Args → List ℕ
-arguments_text args = argument_text args.a0 ++ argument_text args.a1 ++ argument_text args.a2 ++ argument_text args.a3 ++ argument_text args.a4 ++ argument_text args.a5
+arguments_text args =
+    argument_text args.a0 ++ argument_text args.a1 ++ argument_text args.a2
+    ++ argument_text args.a3 ++ argument_text args.a4 ++ argument_text args.a5
 
 -- the reply of a call; exit (93) and exit_group (94) have none
 -- profile
@@ -60,9 +62,11 @@ reply_text number reply = if (number == 93) || (number == 94) then codes "?" els
 abbrev pub entry_text : ℕ → Entry → List ℕ
 entry_text place (Run task n) = []
 entry_text place (Call task number args given reply) =
-    decimal place ++ codes " " ++ decimal task ++ codes " " ++ call_name number ++ arguments_text args ++ codes " = " ++ reply_text number reply ++ codes "\n"
+    decimal place ++ codes " " ++ decimal task ++ codes " " ++ call_name number ++ arguments_text args
+    ++ codes " = " ++ reply_text number reply ++ codes "\n"
 entry_text place (Sleep task) = []
-entry_text place (End task signal) = decimal place ++ codes " " ++ decimal task ++ codes " signal " ++ decimal signal ++ codes "\n"
+entry_text place (End task signal) =
+    decimal place ++ codes " " ++ decimal task ++ codes " signal " ++ decimal signal ++ codes "\n"
 
 -- the lines of a trace whose first entry has that place
 -- profile

@@ -14,4 +14,5 @@ walked_by (Some s) = record { draws = true; image = executed s }
 -- what a walk from one root comes to
 -- path_resolution(7), EACCES
 abbrev pub walked_in : Shape → List ℕ → Walked
-walked_in t name = if owner_executes t then walked_by (child_of name t) else record { draws = false; image = Err EACCES }
+walked_in t name =
+    if owner_executes t then walked_by (child_of name t) else record { draws = false; image = Err EACCES }

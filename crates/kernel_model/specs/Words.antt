@@ -26,7 +26,8 @@ workers_of _ = None
 -- profile
 abbrev pub traced : List ℕ → ℕ → List (List ℕ) → Option Command
 traced mounts workers [] = Some (record { mounts = mounts; workers = workers; trace = false })
-traced mounts workers (w ∷ []) = if bytes_eq w (codes "--trace") then Some (record { mounts = mounts; workers = workers; trace = true }) else None
+traced mounts workers (w ∷ []) =
+    if bytes_eq w (codes "--trace") then Some (record { mounts = mounts; workers = workers; trace = true }) else None
 traced mounts workers _ = None
 
 abbrev pub with_workers : List ℕ → Option ℕ → List (List ℕ) → Option Command
@@ -34,11 +35,13 @@ with_workers mounts None words = None
 with_workers mounts (Some n) words = traced mounts n words
 
 abbrev pub options : List ℕ → List (List ℕ) → Option Command
-options mounts (w ∷ n ∷ words) = if bytes_eq w (codes "--workers") then with_workers mounts (workers_of n) words else None
+options mounts (w ∷ n ∷ words) =
+    if bytes_eq w (codes "--workers") then with_workers mounts (workers_of n) words else None
 options mounts words = traced mounts 4 words
 
 -- the command that the words are, or None where they are none: `run MOUNTS [--workers N] [--trace]`
 -- profile
 abbrev pub accepted : List (List ℕ) → Option Command
-accepted (w ∷ mounts ∷ words) = if bytes_eq w (codes "run") then (if is_option mounts then None else options mounts words) else None
+accepted (w ∷ mounts ∷ words) =
+    if bytes_eq w (codes "run") then (if is_option mounts then None else options mounts words) else None
 accepted _ = None

@@ -1,13 +1,14 @@
 //! The kernel before its first task, and its opening tasks in order.
 
-ghost use Rattle.std.specs.Prelude.{◌≡◌, ◌+◌, ◌<◌, ◌≤◌, ◌^◌, length, IfOk, OnOk, IfErr};
+ghost use Rattle.std.specs.Prelude.{◌≡◌, ◌+◌, ◌<◌, ◌≤◌, ◌^◌, false, length, IfOk, OnOk, IfErr};
 ghost use Rattle.kernel_model.specs.declared.kernel.Kernel.{Kernel as AKernel};
 ghost use Rattle.kernel_model.specs.Opening.{Begun, Opens, rooted, bare, with_task, execve_of, task_begun, tasks_begun};
+ghost use Rattle.kernel_model.specs.Arguments.{is_too_long};
 ghost use Rattle.kernel_model.specs.Parts.{parts, run as outcome};
-ghost use Rattle.kernel_model.specs.Beginnings.{IsRefusedBy};
+ghost use Rattle.kernel_model.specs.Beginnings.{HasRoom, IsRefusedBy};
 
 use crate::walking::Execved;
-use crate::{Given, Kernel, Life, Node, Opened, OpeningErr, Space, Task, registers_of};
+use crate::{Given, Kernel, Node, Opened, OpeningErr, Running};
 use elf_image::Image;
 use host_node::Tree;
 use mount_file::Program;
@@ -47,19 +48,20 @@ impl Kernel {
     pub(crate) fn begin_tasks(
         &mut self,
         alloc: Global,
+        seed: &[u8],
         programs: &[Program],
         opened: &[Opened],
     ) -> Result<(), OpeningErr>
         requires { length programs.now ≤ 2 ^ 31 }
-        ensures ok { OnOk result (tasks_begun 1 programs.now opened.now self.old ≡ Opens self.new) }
-        ensures refused { IfErr result (IsRefusedBy (tasks_begun 1 programs.now opened.now self.old)) }
+        ensures ok { OnOk result (tasks_begun seed.now 1 programs.now opened.now self.old ≡ Opens self.new) }
+        ensures refused { IfErr result (IsRefusedBy (tasks_begun seed.now 1 programs.now opened.now self.old)) }
     {
         for index in 0..programs.len() {
             let number = index as u32 + 1;
             let Some(one) = opened.get(index) else {
                 return Err(OpeningErr::Misfit { task: number });
             };
-            self.begin_task(alloc, number, &programs[index], &one.given)?;
+            self.begin_task(alloc, seed, number, &programs[index], &one.given)?;
         }
         Ok(())
     }
@@ -68,16 +70,21 @@ impl Kernel {
     fn begin_task(
         &mut self,
         alloc: Global,
+        seed: &[u8],
         number: u32,
         program: &Program,
         given: &Given,
     ) -> Result<(), OpeningErr>
-        ensures ok { OnOk result ((rest : AKernel → Begun) → task_begun rest number self.old (outcome (parts self.old) (execve_of program.now given.now)) ≡ rest self.new) }
-        ensures refused { IfErr result (λ e. (rest : AKernel → Begun) → IsRefusedBy (task_begun rest number self.old (outcome (parts self.old) (execve_of program.now given.now))) e) }
+        ensures ok { OnOk result ((rest : AKernel → Begun) →
+            task_begun rest (with_task seed.now number program.now) number self.old
+            (outcome (parts self.old) (execve_of program.now given.now)) ≡ rest self.new) }
+        ensures refused { IfErr result (λ e. (rest : AKernel → Begun) →
+            IsRefusedBy (task_begun rest (with_task seed.now number program.now) number self.old
+            (outcome (parts self.old) (execve_of program.now given.now))) e) }
     {
         match self.execve(alloc, program, given)? {
             Execved::Starts(image) => {
-                self.add_task(alloc, number, &image)?;
+                self.add_task(alloc, seed, number, program, &image)?;
                 Ok(())
             }
             Execved::Fails(errno) => Err(OpeningErr::Image {
@@ -89,17 +96,20 @@ impl Kernel {
     }
 
     /// Adds an opening task, which is a group of its own.
-    fn add_task(&mut self, alloc: Global, number: u32, image: &Image) -> Result<(), Memory>
-        ensures { OnOk result (self.new ≡ with_task number image.now self.old) }
+    fn add_task(
+        &mut self,
+        alloc: Global,
+        seed: &[u8],
+        number: u32,
+        program: &Program,
+        image: &Image,
+    ) -> Result<(), Memory>
+        requires short { is_too_long program.now.args program.now.env ≡ false }
+        requires pages { HasRoom image.now }
+        ensures { OnOk result (self.new ≡ with_task seed.now number program.now image.now self.old) }
     {
         let key = u64::from(number);
-        let task = Task {
-            group: number,
-            space: key,
-            registers: registers_of(image),
-            life: Life::Live,
-        };
-        let space = Space::of_image(alloc, image)?;
+        let Running { task, space } = Running::opened(alloc, seed, number, program, image)?;
         self.tasks.insert(key, task)?;
         self.spaces.insert(key, space)?;
         Ok(())

@@ -5,7 +5,7 @@ ghost use Rattle.kernel_model.specs.Parts.{Parts, run as run_in};
 ghost use Rattle.kernel_model.specs.Rows.{call_row, write_row, is_written_to, descriptor, appended};
 ghost use Rattle.sn_errno.specs.Errors.{reply_of};
 
-use crate::{Args, Space};
+use crate::{Args, GuestSpace};
 use sn_base::{List, Memory};
 use sn_errno::{CallNo, Errno, Reply};
 use std::alloc::Global;
@@ -32,7 +32,7 @@ pub fn call(
     alloc: Global,
     number: u64,
     args: &Args,
-    space: &Space,
+    space: &GuestSpace,
     console: usize,
 ) -> Result<Outcome, Memory>
     ensures row { IfOk result (λ outcome. (s : Parts) → length (s OfConsole) ≡ console →
@@ -46,7 +46,7 @@ pub fn call(
     }
 }
 
-fn write(alloc: Global, args: &Args, space: &Space, console: usize) -> Result<Outcome, Memory>
+fn write(alloc: Global, args: &Args, space: &GuestSpace, console: usize) -> Result<Outcome, Memory>
     ensures row { IfOk result (λ outcome. (s : Parts) → length (s OfConsole) ≡ console →
         run_in s (write_row args.now space.now) ≡ outcome) }
     ensures few { IfOk result WritesFew }

@@ -1,11 +1,12 @@
 //! Images as execve takes them.
 
-ghost use Rattle.std.specs.Prelude.{◌≡◌, Some, IfOk};
+ghost use Rattle.std.specs.Prelude.{◌≡◌, true, Some, IfOk};
 ghost use Rattle.kernel_model.specs.Image.{image_of};
 ghost use Rattle.kernel_model.specs.Opening.{image_within};
+ghost use Rattle.kernel_model.specs.Beginnings.{fits};
 
-use crate::pages::is_too_big;
 use elf_image::{Image, ImageFault, read_image};
+use image_load::has_too_many_pages;
 use sn_base::Memory;
 use sn_errno::Errno;
 use std::alloc::Global;
@@ -16,21 +17,25 @@ use std::alloc::Global;
 /// execve(2), ERRORS.
 #[tactic(auto, using(crate::proofs::Executables::image_none), unfolding(crate::specs::Image::image_of))]
 pub fn read_executable(alloc: Global, bytes: &[u8]) -> Result<Result<Image, Errno>, Memory>
-    ensures { IfOk result (λ image. image ≡ image_within (image_of bytes.now)) }
+    ensures image { IfOk result (λ image. image ≡ image_within (image_of bytes.now)) }
+    ensures pages { IfOk result (λ image. fits image ≡ true) }
 {
     match read_image(alloc, bytes) {
-        Ok(image) => within(alloc, image),
+        Ok(image) => Ok(within(image)),
         Err(ImageFault::Memory) => Err(Memory),
         Err(_) => Ok(Err(Errno::ENOEXEC)),
     }
 }
 
 /// An image, or ENOMEM where its pages and those of the stack are too many.
-fn within(alloc: Global, image: Image) -> Result<Result<Image, Errno>, Memory>
-    ensures { IfOk result (λ answer. answer ≡ image_within (Some image)) }
+#[tactic(auto, using(crate::proofs::Executables::room_test))]
+fn within(image: Image) -> Result<Image, Errno>
+    ensures image { result ≡ image_within (Some image) }
+    ensures pages { fits result ≡ true }
 {
-    if is_too_big(alloc, &image)? {
-        return Ok(Err(Errno::ENOMEM));
+    if has_too_many_pages(&image) {
+        Err(Errno::ENOMEM)
+    } else {
+        Ok(image)
     }
-    Ok(Ok(image))
 }

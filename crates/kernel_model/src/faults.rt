@@ -99,7 +99,8 @@ impl Kernel {
     /// want of memory leaves the kernel as it was.
     pub(crate) fn faulted(&mut self, alloc: Global, given: &Given) -> Result<bool, Memory>
         ensures fits { IfOk result (λ b. b ≡ is_some (outcome (parts self.old) (faulted given.now))) }
-        ensures ok { OnOk result (self.new ≡ unwrap_or (changed_by (outcome (parts self.old) (faulted given.now)) self.old) self.old) }
+        ensures ok { OnOk result
+            (self.new ≡ unwrap_or (changed_by (outcome (parts self.old) (faulted given.now)) self.old) self.old) }
         ensures err { OnErr result (self.new ≡ self.old) }
     {
         let fresh = given.fresh.as_slice();
@@ -122,7 +123,8 @@ impl Kernel {
     /// Adds each rise to its node's count, where each of the nodes has a number.
     fn raise_known(&mut self, rises: &[Rise]) -> Result<bool, Memory>
         ensures fits { IfOk result (λ b. b ≡ outcome (parts self.old) (all_known rises.now [])) }
-        ensures ok { IfOk result (λ b. self.new ≡ (if b then record self.old { failed = risen rises.now self.old.failed } else self.old)) }
+        ensures ok { IfOk result (λ b.
+            self.new ≡ (if b then record self.old { failed = risen rises.now self.old.failed } else self.old)) }
         ensures err { OnErr result (self.new ≡ self.old) }
     {
         if !self.all_known(rises) {

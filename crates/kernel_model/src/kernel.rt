@@ -1,4 +1,4 @@
-use crate::Space;
+use crate::GuestSpace;
 use host_node::Tree;
 use rv_table::Regs;
 use sn_base::{List, Map};
@@ -44,7 +44,7 @@ pub struct Node {
 #[derive(Drop)]
 pub struct Kernel {
     pub tasks: Map<Task>,
-    pub spaces: Map<Space>,
+    pub spaces: Map<GuestSpace>,
     pub nodes: Map<Node>,
     pub console: List<u8>,
     pub failed: Map<u64>,

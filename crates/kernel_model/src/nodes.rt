@@ -74,7 +74,8 @@ impl Node {
     /// Takes a child back whose number was the last to be noted.
     pub(crate) fn take_back(&mut self, name: &Name, tree: Tree)
         requires { IsSome (child_of name.now self.old.tree) }
-        ensures { (dir : ANode) (ino : ℕ) → self.old ≡ numbered_in dir name.now ino → child_of name.now dir.tree ≡ Some tree → self.new ≡ dir }
+        ensures { (dir : ANode) (ino : ℕ) → self.old ≡ numbered_in dir name.now ino →
+            child_of name.now dir.tree ≡ Some tree → self.new ≡ dir }
     {
         let _number = self.numbers.pop();
         self.tree.give(name, tree);

@@ -4,7 +4,7 @@ ghost use Rattle.std.specs.Prelude.{◌≡◌, ◌+◌, ◌<◌, ◌^◌, nat_eq
 ghost use Rattle.std.specs.Str.{bytes_eq};
 ghost use Rattle.mount_file.specs.declared.mounts.Program.{Program as AProgram};
 ghost use Rattle.kernel_model.specs.declared.opening.Opened.{Opened as AnOpened};
-ghost use Rattle.kernel_model.specs.Image.{count_up};
+ghost use Rattle.kernel_model.specs.Numbers.{count_up};
 ghost use Rattle.kernel_model.specs.Opening.{same_list, begins, same_flag, same_place, same_folder, same_mount, is_of};
 
 use crate::{Opened, Opening};
@@ -102,7 +102,8 @@ fn are_numbers(numbers: &[u64], first: u64, count: u64) -> bool
 
 /// Whether the words of tasks are the arguments of the first of the programs.
 fn begin_words(tasks: &[Opened], programs: &[Program]) -> bool
-    ensures { result ≡ begins (same_list bytes_eq) (map (λ (o : AnOpened). o.words) tasks.now) (map (λ (p : AProgram). p.args) programs.now) }
+    ensures { result ≡ begins (same_list bytes_eq) (map (λ (o : AnOpened). o.words) tasks.now)
+        (map (λ (p : AProgram). p.args) programs.now) }
 {
     let [first, others @ ..] = tasks else {
         return true;

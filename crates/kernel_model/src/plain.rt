@@ -56,7 +56,12 @@ impl Plain {
             return Err(OpeningErr::Misfit { task: 0 });
         }
         let mut kernel = Kernel::bare(alloc, trees.as_slice())?;
-        kernel.begin_tasks(alloc, mounts.tasks.as_slice(), opened.tasks.as_slice())?;
+        kernel.begin_tasks(
+            alloc,
+            mounts.seed.as_slice(),
+            mounts.tasks.as_slice(),
+            opened.tasks.as_slice(),
+        )?;
         Ok(Plain { kernel })
     }
 

@@ -5,44 +5,36 @@ ghost use Rattle.std.specs.Ordering.{int_eq};
 ghost use Rattle.kernel_model.specs.Parts.{Parts, run as run_in};
 ghost use Rattle.kernel_model.specs.Step.{run_row, end_row, answered, same_args, with_registers, ended};
 ghost use Rattle.kernel_model.specs.Registers.{replied};
-ghost use Rattle.kernel_model.specs.InPlace.{one_task};
-ghost use Rattle.kernel_model.specs.AfterRuns.{IsRunOf, one_run};
+ghost use Rattle.kernel_model.specs.InPlace.{one_run, one_task};
 
-use crate::{Args, Kept, Life, Next, Outcome, Space, Task, next, reply, run};
+use crate::{Args, Life, Next, Outcome, Running, Task, next, reply, run};
 use sn_base::Memory;
 use std::alloc::Global;
 
 /// The most instructions of one entry.
 const QUANTUM: u32 = 10_000;
 
-/// A task after a run, and what the run has written to its address space.
-#[derive(Drop)]
-pub(crate) struct AfterRun {
-    pub(crate) task: Task,
-    pub(crate) kept: Kept,
-}
-
 /// Runs a task's next instructions, if so many of them neither trap nor call.
+#[tactic(auto, using(crate::proofs::Runs::row_ran, crate::proofs::Runs::row_short))]
 pub(crate) fn run_row(
     alloc: Global,
     number: u32,
-    task: Task,
-    space: &Space,
+    running: Running,
     n: u32,
-) -> Result<Option<AfterRun>, Memory>
-    ensures row { IfOk result (λ after. run_row number n (record { task = task; space = space.now }) ≡ one_run number space.now after) }
-    ensures covered { IfOk result (λ after. IfSome after (λ a. IsRunOf task space.now a)) }
+) -> Result<Option<Running>, Memory>
+    ensures row { IfOk result (λ after. run_row number n running ≡ one_run number after) }
+    ensures place { IfOk result (λ after. IfSome after (λ a. a.task.space ≡ running.task.space)) }
 {
     if n < 1 || QUANTUM < n {
         return Ok(None);
     }
-    let mut after = task;
-    let ran = run(alloc, number, &mut after.registers, space, n)?;
+    let Running {
+        mut task,
+        mut space,
+    } = running;
+    let ran = run(alloc, number, &mut task.registers, &mut space, n)?;
     if ran.count == n {
-        Ok(Some(AfterRun {
-            task: after,
-            kept: ran.kept,
-        }))
+        Ok(Some(Running { task, space }))
     } else {
         Ok(None)
     }
@@ -52,13 +44,13 @@ pub(crate) fn run_row(
 pub(crate) fn end_row(
     alloc: Global,
     number: u32,
-    task: Task,
-    space: &Space,
+    running: Running,
     signal: u8,
 ) -> Result<Option<Task>, Memory>
-    ensures { IfOk result (λ after. end_row number signal (record { task = task; space = space.now }) ≡ one_task number after) }
+    ensures { IfOk result (λ after. end_row number signal running ≡ one_task number after) }
 {
-    match next(alloc, number, &task.registers, space)? {
+    let Running { task, mut space } = running;
+    match next(alloc, number, &task.registers, &mut space)? {
         Next::Traps(trap) => {
             if trap == signal {
                 Ok(Some(ended(task, Life::Killed(signal))))
@@ -73,7 +65,8 @@ pub(crate) fn end_row(
 
 /// A task after a call that returns a value, if that is the reply.
 pub(crate) fn returned(task: Task, reply: i64, value: i64) -> Option<Task>
-    ensures { (number : ℕ) (s : Parts) → run_in s (answered number task reply (Outcome.Returns value)) ≡ one_task number result }
+    ensures { (number : ℕ) (s : Parts) →
+        run_in s (answered number task reply (Outcome.Returns value)) ≡ one_task number result }
 {
     if reply == value {
         Some(replied(task, value))
@@ -84,7 +77,8 @@ pub(crate) fn returned(task: Task, reply: i64, value: i64) -> Option<Task>
 
 /// A task whose group exits with a code, if the reply is 0.
 pub(crate) fn exited(task: Task, reply: i64, code: u8) -> Option<Task>
-    ensures { (number : ℕ) (s : Parts) → run_in s (answered number task reply (Outcome.Exits code)) ≡ one_task number result }
+    ensures { (number : ℕ) (s : Parts) →
+        run_in s (answered number task reply (Outcome.Exits code)) ≡ one_task number result }
 {
     if reply == 0 {
         Some(ended(task, Life::Exited(code)))

@@ -1,38 +1,30 @@
 //! What an entry does to a kernel.
 
-ghost use Rattle.std.specs.Prelude.{◌≡◌, ℕ, false, None, Some, is_some, unwrap_or, IsTrue, IfOk, IfSome, OnOk, OnErr, OnSome, MatchOption};
+ghost use Rattle.std.specs.Prelude.{◌≡◌, ℕ, true, false, None, Some, is_some, unwrap_or, IsTrue, IfOk, IfSome, OnOk, OnErr, OnSome};
 ghost use Rattle.std.specs.FinMap as map;
 ghost use Rattle.kernel_model.specs.declared.entry.Entry.{Entry as AnEntry};
 ghost use Rattle.kernel_model.specs.declared.calls.Outcome.TheVariants.{Writes};
 ghost use Rattle.kernel_model.specs.declared.entry.Args.{Args as AnArgs};
 ghost use Rattle.kernel_model.specs.declared.kernel.Kernel.{Kernel as AKernel};
-ghost use Rattle.kernel_model.specs.declared.space.Space.{Space as ASpace};
+ghost use Rattle.mm_space.specs.Spaces.{AddressSpace};
 ghost use Rattle.kernel_model.specs.declared.kernel.Part.{Part as APart};
-ghost use Rattle.kernel_model.specs.Memory.{acting_on};
-ghost use Rattle.kernel_model.specs.AfterRuns.{IsPlaced, run_changes};
+ghost use Rattle.kernel_model.specs.Spaces.{acting_in};
 ghost use Rattle.kernel_model.specs.Parts.{IsIn, AgreeOn, changed, parts, run as outcome_in};
-ghost use Rattle.kernel_model.specs.Step.{step, entry_row, used, touches, task_of, live, by_given, failing, answered};
+ghost use Rattle.kernel_model.specs.Step.{step, entry_row, used, touches, task_of, live, by_given, failing, answered, run_changes};
 ghost use Rattle.std.specs.Ordering.{int_eq};
 ghost use Rattle.sn_errno.specs.Errors.{reply_of};
 ghost use Rattle.sn_errno.specs.declared.errno.Errno.TheVariants.{EIO};
 ghost use Rattle.kernel_model.specs.InPlace.{changed_by, is_quiet, one_task, stands_at};
 ghost use Rattle.kernel_model.specs.Instructions.{next_of};
 
-use crate::rows::{AfterRun, end_row, exited, is_count, replied, returned, run_row, same_args};
+use crate::rows::{end_row, exited, is_count, replied, returned, run_row, same_args};
 use crate::{
-    Args, Entry, Given, Kernel, Life, Next, Outcome, Space, Task, args_of, call, call_of, next,
+    Args, Entry, Given, GuestSpace, Kernel, Life, Next, Outcome, Running, Task, args_of, call,
+    call_of, next,
 };
 use sn_base::Memory;
 use sn_errno::{Errno, Reply};
 use std::alloc::Global;
-
-/// A task with its number and its address space.
-#[derive(Clone, Copy)]
-struct Running<'a> {
-    number: u32,
-    task: Task,
-    space: &'a Space,
-}
 
 /// A task that stands at a call, by its number.
 #[derive(Clone, Copy)]
@@ -55,12 +47,21 @@ impl Entry {
     }
 }
 
-/// Whether a task stands at an ECALL, with that call's number and arguments in its registers.
-fn stands_at(alloc: Global, running: &Running, no: u64, args: &Args) -> Result<bool, Memory>
-    ensures { IfOk result (λ b. b ≡ stands_at no args.now running.now.task (next_of (acting_on running.now.number running.now.space.now) running.now.task.registers)) }
+/// Whether a task stands at an ECALL, with that call's number and arguments in its registers. Where it does, its
+/// address space stays.
+fn stands_at(
+    alloc: Global,
+    caller: Caller,
+    space: &mut GuestSpace,
+    no: u64,
+    args: &Args,
+) -> Result<bool, Memory>
+    ensures stands { IfOk result (λ b. b ≡ stands_at no args.now caller.task
+        (next_of (acting_in caller.number space.old) caller.task.registers)) }
+    ensures kept { IfOk result (λ b. b ≡ true → space.new ≡ space.old) }
 {
-    let registers = &running.task.registers;
-    match next(alloc, running.number, registers, running.space)? {
+    let registers = &caller.task.registers;
+    match next(alloc, caller.number, registers, space)? {
         Next::Calls => Ok(call_of(registers) == no && same_args(&args_of(registers), args)),
         Next::Goes => Ok(false),
         Next::Traps(_) => Ok(false),
@@ -79,17 +80,17 @@ impl Kernel {
     /// memory leaves the kernel as it was.
     pub(crate) fn change(&mut self, alloc: Global, entry: &Entry) -> Result<bool, Memory>
         ensures fits { IfOk result (λ b. b ≡ is_some (outcome_in (parts self.old) (entry_row entry.now))) }
-        ensures ok { OnOk result (self.new ≡ unwrap_or (changed_by (outcome_in (parts self.old) (entry_row entry.now)) self.old) self.old) }
+        ensures ok { OnOk result
+            (self.new ≡ unwrap_or (changed_by (outcome_in (parts self.old) (entry_row entry.now)) self.old) self.old) }
         ensures err { OnErr result (self.new ≡ self.old) }
     {
         let number = entry.task();
-        let Some(running) = self.live(number) else {
+        let Some(running) = self.live(alloc, number)? else {
             return Ok(false);
         };
-        let task = running.task;
         match entry {
             Entry::Run { n, .. } => {
-                match run_row(alloc, number, task, running.space, *n)? {
+                match run_row(alloc, number, running, *n)? {
                     Some(after) => {
                         self.put_run(number, after);
                         Ok(true)
@@ -104,45 +105,57 @@ impl Kernel {
                 reply,
                 ..
             } => {
-                let stands = stands_at(alloc, &running, *no, args)?;
+                let Running { task, mut space } = running;
+                let caller = Caller { number, task };
+                let stands = stands_at(alloc, caller, &mut space, *no, args)?;
                 if !stands {
                     return Ok(false);
                 }
-                let caller = Caller { number, task };
                 if given.is_quiet() {
-                    let outcome = call(alloc, *no, args, running.space, self.console.len())?;
+                    let outcome = call(alloc, *no, args, &space, self.console.len())?;
                     return self.answer(caller, *reply, outcome);
                 }
                 self.by_given(alloc, caller, *reply, given)
             }
             Entry::Sleep { .. } => Ok(false),
             Entry::End { signal, .. } => {
-                let after = end_row(alloc, number, task, running.space, *signal)?;
+                let after = end_row(alloc, number, running, *signal)?;
                 Ok(self.set_task(number, after))
             }
         }
     }
 
-    /// A live task with its address space.
-    fn live(&self, number: u32) -> Option<Running<'_>>
-        ensures running { MatchOption result (outcome_in (parts self.now) (live number) ≡ None)
-            (λ r. outcome_in (parts self.now) (live number) ≡ Some (record { task = r.task; space = r.space.now })) }
-        ensures there { OnSome result (IsTrue (map.contains_key self.now.tasks number)) }
-        ensures number { IfSome result (λ r. r.number ≡ number) }
-        ensures space { IfSome result (λ r. map.get self.now.spaces r.task.space ≡ Some r.space.now) }
+    /// A live task, with a copy of its address space.
+    fn live(&mut self, alloc: Global, number: u32) -> Result<Option<Running>, Memory>
+        ensures running { IfOk result (λ r. outcome_in (parts self.old) (live number) ≡ r) }
+        ensures there { IfOk result (λ r. OnSome r (IsTrue (map.contains_key self.old.tasks number))) }
+        ensures space { IfOk result (λ r. IfSome r (λ one.
+            IsTrue (map.contains_key self.old.spaces one.task.space))) }
+        ensures kept { self.new ≡ self.old }
     {
-        let task = self.tasks.get(u64::from(number))?;
+        let Some(task) = self.tasks.get(u64::from(number)).copied() else {
+            return Ok(None);
+        };
         match task.life {
             Life::Live => {
-                let space = self.spaces.get(task.space)?;
-                Some(Running {
-                    number,
-                    task: *task,
-                    space,
-                })
+                match self.copied_space(alloc, task.space)? {
+                    Some(space) => Ok(Some(Running { task, space })),
+                    None => Ok(None),
+                }
             }
-            Life::Exited(_) => None,
-            Life::Killed(_) => None,
+            Life::Exited(_) => Ok(None),
+            Life::Killed(_) => Ok(None),
+        }
+    }
+
+    /// A copy of the address space of a number.
+    fn copied_space(&mut self, alloc: Global, number: u64) -> Result<Option<GuestSpace>, Memory>
+        ensures copied { IfOk result (λ copy. copy ≡ map.get self.old.spaces number) }
+        ensures kept { self.new ≡ self.old }
+    {
+        match self.spaces.get_mut(number) {
+            Some(space) => Ok(Some(space.copy(alloc)?)),
+            None => Ok(None),
         }
     }
 
@@ -162,23 +175,23 @@ impl Kernel {
     }
 
     /// Puts what a run has left in the place of its task and its address space.
-    fn put_run(&mut self, number: u32, after: AfterRun)
+    fn put_run(&mut self, number: u32, after: Running)
         requires there { IsTrue (map.contains_key self.old.tasks number) }
-        requires placed { IsPlaced self.old.spaces after }
-        ensures { (under : ASpace) → map.get self.old.spaces after.task.space ≡ Some under → self.new ≡ changed (run_changes number under after) self.old }
+        requires space { IsTrue (map.contains_key self.old.spaces after.task.space) }
+        ensures { self.new ≡ changed (run_changes number after) self.old }
     {
-        let AfterRun { task, kept } = after;
-        if let Some(space) = self.spaces.get_mut(task.space) {
-            space.take(kept);
-        }
+        let Running { task, space } = after;
+        self.spaces.replace(task.space, space);
         self.tasks.replace(u64::from(number), task);
     }
 
     /// Answers a call by what it comes to, where the reply is that.
     fn answer(&mut self, caller: Caller, reply: i64, outcome: Outcome) -> Result<bool, Memory>
         requires { IsTrue (map.contains_key self.old.tasks caller.number) }
-        ensures fits { IfOk result (λ b. b ≡ is_some (outcome_in (parts self.old) (answered caller.number caller.task reply outcome))) }
-        ensures ok { OnOk result (self.new ≡ unwrap_or (changed_by (outcome_in (parts self.old) (answered caller.number caller.task reply outcome)) self.old) self.old) }
+        ensures fits { IfOk result (λ b.
+            b ≡ is_some (outcome_in (parts self.old) (answered caller.number caller.task reply outcome))) }
+        ensures ok { OnOk result (self.new ≡ unwrap_or (changed_by
+            (outcome_in (parts self.old) (answered caller.number caller.task reply outcome)) self.old) self.old) }
         ensures err { OnErr result (self.new ≡ self.old) }
     {
         match outcome {
@@ -197,8 +210,11 @@ impl Kernel {
     /// Takes the bytes of a write behind those of the console, where the reply is their number.
     fn take_bytes(&mut self, caller: Caller, reply: i64, bytes: &[u8]) -> Result<bool, Memory>
         requires { IsTrue (map.contains_key self.old.tasks caller.number) }
-        ensures fits { IfOk result (λ b. b ≡ is_some (outcome_in (parts self.old) (answered caller.number caller.task reply (Writes bytes.now)))) }
-        ensures ok { OnOk result (self.new ≡ unwrap_or (changed_by (outcome_in (parts self.old) (answered caller.number caller.task reply (Writes bytes.now))) self.old) self.old) }
+        ensures fits { IfOk result (λ b. b ≡ is_some
+            (outcome_in (parts self.old) (answered caller.number caller.task reply (Writes bytes.now)))) }
+        ensures ok { OnOk result (self.new ≡ unwrap_or (changed_by
+            (outcome_in (parts self.old) (answered caller.number caller.task reply (Writes bytes.now)))
+            self.old) self.old) }
         ensures err { OnErr result (self.new ≡ self.old) }
     {
         if !is_count(reply, bytes.len()) {
@@ -220,8 +236,11 @@ impl Kernel {
     ) -> Result<bool, Memory>
         requires has { IsTrue (map.contains_key self.old.tasks caller.number) }
         requires loud { is_quiet given.now ≡ false }
-        ensures fits { (space : ASpace) (no : ℕ) (args : AnArgs) → IfOk result (λ b. b ≡ is_some (outcome_in (parts self.old) (by_given caller.number caller.task space no args reply given.now))) }
-        ensures ok { (space : ASpace) (no : ℕ) (args : AnArgs) → OnOk result (self.new ≡ unwrap_or (changed_by (outcome_in (parts self.old) (by_given caller.number caller.task space no args reply given.now)) self.old) self.old) }
+        ensures fits { (space : AddressSpace) (no : ℕ) (args : AnArgs) → IfOk result (λ b. b ≡ is_some
+            (outcome_in (parts self.old) (by_given caller.number caller.task space no args reply given.now))) }
+        ensures ok { (space : AddressSpace) (no : ℕ) (args : AnArgs) → OnOk result (self.new ≡ unwrap_or (changed_by
+            (outcome_in (parts self.old) (by_given caller.number caller.task space no args reply given.now))
+            self.old) self.old) }
         ensures err { OnErr result (self.new ≡ self.old) }
     {
         if given.rises.is_empty() {
@@ -242,8 +261,10 @@ impl Kernel {
         given: &Given,
     ) -> Result<bool, Memory>
         requires { IsTrue (map.contains_key self.old.tasks caller.number) }
-        ensures fits { IfOk result (λ b. b ≡ is_some (outcome_in (parts self.old) (failing caller.number caller.task reply given.now))) }
-        ensures ok { OnOk result (self.new ≡ unwrap_or (changed_by (outcome_in (parts self.old) (failing caller.number caller.task reply given.now)) self.old) self.old) }
+        ensures fits { IfOk result (λ b.
+            b ≡ is_some (outcome_in (parts self.old) (failing caller.number caller.task reply given.now))) }
+        ensures ok { OnOk result (self.new ≡ unwrap_or (changed_by
+            (outcome_in (parts self.old) (failing caller.number caller.task reply given.now)) self.old) self.old) }
         ensures err { OnErr result (self.new ≡ self.old) }
     {
         if !is_failure(reply) {
@@ -265,7 +286,11 @@ impl Kernel {
 /// - `rest`: each part that an entry does not change holds what it held.
 /// - `touched`: what the changed parts hold after the entry depends on nothing but the parts that it reads.
 pub fn locality()
-    ensures same { (a b : AKernel) (e : AnEntry) → AgreeOn (used a e) (parts a) (parts b) → (used b e ≡ used a e) × (outcome_in (parts b) (entry_row e) ≡ outcome_in (parts a) (entry_row e)) }
-    ensures rest { (k next : AKernel) (e : AnEntry) → step k e ≡ Some next → (p : APart) → ¬ IsIn p (touches k e) → parts next p ≡ parts k p }
-    ensures touched { (a b next other : AKernel) (e : AnEntry) → AgreeOn (used a e) (parts a) (parts b) → step a e ≡ Some next → step b e ≡ Some other → (p : APart) → IsIn p (touches a e) → parts next p ≡ parts other p }
+    ensures same { (a b : AKernel) (e : AnEntry) → AgreeOn (used a e) (parts a) (parts b) →
+        (used b e ≡ used a e) × (outcome_in (parts b) (entry_row e) ≡ outcome_in (parts a) (entry_row e)) }
+    ensures rest { (k next : AKernel) (e : AnEntry) → step k e ≡ Some next →
+        (p : APart) → ¬ IsIn p (touches k e) → parts next p ≡ parts k p }
+    ensures touched { (a b next other : AKernel) (e : AnEntry) → AgreeOn (used a e) (parts a) (parts b) →
+        step a e ≡ Some next → step b e ≡ Some other →
+        (p : APart) → IsIn p (touches a e) → parts next p ≡ parts other p }
 {}

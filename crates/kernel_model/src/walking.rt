@@ -1,13 +1,13 @@
 //! The walk of an opening execve, and the image that it comes to.
 
-ghost use Rattle.std.specs.Prelude.{◌≡◌, false, IfOk};
+ghost use Rattle.std.specs.Prelude.{◌≡◌, true, false, IfOk};
 ghost use Rattle.std.specs.FinMap as map;
 ghost use Rattle.std.specs.List.{list_any};
 ghost use Rattle.kernel_model.specs.FileTree.{owner_executes};
 ghost use Rattle.kernel_model.specs.Faulted.{has_any};
 ghost use Rattle.kernel_model.specs.Opening.{image_in, executed, numbered_image, walk_of, draws_just, above_last, by_walk, name_in_path, execve_of};
 ghost use Rattle.kernel_model.specs.Parts.{parts, run as outcome};
-ghost use Rattle.kernel_model.specs.Beginnings.{Executes};
+ghost use Rattle.kernel_model.specs.Beginnings.{Executes, IsFrom, MayStart, fits};
 
 use crate::numbering::LAST_NUMBER;
 use crate::{Fresh, Given, Kernel, is_too_long, read_executable};
@@ -30,11 +30,13 @@ const ROOT: u64 = 1;
 struct Walk {
     draws: bool,
     image: Result<Image, Errno>,
+    ghost pages: { fits image ≡ true },
 }
 
 impl Walk {
     fn refused(errno: Errno) -> Walk
-        ensures { result ≡ record { draws = false; image = Err errno } }
+        ensures draws { result.draws ≡ false }
+        ensures image { result.image ≡ Err errno }
     {
         Walk {
             draws: false,
@@ -66,7 +68,8 @@ impl Execved {
 
 /// The image of a file's bytes, as execve takes it.
 fn image_in(alloc: Global, bytes: &[u8]) -> Result<Result<Image, Errno>, Memory>
-    ensures { IfOk result (λ image. image ≡ image_in bytes.now) }
+    ensures image { IfOk result (λ image. image ≡ image_in bytes.now) }
+    ensures pages { IfOk result (λ image. fits image ≡ true) }
 {
     if LONGEST_IMAGE < bytes.len() {
         return Ok(Err(Errno::ENOEXEC));
@@ -82,7 +85,8 @@ fn owner_executes(tree: &Tree) -> bool
 
 /// The image of a node, or the error with which execve refuses it.
 fn executed(alloc: Global, tree: &Tree) -> Result<Result<Image, Errno>, Memory>
-    ensures { IfOk result (λ image. image ≡ executed tree.now) }
+    ensures image { IfOk result (λ image. image ≡ executed tree.now) }
+    ensures pages { IfOk result (λ image. fits image ≡ true) }
 {
     if !owner_executes(tree) {
         return Ok(Err(Errno::EACCES));
@@ -124,7 +128,8 @@ fn any_above_last(fresh: &[Fresh]) -> bool
 impl Kernel {
     /// The image of the node of a number, or the error with which execve refuses it.
     fn numbered_image(&self, alloc: Global, ino: u64) -> Result<Result<Image, Errno>, Memory>
-        ensures { IfOk result (λ image. image ≡ numbered_image (map.get self.now.nodes ino)) }
+        ensures image { IfOk result (λ image. image ≡ numbered_image (map.get self.now.nodes ino)) }
+        ensures pages { IfOk result (λ image. fits image ≡ true) }
     {
         match self.nodes.get(ino) {
             Some(node) => executed(alloc, &node.tree),
@@ -134,7 +139,8 @@ impl Kernel {
 
     /// Walks from the root of the mount at `/` to a name.
     fn walk(&self, alloc: Global, name: &[u8]) -> Result<Walk, Memory>
-        ensures { IfOk result (λ w. outcome (parts self.now) (walk_of name.now) ≡ record { draws = w.draws; image = w.image }) }
+        ensures { IfOk result (λ w.
+            outcome (parts self.now) (walk_of name.now) ≡ record { draws = w.draws; image = w.image }) }
     {
         let Some(root) = self.nodes.get(ROOT) else {
             return Ok(Walk::refused(Errno::ENOENT));
@@ -166,7 +172,9 @@ impl Kernel {
         program: &Program,
         given: &Given,
     ) -> Result<Execved, Memory>
-        ensures { IfOk result (Executes (outcome (parts self.old) (execve_of program.now given.now)) self.old self.new) }
+        ensures does { IfOk result
+            (Executes (outcome (parts self.old) (execve_of program.now given.now)) self.old self.new) }
+        ensures may { IfOk result (MayStart program.now) }
     {
         let name = name_in_path(&program.path);
         if is_too_long(program) {
@@ -184,7 +192,9 @@ impl Kernel {
         given: &Given,
         walk: Walk,
     ) -> Result<Execved, Memory>
-        ensures { IfOk result (Executes (outcome (parts self.old) (by_walk name.now given.now (record { draws = walk.draws; image = walk.image }))) self.old self.new) }
+        ensures does { IfOk result (Executes (outcome (parts self.old)
+            (by_walk name.now given.now (record { draws = walk.draws; image = walk.image }))) self.old self.new) }
+        ensures from { IfOk result (IsFrom walk.image) }
     {
         if given.rises.is_empty() {
             return self.execve_unfailed(alloc, name, given, walk);
@@ -207,7 +217,9 @@ impl Kernel {
         walk: Walk,
     ) -> Result<Execved, Memory>
         requires { has_any given.now.rises ≡ false }
-        ensures { IfOk result (Executes (outcome (parts self.old) (by_walk name.now given.now (record { draws = walk.draws; image = walk.image }))) self.old self.new) }
+        ensures does { IfOk result (Executes (outcome (parts self.old)
+            (by_walk name.now given.now (record { draws = walk.draws; image = walk.image }))) self.old self.new) }
+        ensures from { IfOk result (IsFrom walk.image) }
     {
         let Walk { draws, image } = walk;
         let fresh = given.fresh.as_slice();

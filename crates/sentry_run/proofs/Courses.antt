@@ -14,7 +14,7 @@ use Rattle.kernel_model.specs.declared.kernel.Kernel.{Kernel}
 use Rattle.mount_file.specs.declared.mounts.Mounts.{Mounts}
 use Rattle.mount_file.specs.declared.mounts.Mount.{Mount}
 use Rattle.kernel_model.specs.declared.opening.Opening.{Opening}
-use Rattle.kernel_model.specs.Image.{count_up}
+use Rattle.kernel_model.specs.Numbers.{count_up}
 use Rattle.kernel_model.specs.Opening.{Opens, Refuses, Misfits, opening_of, is_of, tasks_begun, bare, same_list}
 use Rattle.kernel_model.specs.History.{replay, each_whole, any_live}
 use Rattle.kernel_model.specs.Printed.{printed, console_text, groups_text, trace_text}
@@ -47,7 +47,7 @@ fits_file m ts o no_misfit = by (is_of m o) refl
   where
     by : (b : Bool) → is_of m o ≡ b → is_of m o ≡ true
     by true e = e
-    by false e = absurd (no_misfit (ap (λ b. if b then tasks_begun 1 m.tasks o.tasks (bare ts) else Misfits 0) e))
+    by false e = absurd (no_misfit (ap (λ b. if b then tasks_begun m.seed 1 m.tasks o.tasks (bare ts) else Misfits 0) e))
 
 opens_fits : (m : Mounts) (ts : List Shape) (o : Opening) (k : Kernel) → opening_of m ts o ≡ Opens k → is_of m o ≡ true
 opens_fits m ts o k e = fits_file m ts o (λ f. let g : Opens k ≡ Misfits 0 = sym e ∙ f in cc)

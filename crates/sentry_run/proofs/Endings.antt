@@ -18,15 +18,14 @@ use Rattle.mount_file.specs.declared.mounts.Program.{Program}
 use Rattle.kernel_model.specs.declared.opening.Opening.{Opening}
 use Rattle.kernel_model.specs.declared.opening.Given.{Given}
 use Rattle.kernel_model.specs.Parts.{changed, run}
-use Rattle.kernel_model.specs.Image.{space_of, count_up}
 use Rattle.kernel_model.specs.FileTree.{Nodes, owner_executes, root_node, child_node, numbered_in}
 use Rattle.kernel_model.specs.Faulted.{node_changes}
-use Rattle.kernel_model.specs.Opening.{opening_of, Opens, Refuses, Executed, Fails, executed, by_image, bare, execve, execve_of, name_in_path, task_begun, rooted}
+use Rattle.kernel_model.specs.Opening.{opening_of, Opens, Refuses, Executed, Fails, executed, by_image, bare, execve, execve_of, name_in_path, task_begun, with_task, rooted}
 use Rattle.kernel_model.specs.Arguments.{is_too_long}
 use Rattle.sn_errno.specs.declared.errno.Errno.TheVariants.{E2BIG}
 use Rattle.kernel_model.specs.History.{replay, each_whole}
 use Rattle.kernel_model.specs.Settled.{tree_now, count_now}
-use Rattle.kernel_model.specs.Numbers.{IsGapless, numbers_opened}
+use Rattle.kernel_model.specs.Numbers.{IsGapless, numbers_opened, count_up}
 use Rattle.kernel_model.proofs.OneRoot.{one, root_of, drawn_nodes, execve_short, execve_long, execve_nothing, execve_drawn, execve_root_failed, execve_child_failed}
 use Rattle.kernel_model.proofs.OneTask.{opening_by, plain_root, plain_child}
 use Rattle.sentry_run.specs.declared.walk.Met.{Met}
@@ -34,7 +33,7 @@ use Rattle.sentry_run.specs.declared.walk.Met.TheVariants.{Nothing, RootFailed, 
 use Rattle.sentry_run.specs.declared.walk.Answer.TheVariants as answers
 use Rattle.sentry_run.specs.declared.play.End.{End}
 use Rattle.sentry_run.specs.declared.play.End.TheVariants as ends
-use Rattle.sentry_run.specs.Machine.{kernel_with, task_of_image, Leaves}
+use Rattle.sentry_run.specs.Machine.{kernel_opened, Leaves}
 use Rattle.sentry_run.specs.Walk.{given_by, faulted_by}
 use Rattle.sentry_run.specs.Played.{no_left, NamesTask, first_is_too_long, record_of, Fits, FitsFor, given_back, Runs, Failed, Ended, RanFrom, over, nothing_opened}
 
@@ -120,11 +119,11 @@ tree_root_failed t d =
 -- ---- the opening
 
 opened_by : (m : Mounts) (t : Shape) (name : List ℕ) (met : Met) (opening : Opening) (e : Executed) → (n : NamesTask m name) → opening ≡ record_of m n.program (given_by name met)
-    → run (one t) (execve_of n.program (given_by name met)) ≡ e → opening_of m (t ∷ []) opening ≡ task_begun (λ k. Opens k) 1 (bare (t ∷ [])) e
+    → run (one t) (execve_of n.program (given_by name met)) ≡ e → opening_of m (t ∷ []) opening ≡ task_begun (λ k. Opens k) (with_task m.seed 1 n.program) 1 (bare (t ∷ [])) e
 opened_by m t name met opening e n o x =
     ap (opening_of m (t ∷ [])) o
     ∙ opening_by m t n.program (given_by name met) n.one_mount n.tasks
-    ∙ ap (task_begun (λ k. Opens k) 1 (bare (t ∷ []))) x
+    ∙ ap (task_begun (λ k. Opens k) (with_task m.seed 1 n.program) 1 (bare (t ∷ []))) x
 
 -- an execve that walks, by the name in its path
 walked_by_name : (t : Shape) (p : Program) (name : List ℕ) (given : Given) → is_too_long p.args p.env ≡ false → p.path ≡ 47 ∷ name → run (one t) (execve_of p given) ≡ run (one t) (execve name given)
@@ -134,16 +133,16 @@ short_task : (m : Mounts) (p : Program) (b : Bool) → m.tasks ≡ p ∷ [] → 
 short_task m p b tasks is = sym (ap first_is_too_long tasks) ∙ is
 
 opened_walking : (m : Mounts) (t : Shape) (name : List ℕ) (met : Met) (opening : Opening) (e : Executed) → (n : NamesTask m name) → first_is_too_long m.tasks ≡ false → opening ≡ record_of m n.program (given_by name met)
-    → run (one t) (execve name (given_by name met)) ≡ e → opening_of m (t ∷ []) opening ≡ task_begun (λ k. Opens k) 1 (bare (t ∷ [])) e
+    → run (one t) (execve name (given_by name met)) ≡ e → opening_of m (t ∷ []) opening ≡ task_begun (λ k. Opens k) (with_task m.seed 1 n.program) 1 (bare (t ∷ [])) e
 opened_walking m t name met opening e n short o x =
     opened_by m t name met opening e n o (walked_by_name t n.program name (given_by name met) (short_task m n.program false n.tasks short) n.path ∙ x)
 
 -- the kernel that an image's opening starts
-abbrev pub started : Shape → List ℕ → Shape → Image → Kernel
-started t name s image = kernel_with (task_of_image image) (space_of image) [] (nodes_drawn t name s) map.empty 0
+abbrev pub started : Mounts → Program → Shape → List ℕ → Shape → Image → Kernel
+started m p t name s image = kernel_opened m.seed p image (nodes_drawn t name s)
 
 pub opens_image : (m : Mounts) (t : Shape) (name : List ℕ) (s : Shape) (image : Image) (opening : Opening) → (n : NamesTask m name) → first_is_too_long m.tasks ≡ false → opening ≡ record_of m n.program (given_by name Drawn)
-    → owner_executes t ≡ true → child_of name t ≡ Some s → executed s ≡ Ok image → opening_of m (t ∷ []) opening ≡ Opens (started t name s image)
+    → owner_executes t ≡ true → child_of name t ≡ Some s → executed s ≡ Ok image → opening_of m (t ∷ []) opening ≡ Opens (started m n.program t name s image)
 opens_image m t name s image opening n short o x c i =
     opened_walking m t name Drawn opening (by_image (Ok image) (node_changes (drawn_nodes t name s))) n short o (execve_drawn t name s x c ∙ ap (λ r. by_image r (node_changes (drawn_nodes t name s))) i)
 
@@ -152,30 +151,30 @@ opens_image m t name s image opening n short o x c i =
 -- an image that began
 pub ended_starts : (m : Mounts) (t : Shape) (name : List ℕ) (met : Met) (image : Image) (opening : Opening) (trace : List Entry) (end : End)
     → (n : NamesTask m name) → first_is_too_long m.tasks ≡ false → opening ≡ record_of m n.program (given_by name met) → faults_of t < 2 ^ 64 → Fits t name met (answers.Starts image)
-    → ((nodes : Nodes) → RanFrom nodes (kernel_with (task_of_image image) (space_of image) [] nodes map.empty 0) m.entries end trace)
+    → ((nodes : Nodes) → RanFrom nodes (kernel_opened m.seed n.program image nodes) m.entries end trace)
     → Ended m t (given_back t name met) opening trace end
 ended_starts m t name Nothing image opening trace end n short o h f ran = absurd f
 ended_starts m t name (RootFailed d) image opening trace end n short o h f ran = absurd f
 ended_starts m t name (ChildFailed d) image opening trace end n short o h f ran = absurd f
 ended_starts m t name Drawn image opening trace end n short o h f ran = by_end end (ran (nodes_drawn t name f.0))
   where
-    runs : (state : Kernel) → replay (started t name f.0 image) trace ≡ Some state → each_whole (started t name f.0 image) trace ≡ true → state.nodes ≡ nodes_drawn t name f.0 → state.failed ≡ map.empty → Runs m t t opening trace state
+    runs : (state : Kernel) → replay (started m n.program t name f.0 image) trace ≡ Some state → each_whole (started m n.program t name f.0 image) trace ≡ true → state.nodes ≡ nodes_drawn t name f.0 → state.failed ≡ map.empty → Runs m t t opening trace state
     runs state r w e g = record {
-      start = started t name f.0 image;
+      start = started m n.program t name f.0 image;
       opens = opens_image m t name f.0 image opening n short o f.1 f.2 f.3;
       replayed = r;
       whole = w;
       settles = tree_drawn state t name f.0 e g f.2 h f.4;
     }
 
-    left : (o : Option Kernel) → replay (started t name f.0 image) trace ≡ o → Leaves (nodes_drawn t name f.0) map.empty o → each_whole (started t name f.0 image) trace ≡ true → (state : Kernel) × Runs m t t opening trace state
+    left : (o : Option Kernel) → replay (started m n.program t name f.0 image) trace ≡ o → Leaves (nodes_drawn t name f.0) map.empty o → each_whole (started m n.program t name f.0 image) trace ≡ true → (state : Kernel) × Runs m t t opening trace state
     left None e l w = absurd l
     left (Some state) e l w = (state, runs state e w l.0 l.1)
 
-    by_end : (end : End) → RanFrom (nodes_drawn t name f.0) (started t name f.0 image) m.entries end trace → Ended m t t opening trace end
+    by_end : (end : End) → RanFrom (nodes_drawn t name f.0) (started m n.program t name f.0 image) m.entries end trace → Ended m t t opening trace end
     by_end (ends.Done k) r = (over (nodes_drawn t name f.0) k, runs (over (nodes_drawn t name f.0) k) r.0 r.1 refl refl, record { tasks = refl; console = refl }, r.2)
     by_end (ends.Full k) r = (over (nodes_drawn t name f.0) k, runs (over (nodes_drawn t name f.0) k) r.0 r.1 refl refl, record { tasks = refl; console = refl }, r.2, r.3)
-    by_end ends.Memory r = inr (left (replay (started t name f.0 image) trace) refl r.0 r.1)
+    by_end ends.Memory r = inr (left (replay (started m n.program t name f.0 image) trace) refl r.0 r.1)
     by_end (ends.Image errno) r = absurd r
     by_end ends.HostFault r = absurd r
     by_end ends.Grant r = absurd r
@@ -219,7 +218,7 @@ long_refuses m t name opening n long o h = record {
 
 pub starts_for : (b : Bool) (m : Mounts) (t : Shape) (name : List ℕ) (met : Met) (image : Image) (opening : Opening) (trace : List Entry) (end : End)
     → (n : NamesTask m name) → first_is_too_long m.tasks ≡ b → opening ≡ record_of m n.program (given_by name met) → faults_of t < 2 ^ 64 → FitsFor b t name met (answers.Starts image)
-    → ((nodes : Nodes) → RanFrom nodes (kernel_with (task_of_image image) (space_of image) [] nodes map.empty 0) m.entries end trace)
+    → ((nodes : Nodes) → RanFrom nodes (kernel_opened m.seed n.program image nodes) m.entries end trace)
     → Ended m t (given_back t name met) opening trace end
 starts_for true m t name met image opening trace end n is o h f ran = absurd (let e = f.1 in cc)
 starts_for false m t name met image opening trace end n is o h f ran = ended_starts m t name met image opening trace end n is o h f ran
@@ -250,11 +249,12 @@ unfolding count_up
 gapless_nothing opening o = subst (λ (x : Opening). IsGapless (numbers_opened x)) (sym o) refl
 
 -- the program that stands first is the one task
+pub first_program : (m : Mounts) (name : List ℕ) (p : Program) → (n : NamesTask m name) → slice_get m.tasks 0 ≡ Some p → n.program ≡ p
+first_program m name p n e = let same : Some n.program ≡ Some p = ap (λ ps. slice_get ps 0) (sym n.tasks) ∙ e in cc
+
 pub first_task : (m : Mounts) (name : List ℕ) (p : Program) (given : Given) (opening : Opening) → (n : NamesTask m name) → slice_get m.tasks 0 ≡ Some p → opening ≡ record_of m p given → opening ≡ record_of m n.program given
 first_task m name p given opening n e o =
-    let same : Some n.program ≡ Some p = ap (λ ps. slice_get ps 0) (sym n.tasks) ∙ e in
-    let program : n.program ≡ p = cc in
-    o ∙ ap (λ (q : Program). record_of m q given) (sym program)
+    o ∙ ap (λ (q : Program). record_of m q given) (sym (first_program m name p n e))
 
 -- the strings of the program that stands first
 pub first_long : (ps : List Program) (p : Program) → slice_get ps 0 ≡ Some p → first_is_too_long ps ≡ is_too_long p.args p.env

@@ -16,7 +16,7 @@ use Rattle.mount_file.specs.MountFile.{IsMountFile, IsFaultOf}
 use Rattle.mount_file.specs.declared.mounts.MountFault.{MountFault}
 use Rattle.mount_file.proofs.Faults.{mounts_same, fault_same, no_fault}
 use Rattle.kernel_model.specs.Opening.{Opens, Refuses, Misfits, opening_of, is_of, tasks_begun, bare, same_list, same_mount, begins}
-use Rattle.kernel_model.specs.Image.{count_up}
+use Rattle.kernel_model.specs.Numbers.{count_up}
 use Rattle.mount_file.specs.declared.mounts.Program.{Program}
 use Rattle.kernel_model.specs.Words.{Command}
 use Rattle.sentry_run.specs.declared.outcome.Fault.{Fault}
@@ -51,7 +51,7 @@ nothing_unlike m e = ap (λ b. b && same_list nat_eq [] (count_up 1 (length m.mo
 nothing_begun : (m : Mounts) (trees : Option (List Shape)) → length m.mounts ≡ 1 → begun_over m nothing_opened trees ≡ Misfits 0
 unfolding opening_of
 nothing_begun m None e = refl
-nothing_begun m (Some trees) e = ap (λ b. if b then tasks_begun 1 m.tasks [] (bare trees) else Misfits 0) (nothing_unlike m e)
+nothing_begun m (Some trees) e = ap (λ b. if b then tasks_begun m.seed 1 m.tasks [] (bare trees) else Misfits 0) (nothing_unlike m e)
 
 nothing_refused : (m : Mounts) (w : Shape) (o : Opening) (k : Kernel) (task : ℕ) (errno : Errno) → length m.mounts ≡ 1 → o ≡ nothing_opened → begun m w o ≡ Refuses k task errno → ⊥
 nothing_refused m w o k task errno e f b = let g : Misfits 0 ≡ Refuses k task errno = sym (nothing_begun m (granted m.mounts w) e) ∙ ap (λ x. begun m w x) (sym f) ∙ b in cc

@@ -11,7 +11,7 @@ use Rattle.sn_base.proofs.Maps.{entries-from_entries}
 use Rattle.kernel_model.specs.declared.entry.Entry.{Entry}
 use Rattle.kernel_model.specs.declared.kernel.Kernel.{Kernel}
 use Rattle.kernel_model.specs.declared.kernel.Task.{Task}
-use Rattle.kernel_model.specs.declared.space.Space.{Space}
+use Rattle.mm_space.specs.Spaces.{AddressSpace}
 use Rattle.kernel_model.specs.FileTree.{Nodes}
 use Rattle.kernel_model.specs.History.{is_live, any_live, replay, each_whole}
 use Rattle.sentry_run.specs.declared.machine.Machine.{Machine}
@@ -54,10 +54,10 @@ ran_from (Some m) trace ends.HostFault entries nodes start leaves state whole st
 ran_from (Some m) trace ends.Grant entries nodes start leaves state whole stop fin = absurd fin
 
 -- the machine that an image begins with is the kernel that its opening starts
-pub started_same : (m : Machine) (task : Task) (space : Space) (nodes : Nodes) (n : ℕ) → m.task ≡ task → m.space ≡ space → m.console ≡ [] → kernel_of m nodes map.empty n ≡ kernel_with task space [] nodes map.empty n
+pub started_same : (m : Machine) (task : Task) (space : AddressSpace) (nodes : Nodes) (n : ℕ) → m.task ≡ task → m.space ≡ space → m.console ≡ [] → kernel_of m nodes map.empty n ≡ kernel_with task space [] nodes map.empty n
 started_same m task space nodes n e f g =
     ap (λ (t : Task). kernel_with t m.space m.console nodes map.empty n) e
-    ∙ ap (λ (s : Space). kernel_with task s m.console nodes map.empty n) f
+    ∙ ap (λ (s : AddressSpace). kernel_with task s m.console nodes map.empty n) f
     ∙ ap (λ (c : List ℕ). kernel_with task space c nodes map.empty n) g
 
 -- the state of a run, with given nodes

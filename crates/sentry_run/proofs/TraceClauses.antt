@@ -12,7 +12,7 @@ use Rattle.kernel_model.specs.declared.opening.Opening.{Opening}
 use Rattle.kernel_model.specs.declared.opening.Left.{Left}
 use Rattle.kernel_model.specs.Faulted.{numbers_of}
 use Rattle.kernel_model.specs.History.{any_live}
-use Rattle.kernel_model.specs.Image.{count_up}
+use Rattle.kernel_model.specs.Numbers.{count_up}
 use Rattle.kernel_model.specs.Numbers.{IsGapless, HasAllBelow, numbers_opened, numbers_in, numbers_drawn, left_fresh}
 use Rattle.kernel_model.specs.Printed.{printed}
 use Rattle.kernel_model.specs.Words.{Command}

@@ -9,7 +9,7 @@ use Rattle.sn_errno.specs.declared.errno.Errno.TheVariants.{EIO, ENOENT, E2BIG, 
 use Rattle.kernel_model.specs.declared.opening.Given.{Given}
 use Rattle.kernel_model.specs.Image.{image_of}
 use Rattle.kernel_model.specs.FileTree.{owner_executes}
-use Rattle.kernel_model.specs.Opening.{executed, image_within}
+use Rattle.kernel_model.specs.Opening.{has_room, executed, image_within}
 use Rattle.sentry_run.specs.declared.walk.Met.{Met}
 use Rattle.sentry_run.specs.declared.walk.Met.TheVariants.{Nothing, RootFailed, Drawn, ChildFailed}
 use Rattle.sentry_run.specs.declared.walk.Answer.{Answer}
@@ -70,6 +70,13 @@ abbrev pub Classified : List ℕ → Answer → Type 0
 Classified bytes (Starts image) = image_within (image_of bytes) ≡ Ok image
 Classified bytes (Refuses errno) = image_within (image_of bytes) ≡ Err errno
 Classified bytes Memory = Unit {0}
+
+-- an image that begins has no more pages than may be mapped
+-- execve(2), ENOMEM
+abbrev pub is_roomy : Answer → Bool
+is_roomy (Starts image) = has_room image
+is_roomy (Refuses errno) = true
+is_roomy Memory = true
 
 -- what was drawn and met, as the record of an opening has it: the root is number 1, the program's node number 2
 -- profile

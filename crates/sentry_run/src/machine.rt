@@ -1,23 +1,29 @@
-ghost use Rattle.std.specs.Prelude.{◌≡◌, ℕ, ◌+◌, [], ◌∷◌, Some, true, IsTrue, IfOk, OnErr};
+ghost use Rattle.std.specs.Prelude.{◌≡◌, ℕ, ◌+◌, ◌<◌, [], ◌∷◌, Some, true, false, IfOk, OnErr};
 ghost use Rattle.std.specs.Ordering.{nat_cmp};
 ghost use Rattle.std.specs.FinMap as map;
 ghost use Rattle.kernel_model.specs.FileTree.{Nodes};
 ghost use Rattle.kernel_model.specs.Parts.{Parts, run as outcome_in};
-ghost use Rattle.kernel_model.specs.Memory.{acting_on};
+ghost use Rattle.kernel_model.specs.Spaces.{acting_in, going_in};
 ghost use Rattle.kernel_model.specs.Instructions.{next_of, goes_on};
+ghost use Rattle.kernel_model.specs.Arguments.{is_too_long};
+ghost use Rattle.kernel_model.specs.Opening.{space_opened, task_opened};
+ghost use Rattle.kernel_model.specs.Beginnings.{HasRoom};
+ghost use Rattle.kernel_model.specs.declared.entry.Entry.TheVariants.{Run};
+ghost use Rattle.quantum.specs.Instructions.{ran};
 ghost use Rattle.kernel_model.specs.History.{is_live, is_whole};
 ghost use Rattle.kernel_model.specs.Step.{step, row_of, task_of, answered, task_change, with_registers};
 ghost use Rattle.kernel_model.specs.Registers.{replied};
 ghost use Rattle.kernel_model.specs.InPlace.{WritesFew};
 ghost use Rattle.kernel_model.specs.declared.kernel.Part.TheVariants.{OfConsole, OfSpace};
 ghost use Rattle.kernel_model.specs.Numbers.{numbers_in};
-ghost use Rattle.kernel_model.specs.Image.{space_of};
-ghost use Rattle.sentry_run.specs.Machine.{task_of_image, Changes, IsWholeRun};
+ghost use Rattle.sentry_run.specs.Machine.{Changes, IsWholeRun};
 
 use elf_image::Image;
 use kernel_model::{
-    Entry, Given, Kernel, Life, Next, Outcome, Space, Task, args_of, call_of, registers_of, reply,
+    Entry, Given, GuestSpace, Kernel, Life, Next, Outcome, Ran, Running, Task, args_of, call_of,
+    reply, run,
 };
+use mount_file::Program;
 use sn_base::{List, Map, Memory};
 use std::alloc::Global;
 
@@ -31,30 +37,28 @@ const TASK: u32 = 1;
 #[derive(Drop)]
 pub struct Machine {
     pub task: Task,
-    pub space: Space,
+    pub space: GuestSpace,
     pub console: List<u8>,
     ghost first: { task.space ≡ 1 },
 }
 
-/// Runs the task's next instructions, until one of them traps or calls, or 10,000 ran. Want of memory leaves the task and
-/// its address space.
-fn run_entry(alloc: Global, task: &mut Task, space: &mut Space) -> Result<Entry, Memory>
-    requires live { task.old.life ≡ Life.Live }
-    requires goes { IsTrue (goes_on (next_of (acting_on TASK space.old) task.old.registers)) }
-    ensures row { IfOk result (λ entry. (parts : Parts) → outcome_in parts (row_of entry (record { task = task.old; space = space.old })) ≡ Some ((OfSpace task.old.space, Some space.new) ∷ task_change TASK task.new ∷ [])) }
-    ensures task { IfOk result (λ entry. task_of entry ≡ TASK) }
-    ensures space { task.new.space ≡ task.old.space }
-    ensures numbers { IfOk result (λ entry. numbers_in entry ≡ []) }
-    ensures whole { IfOk result (λ entry. IsWholeRun entry space.new task.new) }
-    ensures err { OnErr result (task.new ≡ task.old) }
-    ensures err_space { OnErr result (space.new ≡ space.old) }
+/// Runs the task's next instructions, until one of them traps or calls, or 10,000 ran. Want of memory leaves what fewer
+/// of them have left.
+fn run_task(alloc: Global, task: &mut Task, space: &mut GuestSpace) -> Result<Ran, Memory>
+    requires { task.old.life ≡ Life.Live }
+    ensures row { IfOk result (λ r. 0 < r.count → (parts : Parts) →
+        outcome_in parts (row_of (Run TASK r.count) (record { task = task.old; space = space.old }))
+        ≡ Some ((OfSpace task.old.space, Some space.new) ∷ task_change TASK task.new ∷ [])) }
+    ensures whole { IfOk result (λ r. IsWholeRun (Run TASK r.count) space.new task.new) }
+    ensures place { task.new.space ≡ task.old.space }
+    ensures none { IfOk result (λ r. r.count ≡ 0 → (task.new ≡ task.old) × (space.new ≡ space.old)) }
+    ensures next { IfOk result (λ r. r.count ≡ 0 → r.next ≡ next_of (acting_in TASK space.new) task.new.registers) }
+    ensures stands { IfOk result (λ r. r.count ≡ 0 → goes_on r.next ≡ false) }
+    ensures memory { OnErr result ((n : ℕ) × (n < 10000)
+        × (ran n (going_in TASK space.old task.old.registers) ≡ Some (going_in TASK space.new task.new.registers))) }
+    ensures task { task.new ≡ with_registers task.old task.new.registers }
 {
-    let mut registers = task.registers;
-    let ran = kernel_model::run(alloc, TASK, &mut registers, &*space, QUANTUM)?;
-    let n = ran.count;
-    space.take(ran.kept);
-    task.registers = registers;
-    Ok(Entry::Run { task: TASK, n })
+    run(alloc, TASK, &mut task.registers, space, QUANTUM)
 }
 
 /// Goes on behind a call with its reply.
@@ -97,10 +101,10 @@ fn apply(task: &mut Task, console: &mut List<u8>, outcome: Outcome) -> Result<i6
 fn call_entry(
     alloc: Global,
     task: &mut Task,
-    space: &Space,
+    space: &GuestSpace,
     console: &mut List<u8>,
 ) -> Result<Entry, Memory>
-    requires { next_of (acting_on TASK space.now) task.old.registers ≡ Next.Calls }
+    requires { next_of (acting_in TASK space.now) task.old.registers ≡ Next.Calls }
     ensures row { IfOk result (λ entry. (s : Parts) → s OfConsole ≡ console.old →
         Changes console.old console.new task.new (outcome_in s (row_of entry (record { task = task.old; space = space.now })))) }
     ensures task { IfOk result (λ entry. task_of entry ≡ TASK) }
@@ -127,8 +131,8 @@ fn call_entry(
 }
 
 /// Ends the task by the signal of its next instruction's trap.
-fn end_entry(task: &mut Task, space: &Space, signal: u8) -> Entry
-    requires { next_of (acting_on TASK space.now) task.old.registers ≡ Next.Traps signal }
+fn end_entry(task: &mut Task, space: &GuestSpace, signal: u8) -> Entry
+    requires { next_of (acting_in TASK space.now) task.old.registers ≡ Next.Traps signal }
     ensures row { (parts : Parts) → outcome_in parts (row_of result (record { task = task.old; space = space.now })) ≡ Some (task_change 1 task.new ∷ []) }
     ensures task { task_of result ≡ TASK }
     ensures space { task.new.space ≡ task.old.space }
@@ -140,21 +144,22 @@ fn end_entry(task: &mut Task, space: &Space, signal: u8) -> Entry
 }
 
 impl Machine {
-    ghost use Rattle.sentry_run.specs.MachineKernel.{kernel_of};
+    ghost use Rattle.sentry_run.specs.MachineKernel.{HasRunPart, kernel_of};
 
-    /// The machine that an image begins with.
-    pub fn start(alloc: Global, image: &Image) -> Result<Machine, Memory>
-        ensures task { IfOk result (λ m. m.task ≡ task_of_image image.now) }
-        ensures space { IfOk result (λ m. m.space ≡ space_of image.now) }
+    /// The machine that an image begins with, with the strings of its program and random bytes by the seed.
+    pub fn start(
+        alloc: Global,
+        seed: &[u8],
+        program: &Program,
+        image: &Image,
+    ) -> Result<Machine, Memory>
+        requires short { is_too_long program.now.args program.now.env ≡ false }
+        requires pages { HasRoom image.now }
+        ensures task { IfOk result (λ m. m.task ≡ task_opened seed.now 1 program.now image.now) }
+        ensures space { IfOk result (λ m. m.space ≡ space_opened seed.now 1 program.now image.now) }
         ensures console { IfOk result (λ m. m.console ≡ []) }
     {
-        let space = Space::of_image(alloc, image)?;
-        let task = Task {
-            group: TASK,
-            space: u64::from(TASK),
-            registers: registers_of(image),
-            life: Life::Live,
-        };
+        let Running { task, space } = Running::opened(alloc, seed, TASK, program, image)?;
         Ok(Machine {
             task,
             space,
@@ -169,16 +174,26 @@ impl Machine {
         matches!(self.task.life, Life::Live)
     }
 
-    /// Makes the next entry of the task, which lives, and does it. Want of memory leaves the machine.
+    /// Makes the next entry of the task, which lives, and does it. Want of memory leaves what some whole instructions,
+    /// fewer than 10,000, have left.
     pub fn advance(&mut self, alloc: Global) -> Result<Entry, Memory>
         requires { self.old.task.life ≡ Life.Live }
-        ensures step { IfOk result (λ entry. (nodes : Nodes) (failed : map.FinMap nat_cmp ℕ) (n : ℕ) → step (kernel_of self.old nodes failed n) entry ≡ Some (kernel_of self.new nodes failed (n + 1))) }
+        ensures step { IfOk result (λ entry. (nodes : Nodes) (failed : map.FinMap nat_cmp ℕ) (n : ℕ) →
+            step (kernel_of self.old nodes failed n) entry ≡ Some (kernel_of self.new nodes failed (n + 1))) }
         ensures numbers { IfOk result (λ entry. numbers_in entry ≡ []) }
-        ensures whole { IfOk result (λ entry. (nodes : Nodes) (failed : map.FinMap nat_cmp ℕ) (n : ℕ) → is_whole entry (kernel_of self.new nodes failed n) ≡ true) }
-        ensures err { OnErr result (self.new ≡ self.old) }
+        ensures whole { IfOk result (λ entry. (nodes : Nodes) (failed : map.FinMap nat_cmp ℕ) (n : ℕ) →
+            is_whole entry (kernel_of self.new nodes failed n) ≡ true) }
+        ensures memory { OnErr result (HasRunPart self.old self.new) }
     {
-        match kernel_model::next(alloc, TASK, &self.task.registers, &self.space)? {
-            Next::Goes => run_entry(alloc, &mut self.task, &mut self.space),
+        let ran = run_task(alloc, &mut self.task, &mut self.space)?;
+        if ran.count > 0 {
+            return Ok(Entry::Run {
+                task: TASK,
+                n: ran.count,
+            });
+        }
+        match ran.next {
+            Next::Goes => unreachable!(),
             Next::Calls => call_entry(alloc, &mut self.task, &self.space, &mut self.console),
             Next::Traps(signal) => Ok(end_entry(&mut self.task, &self.space, signal)),
         }

@@ -1,11 +1,13 @@
-ghost use Rattle.std.specs.Prelude.{◌≡◌, ◌≤◌, ◌<◌, ◌^◌, [], length, Some, None, IfOk};
+ghost use Rattle.std.specs.Prelude.{◌≡◌, ◌≤◌, ◌<◌, ◌^◌, true, false, [], length, Some, None, IfOk};
 ghost use Rattle.std.specs.FinMap as map;
 ghost use Rattle.std.specs.List.{flat_map};
 ghost use Rattle.host_node.specs.Tree.{Shape, faults_of};
 ghost use Rattle.kernel_model.specs.FileTree.{Nodes};
-ghost use Rattle.kernel_model.specs.Image.{space_of};
+ghost use Rattle.kernel_model.specs.Arguments.{is_too_long};
+ghost use Rattle.kernel_model.specs.Beginnings.{HasRoom};
 ghost use Rattle.kernel_model.specs.Numbers.{IsGapless, numbers_opened, numbers_in};
-ghost use Rattle.sentry_run.specs.Machine.{kernel_with, task_of_image};
+ghost use Rattle.sentry_run.specs.Machine.{kernel_opened};
+ghost use Rattle.sn_errno.specs.declared.errno.Errno.TheVariants.{E2BIG};
 ghost use Rattle.sentry_run.specs.Walk.{given_by};
 ghost use Rattle.sentry_run.specs.Played.{nothing_opened, record_of, NamesTask, first_is_too_long, FitsFor, given_back, Ended, RanFrom, TraceOf};
 ghost use Rattle.sentry_run.specs.PlayedMachine.{EndsAs, FinishesAs, IsInner};
@@ -126,15 +128,24 @@ fn opening_record(
 }
 
 /// Runs an image from its opening on.
-fn run_image(alloc: Global, entries: u64, image: &Image, opening: Opening) -> Played
-    ensures ran { (nodes : Nodes) → RanFrom nodes (kernel_with (task_of_image image.now) (space_of image.now) [] nodes map.empty 0) entries result.end result.trace }
+fn run_image(
+    alloc: Global,
+    mounts: &Mounts,
+    program: &Program,
+    image: &Image,
+    opening: Opening,
+) -> Played
+    requires short { is_too_long program.now.args program.now.env ≡ false }
+    requires pages { HasRoom image.now }
+    ensures ran { (nodes : Nodes) → RanFrom nodes (kernel_opened mounts.now.seed program.now image.now nodes)
+        mounts.now.entries result.end result.trace }
     ensures opening { result.opening ≡ opening }
     ensures drawn { flat_map numbers_in result.trace ≡ [] }
     ensures inner { IsInner result.end }
-    ensures trace { TraceOf entries result.end result.trace }
-    ensures bound { length result.trace ≤ entries }
+    ensures trace { TraceOf mounts.now.entries result.end result.trace }
+    ensures bound { length result.trace ≤ mounts.now.entries }
 {
-    let machine = match Machine::start(alloc, image) {
+    let machine = match Machine::start(alloc, mounts.seed.as_slice(), program, image) {
         Ok(machine) => machine,
         Err(Memory) => {
             return Played {
@@ -144,7 +155,7 @@ fn run_image(alloc: Global, entries: u64, image: &Image, opening: Opening) -> Pl
             };
         }
     };
-    finished(alloc, run_machine(alloc, machine, entries), opening)
+    finished(alloc, run_machine(alloc, machine, mounts.entries), opening)
 }
 
 /// How a run has ended.
@@ -186,7 +197,8 @@ fn ended(alloc: Global, machine: Machine, entries: u64) -> End
 
 /// Opens and runs the one task of a mount file, from what the walk to its program gave.
 pub fn play_loaded(alloc: Global, mounts: &Mounts, name: &Name, loaded: Loaded) -> Played
-    requires { NamesTask mounts.now name.now }
+    requires named { NamesTask mounts.now name.now }
+    requires long { first_is_too_long mounts.now.tasks ≡ true → loaded.answer ≡ Answer.Refuses E2BIG }
     ensures ended { (t : Shape) → faults_of t < 2 ^ 64 → FitsFor (first_is_too_long mounts.now.tasks) t name.now loaded.met loaded.answer →
         Ended mounts.now t (given_back t name.now loaded.met) result.opening result.trace result.end }
     ensures inner { IsInner result.end }
@@ -202,7 +214,7 @@ pub fn play_loaded(alloc: Global, mounts: &Mounts, name: &Name, loaded: Loaded) 
         Err(Memory) => return stopped(alloc, End::Memory),
     };
     match answer {
-        Answer::Starts(image) => run_image(alloc, mounts.entries, &image, opening),
+        Answer::Starts(image) => run_image(alloc, mounts, program, &image, opening),
         Answer::Refuses(errno) => Played {
             end: End::Image(errno),
             opening,

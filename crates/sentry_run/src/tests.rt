@@ -461,7 +461,8 @@ fn descriptors_1_and_2_alone_are_open_for_writing(rt: HostRuntime) -> Result<(),
 fn a_buffer_that_ends_outside_memory_is_refused_whole(rt: HostRuntime) -> Result<(), Fail> {
     // The last four bytes of the stack, and four behind it.
     let words = [
-        MV_A1_SP,
+        LI_A1_1,
+        SLLI_A1_A1_38,
         ADDI_A1_A1_MINUS_4,
         LI_A2_8,
         LI_A7_WRITE,
@@ -475,9 +476,37 @@ fn a_buffer_that_ends_outside_memory_is_refused_whole(rt: HostRuntime) -> Result
 }
 
 #[test]
+fn a_guest_finds_its_argument_and_random_bytes_on_its_stack(rt: HostRuntime) -> Result<(), Fail> {
+    // What the first pointer of its arguments leads to, and what stands 16 bytes below the end of the stack.
+    let words = [
+        LD_A1_8_SP,
+        LI_A2_5,
+        LI_A7_WRITE,
+        LI_A0_1,
+        ECALL,
+        LI_A1_1,
+        SLLI_A1_A1_38,
+        ADDI_A1_A1_MINUS_4,
+        ADDI_A1_A1_MINUS_4,
+        ADDI_A1_A1_MINUS_4,
+        ADDI_A1_A1_MINUS_4,
+        LI_A2_8,
+        LI_A0_1,
+        ECALL,
+    ];
+    let Ended { out, .. } = run_words(rt, &words)?;
+    // The first words of the stream 2^32 + 1 of ChaCha20 with a key of zeros, by another implementation.
+    assert!(rt;
+        out.bytes()
+            .starts_with(b"/init\x80\x93\x69\x5f\x80\xd3\x44\xe1\ngroup 1 exit 0\n")
+    );
+    Ok(())
+}
+
+#[test]
 fn a_write_past_the_room_of_the_console_takes_nothing(rt: HostRuntime) -> Result<(), Fail> {
     let alloc = rt.alloc();
-    // From 65,536 bytes below the end of the stack: each write has more than 65,536 to take, and takes that many.
+    // From 65,536 bytes below the stack pointer: each write has more than 65,536 to take, and takes that many.
     let mut code = List::from_slice(alloc, &[MV_A1_SP, LI_A2_MINUS_1, LI_A7_WRITE])?;
     for _ in 0..32 {
         code.push(ADDI_A1_A1_MINUS_2048)?;

@@ -1,9 +1,10 @@
-ghost use Rattle.std.specs.Prelude.{◌≡◌, ◌+◌, ◌<◌, [], ◌∷◌, None, IfOk, option_map};
+ghost use Rattle.std.specs.Prelude.{◌≡◌, ◌+◌, ◌<◌, [], ◌∷◌, true, None, IfOk, option_map};
+ghost use Rattle.sn_errno.specs.declared.errno.Errno.TheVariants.{E2BIG};
 ghost use Rattle.host_node.specs.Faults.{has_failed};
 ghost use Rattle.sn_base.specs.Faults.{Rose, HasCause};
 ghost use Rattle.host_node.specs.Told.{CanLend, kept};
 ghost use Rattle.sn_base.specs.Sums.{capped};
-ghost use Rattle.sentry_run.specs.Walk.{Refusal, FileRefusal, Classified, given_by, IsHere, IsFileOf, ReadsFile, FailedBy, RootFailedBy, LoadsWhere, LendsTo, Walks, Execves};
+ghost use Rattle.sentry_run.specs.Walk.{is_roomy, Refusal, FileRefusal, Classified, given_by, IsHere, IsFileOf, ReadsFile, FailedBy, RootFailedBy, LoadsWhere, LendsTo, Walks, Execves};
 ghost use Rattle.kernel_model.specs.Arguments.{is_too_long};
 
 use elf_image::Image;
@@ -41,6 +42,7 @@ pub enum Answer {
 pub struct Loaded {
     pub met: Met,
     pub answer: Answer,
+    ghost pages: { is_roomy answer ≡ true },
 }
 
 /// A walk to a program: its node, which was lent, and what it gave.
@@ -84,7 +86,8 @@ fn file_refusal(mode: u32, size: u64) -> Option<Errno>
 
 /// The image that a file's bytes are.
 fn classify(alloc: Global, bytes: &[u8]) -> Answer
-    ensures { Classified bytes.now result }
+    ensures image { Classified bytes.now result }
+    ensures pages { is_roomy result ≡ true }
 {
     match read_executable(alloc, bytes) {
         Ok(Ok(image)) => Answer::Starts(image),
@@ -124,6 +127,7 @@ fn child_failed<N: HostNode>(before: u64, child: &N) -> Loaded
 }
 
 fn drawn(answer: Answer) -> Loaded
+    requires { is_roomy answer ≡ true }
     ensures met { result.met ≡ Met.Drawn }
     ensures answer { result.answer ≡ answer }
 {
@@ -155,6 +159,7 @@ fn load<N: HostNode>(alloc: Global, child: &mut N, route: &Route) -> Loaded
 }
 
 fn without_child<N: Drop>(met: Met, answer: Answer) -> Walk<N>
+    requires { is_roomy answer ≡ true }
     ensures child { result.child ≡ None }
     ensures met { result.loaded.met ≡ met }
     ensures answer { result.loaded.answer ≡ answer }
@@ -243,7 +248,10 @@ fn walk_to_program<N: HostNode>(alloc: Global, root: &mut N, name: &Name, before
 /// walks to the program's name, and loads the image (execve(2)).
 pub fn execve<N: HostNode>(alloc: Global, root: &mut N, program: &Program, name: &Name) -> Walk<N>
     requires { CanLend name.now (N.told root.old) }
-    ensures { Execves (is_too_long program.now.args program.now.env) (N.told root.old) name.now (N.told root.new) (option_map N.told result.child) result.loaded.met result.loaded.answer }
+    ensures walks { Execves (is_too_long program.now.args program.now.env) (N.told root.old) name.now (N.told root.new)
+        (option_map N.told result.child) result.loaded.met result.loaded.answer }
+    ensures long { is_too_long program.now.args program.now.env ≡ true →
+        result.loaded.answer ≡ Answer.Refuses E2BIG }
 {
     let before = root.faults();
     if is_too_long(program) {

@@ -15,6 +15,15 @@ pub const LI_A0_3: u32 = 0x0030_0513;
 /// `li a1, 0`
 pub const LI_A1_0: u32 = 0x0000_0593;
 
+/// `li a1, 1`
+pub const LI_A1_1: u32 = 0x0010_0593;
+
+/// `slli a1, a1, 38`
+pub const SLLI_A1_A1_38: u32 = 0x0265_9593;
+
+/// `ld a1, 8(sp)`
+pub const LD_A1_8_SP: u32 = 0x0081_3583;
+
 /// `mv a1, sp`
 pub const MV_A1_SP: u32 = 0x0001_0593;
 
@@ -26,6 +35,9 @@ pub const ADDI_A1_A1_MINUS_2048: u32 = 0x8005_8593;
 
 /// `li a2, 0`
 pub const LI_A2_0: u32 = 0x0000_0613;
+
+/// `li a2, 5`
+pub const LI_A2_5: u32 = 0x0050_0613;
 
 /// `li a2, 8`
 pub const LI_A2_8: u32 = 0x0080_0613;

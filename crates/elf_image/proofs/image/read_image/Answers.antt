@@ -18,4 +18,4 @@ returns-clause-starts c =
     let none : image_fault bytes ≡ None = grind arith in
     let same : c.in_ok-segments.segments ≡ segments_of bytes (program_headers bytes) = grind arith in
     let start : c.file_header-file.result.e_entry ≡ (file_header bytes).e_entry = grind arith in
-    starts_in_code bytes c.file_header-file.result.e_entry c.in_ok-segments.segments none start same
+    starts_in_code bytes c.file_header-file.result.e_entry c.in_ok-segments.segments none start same _ _

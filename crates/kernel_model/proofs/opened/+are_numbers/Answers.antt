@@ -1,5 +1,5 @@
 use Rattle.std.proofs.Common.{◌+◌, ◌-◌, nat_eq, sym, ap, ◌∙◌, arith}
-use Rattle.kernel_model.specs.Image.{count_up}
+use Rattle.kernel_model.specs.Numbers.{count_up}
 use Rattle.kernel_model.specs.Opening.{same_list}
 use Rattle.kernel_model.proofs.CountLemmas.{no_numbers, some_for_none, other_first, then_others, rest_of}
 use Rattle.kernel_model.proofs.opened.+are_numbers.Goals as goal

@@ -4,5 +4,5 @@ use Rattle.kernel_model.proofs.kernel.Kernel.begin_tasks.Given as goal
 
 abbrev pub invariant-loop-index : goal.invariant-loop-index
 invariant-loop-index l =
-    tasks_begun (l.index + 1) (drop l.index l.programs) (drop l.index l.opened) l.self
-    ≡ tasks_begun 1 l.programs l.opened l.fn.self
+    tasks_begun l.seed (l.index + 1) (drop l.index l.programs) (drop l.index l.opened) l.self
+    ≡ tasks_begun l.seed 1 l.programs l.opened l.fn.self

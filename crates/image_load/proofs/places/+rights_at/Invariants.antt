@@ -1,0 +1,5 @@
+use Rattle.std.proofs.Common.{length}
+use Rattle.image_load.proofs.places.+rights_at.Given as goal
+
+abbrev pub decreases-rights_at : goal.decreases-rights_at
+decreases-rights_at l = length l.segments.now
