@@ -1,18 +1,17 @@
 -- Turns of a run, one behind another.
-use Rattle.std.proofs.Common.{◌≡◌, ℕ, ◌+◌, ◌≤◌, ◌<◌, Bool, true, false, Option, Some, None, [], ◌∷◌, refl, ap, sym, ◌∙◌, subst, arith}
+use Rattle.std.proofs.Common.{◌≡◌, ℕ, ◌+◌, ◌≤◌, Bool, true, false, Option, Some, None, refl, ap, sym, ◌∙◌, subst, arith}
 use Rattle.std.specs.Prelude.{option_and_then}
 use Rattle.std.proofs.lemmas.Bool.{false≢true}
 use Rattle.std.proofs.lemmas.Option.{none-some}
 use Rattle.rv_table.specs.declared.regs.Regs.{Regs}
 use Rattle.rv_exec.specs.Courses as courses
 use Rattle.rv_exec.specs.Execution.{Done, Goes, Calls, Traps, Touches, StepsAs, exec}
-use Rattle.rv_exec.specs.Writes.{Write}
 use Rattle.rv_exec.specs.declared.outcome.Step.{Step}
 use Rattle.rv_exec.specs.declared.outcome.Step.TheVariants as steps
 use Rattle.rv_exec.proofs.Courses.{ran_add, ran_still, ran_suc, ran_zero}
 use Rattle.quantum.specs.Acting.{Acting, after_write, memory_of}
-use Rattle.quantum.specs.Ends.{Few, LacksMemory, Ran, Stopped, end_of}
-use Rattle.quantum.specs.Instructions.{Going, next_done, ran}
+use Rattle.quantum.specs.Ends.{LacksMemory, Ran, end_of}
+use Rattle.quantum.specs.Instructions.{Going, ran}
 use Rattle.quantum.specs.Turns.{TurnsTo}
 use Rattle.quantum.specs.declared.turn.Stop.{Stop}
 use Rattle.quantum.specs.declared.turn.Stop.TheVariants as stops

@@ -1,6 +1,5 @@
 -- A task's instructions one after another.
 use Rattle.std.specs.Prelude.{ℕ, Option}
-use Rattle.rv_table.specs.declared.regs.Regs.{Regs}
 use Rattle.rv_exec.specs.Courses as courses
 use Rattle.rv_exec.specs.Execution.{Done, exec}
 use Rattle.quantum.specs.Acting.{Acting, after_write, memory_of}

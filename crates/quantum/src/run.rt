@@ -45,7 +45,8 @@ pub fn run_quantum(
     ensures ran { Ran (record { acting = acting_on task (reach space.old shared.old); registers = regs.old })
         (record { acting = acting_on task (reach space.new shared.new); registers = regs.new }) result }
     ensures few { Few 10000 result }
-    ensures stopped { Stopped (record { acting = acting_on task (reach space.new shared.new); registers = regs.new }) result }
+    ensures stopped { Stopped (record { acting = acting_on task (reach space.new shared.new); registers = regs.new })
+        result }
     ensures memory { LacksMemory (record { acting = acting_on task (reach space.old shared.old); registers = regs.old })
         (record { acting = acting_on task (reach space.new shared.new); registers = regs.new }) 10000 result }
 {
@@ -64,7 +65,8 @@ pub fn run_at_most(
     ensures ran { Ran (record { acting = acting_on task (reach space.old shared.old); registers = regs.old })
         (record { acting = acting_on task (reach space.new shared.new); registers = regs.new }) result }
     ensures few { Few most result }
-    ensures stopped { Stopped (record { acting = acting_on task (reach space.new shared.new); registers = regs.new }) result }
+    ensures stopped { Stopped (record { acting = acting_on task (reach space.new shared.new); registers = regs.new })
+        result }
     ensures memory { LacksMemory (record { acting = acting_on task (reach space.old shared.old); registers = regs.old })
         (record { acting = acting_on task (reach space.new shared.new); registers = regs.new }) most result }
 {

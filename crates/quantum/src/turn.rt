@@ -31,7 +31,8 @@ impl Acting {
         requires { 0 < most }
         ensures ran { ran result.count (record { acting = acting_of self.old; registers = regs.old })
             ≡ Some (record { acting = acting_of self.new; registers = regs.new }) }
-        ensures turned { TurnsTo (record { acting = acting_of self.new; registers = regs.new }) result.count most result.stop }
+        ensures turned { TurnsTo (record { acting = acting_of self.new; registers = regs.new })
+            result.count most result.stop }
     {
         let run = self.run_near(regs, most);
         let count = run.count;
@@ -55,13 +56,14 @@ impl Acting {
         }
     }
 
-    /// Does instructions of the page that the task stands in, by the page's decoded words: none where they aren't there.
+    /// Does instructions of the page that the task stands in by its decoded words: none where they aren't there.
     fn run_near(&mut self, regs: &mut Regs, most: u32) -> RowRun
         requires { 0 < most }
         ensures ran { ran result.count (record { acting = acting_of self.old; registers = regs.old })
             ≡ Some (record { acting = acting_of self.new; registers = regs.new }) }
         ensures few { result.count ≤ most }
-        ensures ended { EndsBy (next_done (record { acting = acting_of self.new; registers = regs.new })) result.count most result.flow }
+        ensures ended { EndsBy (next_done (record { acting = acting_of self.new; registers = regs.new }))
+            result.count most result.flow }
     {
         let page = page_of(regs.pc);
         if !self.space.decode(self.alloc, page) {
@@ -83,7 +85,8 @@ impl Acting {
         ensures ran { ran (result.count - count) (record { acting = acting_of self.old; registers = regs.old })
             ≡ Some (record { acting = acting_of self.new; registers = regs.new }) }
         ensures behind { count ≤ result.count }
-        ensures turned { TurnsTo (record { acting = acting_of self.new; registers = regs.new }) result.count (count + 1) result.stop }
+        ensures turned { TurnsTo (record { acting = acting_of self.new; registers = regs.new })
+            result.count (count + 1) result.stop }
     {
         match step(regs, self) {
             Step::Next => Turn {

@@ -2,7 +2,7 @@
 use Rattle.std.specs.Prelude.{◌≡◌, ⊤, ℕ, ◌+◌, ◌*◌, ◌<◌, List, [], ◌∷◌, Option, Some, None, length, slice_index_or}
 use Rattle.rv_table.specs.declared.instr.Instr.{Instr}
 use Rattle.rv_table.specs.declared.regs.Regs.{Regs}
-use Rattle.rv_table.specs.Bytes.{Accessed, Byte, Memory, Value, Fault, Shared, loaded}
+use Rattle.rv_table.specs.Bytes.{Accessed, Byte, Memory, Value, loaded}
 use Rattle.rv_table.specs.Table.{rows_of}
 use Rattle.rv_exec.specs.Execution.{Done, Traps, done_by}
 

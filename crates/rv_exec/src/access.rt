@@ -39,7 +39,8 @@ pub(crate) trait Access {
         requires { IsWidth width }
         ensures number { IfSome result (λ n. loaded (M.seen (M.told mem.old)).data_ at width ≡ Value n) }
         ensures exact { is_exact ≡ true → GivesAs true (why self.new)
-            (both (loaded (M.seen (M.told mem.old)).data_ at width) (loaded (M.seen (M.told mem.old)).room at width)) result }
+            (both (loaded (M.seen (M.told mem.old)).data_ at width) (loaded (M.seen (M.told mem.old)).room at width))
+            result }
         ensures lean { M.takes_memory ≡ false → why self.old ≢ Step.Memory → why self.new ≢ Step.Memory }
         ensures same { M.told mem.new ≡ M.told mem.old }
         ensures page { page self.new ≡ page self.old };

@@ -1,4 +1,4 @@
-use Rattle.std.proofs.Common.{◌≡◌, ◌/◌, ◌%◌, Some, None, sym, ◌∙◌}
+use Rattle.std.proofs.Common.{Some, None}
 use Rattle.rv_exec.specs.declared.outcome.Step.TheVariants as outcomes
 use Rattle.rv_exec.proofs.InRows.{flows_some, traps_none, stands}
 use Rattle.rv_exec.proofs.rows.run_one.Goals as goal

@@ -1,4 +1,4 @@
-use Rattle.std.proofs.Common.{◌≡◌, ◌/◌, Some, refl, sym, ap, ◌∙◌}
+use Rattle.std.proofs.Common.{refl, sym, ap, ◌∙◌}
 use Rattle.rv_exec.specs.Courses.{going}
 use Rattle.rv_exec.specs.declared.outcome.Step.TheVariants as outcomes
 use Rattle.rv_exec.proofs.Courses.{ran_still, ran_zero}

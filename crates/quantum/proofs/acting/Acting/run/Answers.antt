@@ -1,8 +1,8 @@
-use Rattle.std.proofs.Common.{◌≡◌, ◌+◌, ◌-◌, ◌≤◌, ◌<◌, Some, arith, refl, ap, sym, subst, ◌∙◌}
+use Rattle.std.proofs.Common.{◌+◌, ◌-◌, arith, refl, sym, subst}
 use Rattle.rv_exec.specs.Courses.{going}
 use Rattle.rv_exec.proofs.Courses.{ran_zero}
 use Rattle.quantum.specs.Acting.{after_write, memory_of}
-use Rattle.quantum.specs.Ends.{LacksMemory, Ran, end_of}
+use Rattle.quantum.specs.Ends.{LacksMemory, Ran}
 use Rattle.quantum.specs.Turns.{TurnsTo, acting_of}
 use Rattle.quantum.proofs.SameTask.{ran_same}
 use Rattle.quantum.proofs.Turned.{ran_stopped, lacks_stopped, ran_then, ran_on}
@@ -50,11 +50,13 @@ returns-in-Some-clause-task c =
 pub loop-turn-preserved : goal.loop-turn-preserved
 loop-turn-preserved c =
     let turned = ran_on (going (acting_of c.turn-turn.new.self) c.turn-turn.new.regs) c.turn-turn.result.count (c.args.most - c.loop-turn.count)
-      c.turn-turn.result.stop c.turn-turn.ensures.turned c.in_default.is in
-    (ran_then c.loop-turn.count c.turn-turn.result.count (c.loop-turn.count + c.turn-turn.result.count)
-    (going (acting_of c.args.self.now) c.args.regs.now) (going (acting_of c.loop-turn.self) c.loop-turn.regs)
-    (going (acting_of c.turn-turn.new.self) c.turn-turn.new.regs) refl c.loop-turn.invariant.0 c.turn-turn.ensures.ran,
-    omega (arith, turned.1, c.loop-turn.invariant.1), omega (arith, turned.0, c.loop-turn.invariant.2))
+    c.turn-turn.result.stop c.turn-turn.ensures.turned c.in_default.is in (
+      ran_then c.loop-turn.count c.turn-turn.result.count (c.loop-turn.count + c.turn-turn.result.count)
+          (going (acting_of c.args.self.now) c.args.regs.now) (going (acting_of c.loop-turn.self) c.loop-turn.regs)
+          (going (acting_of c.turn-turn.new.self) c.turn-turn.new.regs) refl c.loop-turn.invariant.0 c.turn-turn.ensures.ran,
+      omega (arith, turned.1, c.loop-turn.invariant.1),
+      omega (arith, turned.0, c.loop-turn.invariant.2),
+    )
 
 pub returns-clause-ran : goal.returns-clause-ran
 returns-clause-ran c = c.loop-turn.invariant.0

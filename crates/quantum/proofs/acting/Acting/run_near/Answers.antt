@@ -1,4 +1,4 @@
-use Rattle.std.proofs.Common.{◌≡◌, ℕ, ◌/◌, Some, refl, ap, sym, ◌∙◌}
+use Rattle.std.proofs.Common.{ℕ, Some, refl, ap, sym, ◌∙◌}
 use Rattle.mm_frames.specs.Rows.{words_of}
 use Rattle.mm_areas.specs.Hints.{allows_at}
 use Rattle.mm_space.specs.Accesses.{executable}

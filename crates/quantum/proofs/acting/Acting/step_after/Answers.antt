@@ -1,4 +1,4 @@
-use Rattle.std.proofs.Common.{◌≡◌, ◌+◌, ◌-◌, refl, arith}
+use Rattle.std.proofs.Common.{◌+◌, ◌-◌, refl, arith}
 use Rattle.quantum.specs.Turns.{acting_of}
 use Rattle.quantum.proofs.Turned.{halted, next_apart, stepped}
 use Rattle.quantum.proofs.acting.Acting.step_after.Goals as goal

@@ -1,4 +1,4 @@
-use Rattle.std.proofs.Common.{◌≡◌, ◌+◌, ◌-◌, arith}
+use Rattle.std.proofs.Common.{◌-◌, arith}
 use Rattle.rv_exec.specs.Courses.{going}
 use Rattle.quantum.specs.Turns.{acting_of}
 use Rattle.quantum.proofs.Turned.{ran_then}
