@@ -11,12 +11,12 @@
 //! `run_row`: it has done as many instructions as it answers, each by `exec` (`ran`), no more than it may (`few`); where
 //! it ends at a call or a trap, the next one is that (`ended`); the page's words are as before (`row`).
 //!
-//! Asked of a memory: the number of an access is its bytes', the lowest first (`word`, `number`), a store answers by what
-//! its bytes are (`room`), writes them (`ok`) or changes nothing (`err`), and takes no memory where `writable` said yes
-//! (`ready`); `take` tells of the reservation (`held`) and ends it (`ended`). What is near: `load_near` and `store_near`
-//! are fast forms, for what is at hand, and may do nothing; a near store leaves other pages' instructions (`rows`).
-//! Laws: after a write each byte is what the write puts at its place (`written`), an address is of its own byte
-//! (`itself`), and a page's decoded words, its row, are those of its bytes (`decoded`).
+//! Asked of a memory: the number of an access is its bytes', the lowest first (`word`, `number`), a store answers by
+//! what its bytes are (`room`), writes them (`ok`) or changes nothing (`err`), and takes no memory where `writable`
+//! said yes (`ready`); `take` tells of the reservation (`held`) and ends it (`ended`). What is near: `load_near` and
+//! `store_near` are fast forms, for what is at hand, and may do nothing; a near store leaves other pages' instructions
+//! (`rows`). Laws: after a write each byte is what the write puts at its place (`written`), an address is of its own
+//! byte (`itself`), and a page's decoded words, its row, are those of its bytes (`decoded`).
 //!
 //! Not said: when memory is wanting; which byte a `Trap` of 11 is about; how far a run gets before it ends with `Next`
 //! or `Refused`; what a system call does; that a store ends other tasks' reservations.
