@@ -8,8 +8,8 @@
 //!
 //! Proved over every memory. `step`: registers, answer and what is told of memory are as the definition `exec` says of
 //! the bytes at pc (`done`); where no call of the memory answers want of memory, a step doesn't either (`lean`).
-//! `run_row`: it has done as many instructions as it answers, each by `exec` (`ran`), no more than it may (`few`); where
-//! it ends at a call or a trap, the next one is that (`ended`); the page's words are as before (`row`).
+//! `run_row`: it has done as many instructions as it answers, each by `exec` (`ran`), no more than it may (`few`);
+//! where it ends at a call or a trap, the next one is that (`ended`); the page's words are as before (`row`).
 //!
 //! Asked of a memory: the number of an access is its bytes', the lowest first (`word`, `number`), a store answers by
 //! what its bytes are (`room`), writes them (`ok`) or changes nothing (`err`), and takes no memory where `writable`

@@ -88,8 +88,8 @@ pub trait Mem {
         ensures number { IfSome result (λ n. loaded (seen (told self.old)).data_ at width ≡ Value n) }
         ensures same { told self.new ≡ told self.old };
 
-    /// Stores as `store` does, where that is granted, takes no memory, and is at hand, in the page of its address alone;
-    /// and answers whether it has. It may do nothing at any address.
+    /// Stores as `store` does, where that is granted, takes no memory, and is at hand, in the page of the address
+    /// alone; and answers whether it has. It may do nothing at any address.
     fn store_near(&mut self, at: u64, width: u8, value: u64) -> bool
         requires { IsWidth width }
         ensures room { OnTrue result (AllowsAs (loaded (seen (told self.old)).room at width) (Ok tt)) }
