@@ -2,6 +2,7 @@
 
 use crate::fixture::{ADDI_X5, BACK, CODE, EBREAK, ECALL, LOAD_WORD, NOP, Task};
 use quantum::QuantumEnd;
+use std::alloc::Global;
 use std::test::Fail;
 
 /// Counts x5 down from 2,047 with four instructions a turn, then from 452: 9,998 instructions.
@@ -82,31 +83,37 @@ fn a_run_ends_before_a_call_or_a_trap_and_counts_what_went_before(
     Ok(())
 }
 
-#[test]
-fn a_call_behind_ten_thousand_instructions_is_another_runs(rt: HostRuntime) -> Result<(), Fail> {
-    let alloc = rt.alloc();
-    let mut short = Task::of(alloc, &LONG)?;
-    assert_eq!(rt;
-        short.run(alloc),
-        QuantumEnd::Trap {
-            count: 9_998,
-            signal: 4
-        }
-    );
-    assert_eq!(rt; short.regs.x[9], 2_499);
-    let mut words = [NOP; 12];
-    words[..10].copy_from_slice(&LONG);
-    words[11] = ECALL;
-    let mut most = Task::of(alloc, &words)?;
-    assert_eq!(rt; most.run(alloc), QuantumEnd::Call(9_999));
-    assert_eq!(rt; most.regs.pc, CODE + 44);
+/// A task that runs `LONG`, so many words that do nothing, and then another.
+fn long_task(alloc: Global, behind: usize, last: u32) -> Result<Task, Fail> {
     let mut words = [NOP; 13];
     words[..10].copy_from_slice(&LONG);
-    words[12] = ECALL;
-    let mut whole = Task::of(alloc, &words)?;
-    assert_eq!(rt; whole.run(alloc), QuantumEnd::Ended(10_000));
-    assert_eq!(rt; whole.run(alloc), QuantumEnd::Call(0));
-    assert_eq!(rt; whole.regs.pc, CODE + 48);
+    if let Some(word) = words.get_mut(behind.wrapping_add(10)) {
+        *word = last;
+    }
+    Task::of(alloc, &words)
+}
+
+#[test]
+fn a_run_is_stopped_at_its_last_instruction_and_not_behind_it(rt: HostRuntime) -> Result<(), Fail> {
+    let alloc = rt.alloc();
+    let trap = |count, signal| QuantumEnd::Trap { count, signal };
+    let stops = [
+        (ECALL, QuantumEnd::Call(9_999), QuantumEnd::Call(0)),
+        (EBREAK, trap(9_999, 5), trap(0, 5)),
+        (0, trap(9_999, 4), trap(0, 4)),
+        (0x0000_0383, trap(9_999, 11), trap(0, 11)), // lb x7, 0(x0)
+        (0x0020_006f, trap(9_999, 7), trap(0, 7)), // j .+2
+    ];
+    for (word, at_last, behind) in stops {
+        let mut task = long_task(alloc, 1, word)?;
+        assert_eq!(rt; task.run(alloc), at_last);
+        assert_eq!(rt; task.regs.pc, CODE + 44);
+        assert_eq!(rt; task.regs.x[9], 2_499);
+        let mut whole = long_task(alloc, 2, word)?;
+        assert_eq!(rt; whole.run(alloc), QuantumEnd::Ended(10_000));
+        assert_eq!(rt; whole.run(alloc), behind);
+        assert_eq!(rt; whole.regs.pc, CODE + 48);
+    }
     Ok(())
 }
 
