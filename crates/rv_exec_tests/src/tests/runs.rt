@@ -234,7 +234,7 @@ fn a_run_does_nothing_inside_an_instruction(rt: HostRuntime) -> Result<(), Fail>
     Ok(())
 }
 
-/// The words of loads of each kind into x5 from x6's address, and of stores there, and of atomic instructions.
+/// The words of loads of each kind into x5 from x6's address, and of stores there, and of a store-conditional.
 #[rattlefmt::skip]
 const LOADS: [u32; 7] = [
     0x0003_0283, 0x0003_1283, 0x0003_2283, 0x0003_3283, 0x0003_4283, 0x0003_5283, 0x0003_6283,
@@ -242,7 +242,7 @@ const LOADS: [u32; 7] = [
 
 const STORES: [u32; 4] = [0x0073_0023, 0x0073_1023, 0x0073_2023, 0x0073_3023];
 
-const ATOMICS: [u32; 4] = [0x1003_22af, 0x1003_32af, 0x1873_22af, 0x0073_22af];
+const CONDITIONAL: u32 = 0x1873_22af;
 
 /// That a run ends at the second word, which is refused, and leaves the task there.
 fn expect_refused(rt: &impl Abort, alloc: Global, task: &Task) -> Result<(), Fail> {
@@ -290,11 +290,8 @@ fn a_run_ends_at_an_access_that_is_not_at_hand(rt: HostRuntime) -> Result<(), Fa
 }
 
 #[test]
-fn a_run_ends_at_an_atomic_instruction(rt: HostRuntime) -> Result<(), Fail> {
-    for word in ATOMICS {
-        expect_refused(&rt, rt.alloc(), &task_of(&[NOP, word, ECALL]))?;
-    }
-    Ok(())
+fn a_run_ends_at_a_store_conditional(rt: HostRuntime) -> Result<(), Fail> {
+    expect_refused(&rt, rt.alloc(), &task_of(&[NOP, CONDITIONAL, ECALL]))
 }
 
 #[test]
