@@ -1,6 +1,6 @@
 -- The table of instructions: RV64I, M, A and Zifencei, a row a line in the manual's order.
 -- RISC-V Unprivileged ISA 20191213, chapter 24, RV32/64G Instruction Set Listings
-use Rattle.std.specs.Prelude.{ℕ, nat_eq, List, [], ◌∷◌, ◌++◌, map, filter}
+use Rattle.std.specs.Prelude.{ℕ, nat_eq, List, [], ◌∷◌, ◌++◌, map, filter, ◌≡◌}
 use Rattle.std.specs.List.{flat_map}
 use Rattle.rv_table.specs.declared.instr.Instr.{Instr}
 use Rattle.rv_table.specs.declared.instr.Instr.TheVariants as instr
@@ -250,3 +250,21 @@ opcodes =
 -- chapter 24, RV32/64G Instruction Set Listings
 unfoldable pub rows_of : ℕ → List Instr
 rows_of word = flat_map (λ make. make word) (rows_at (opcode_of word) opcodes)
+
+-- an instruction is the only one of some, or illegal where there is none
+-- chapter 24, RV32/64G Instruction Set Listings
+abbrev pub IsOnly : List Instr → Instr → Type 0
+IsOnly [] told = told ≡ instr.Illegal
+IsOnly (only ∷ []) told = told ≡ only
+IsOnly (one ∷ two ∷ more) told = ⊥
+
+-- the first of some instructions, or an illegal one where there is none
+-- profile
+abbrev pub first_of : List Instr → Instr
+first_of [] = instr.Illegal
+first_of (first ∷ rest) = first
+
+-- the instruction that a word is
+-- chapter 24, RV32/64G Instruction Set Listings
+abbrev pub instr_of : ℕ → Instr
+instr_of word = first_of (rows_of word)

@@ -2,7 +2,7 @@
 
 ghost use Rattle.std.specs.Prelude.{◌≡◌, option_to_list, ◌++◌};
 ghost use Rattle.rv_table.specs.Fields.{funct3_of, funct5_of, funct6_of, funct7_of, rs2_of};
-ghost use Rattle.rv_table.specs.Table.{by_funct3, by_two, by_three, rows_at, r_format, i_format, s_format, b_format, shift_format, word_shift_format, load_reserved_format, jumps, branches, loads, stores, immediates, shifts, registers, word_immediates, word_shifts, word_registers, load_reserveds, atomics, fences, systems, rows_of};
+ghost use Rattle.rv_table.specs.Table.{by_funct3, by_two, by_three, rows_at, r_format, i_format, s_format, b_format, shift_format, word_shift_format, load_reserved_format, jumps, branches, loads, stores, immediates, shifts, registers, word_immediates, word_shifts, word_registers, load_reserveds, atomics, fences, systems, rows_of, IsOnly, instr_of};
 
 use crate::Instr;
 use crate::atomics::atomic;
@@ -11,9 +11,20 @@ use crate::fields::{
 };
 use crate::registers::{register, word_immediate, word_register};
 
-/// The instruction of a word, or `None` where no row of the table makes one of it.
+/// The instruction of a word: `Illegal` where no row of the table makes one of it.
+pub fn decode(word: u32) -> Instr
+    ensures row { IsOnly (rows_of word) result }
+    ensures instr { result ≡ instr_of word }
+{
+    match row(word) {
+        Some(instr) => instr,
+        None => Instr::Illegal,
+    }
+}
+
+/// The row of a word, by its opcode.
 #[tactic(auto, unfolding(crate::specs::Table::rows_of))]
-pub fn decode(word: u32) -> Option<Instr>
+fn row(word: u32) -> Option<Instr>
     ensures row { rows_of word ≡ option_to_list result }
 {
     match word % 128 {

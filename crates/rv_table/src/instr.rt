@@ -3,7 +3,7 @@
 use crate::Reg;
 
 /// An instruction with its operands: registers, and an immediate with its sign carried on to 64 bits, or the number of
-/// places that a shift goes.
+/// places that a shift goes; or `Illegal`, of which no row of the table is.
 #[derive(Clone, Copy)]
 pub enum Instr {
     Lui { rd: Reg, imm: u64 },
@@ -94,4 +94,5 @@ pub enum Instr {
     AmomaxD { rd: Reg, rs1: Reg, rs2: Reg },
     AmominuD { rd: Reg, rs1: Reg, rs2: Reg },
     AmomaxuD { rd: Reg, rs1: Reg, rs2: Reg },
+    Illegal,
 }

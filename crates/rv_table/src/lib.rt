@@ -7,12 +7,12 @@
 //! crates above say of numbers of 64 and of 32 bits stands in `specs/Words.antt`, and how they see memory, byte by byte,
 //! in `specs/Bytes.antt`.
 //!
-//! Proved: of every word, `decode` gives exactly the rows that fit it (`row`): the one that does where it gives an
-//! instruction, none where it gives `None`. So no two rows fit one word. A register's number is kept (`number`) and
+//! Proved: of every word, `decode` gives the only row that fits it, and `Illegal` where none does (`row`), which is what
+//! the definition `instr_of` says (`instr`). So no two rows fit one word. A register's number is kept (`number`) and
 //! below 32 (`below`).
 //!
 //! Not said: what an instruction does. What a row doesn't name is not looked at, as aq and rl of an atomic instruction
-//! and all fields of a fence but funct3; a word without a row is `None` whether the manual reserves it or an extension
+//! and all fields of a fence but funct3; a word without a row is `Illegal` whether the manual reserves it or an extension
 //! has it.
 //!
 //! Standard: The RISC-V Instruction Set Manual, Volume I: Unprivileged ISA, version 20191213, chapter 24, RV32/64G

@@ -20,7 +20,8 @@ impl Regs {
         ensures { result ≡ reg self.now register }
     {
         let number = register.number();
-        if number == 0 { 0 } else { self.x[number] }
+        let value = self.x[number];
+        if number == 0 { 0 } else { value }
     }
 
     /// Puts a value into a register. A write to x0 does nothing.
@@ -28,9 +29,7 @@ impl Regs {
         ensures { self.new ≡ with_reg self.old register value }
     {
         let number = register.number();
-        if number != 0 {
-            self.x[number] = value;
-        }
+        self.x[number] = if number == 0 { self.x[0] } else { value };
     }
 
     /// Moves on to the next instruction, 4 bytes further.

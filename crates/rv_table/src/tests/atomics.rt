@@ -8,7 +8,7 @@ fn three(name: &'static str, rd: Reg, rs1: Reg, rs2: usize) -> Option<Three> {
 }
 
 fn word_atomic(word: u32) -> Option<Three> {
-    match decode(word)? {
+    match decode(word) {
         Instr::LrW { rd, rs1 } => three("LrW", rd, rs1, 0),
         Instr::ScW { rd, rs1, rs2 } => three("ScW", rd, rs1, rs2.number()),
         Instr::AmoswapW { rd, rs1, rs2 } => three("AmoswapW", rd, rs1, rs2.number()),
@@ -25,7 +25,7 @@ fn word_atomic(word: u32) -> Option<Three> {
 }
 
 fn double_atomic(word: u32) -> Option<Three> {
-    match decode(word)? {
+    match decode(word) {
         Instr::LrD { rd, rs1 } => three("LrD", rd, rs1, 0),
         Instr::ScD { rd, rs1, rs2 } => three("ScD", rd, rs1, rs2.number()),
         Instr::AmoswapD { rd, rs1, rs2 } => three("AmoswapD", rd, rs1, rs2.number()),

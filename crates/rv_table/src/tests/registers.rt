@@ -8,7 +8,7 @@ fn three(name: &'static str, rd: Reg, rs1: Reg, rs2: Reg) -> Option<Three> {
 }
 
 fn register(word: u32) -> Option<Three> {
-    match decode(word)? {
+    match decode(word) {
         Instr::Add { rd, rs1, rs2 } => three("Add", rd, rs1, rs2),
         Instr::Sub { rd, rs1, rs2 } => three("Sub", rd, rs1, rs2),
         Instr::Sll { rd, rs1, rs2 } => three("Sll", rd, rs1, rs2),
@@ -32,7 +32,7 @@ fn register(word: u32) -> Option<Three> {
 }
 
 fn word_register(word: u32) -> Option<Three> {
-    match decode(word)? {
+    match decode(word) {
         Instr::Addw { rd, rs1, rs2 } => three("Addw", rd, rs1, rs2),
         Instr::Subw { rd, rs1, rs2 } => three("Subw", rd, rs1, rs2),
         Instr::Sllw { rd, rs1, rs2 } => three("Sllw", rd, rs1, rs2),
@@ -48,7 +48,7 @@ fn word_register(word: u32) -> Option<Three> {
 }
 
 fn word_immediate(word: u32) -> Option<Parts> {
-    match decode(word)? {
+    match decode(word) {
         Instr::Addiw { rd, rs1, imm } => parts("Addiw", rd, rs1, imm),
         Instr::Slliw { rd, rs1, shamt } => parts("Slliw", rd, rs1, u64::from(shamt)),
         Instr::Srliw { rd, rs1, shamt } => parts("Srliw", rd, rs1, u64::from(shamt)),
