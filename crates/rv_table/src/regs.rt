@@ -15,13 +15,12 @@ pub struct Regs {
 }
 
 impl Regs {
-    /// What a register holds. x0 holds 0.
+    /// What a register holds. x0 holds 0. There is no branch, since each instruction reads registers.
     pub fn read(&self, register: Reg) -> u64
         ensures { result ≡ reg self.now register }
     {
         let number = register.number();
-        let value = self.x[number];
-        if number == 0 { 0 } else { value }
+        self.x[number].wrapping_mul(u64::from(number != 0))
     }
 
     /// Puts a value into a register. A write to x0 does nothing.
