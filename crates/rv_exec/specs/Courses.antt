@@ -35,8 +35,8 @@ unfoldable pub ran : {State : Type 0} → (State → Memory) → (Write → Stat
 ran seen write zero g = Some g
 ran seen write (suc n) g = option_and_then (one_more seen write) (ran seen write n g)
 
--- a run of fewer than so many instructions ends where the next one calls, traps or is refused; else it has run that
--- many, or left its page
+-- a run of fewer than so many instructions ends where the next one calls, traps or is refused; of another nothing is
+-- told here
 -- profile
 abbrev pub EndsBy : (done : Done) → (count most : ℕ) → Flow → Type 0
 EndsBy done count most flows.Next = ⊤

@@ -6,7 +6,7 @@ use Rattle.rv_table.specs.declared.instr.Instr.TheVariants as instr
 use Rattle.rv_table.specs.declared.regs.Regs.{Regs}
 use Rattle.rv_table.specs.Fields.{sign_extend}
 use Rattle.rv_table.specs.Registers.{reg, with_reg, at_pc, gone_on}
-use Rattle.rv_table.specs.Table.{rows_of}
+use Rattle.rv_table.specs.Table.{instr_of}
 use Rattle.rv_table.specs.Words.{sum}
 use Rattle.rv_alu.specs.Branches.{is_taken}
 use Rattle.rv_alu.specs.Values.{value_of}
@@ -130,7 +130,8 @@ operates m r i rd address width b extend =
     (operating r i rd address width b extend (both (loaded m.data_ address width) (loaded m.room address width)))
 
 -- what an instruction does; fences do nothing, since a task's own accesses are in order
--- RISC-V Unprivileged ISA 20191213, 2.4 to 2.8, 3.1, 5.2 to 5.3, 7.1 to 7.2, 8.2 and 8.4; signal(7), SIGTRAP 5
+-- RISC-V Unprivileged ISA 20191213, 2.4 to 2.8, 3.1, 5.2 to 5.3, 7.1 to 7.2, 8.2 and 8.4; signal(7), SIGTRAP 5 and
+-- SIGILL 4
 unfoldable pub done_by : Memory → Regs → Instr → Done
 done_by m r (instr.Lui rd imm) = valued r rd (value_of (instr.Lui rd imm) 0 0)
 done_by m r (instr.Auipc rd imm) = valued r rd (value_of (instr.Auipc rd imm) r.pc 0)
@@ -220,17 +221,12 @@ done_by m r (instr.AmominD rd rs1 rs2) = operates m r (instr.AmominD rd rs1 rs2)
 done_by m r (instr.AmomaxD rd rs1 rs2) = operates m r (instr.AmomaxD rd rs1 rs2) rd (reg r rs1) 8 (reg r rs2) (λ value. value)
 done_by m r (instr.AmominuD rd rs1 rs2) = operates m r (instr.AmominuD rd rs1 rs2) rd (reg r rs1) 8 (reg r rs2) (λ value. value)
 done_by m r (instr.AmomaxuD rd rs1 rs2) = operates m r (instr.AmomaxuD rd rs1 rs2) rd (reg r rs1) 8 (reg r rs2) (λ value. value)
-
--- what a word does, by the rows that make an instruction of it
--- signal(7), SIGILL 4
-abbrev pub by_rows : Memory → Regs → List Instr → Done
-by_rows m r [] = Traps 4
-by_rows m r (i ∷ is) = done_by m r i
+done_by m r instr.Illegal = Traps 4
 
 -- what the bytes at pc do: where they may not be executed it is a segmentation violation
 -- signal(7), SIGSEGV 11; that it goes first: profile
 abbrev pub by_word : Memory → Regs → Accessed → Done
-by_word m r (Value word) = by_rows m r (rows_of word)
+by_word m r (Value word) = done_by m r (instr_of word)
 by_word m r (Fault address) = Traps 11
 by_word m r (Shared area) = Touches area
 

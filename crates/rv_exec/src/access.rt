@@ -1,6 +1,6 @@
 //! How an instruction reaches memory: exactly, or by what is at hand.
 
-ghost use Rattle.std.specs.Prelude.{◌≡◌, ◌≢◌, ℕ, Bool, true, false, IfSome};
+ghost use Rattle.std.specs.Prelude.{◌≡◌, ◌≢◌, ℕ, ◌/◌, Bool, true, false, IfSome};
 ghost use Rattle.std.specs.Bool.{OnTrue, OnFalse};
 ghost use Rattle.rv_table.specs.Words.{IsWidth};
 ghost use Rattle.rv_table.specs.Bytes.{Shared, Value, loaded};
@@ -45,12 +45,13 @@ pub(crate) trait Access {
         ensures same { M.told mem.new ≡ M.told mem.old }
         ensures page { page self.new ≡ page self.old };
 
-    /// Whether each of so many bytes at an address may be written. Where it is so, a store there takes no memory.
+    /// Whether each of so many bytes at an address may be written, where they don't begin in the page into which
+    /// nothing is stored. Where it is so, a store there takes no memory.
     fn writable<M: Mem>(&mut self, mem: &mut M, at: u64, width: u8) -> bool
         requires { IsWidth width }
         ensures room { LetsAs is_exact (why self.new) (loaded (M.seen (M.told mem.old)).room at width) result }
         ensures ready { OnTrue result (M.is_ready mem.new at width ≡ true) }
-        ensures exact { OnTrue result (is_exact ≡ true) }
+        ensures apart { OnTrue result (is_exact ≡ false → page self.old ≡ at / 4096 → ⊥) }
         ensures lean { M.takes_memory ≡ false → why self.old ≢ Step.Memory → why self.new ≢ Step.Memory }
         ensures same { M.told mem.new ≡ M.told mem.old }
         ensures page { page self.new ≡ page self.old };
@@ -176,7 +177,8 @@ impl Access for Exact {
     }
 }
 
-/// Accesses to what is at hand, but for stores into the page that runs. Each other access is refused, whatever it is.
+/// Accesses to what is at hand, but for stores into the page that runs. Whether bytes of other pages may be written, it
+/// answers exactly. Each other access is refused, whatever it is.
 #[derive(Debug, Drop)]
 pub(crate) struct Near {
     pub(crate) page: u64,
@@ -200,8 +202,8 @@ impl Access for Near {
     }
 
     #[inline(always)]
-    fn writable<M: Mem>(&mut self, _mem: &mut M, _at: u64, _width: u8) -> bool {
-        false
+    fn writable<M: Mem>(&mut self, mem: &mut M, at: u64, width: u8) -> bool {
+        at / 4096 != self.page && mem.writable(at, width).is_ok()
     }
 
     #[inline(always)]

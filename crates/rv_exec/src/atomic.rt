@@ -1,11 +1,14 @@
 //! Atomic instructions: load-reserved, store-conditional, and atomic memory operations.
 
-ghost use Rattle.std.specs.Prelude.{◌≡◌, ◌≢◌, ◌%◌, true, false, Ok};
+ghost use Rattle.std.specs.Prelude.{◌≡◌, ◌≢◌, ℕ, ◌/◌, ◌%◌, true, false, Ok};
+ghost use Rattle.std.specs.Bool.{OnTrue, OnFalse};
 ghost use Rattle.rv_table.specs.Bytes.{AllowsAs, loaded};
 ghost use Rattle.rv_table.specs.Registers.{reg};
-ghost use Rattle.rv_exec.specs.Execution.{conditional, load_reserved, operates, store_conditional};
+ghost use Rattle.rv_table.specs.Words.{IsWidth};
+ghost use Rattle.rv_exec.specs.Execution.{load_reserved, operates, store_conditional};
 ghost use Rattle.rv_exec.specs.Flows.{FlowsAs};
 ghost use Rattle.rv_exec.specs.Loads.{width_of, extend_of};
+ghost use Rattle.rv_exec.specs.Writes.{Stores, Releases};
 ghost use Rattle.rv_exec.specs.declared.outcome.Step.TheVariants as Step;
 
 use crate::access::Access;
@@ -73,42 +76,35 @@ pub(crate) fn store_conditional<M: Mem, A: Access>(
         return Flow::Trap(7);
     }
     if access.writable(mem, at, kind.width()) {
-        store_if_reserved(regs, mem, access, kind, rd, at, regs.read(rs2))
+        if store_if_reserved(mem, at, kind.width(), regs.read(rs2)) {
+            put(regs, rd, 0)
+        } else {
+            put(regs, rd, 1)
+        }
     } else {
         Flow::Refused
     }
 }
 
-/// Stores at an address where a store is sure to take no memory, if it is reserved, and ends the reservation.
-fn store_if_reserved<M: Mem, A: Access>(
-    regs: &mut Regs,
-    mem: &mut M,
-    access: &mut A,
-    kind: Load,
-    rd: Reg,
-    at: u64,
-    value: u64,
-) -> Flow
-    requires exact { A.is_exact ≡ true }
-    requires room { AllowsAs (loaded (M.seen (M.told mem.old)).room at (width_of kind)) (Ok tt) }
-    requires ready { M.is_ready mem.old at (width_of kind) ≡ true }
-    ensures done { FlowsAs M.after A.is_exact (A.why access.new)
-        (conditional regs.old rd at (width_of kind) value ((M.seen (M.told mem.old)).reserves at (width_of kind)))
-        regs.old regs.new (M.told mem.old) (M.told mem.new) result }
-    ensures lean { M.takes_memory ≡ false → A.why access.old ≢ Step.Memory → A.why access.new ≢ Step.Memory }
-    ensures page { A.page access.new ≡ A.page access.old }
-    ensures aligned { regs.old.pc % 4 ≡ 0 → regs.new.pc % 4 ≡ 0 }
+/// Stores at an address where a store is sure to take no memory, if it is reserved, and ends the reservation. Answers
+/// whether it was reserved.
+fn store_if_reserved<M: Mem>(mem: &mut M, at: u64, width: u8, value: u64) -> bool
+    requires width { IsWidth width }
+    requires aligned { at % width ≡ 0 }
+    requires room { AllowsAs (loaded (M.seen (M.told mem.old)).room at width) (Ok tt) }
+    requires ready { M.is_ready mem.old at width ≡ true }
+    ensures held { result ≡ (M.seen (M.told mem.old)).reserves at width }
+    ensures ended { OnFalse result (M.told mem.new ≡ M.after (Releases at) (M.told mem.old)) }
+    ensures stored { OnTrue result (M.told mem.new ≡
+        M.after (Stores at width value) (M.after (Releases at) (M.told mem.old))) }
+    ensures rows { (page : ℕ) → (page ≡ at / 4096 → ⊥) →
+        M.instrs (M.told mem.new) page ≡ M.instrs (M.told mem.old) page }
 {
-    let width = kind.width();
     let is_reserved = mem.take(at, width);
     if !is_reserved {
-        return put(regs, rd, 1);
+        return false;
     }
-    if access.store(mem, at, width, value) {
-        put(regs, rd, 0)
-    } else {
-        Flow::Refused
-    }
+    mem.store(at, width, value).is_ok()
 }
 
 /// Puts what memory holds at an address into a register, and what the instruction makes of it and of another number

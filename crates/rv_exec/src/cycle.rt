@@ -1,9 +1,9 @@
 //! The cycle of an instruction: its word is fetched, decoded and executed.
 
 ghost use Rattle.std.specs.Prelude.{◌≡◌, ◌≢◌, false};
-ghost use Rattle.rv_exec.specs.Execution.{by_rows, done_by, exec, StepsAs};
+ghost use Rattle.rv_exec.specs.Execution.{done_by, exec, StepsAs};
 ghost use Rattle.rv_exec.specs.Flows.{outcome_of};
-ghost use Rattle.rv_table.specs.Table.{rows_of};
+ghost use Rattle.rv_table.specs.Table.{instr_of};
 
 use crate::access::Exact;
 use crate::execute::execute;
@@ -24,16 +24,14 @@ pub fn step<M: Mem>(regs: &mut Regs, mem: &mut M) -> Step
     }
 }
 
-/// Does the instruction of a word, if it has one.
+/// Does the instruction of a word.
 fn run_word<M: Mem>(regs: &mut Regs, mem: &mut M, word: u32) -> Step
-    ensures done { StepsAs M.after (by_rows (M.seen (M.told mem.old)) regs.old (rows_of word))
+    ensures done { StepsAs M.after (done_by (M.seen (M.told mem.old)) regs.old (instr_of word))
         regs.old regs.new (M.told mem.old) (M.told mem.new) result }
     ensures lean { M.takes_memory ≡ false → result ≢ Step.Memory }
 {
-    match decode(word) {
-        Some(instr) => run_exactly(regs, mem, &instr),
-        None => Step::Trap(4),
-    }
+    let instr = decode(word);
+    run_exactly(regs, mem, &instr)
 }
 
 /// Does an instruction by exact accesses.

@@ -116,5 +116,6 @@ pub(crate) fn execute<M: Mem, A: Access>(regs: &mut Regs, mem: &mut M, access: &
         Instr::AmomaxD { rd, rs1, rs2 } => operate(regs, mem, access, instr, Load::Double, rd, rs1, rs2),
         Instr::AmominuD { rd, rs1, rs2 } => operate(regs, mem, access, instr, Load::Double, rd, rs1, rs2),
         Instr::AmomaxuD { rd, rs1, rs2 } => operate(regs, mem, access, instr, Load::Double, rd, rs1, rs2),
+        Instr::Illegal => Flow::Trap(4),
     }
 }

@@ -9,18 +9,19 @@
 //! Proved over every memory. `step`: registers, answer and what is told of memory are as the definition `exec` says of
 //! the bytes at pc (`done`); where no call of the memory answers want of memory, a step doesn't either (`lean`).
 //! `run_row`: it has done as many instructions as it answers, each by `exec` (`ran`), no more than it may (`few`);
-//! where it ends at a call or a trap, the next one is that (`ended`); the page's words are as before (`row`).
+//! where it ends at a call or a trap, the next one is that (`ended`); where it ends with `Next` and stands at an
+//! instruction of the page, it has done as many as it may (`whole`); the page's words are as before (`row`).
 //!
 //! Asked of a memory: the number of an access is its bytes', the lowest first (`word`, `number`), a store answers by
 //! what its bytes are (`room`), writes them (`ok`) or changes nothing (`err`), and takes no memory where `writable`
-//! said yes (`ready`); `take` tells of the reservation (`held`) and ends it (`ended`). What is near: `load_near` and
-//! `store_near` are fast forms, for what is at hand, and may do nothing; a near store leaves other pages' instructions
-//! (`rows`), and a reservation leaves all.
+//! said yes (`ready`); `take` tells of the reservation (`held`) and ends it (`ended`). A store inside a page leaves the
+//! other pages' instructions (`rows`), and a reservation, made or ended, leaves all. What is near: `load_near` and
+//! `store_near` are fast forms, for what is at hand, and may do nothing.
 //! Laws: after a write each byte is what the write puts at its place (`written`), an address is of its own byte
 //! (`itself`), and a page's decoded words, its row, are those of its bytes (`decoded`).
 //!
-//! Not said: when memory is wanting; which byte a `Trap` of 11 is about; how far a run gets before it ends with `Next`
-//! or `Refused`; what a system call does; that a store ends other tasks' reservations.
+//! Not said: when memory is wanting; which byte a `Trap` of 11 is about; how far a run gets before it ends with
+//! `Refused`; what a system call does; that a store ends other tasks' reservations.
 //!
 //! Standard: RISC-V Unprivileged ISA 20191213, chapters 1 to 3, 5, 7 and 8; signals by signal(7). No locks.
 #![tactic(auto)]

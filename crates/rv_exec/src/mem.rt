@@ -1,6 +1,6 @@
 //! Memory as instructions use it.
 
-ghost use Rattle.std.specs.Prelude.{◌≡◌, ◌≢◌, ℕ, ◌/◌, ◌<◌, ◌^◌, Bool, true, false, Ok, List, Option, Some, IsOk, IfSome, OnOk, OnErr};
+ghost use Rattle.std.specs.Prelude.{◌≡◌, ◌≢◌, ℕ, ◌+◌, ◌/◌, ◌%◌, ◌<◌, ◌≤◌, ◌^◌, Bool, true, false, Ok, List, Option, Some, IsOk, IfSome, OnOk, OnErr};
 ghost use Rattle.std.specs.Bool.{OnTrue, OnFalse};
 ghost use Rattle.rv_table.specs.declared.instr.Instr.{Instr};
 ghost use Rattle.rv_table.specs.Words.{IsWidth};
@@ -28,7 +28,7 @@ pub trait Mem {
     ghost is_same: { State → (a b : ℕ) → Bool };
 
     /// The instructions of a page's words, decoded, of a page that may be executed and has them.
-    ghost instrs: { State → (page : ℕ) → Option (List (Option Instr)) };
+    ghost instrs: { State → (page : ℕ) → Option (List Instr) };
 
     /// Whether a store of so many bytes there is sure not to want memory.
     ghost is_ready: { Self → (at width : ℕ) → Bool };
@@ -58,13 +58,16 @@ pub trait Mem {
         ensures same { told self.new ≡ told self.old };
 
     /// Stores so many of a number's bytes, the lowest first, at an address, each of which may be written, and ends
-    /// other tasks' reservations of the granules that it meets. It needs no alignment. A refusal changes nothing.
+    /// other tasks' reservations of the granules that it meets. It needs no alignment. Inside a page it leaves what
+    /// other pages have decoded. A refusal changes nothing.
     fn store(&mut self, at: u64, width: u8, value: u64) -> Result<(), MemErr>
         requires { IsWidth width }
         ensures room { AllowsAs (loaded (seen (told self.old)).room at width) result }
         ensures ready { is_ready self.old at width ≡ true → result ≢ Err MemErr.Memory }
         ensures lean { takes_memory ≡ false → result ≢ Err MemErr.Memory }
         ensures ok { OnOk result (told self.new ≡ after (Stores at width value) (told self.old)) }
+        ensures rows { OnOk result (at % 4096 + width ≤ 4096 → (page : ℕ) → (page ≡ at / 4096 → ⊥) →
+            instrs (told self.new) page ≡ instrs (told self.old) page) }
         ensures err { OnErr result (told self.new ≡ told self.old) };
 
     /// Puts the task's reservation of an address and so many bytes in the place of the one that it had. A refusal
@@ -80,6 +83,7 @@ pub trait Mem {
     fn take(&mut self, at: u64, width: u8) -> bool
         ensures held { result ≡ (seen (told self.old)).reserves at width }
         ensures ended { told self.new ≡ after (Releases at) (told self.old) }
+        ensures rows { (page : ℕ) → instrs (told self.new) page ≡ instrs (told self.old) page }
         ensures ready { is_ready self.new at width ≡ is_ready self.old at width };
 
     /// What `load` answers, where that is a number and at hand: a fast form of it, which may do nothing at any address.
@@ -106,6 +110,6 @@ pub trait Mem {
     ghost itself: { (state : State) → (address : ℕ) → address < 2 ^ 64 → is_same state address address ≡ true };
 
     /// A page's instructions are those of its words.
-    ghost decoded: { (state : State) → (page : ℕ) → (words : List (Option Instr)) → instrs state page ≡ Some words →
+    ghost decoded: { (state : State) → (page : ℕ) → (words : List Instr) → instrs state page ≡ Some words →
         AreOfPage (seen state).code page words };
 }

@@ -21,12 +21,14 @@ pub struct RowRun {
 /// Does instructions of the page that a task stands in, at most so many, by the page's decoded words, as `step` does
 /// each. It ends where the task leaves the page (`Next`), where the next instruction calls the system or traps, and
 /// where it reaches for memory that isn't at hand, or stores into its own page (`Refused`): then `step` is asked.
-pub fn run_row<M: Mem>(regs: &mut Regs, mem: &mut M, row: &[Option<Instr>], most: u32) -> RowRun
+pub fn run_row<M: Mem>(regs: &mut Regs, mem: &mut M, row: &[Instr], most: u32) -> RowRun
     requires { M.instrs (M.told mem.old) (regs.old.pc / 4096) ≡ Some row.now }
     ensures ran { ran M.seen M.after result.count (going (M.told mem.old) regs.old) ≡
         Some (going (M.told mem.new) regs.new) }
     ensures few { result.count ≤ most }
     ensures ended { EndsBy (exec (M.seen (M.told mem.new)) regs.new) result.count most result.flow }
+    ensures whole { result.flow ≡ Flow.Next → regs.new.pc / 4096 ≡ regs.old.pc / 4096 → regs.new.pc % 4 ≡ 0 →
+        result.count ≡ most }
     ensures row { M.instrs (M.told mem.new) (regs.old.pc / 4096) ≡ Some row.now }
 {
     let page = regs.pc / 4096;
@@ -63,7 +65,7 @@ fn left(count: u32) -> RowRun
 
 /// Does the instruction of a page that a task stands at.
 #[inline(always)]
-fn run_one<M: Mem>(regs: &mut Regs, mem: &mut M, near: &mut Near, row: &[Option<Instr>]) -> Flow
+fn run_one<M: Mem>(regs: &mut Regs, mem: &mut M, near: &mut Near, row: &[Instr]) -> Flow
     requires row { M.instrs (M.told mem.old) near.old.page ≡ Some row.now }
     requires page { regs.old.pc / 4096 ≡ near.old.page }
     requires aligned { regs.old.pc % 4 ≡ 0 }
@@ -74,10 +76,7 @@ fn run_one<M: Mem>(regs: &mut Regs, mem: &mut M, near: &mut Near, row: &[Option<
     ensures aligned { regs.new.pc % 4 ≡ 0 }
 {
     match row.get((regs.pc % 4096 / 4) as usize) {
-        Some(word) => match word {
-            Some(instr) => execute(regs, mem, near, instr),
-            None => Flow::Trap(4),
-        },
+        Some(instr) => execute(regs, mem, near, instr),
         None => Flow::Trap(4),
     }
 }

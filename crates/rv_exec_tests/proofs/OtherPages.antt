@@ -5,7 +5,7 @@ use Rattle.std.proofs.lemmas.Bool.{ltb-true, ne_eqb}
 use Rattle.rv_table.specs.declared.instr.Instr.{Instr}
 use Rattle.rv_table.specs.Bytes.{Accessed, Byte, behind, by_area, by_barred, first_area, first_barred, loaded, number_from, or_area, or_barred, value_in}
 use Rattle.rv_exec.specs.Writes.{stored_byte, with_value}
-use Rattle.rv_exec_tests.specs.Pages.{are_words, instr_of, instrs_from, instrs_of, is_value}
+use Rattle.rv_exec_tests.specs.Pages.{are_words, instr_read, instrs_from, instrs_of, is_value}
 
 -- ---- a byte of another page
 
@@ -53,7 +53,7 @@ instrs_same : (f g : ℕ → Byte) (page : ℕ) → page < 2 ^ 52 → ((a : ℕ)
 unfolding instrs_from
 instrs_same f g page low same zero few = refl
 instrs_same f g page low same (suc n) few = λ i.
-    instrs_same f g page low same n (omega arith) i ++ (instr_of (word_same f g page low same n (omega arith) i) ∷ [])
+    instrs_same f g page low same n (omega arith) i ++ (instr_read (word_same f g page low same n (omega arith) i) ∷ [])
 
 words_same : (f g : ℕ → Byte) (page : ℕ) → page < 2 ^ 52 → ((a : ℕ) → a / 4096 ≡ page → f a ≡ g a) → (n : ℕ) → n ≤ 1024
     → are_words f (4096 * page) n ≡ are_words g (4096 * page) n

@@ -1,21 +1,17 @@
 -- The decoded words of a page, one more at a time.
 use Rattle.std.proofs.Common.{◌≡◌, ℕ, suc, ◌+◌, ◌*◌, ◌^◌, ◌<◌, true, List, [], ◌∷◌, ◌++◌, Option, Some, None, refl, ap, sym, ◌∙◌, add-one}
-use Rattle.std.specs.Prelude.{option_to_list, nat_lt, ◌&&◌, if◌then◌else◌}
+use Rattle.std.specs.Prelude.{nat_lt, ◌&&◌, if◌then◌else◌}
 use Rattle.std.proofs.lemmas.Bool.{and_from, lt-ltb}
 use Rattle.rv_table.specs.declared.instr.Instr.{Instr}
 use Rattle.rv_table.specs.Bytes.{Accessed, Byte, Value, loaded}
-use Rattle.rv_table.specs.Table.{rows_of}
-use Rattle.rv_exec_tests.specs.Pages.{are_words, first_of, instr_of, instrs_from, instrs_of, is_value}
-
-first_is : (o : Option Instr) → first_of (option_to_list o) ≡ o
-first_is None = refl
-first_is (Some i) = refl
+use Rattle.rv_table.specs.Table.{instr_of}
+use Rattle.rv_exec_tests.specs.Pages.{are_words, instr_read, instrs_from, instrs_of, is_value}
 
 words_suc : (code : ℕ → Byte) (at n : ℕ) → are_words code at (suc n) ≡ (are_words code at n && is_value (loaded code (at + 4 * n) 4))
 unfolding are_words
 words_suc code at n = refl
 
-instrs_suc : (code : ℕ → Byte) (at n : ℕ) → instrs_from code at (suc n) ≡ instrs_from code at n ++ (instr_of (loaded code (at + 4 * n) 4) ∷ [])
+instrs_suc : (code : ℕ → Byte) (at n : ℕ) → instrs_from code at (suc n) ≡ instrs_from code at n ++ (instr_read (loaded code (at + 4 * n) 4) ∷ [])
 unfolding instrs_from
 instrs_suc code at n = refl
 
@@ -32,13 +28,13 @@ pub next_word : (code : ℕ → Byte) (at n word : ℕ) → loaded code (at + 4 
 next_word code at n word is before =
     ap (are_words code at) (add-one n) ∙ words_suc code at n ∙ and_from (are_words code at n) (is_value (loaded code (at + 4 * n) 4)) before (ap is_value is)
 
-pub next_instr : (code : ℕ → Byte) (at n word : ℕ) (row : List (Option Instr)) (o : Option Instr) → loaded code (at + 4 * n) 4 ≡ Value word
-    → rows_of word ≡ option_to_list o → row ≡ instrs_from code at n → row ++ (o ∷ []) ≡ instrs_from code at (n + 1)
-next_instr code at n word row o is rows before =
-    let last : instr_of (loaded code (at + 4 * n) 4) ≡ o = ap instr_of is ∙ ap first_of rows ∙ first_is o in
+pub next_instr : (code : ℕ → Byte) (at n word : ℕ) (row : List Instr) (told : Instr) → loaded code (at + 4 * n) 4 ≡ Value word
+    → told ≡ instr_of word → row ≡ instrs_from code at n → row ++ (told ∷ []) ≡ instrs_from code at (n + 1)
+next_instr code at n word row told is of_word before =
+    let last : instr_read (loaded code (at + 4 * n) 4) ≡ told = ap instr_read is ∙ sym of_word in
     sym (ap (instrs_from code at) (add-one n) ∙ instrs_suc code at n ∙ (λ i. sym before i ++ (last i ∷ [])))
 
-pub whole_page : (code : ℕ → Byte) (page : ℕ) (row : List (Option Instr)) → page < 2 ^ 52 → are_words code (4096 * page) 1024 ≡ true
+pub whole_page : (code : ℕ → Byte) (page : ℕ) (row : List Instr) → page < 2 ^ 52 → are_words code (4096 * page) 1024 ≡ true
     → row ≡ instrs_from code (4096 * page) 1024 → instrs_of code page ≡ Some row
 whole_page code page row low words is =
     ap (λ test. if test then Some (instrs_from code (4096 * page) 1024) else None)

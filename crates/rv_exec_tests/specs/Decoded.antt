@@ -1,24 +1,20 @@
 -- A page's instructions are those of its words.
-use Rattle.std.specs.Prelude.{◌≡◌, ℕ, zero, suc, ◌+◌, ◌*◌, ◌<◌, ◌^◌, nat_lt, Bool, true, false, ◌&&◌, List, [], ◌∷◌, ◌++◌, Option, Some, None, length, slice_index_or, if◌then◌else◌}
+use Rattle.std.specs.Prelude.{◌≡◌, ℕ, zero, suc, ◌+◌, ◌*◌, ◌<◌, ◌^◌, nat_lt, Bool, true, false, ◌&&◌, List, [], ◌∷◌, ◌++◌, Option, Some, length, slice_index_or, if◌then◌else◌}
 use Rattle.std.proofs.Common.{refl, ap, sym, ◌∙◌, subst, ◌⊎◌, inl, inr, arith, add-one}
 use Rattle.std.proofs.Math.Seq.{get_or-append_seam}
 use Rattle.std.proofs.lemmas.Bool.{and_parts, cases_eq, false≢true}
 use Rattle.std.proofs.lemmas.List.{get_or_append_left, length-append}
 use Rattle.std.proofs.lemmas.Option.{cond_some}
 use Rattle.rv_table.specs.declared.instr.Instr.{Instr}
+use Rattle.rv_table.specs.declared.instr.Instr.TheVariants as instr
 use Rattle.rv_table.specs.Bytes.{Accessed, Byte, Value, Fault, Shared, loaded}
-use Rattle.rv_table.specs.Table.{rows_of}
-use Rattle.rv_exec.specs.Rows.{AreOfPage, IsOfRows, IsOfWord}
-use Rattle.rv_exec_tests.specs.Pages.{are_words, first_of, instr_of, instrs_from, instrs_of, is_value}
+use Rattle.rv_exec.specs.Rows.{AreOfPage, IsOfWord}
+use Rattle.rv_exec_tests.specs.Pages.{are_words, instr_read, instrs_from, instrs_of, is_value}
 
 -- ---- one word
 
-of_rows : (rows : List Instr) → IsOfRows rows (first_of rows)
-of_rows [] = tt
-of_rows (i ∷ is) = refl
-
-of_word : (a : Accessed) → is_value a ≡ true → IsOfWord a (instr_of a)
-of_word (Value word) h = of_rows (rows_of word)
+of_word : (a : Accessed) → is_value a ≡ true → IsOfWord a (instr_read a)
+of_word (Value word) h = refl
 of_word (Fault address) h = absurd (false≢true h)
 of_word (Shared area) h = absurd (false≢true h)
 
@@ -28,27 +24,27 @@ length_from : (code : ℕ → Byte) (at n : ℕ) → length (instrs_from code at
 unfolding instrs_from
 length_from code at zero = refl
 length_from code at (suc n) =
-    length-append (instrs_from code at n) (instr_of (loaded code (at + 4 * n) 4) ∷ [])
+    length-append (instrs_from code at n) (instr_read (loaded code (at + 4 * n) 4) ∷ [])
     ∙ ap (λ m. m + 1) (length_from code at n)
     ∙ add-one n
 
-at_place : (l : List (Option Instr)) (x : Option Instr) (n k : ℕ) → length l ≡ n → k < suc n
-    → (told : ℕ → Option Instr) → told n ≡ x → (k < n → slice_index_or l k None ≡ told k) → (k ≡ n) ⊎ (k ≡ n → ⊥) → slice_index_or (l ++ x ∷ []) k None ≡ told k
+at_place : (l : List Instr) (x : Instr) (n k : ℕ) → length l ≡ n → k < suc n
+    → (told : ℕ → Instr) → told n ≡ x → (k < n → slice_index_or l k instr.Illegal ≡ told k) → (k ≡ n) ⊎ (k ≡ n → ⊥) → slice_index_or (l ++ x ∷ []) k instr.Illegal ≡ told k
 at_place l x n k long below told last before (inl same) =
-    ap (λ j. slice_index_or (l ++ x ∷ []) j None) (same ∙ sym long)
-    ∙ get_or-append_seam l x [] None
+    ap (λ j. slice_index_or (l ++ x ∷ []) j instr.Illegal) (same ∙ sym long)
+    ∙ get_or-append_seam l x [] instr.Illegal
     ∙ sym last
     ∙ ap told (sym same)
 at_place l x n k long below told last before (inr apart) =
-    get_or_append_left l (x ∷ []) None k (rw long (omega (arith, apart))) ∙ before (omega (arith, apart))
+    get_or_append_left l (x ∷ []) instr.Illegal k (rw long (omega (arith, apart))) ∙ before (omega (arith, apart))
 
 each_from : (code : ℕ → Byte) (at n k : ℕ) → k < n
-    → slice_index_or (instrs_from code at n) k None ≡ instr_of (loaded code (at + 4 * k) 4)
+    → slice_index_or (instrs_from code at n) k instr.Illegal ≡ instr_read (loaded code (at + 4 * k) 4)
 unfolding instrs_from
 each_from code at zero k below = absurd (omega arith)
 each_from code at (suc n) k below =
-    at_place (instrs_from code at n) (instr_of (loaded code (at + 4 * n) 4)) n k (length_from code at n) below
-    (λ j. instr_of (loaded code (at + 4 * j) 4)) refl (each_from code at n k) (cases_eq k n)
+    at_place (instrs_from code at n) (instr_read (loaded code (at + 4 * n) 4)) n k (length_from code at n) below
+    (λ j. instr_read (loaded code (at + 4 * j) 4)) refl (each_from code at n k) (cases_eq k n)
 
 word_at_place : (test last : Bool) (n k : ℕ) → k < suc n → (told : ℕ → Bool) → told n ≡ last
     → (test && last) ≡ true → (test ≡ true → k < n → told k ≡ true) → (k ≡ n) ⊎ (k ≡ n → ⊥) → told k ≡ true
@@ -75,7 +71,7 @@ of_page code page h = record {
       (of_word (loaded code (4096 * page + 4 * k) 4) (word_from code (4096 * page) 1024 k h below));
 }
 
-pub decoded : (code : ℕ → Byte) (page : ℕ) (words : List (Option Instr)) → instrs_of code page ≡ Some words
+pub decoded : (code : ℕ → Byte) (page : ℕ) (words : List Instr) → instrs_of code page ≡ Some words
     → AreOfPage code page words
 decoded code page words h =
     let parts = cond_some (nat_lt page (2 ^ 52) && are_words code (4096 * page) 1024) (instrs_from code (4096 * page) 1024) words h

@@ -32,7 +32,7 @@ pub fn row_of<const N: usize>(
     alloc: Global,
     code: &Run<N>,
     page: u64,
-) -> Result<Option<Vec<Option<Instr>>>, AllocFailed<Option<Instr>>>
+) -> Result<Option<Vec<Instr>>, AllocFailed<Instr>>
     requires { page < 2 ^ 52 }
     ensures { IfOk result (λ row.
         IfSome row (λ row. instrs_of (⟦<Run<N> as Bytes>⟧.byte_at code.now) page ≡ Some row.items)) }

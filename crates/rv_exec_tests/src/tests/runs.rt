@@ -234,13 +234,16 @@ fn a_run_does_nothing_inside_an_instruction(rt: HostRuntime) -> Result<(), Fail>
     Ok(())
 }
 
-/// The words of loads of each kind into x5 from x6's address, and of stores there, and of a store-conditional.
+/// The words of loads of each kind into x5 from x6's address, and of stores of x7 there, and of a load-reserved and a
+/// store-conditional of the same.
 #[rattlefmt::skip]
 const LOADS: [u32; 7] = [
     0x0003_0283, 0x0003_1283, 0x0003_2283, 0x0003_3283, 0x0003_4283, 0x0003_5283, 0x0003_6283,
 ];
 
 const STORES: [u32; 4] = [0x0073_0023, 0x0073_1023, 0x0073_2023, 0x0073_3023];
+
+const RESERVING: u32 = 0x1003_22af;
 
 const CONDITIONAL: u32 = 0x1873_22af;
 
@@ -257,7 +260,7 @@ fn expect_refused(rt: &impl Abort, alloc: Global, task: &Task) -> Result<(), Fai
 
 #[test]
 fn a_run_ends_at_an_access_without_its_right_or_in_an_area(rt: HostRuntime) -> Result<(), Fail> {
-    for words in [&LOADS[..], &STORES[..]] {
+    for words in [&LOADS[..], &STORES[..], &[CONDITIONAL]] {
         for &word in words {
             let mut outside = task_of(&[NOP, word, ECALL]);
             outside.regs.x[6] = DATA + 16;
@@ -289,9 +292,48 @@ fn a_run_ends_at_an_access_that_is_not_at_hand(rt: HostRuntime) -> Result<(), Fa
     Ok(())
 }
 
+/// The word before a store-conditional, the task's reservation before that word, what x5 is told and which byte stands
+/// behind both.
+#[rattlefmt::skip]
+const CONDITIONALS: [(u32, Option<Reserved>, u64, u8); 4] = [
+    (NOP, HELD, 0, 3),
+    (NOP, None, 1, 1),
+    (NOP, Some(Reserved { address: DATA, width: 8 }), 1, 1),
+    (RESERVING, None, 0, 3),
+];
+
 #[test]
-fn a_run_ends_at_a_store_conditional(rt: HostRuntime) -> Result<(), Fail> {
-    expect_refused(&rt, rt.alloc(), &task_of(&[NOP, CONDITIONAL, ECALL]))
+fn a_run_goes_on_behind_a_store_conditional(rt: HostRuntime) -> Result<(), Fail> {
+    for (before, reserved, told, byte) in CONDITIONALS {
+        let mut task = task_of(&[before, CONDITIONAL, NOP, ECALL]);
+        task.memory.reserved = reserved;
+        let left = ran(&rt, rt.alloc(), &task, 1000, 3, Flow::Call)?;
+        let mut wanted = task;
+        wanted.regs.pc = PC + 12;
+        wanted.regs.x[5] = told;
+        wanted.memory.data.bytes[0] = byte;
+        wanted.memory.reserved = None;
+        expect_same(&rt, &left, &wanted);
+    }
+    Ok(())
+}
+
+#[test]
+fn a_run_ends_at_a_store_conditional_into_its_own_page(rt: HostRuntime) -> Result<(), Fail> {
+    for at in [PC + 16, PC + 4080] {
+        let held = Some(Reserved {
+            address: at,
+            width: 4,
+        });
+        for reserved in [held, None] {
+            let mut task = task_of(&[NOP, CONDITIONAL, ECALL]);
+            task.memory.data.from = at;
+            task.memory.reserved = reserved;
+            task.regs.x[6] = at;
+            expect_refused(&rt, rt.alloc(), &task)?;
+        }
+    }
+    Ok(())
 }
 
 #[test]
