@@ -31,14 +31,34 @@ pub fn run_row<M: Mem>(regs: &mut Regs, mem: &mut M, row: &[Instr], most: u32) -
         result.count ≡ most }
     ensures row { M.instrs (M.told mem.new) (regs.old.pc / 4096) ≡ Some row.now }
 {
-    let page = regs.pc / 4096;
-    let mut near = Near { page };
     if row.len() != 1024 {
         return left(0);
     }
     if regs.pc % 4 != 0 {
         return left(0);
     }
+    let mut local = *regs;
+    let run = run_aligned(&mut local, mem, row, most);
+    *regs = local;
+    run
+}
+
+/// The same where the task stands at a word. The registers are a copy that nothing else reaches, so that the loop can
+/// keep pc in a register of the machine.
+#[inline(always)]
+fn run_aligned<M: Mem>(regs: &mut Regs, mem: &mut M, row: &[Instr], most: u32) -> RowRun
+    requires row { M.instrs (M.told mem.old) (regs.old.pc / 4096) ≡ Some row.now }
+    requires aligned { regs.old.pc % 4 ≡ 0 }
+    ensures ran { ran M.seen M.after result.count (going (M.told mem.old) regs.old) ≡
+        Some (going (M.told mem.new) regs.new) }
+    ensures few { result.count ≤ most }
+    ensures ended { EndsBy (exec (M.seen (M.told mem.new)) regs.new) result.count most result.flow }
+    ensures whole { result.flow ≡ Flow.Next → regs.new.pc / 4096 ≡ regs.old.pc / 4096 → regs.new.pc % 4 ≡ 0 →
+        result.count ≡ most }
+    ensures row { M.instrs (M.told mem.new) (regs.old.pc / 4096) ≡ Some row.now }
+{
+    let page = regs.pc / 4096;
+    let mut near = Near { page };
     for count in 0..most {
         if regs.pc / 4096 != page {
             return left(count);
