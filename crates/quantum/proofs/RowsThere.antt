@@ -16,12 +16,12 @@ use Rattle.mm_space.specs.Spaces.{reach}
 use Rattle.mm_space.proofs.NearPuts.{IsPrivatePage, bytes_page}
 use Rattle.quantum.specs.Acting.{Acting, acting_on, has_instrs, instrs_of, is_whole}
 
-has_bytes : (bytes : Option (List ℕ)) (words : List (Option Instr))
+has_bytes : (bytes : Option (List ℕ)) (words : List Instr)
     → option_map row_of bytes ≡ Some words → is_some bytes ≡ true
 has_bytes None words row = absurd (cc row)
 has_bytes (Some bytes) words row = refl
 
-module _ (task page : ℕ) (space : Space) (handed : Handed) (words : List (Option Instr)) where
+module _ (task page : ℕ) (space : Space) (handed : Handed) (words : List Instr) where
   abbrev pages : Pages
   pages = (mapping space.areas).pages
 
@@ -48,7 +48,7 @@ chosen true found value is = is
 chosen false found value is = absurd (cc is)
 
 -- and a page's instructions are the words that it has
-pub row_from : (acting : Acting) (page : ℕ) (words : List (Option Instr))
+pub row_from : (acting : Acting) (page : ℕ) (words : List Instr)
     → instrs_of acting page ≡ Some words → row_at acting.reach.space.mapping.pages page ≡ Some words
 row_from acting page words is =
     chosen (has_instrs acting.reach.space.mapping.pages page) (row_at acting.reach.space.mapping.pages page) words is

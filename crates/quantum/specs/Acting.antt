@@ -72,6 +72,6 @@ has_instrs pages page = nat_lt page (2 ^ 52) && (allows_at pages page executable
 
 -- the instructions of such a page's words
 -- RISC-V Unprivileged ISA 20191213, 1.5
-abbrev pub instrs_of : Acting → (page : ℕ) → Option (List (Option Instr))
+abbrev pub instrs_of : Acting → (page : ℕ) → Option (List Instr)
 instrs_of a page =
     if has_instrs a.reach.space.mapping.pages page then row_at a.reach.space.mapping.pages page else None

@@ -5,11 +5,12 @@ use Rattle.std.specs.FinMap as map
 use Rattle.std.proofs.lemmas.Bool.{and_parts, false≢true}
 use Rattle.std.proofs.lemmas.List.FromFn.{get_or-map-range_with_len, length-map-range_with_len}
 use Rattle.rv_table.specs.declared.instr.Instr.{Instr}
+use Rattle.rv_table.specs.declared.instr.Instr.TheVariants as instr
 use Rattle.rv_table.specs.Bytes.{Value, loaded}
-use Rattle.rv_table.specs.Table.{rows_of}
-use Rattle.rv_exec.specs.Rows.{AreOfPage, IsOfRows, IsOfWord}
+use Rattle.rv_table.specs.Table.{instr_of}
+use Rattle.rv_exec.specs.Rows.{AreOfPage, IsOfWord}
 use Rattle.mm_frames.specs.Numbers.{number_in}
-use Rattle.mm_frames.specs.Rows.{first_of, instr_of, row_of}
+use Rattle.mm_frames.specs.Rows.{row_of}
 use Rattle.mm_areas.specs.Contents.{bytes_at, bytes_mapped}
 use Rattle.mm_areas.specs.DecodedWords.{row_mapped}
 use Rattle.mm_areas.specs.Hints.{allows_at, allows_mapped}
@@ -22,20 +23,16 @@ use Rattle.quantum.specs.Acting.{Acting, has_instrs, instrs_of, is_whole, memory
 
 -- ---- the row of a page's bytes
 
-abbrev word_in : List ℕ → (word : ℕ) → Option Instr
+abbrev word_in : List ℕ → (word : ℕ) → Instr
 word_in bytes k = instr_of (number_in bytes (4 * k) 4)
 
 row_length : (bytes : List ℕ) → length (row_of bytes) ≡ 1024
 unfolding row_of
 row_length bytes = length-map-range_with_len (word_in bytes) 0 1024
 
-row_word : (bytes : List ℕ) (k : ℕ) → k < 1024 → slice_index_or (row_of bytes) k None ≡ word_in bytes k
+row_word : (bytes : List ℕ) (k : ℕ) → k < 1024 → slice_index_or (row_of bytes) k instr.Illegal ≡ word_in bytes k
 unfolding row_of
-row_word bytes k small = get_or-map-range_with_len (word_in bytes) 0 1024 k k None small (omega arith)
-
-is_first : (rows : List Instr) → IsOfRows rows (first_of rows)
-is_first [] = tt
-is_first (instr ∷ rest) = refl
+row_word bytes k small = get_or-map-range_with_len (word_in bytes) 0 1024 k k instr.Illegal small (omega arith)
 
 module _ (r : Reach) (page : ℕ) (bytes : List ℕ) (low : page < 2 ^ 52) where
   word_there : IsPrivate executable r page bytes → (k : ℕ) → k < 1024
@@ -52,13 +49,12 @@ module _ (r : Reach) (page : ℕ) (bytes : List ℕ) (low : page < 2 ^ 52) where
   row_there private = record {
     whole = row_length bytes;
     each = λ k small.
-        subst₂ IsOfWord (sym (word_there private k small)) (sym (row_word bytes k small))
-        (is_first (rows_of (number_in bytes (4 * k) 4)));
+        subst₂ IsOfWord (sym (word_there private k small)) (sym (row_word bytes k small)) refl;
   }
 
 -- ---- the instructions of a page
 
-module _ (r : Reach) (page : ℕ) (words : List (Option Instr)) where
+module _ (r : Reach) (page : ℕ) (words : List Instr) where
   abbrev pages : Pages
   pages = r.space.mapping.pages
 
@@ -91,7 +87,7 @@ module _ (r : Reach) (page : ℕ) (words : List (Option Instr)) where
       let right = and_parts (allows_at pages page executable) (is_whole (bytes_at pages page)) low.1 in
       mapped_words (map.get pages page) (ltb-true page (2 ^ 52) low.0) refl right.0 right.1 row
 
-pub decoded : (acting : Acting) (page : ℕ) (words : List (Option Instr))
+pub decoded : (acting : Acting) (page : ℕ) (words : List Instr)
     → instrs_of acting page ≡ Some words → AreOfPage (memory_of acting).code page words
 decoded acting page words is =
     tested acting.reach page words (has_instrs acting.reach.space.mapping.pages page) refl is
