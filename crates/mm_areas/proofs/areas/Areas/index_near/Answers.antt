@@ -1,4 +1,4 @@
-use Rattle.std.proofs.Common.{sym, ◌∙◌}
+use Rattle.std.proofs.Common.{sym}
 use Rattle.mm_areas.proofs.HintLaws.{near_within, near_held, near_mapped}
 use Rattle.mm_areas.proofs.areas.Areas.index_near.Goals as goal
 
