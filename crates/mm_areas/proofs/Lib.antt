@@ -14,3 +14,4 @@ pub mod OwnLaws
 pub mod SharedLaws
 pub mod RowLaws
 pub mod FreshLaws
+pub mod HintLaws

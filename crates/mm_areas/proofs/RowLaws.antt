@@ -1,6 +1,6 @@
 -- Laws of the decoded words of a page that is written in its place among regions.
 use Rattle.std.proofs.Common.{◌≡◌, ℕ, Bool, true, false, List, Option, Some, None, Result, Ok, Err, option_map, refl, ap, sym, ◌∙◌, subst}
-use Rattle.std.specs.Prelude.{IfSome, OnOk, OnErr}
+use Rattle.std.specs.Prelude.{◌↔◌, IfSome, OnOk, OnErr}
 use Rattle.std.specs.Bool.{OnTrue, OnFalse}
 use Rattle.std.specs.Option.{is_some, ForSome}
 use Rattle.std.specs.FinMap.{get}
@@ -10,6 +10,9 @@ use Rattle.mm_frames.specs.declared.row.Row.{Row}
 use Rattle.mm_frames.specs.Rows.{words_of}
 use Rattle.mm_areas.specs.declared.page.Page.{Page}
 use Rattle.mm_areas.specs.declared.areas.Region.{Region}
+use Rattle.mm_areas.specs.declared.rights.Rights.{Rights}
+use Rattle.mm_areas.specs.Rights.{has}
+use Rattle.mm_areas.specs.Hints.{allows_mapped, allows_at}
 use Rattle.mm_areas.specs.Pages.{Mapped, mapped_by}
 use Rattle.mm_areas.specs.Regions.{pages_of}
 use Rattle.mm_areas.specs.Order.{are_from}
@@ -26,6 +29,14 @@ rows_same page old new olds news are same = same_word has_row_in page old new ol
 -- the other pages have at any rate
 pub rows_others : (page : ℕ) (old new : Page) (olds news : List Region) → AreWritten page old new olds news → (q : ℕ) → (q ≡ page → ⊥) → has_row_in (page_in news q) ≡ has_row_in (page_in olds q)
 rows_others page old new olds news are q other = ap has_row_in (are.others q other)
+
+-- a page is decoded where its words are there and it has the right
+pub decoded_where : {P : Type 0} (page : ℕ) (old new : Page) (olds news : List Region) (right : Rights) → AreWritten page old new olds news → P ↔ ((has_row_content new.content ≡ true) × (has old.rights right ≡ true)) → P ↔ ((has_row_in (page_in news page) ≡ true) × (allows_at (pages_of olds) page right ≡ true))
+decoded_where page old new olds news right are is =
+    let allowed : allows_at (pages_of olds) page right ≡ has old.rights right = ap (λ (o : Option Mapped). allows_mapped o right) are.mapped in (
+      (λ h. let f = is.0 h in (ap has_row_in are.here ∙ f.0, allowed ∙ f.1)),
+      (λ h. is.1 (sym (ap has_row_in are.here) ∙ h.0, sym allowed ∙ h.1)),
+    )
 
 -- ---- a run of bytes, which gives the words up
 
@@ -48,7 +59,7 @@ put_keeps false page old new olds news are same = write_keeps {X = Unit {0}} {E 
 -- ---- words that are read, taken out and put in
 
 -- the words of a page that is there are those of its bytes
-pub words_there : {X : Type 0} (found : Option X) (view : X → List (Option Instr)) (page : ℕ) (old new : Page) (olds news : List Region) → AreWritten page old new olds news → IfSome found (λ x. row_mapped (Some (mapped_by old)) ≡ Some (view x)) → IfSome found (λ x. row_at (pages_of olds) page ≡ Some (view x))
+pub words_there : {X : Type 0} (found : Option X) (view : X → List Instr) (page : ℕ) (old new : Page) (olds news : List Region) → AreWritten page old new olds news → IfSome found (λ x. row_mapped (Some (mapped_by old)) ≡ Some (view x)) → IfSome found (λ x. row_at (pages_of olds) page ≡ Some (view x))
 words_there found view page old new olds news are is = subst (λ (m : Option Mapped). IfSome found (λ x. row_mapped m ≡ Some (view x))) (sym are.mapped) is
 
 -- the same of words that are put in

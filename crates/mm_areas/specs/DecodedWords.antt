@@ -35,10 +35,10 @@ AreUndecoded pages = (index : ℕ) → has_row_in (slice_get pages index) ≡ fa
 
 -- the instructions that a page's words are, of a page that has its own bytes
 -- RISC-V Unprivileged ISA 20191213, 1.5: instructions of four bytes, the lowest first
-abbrev pub row_mapped : Option Mapped → Option (List (Option Instr))
+abbrev pub row_mapped : Option Mapped → Option (List Instr)
 row_mapped page = option_map row_of (bytes_mapped page)
 
 -- the same of a page by its number
 -- RISC-V Unprivileged ISA 20191213, 1.5: instructions of four bytes, the lowest first
-abbrev pub row_at : Pages → (page : ℕ) → Option (List (Option Instr))
+abbrev pub row_at : Pages → (page : ℕ) → Option (List Instr)
 row_at pages page = option_map row_of (bytes_at pages page)

@@ -1,9 +1,10 @@
 //! Numbers of pages by hints: guesses at the region that has a page, which are tested where they are used.
 
-ghost use Rattle.std.specs.Prelude.{◌≡◌, ℕ, ◌+◌, ◌-◌, ◌^◌, ◌<◌, ◌≤◌, ◌↔◌, true, false, length, is_some, IsTrue, Some, None, [], SomeIff, unwrap_or};
+ghost use Rattle.std.specs.Prelude.{◌≡◌, ℕ, ◌+◌, ◌-◌, ◌^◌, ◌<◌, ◌≤◌, ◌↔◌, true, false, length, is_some, IsTrue, Some, None, [], IfSome, SomeIff, unwrap_or};
 ghost use Rattle.std.specs.Bool.{OnTrue, OnFalse};
 ghost use Rattle.mm_frames.specs.Numbers.{IsInPage, number_in, with_number};
-ghost use Rattle.mm_areas.specs.Pages.{mapped_by};
+ghost use Rattle.std.specs.List.{HoldsAt};
+ghost use Rattle.mm_areas.specs.Pages.{is_within, mapped_by};
 ghost use Rattle.mm_areas.specs.Contents.{bytes_mapped, changed};
 ghost use Rattle.mm_areas.specs.Own.{is_own_content};
 ghost use Rattle.mm_areas.specs.DecodedWords.{has_row_content};
@@ -28,6 +29,22 @@ impl Page {
         match &self.content {
             Content::Private(frame) => frame.number(offset, width),
             Content::Shared(_) => None,
+        }
+    }
+
+    /// Whether a number is put where it is asked: the page has a right, its bytes are its own, it reaches so far and an
+    /// access is so wide.
+    #[inline(always)]
+    fn has_room_allowed(&self, offset: usize, width: u8, right: Rights) -> bool
+        ensures { IsTrue result ↔ ((is_own_content self.now.content ≡ true) ×
+            (has self.now.rights right ≡ true) × IsInPage offset width) }
+    {
+        if !self.rights.allows(right) {
+            return false;
+        }
+        match &self.content {
+            Content::Private(frame) => frame.has_room(offset, width),
+            Content::Shared(_) => false,
         }
     }
 
@@ -69,6 +86,35 @@ impl Areas {
         }
     }
 
+    /// A hint of the region that has a page, by another guess, which is the answer where it is right: 0 where none has
+    /// the page.
+    pub fn hint_from(&self, hint: usize, page: u64) -> usize
+        ensures held { map_of.contains_key (mapping self.now).pages page ≡ true → is_hint self.now result page ≡ true }
+        ensures none { map_of.contains_key (mapping self.now).pages page ≡ false → result ≡ 0 }
+    {
+        if self.is_near(hint, page) {
+            hint
+        } else {
+            self.hint(page)
+        }
+    }
+
+    /// The index of the region that has a page, by a hint: a wrong one costs a look-up.
+    #[tactic(auto, using(crate::proofs::RegionLaws::order_from_test))]
+    #[inline(always)]
+    pub(crate) fn index_near(&self, hint: usize, page: u64) -> Option<usize>
+        ensures within { IfSome result (λ i. i < length self.now.regions.items) }
+        ensures held { IfSome result
+            (HoldsAt (λ r. is_within r.first (length r.pages.items) page ≡ true) self.now.regions.items) }
+        ensures mapped { is_some result ≡ map_of.contains_key (mapping self.now).pages page }
+    {
+        if self.is_near(hint, page) {
+            Some(hint)
+        } else {
+            find(self.regions.as_slice(), page)
+        }
+    }
+
     /// Whether a hint is right.
     #[inline(always)]
     fn is_near(&self, hint: usize, page: u64) -> bool
@@ -101,6 +147,27 @@ impl Areas {
         }
         let region = &self.regions[hint];
         region.pages[(page - region.first) as usize].number_allowed(offset, width, right)
+    }
+
+    /// Whether `put_number_near` puts a number where it is asked.
+    #[inline(always)]
+    pub fn has_room_near(
+        &self,
+        hint: usize,
+        page: u64,
+        offset: usize,
+        width: u8,
+        right: Rights,
+    ) -> bool
+        ensures { IsTrue result ↔
+            ((is_hint self.now hint page ≡ true) × (owns self.now page ≡ true)
+            × (allows_at (mapping self.now).pages page right ≡ true) × IsInPage offset width) }
+    {
+        if !self.is_near(hint, page) {
+            return false;
+        }
+        let region = &self.regions[hint];
+        region.pages[(page - region.first) as usize].has_room_allowed(offset, width, right)
     }
 
     /// Puts so many of a number's bytes into a page from an offset on, the lowest first, where the page's bytes are its

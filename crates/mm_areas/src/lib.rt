@@ -14,7 +14,8 @@
 //! (`lacking`, `fits`). `fork` answers another of the same mapping (`copied`) and leaves this one's (`kept`). Decoded
 //! words are those of the page's bytes (`words`), whatever is stored. Pages that a change doesn't lay or take out keep
 //! their own bytes (`owned`) and their words (`rows`); new ones have neither (`fresh`, `undecoded`). A wrong hint gives
-//! nothing. At most 16,384 pages are mapped (`limited`), none at 2^38 or above. A look-up goes by halves.
+//! nothing, or costs a look-up, which goes by halves. At most 16,384 pages are mapped (`limited`), none at 2^38 or
+//! above.
 //!
 //! Not said: time, how much memory a call takes, that memory suffices, and which words are there after `fork`.
 //!

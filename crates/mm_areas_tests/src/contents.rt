@@ -92,6 +92,48 @@ fn a_hint_serves_the_region_that_it_names(rt: HostRuntime) -> Result<(), Fail> {
     assert_eq!(rt; areas.number_near(0, 5, 0, 8, Rights::READ), None);
     assert_eq!(rt; areas.number_near(9, 5, 0, 8, Rights::READ), None);
     assert!(rt; !areas.put_number_near(0, 5, 0, 1, 0, Rights::WRITE));
+    assert_eq!(rt; areas.hint_from(hint, 5), 1);
+    assert_eq!(rt; areas.hint_from(0, 5), 1);
+    assert_eq!(rt; areas.hint_from(9, 3), 0);
+    Ok(())
+}
+
+#[test]
+fn a_number_has_room_in_a_page_of_its_own_with_the_right(rt: HostRuntime) -> Result<(), Fail> {
+    let mut areas = Areas::new(rt.alloc(), 4096);
+    let both = Rights::READ | Rights::WRITE;
+    let area = Area { place: 1, index: 0 };
+    // the page 2 becomes own, the page 3 stays zeros, the page 4 is one of a shared area
+    areas.map(rt.alloc(), Some(8192), 8192, both, Backing::Zeros)?;
+    areas.map(rt.alloc(), Some(16_384), 4096, both, Backing::Of(area))?;
+    areas.own(rt.alloc(), 2)?;
+    // hint, page, offset, width, right
+    let cases: [(usize, u64, usize, u8, Rights, bool); 13] = [
+        (0, 2, 0, 8, Rights::WRITE, true),
+        (0, 2, 4088, 8, Rights::WRITE, true),
+        (0, 2, 4089, 8, Rights::WRITE, false),
+        (0, 2, 4095, 1, Rights::WRITE, true),
+        (0, 2, 4095, 2, Rights::WRITE, false),
+        (0, 2, 4096, 1, Rights::WRITE, false),
+        (0, 2, 0, 3, Rights::WRITE, false),
+        (0, 2, 0, 8, Rights::READ, true),
+        (0, 2, 0, 8, Rights::EXECUTE, false),
+        (1, 2, 0, 8, Rights::WRITE, false),
+        (0, 3, 0, 8, Rights::WRITE, false),
+        (1, 4, 0, 8, Rights::WRITE, false),
+        (0, 9, 0, 8, Rights::WRITE, false),
+    ];
+    for (hint, page, offset, width, right, room) in cases {
+        assert_eq!(rt;
+            areas.has_room_near(hint, page, offset, width, right),
+            room,
+            "{width} bytes from {offset} on of the page {page}"
+        );
+        assert_eq!(rt;
+            areas.put_number_near(hint, page, offset, width, 0, right),
+            room
+        );
+    }
     Ok(())
 }
 

@@ -1,4 +1,3 @@
-mod Words
 mod Owned
 mod Pages
 mod Mended

@@ -1,21 +1,23 @@
 -- Words of a page whose bytes haven't changed.
-use Rattle.std.proofs.Common.{◌≡◌, ℕ, ◌*◌, List, Option, None, length, get_or, set, ap, sym, ◌∙◌, subst, arith}
+use Rattle.std.proofs.Common.{◌≡◌, ℕ, ◌*◌, List, Option, length, get_or, set, ap, sym, ◌∙◌, subst, arith}
 use Rattle.std.specs.Option.{ForSome}
 use Rattle.std.proofs.lemmas.List.FromFn.{length-map-range_with_len, get_or-map-range_with_len}
 use Rattle.rv_table.specs.declared.instr.Instr.{Instr}
+use Rattle.rv_table.specs.declared.instr.Instr.TheVariants as instr
+use Rattle.rv_table.specs.Table.{instr_of}
 use Rattle.mm_frames.specs.declared.row.Row.{Row}
 use Rattle.mm_frames.specs.Numbers.{number_in, with_number}
 use Rattle.mm_frames.proofs.NumberLemmas.{SameOutside, same_number, same_set, same_with_number}
-use Rattle.mm_frames.specs.Rows.{instr_of, row_of, words_of, AreOthers}
+use Rattle.mm_frames.specs.Rows.{row_of, words_of, AreOthers}
 
 -- so a row of the bytes before has all words but those that have changed
-others : (old new : List ℕ) (offset count : ℕ) (words : List (Option Instr)) → SameOutside old new offset count → words ≡ row_of old → AreOthers words new offset count
+others : (old new : List ℕ) (offset count : ℕ) (words : List Instr) → SameOutside old new offset count → words ≡ row_of old → AreOthers words new offset count
 unfolding row_of
 others old new offset count words same is = (
   ap length is ∙ length-map-range_with_len (λ k. instr_of (number_in old (4 * k) 4)) 0 1024,
   λ k within side.
-      ap (λ ws. get_or ws k None) is
-      ∙ get_or-map-range_with_len (λ k. instr_of (number_in old (4 * k) 4)) 0 1024 k k None within (omega arith)
+      ap (λ ws. get_or ws k instr.Illegal) is
+      ∙ get_or-map-range_with_len (λ k. instr_of (number_in old (4 * k) 4)) 0 1024 k k instr.Illegal within (omega arith)
       ∙ ap instr_of (sym (same_number old new offset count same (4 * k) 4 side)),
 )
 

@@ -8,7 +8,7 @@ ghost use Rattle.mm_frames.specs.Numbers.{IsInPage, number_in, with_number, with
 ghost use Rattle.mm_frames.specs.Bytes.{bytes_in};
 ghost use Rattle.mm_frames.specs.Rows.{row_of, words_of, AreOthers};
 
-use crate::numbers::{is_whole, number_at, word_at};
+use crate::numbers::{is_in_page, is_whole, number_at, word_at};
 use crate::{Bytes, Row};
 use rv_table::Instr;
 use sn_base::Memory;
@@ -91,6 +91,14 @@ impl Frame {
         ensures { result ≡ is_own self.now }
     {
         matches!(self.bytes, Bytes::Own(_))
+    }
+
+    /// Whether a number is put where it is asked: the frame is own, the page reaches so far and an access is so wide.
+    #[inline(always)]
+    pub fn has_room(&self, offset: usize, width: u8) -> bool
+        ensures { IsTrue result ↔ ((is_own self.now ≡ true) × IsInPage offset width) }
+    {
+        self.is_own() && is_in_page(offset, width)
     }
 
     /// Makes the frame's bytes its own: bytes that it shares, and zeros that nobody has written, are copied. An `Err`
@@ -221,7 +229,7 @@ impl Frame {
     }
 
     /// The page's words, decoded, where they are there.
-    pub fn row(&self) -> Option<&[Option<Instr>]>
+    pub fn row(&self) -> Option<&[Instr]>
         ensures there { is_some result ≡ has_row self.now }
         ensures words { IfSome result (λ words. words.now ≡ row_of (bytes_of self.now)) }
     {

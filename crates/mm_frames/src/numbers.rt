@@ -26,6 +26,20 @@ pub(crate) fn number_at(bytes: &[u8; 4096], offset: usize, width: u8) -> Option<
     }
 }
 
+/// Whether the page reaches so far and an access is so wide.
+#[inline(always)]
+pub(crate) fn is_in_page(offset: usize, width: u8) -> bool
+    ensures { IsTrue result ↔ (IsInPage offset width) }
+{
+    match width {
+        8 => offset <= 4088,
+        4 => offset <= 4092,
+        2 => offset <= 4094,
+        1 => offset <= 4095,
+        _ => false,
+    }
+}
+
 #[inline(always)]
 fn half_at(bytes: &[u8; 4096], offset: usize) -> u16
     requires { offset + 2 ≤ 4096 }

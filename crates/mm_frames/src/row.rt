@@ -1,18 +1,18 @@
 //! A page's words, decoded.
 
 ghost use Rattle.std.specs.Prelude.{◌≡◌, ◌+◌, ◌*◌, ◌<◌, ◌≤◌, IfOk};
+ghost use Rattle.rv_table.specs.Table.{instr_of};
 ghost use Rattle.mm_frames.specs.Numbers.{number_in};
-ghost use Rattle.mm_frames.specs.Rows.{instr_of};
 
 use crate::numbers::word_at;
 use rv_table::{Instr, decode};
 use sn_base::Memory;
 use std::alloc::Global;
 
-/// The 1,024 words of a page, decoded: an instruction each, or none where no row of the table makes one of the word.
+/// The 1,024 words of a page, decoded: an instruction each, `Illegal` where no row of the table makes one of the word.
 #[derive(Drop)]
 pub struct Row {
-    words: Vec<Option<Instr>>,
+    words: Vec<Instr>,
 }
 
 impl Row {
@@ -41,7 +41,7 @@ impl Row {
     }
 
     /// The instructions, in order.
-    pub fn as_slice(&self) -> &[Option<Instr>]
+    pub fn as_slice(&self) -> &[Instr]
         ensures { result.now ≡ words_of self.now }
     {
         self.words.as_slice()
@@ -49,8 +49,7 @@ impl Row {
 }
 
 /// The instruction that a page's word is, by the number of the word.
-#[tactic(auto, using(crate::proofs::Words::first_of_only))]
-fn instr_at(bytes: &[u8; 4096], word: usize) -> Option<Instr>
+fn instr_at(bytes: &[u8; 4096], word: usize) -> Instr
     requires { word < 1024 }
     ensures { result ≡ instr_of (number_in bytes.now (4 * word) 4) }
 {

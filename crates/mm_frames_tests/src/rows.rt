@@ -12,21 +12,21 @@ const ECALL: u64 = 0x0000_0073;
 fn is_addi(frame: &Frame, word: usize) -> bool {
     matches!(
         frame.row().and_then(|row| row.get(word).copied()),
-        Some(Some(Instr::Addi { .. }))
+        Some(Instr::Addi { .. })
     )
 }
 
 fn is_ecall(frame: &Frame, word: usize) -> bool {
     matches!(
         frame.row().and_then(|row| row.get(word).copied()),
-        Some(Some(Instr::Ecall))
+        Some(Instr::Ecall)
     )
 }
 
 fn is_nothing(frame: &Frame, word: usize) -> bool {
     matches!(
         frame.row().and_then(|row| row.get(word).copied()),
-        Some(None)
+        Some(Instr::Illegal)
     )
 }
 
@@ -54,7 +54,7 @@ fn a_row_is_taken_out_and_put_back(rt: HostRuntime) -> Result<(), Fail> {
     assert!(rt; frame.decode(rt.alloc()));
     if let Some(row) = frame.take_row() {
         assert!(rt; frame.row().is_none());
-        assert!(rt; matches!(row.as_slice().get(2).copied(), Some(Some(Instr::Ecall))));
+        assert!(rt; matches!(row.as_slice().get(2).copied(), Some(Instr::Ecall)));
         frame.put_row(row);
     }
     assert!(rt; is_ecall(&frame, 2));

@@ -10,6 +10,7 @@ pub mod Placed
 pub mod PutPieces
 pub mod Readied
 pub mod ReadyRuns
+pub mod RoomNear
 pub mod SeenPages
 pub mod SetRuns
 pub mod Splits

@@ -1,8 +1,8 @@
 -- Stores whose bytes lie in one page that has its bytes for itself.
-use Rattle.std.proofs.Common.{◌≡◌, ℕ, zero, suc, ◌+◌, ◌*◌, ◌/◌, ◌%◌, ◌^◌, ◌<◌, ◌≤◌, ◌↔◌, Bool, true, false, List, [], length, Option, Some, None, Ok, refl, ap, sym, ◌∙◌, subst, arith}
-use Rattle.std.specs.Prelude.{IfSome, IsTrue, is_some, slice_get, slice_set, option_map, unwrap_or}
+use Rattle.std.proofs.Common.{◌≡◌, ℕ, zero, suc, ◌+◌, ◌*◌, ◌/◌, ◌%◌, ◌^◌, ◌<◌, ◌≤◌, ◌↔◌, Bool, true, false, List, [], length, Option, Some, None, Ok, refl, ap, sym, ◌∙◌, arith}
+use Rattle.std.specs.Prelude.{IfSome, IsTrue, is_some, slice_set, option_map, unwrap_or}
 use Rattle.std.specs.Option.{SomeIff}
-use Rattle.std.specs.Bool.{OnTrue, OnFalse}
+use Rattle.std.specs.Bool.{OnTrue}
 use Rattle.std.specs.FinMap as map
 use Rattle.std.proofs.lemmas.Bool.{false≢true}
 use Rattle.sn_base.proofs.Maps.{get-insert_same, insert_same, insert-insert}
@@ -20,14 +20,13 @@ use Rattle.mm_areas.specs.Contents.{bytes_at, bytes_mapped, changed_at, with_cha
 use Rattle.mm_areas.specs.Hints.{allows_at, allows_mapped}
 use Rattle.mm_areas.specs.Mappings.{Mapping, mapping, with_pages}
 use Rattle.mm_areas.specs.Own.{is_own_at, is_own_content, owns, page_in}
-use Rattle.mm_areas.specs.Pages.{Bytes, Held, Mapped, Pages, held_in, mapped_by}
-use Rattle.mm_areas.specs.Rights.{has}
+use Rattle.mm_areas.specs.Pages.{Bytes, Mapped, Pages, held_in, mapped_by}
 use Rattle.mm_areas.proofs.ChangeLaws.{get_page}
 use Rattle.mm_areas.proofs.RegionLaws.{order_from_test}
 use Rattle.mm_space.specs.Accesses.{LoadsNear, byte_at, page_number, page_offset, writable}
 use Rattle.mm_space.specs.Handing.{InHand}
 use Rattle.mm_space.specs.Puts.{StoresNear, after_stored, ended_by_store, put_byte, put_bytes, put_mapped}
-use Rattle.mm_space.specs.Spaces.{AddressSpace, Reach}
+use Rattle.mm_space.specs.Spaces.{Reach}
 use Rattle.mm_space.proofs.Accessed.{room_there}
 use Rattle.mm_space.proofs.Near.{IsPrivate, near_apart, near_free, near_value}
 

@@ -1,9 +1,8 @@
 -- Pages beside one that has other bytes.
-use Rattle.std.proofs.Common.{◌≡◌, ℕ, ◌/◌, ◌%◌, Bool, true, false, List, Option, Some, None, refl, ap, sym, ◌∙◌}
+use Rattle.std.proofs.Common.{◌≡◌, ℕ, Bool, true, false, List, Option, Some, None, refl, ap, sym, ◌∙◌}
 use Rattle.std.specs.Bool.{OnTrue}
 use Rattle.std.specs.FinMap as map
 use Rattle.sn_base.proofs.Maps.{get-insert_other}
-use Rattle.mm_frames.specs.Numbers.{with_number}
 use Rattle.mm_areas.specs.Contents.{changed, changed_at, with_change}
 use Rattle.mm_areas.specs.Mappings.{Mapping, with_pages}
 use Rattle.mm_areas.specs.Pages.{Mapped, Pages}

@@ -1,5 +1,5 @@
 -- Pages that have their bytes for themselves, and bytes put into them.
-use Rattle.std.proofs.Common.{◌≡◌, ◌≢◌, ℕ, zero, suc, ◌+◌, ◌-◌, ◌/◌, ◌%◌, ◌^◌, ◌<◌, ◌↔◌, ◌&&◌, Bool, true, false, List, Option, Some, None, Result, Ok, Err, refl, ap, sym, ◌∙◌, inl, inr, subst, arith}
+use Rattle.std.proofs.Common.{◌≡◌, ℕ, zero, suc, ◌-◌, ◌/◌, ◌%◌, ◌^◌, ◌<◌, ◌↔◌, ◌&&◌, Bool, true, false, List, Option, Some, None, Result, Ok, Err, refl, ap, sym, ◌∙◌, inl, inr, subst, arith}
 use native.Mathlib.Numerals.{unary_clauses}
 use Rattle.std.specs.Prelude.{IsTrue, OnErr, slice_set}
 use Rattle.std.specs.Bool.{OnTrue, OnFalse}
@@ -10,7 +10,6 @@ use Rattle.rv_table.specs.Bytes.{behind}
 use Rattle.rv_atomic.specs.declared.reservations.Reservation.{Reservation}
 use Rattle.mm_frames.specs.Numbers.{IsInPage, with_number}
 use Rattle.mm_areas.specs.declared.areas.Areas.{Areas}
-use Rattle.mm_areas.specs.declared.page.SharedPage.{SharedPage}
 use Rattle.mm_areas.specs.declared.rights.Rights.{Rights}
 use Rattle.mm_areas.specs.Contents.{changed, changed_at, changed_held, with_change}
 use Rattle.mm_areas.specs.Mappings.{Mapping, mapping, with_pages}
@@ -20,10 +19,10 @@ use Rattle.mm_space.specs.declared.decoded.Decoded.{Decoded}
 use Rattle.mm_space.specs.declared.handed.Handed.{Handed}
 use Rattle.mm_space.specs.declared.space.Space.{Space}
 use Rattle.mm_space.specs.Accesses.{page_number, page_offset}
-use Rattle.mm_space.specs.Handing.{InHand, hand_of}
+use Rattle.mm_space.specs.Handing.{hand_of}
 use Rattle.mm_space.specs.Places.{AreAsReady, is_ready, is_ready_at, is_ready_held, is_ready_mapped, shared_at, shared_held}
 use Rattle.mm_space.specs.Puts.{put_byte, put_mapped}
-use Rattle.mm_space.specs.Spaces.{AddressSpace, Reach, reach, space_of}
+use Rattle.mm_space.specs.Spaces.{Reach, reach}
 use Rattle.mm_space.proofs.AreaPuts.{one_byte}
 
 -- where not all are ready after pages have become own, not all were before

@@ -1,5 +1,5 @@
 -- A reservation that is taken back at once.
-use Rattle.std.proofs.Common.{◌≡◌, ℕ, ◌==◌, ◌||◌, Bool, true, false, List, [], ◌∷◌, ◌++◌, not, filter, cond, refl, ap, sym, ◌∙◌}
+use Rattle.std.proofs.Common.{◌≡◌, ℕ, ◌==◌, ◌||◌, Bool, true, false, List, [], ◌∷◌, ◌++◌, not, cond, refl, ap, ◌∙◌}
 use Rattle.std.proofs.lemmas.Bool.{eq-eqb}
 use Rattle.rv_atomic.specs.declared.reservations.Reservation.{Reservation}
 use Rattle.rv_atomic.specs.Reservations.{is_reserving, reserved, without}

@@ -96,6 +96,12 @@ after_run_stored task at bytes r = record {
   hand = (put_run task at bytes r).hand;
 }
 
+-- so many bytes may be written, whichever areas are handed in
+-- profile
+abbrev pub AllowsNear : AddressSpace → (at width : ℕ) → Type 0
+AllowsNear space at width = (hand : List InHand) →
+    AllowsAs (loaded (byte_at writable (record { space = space; hand = hand })) at width) (Ok tt)
+
 -- a store is made, whichever areas are handed in
 -- profile
 abbrev pub StoresNear : (old new : AddressSpace) → (task at width value : ℕ) → Type 0

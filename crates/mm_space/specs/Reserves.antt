@@ -2,14 +2,13 @@
 use Rattle.std.specs.Prelude.{ℕ, ◌+◌, ◌*◌, ◌%◌, ◌^◌, Bool, true, false, ◌&&◌, List, Option, Some, None}
 use Rattle.std.specs.FinMap as map
 use Rattle.std.specs.Option.{option_map_or}
-use Rattle.rv_table.specs.declared.error.Area.{Area}
 use Rattle.rv_atomic.specs.Reservations.{granule, is_held, reserved, without}
 use Rattle.rv_atomic.specs.AreaReservations.{is_held_here, reserved_here, without_here}
 use Rattle.mm_areas.specs.Pages.{Held, Bytes, PageOf, Mapped}
 use Rattle.mm_space.specs.Accesses.{page_number, page_offset}
 use Rattle.mm_space.specs.Handing.{AreaState, InHand, area_in}
 use Rattle.mm_space.specs.Puts.{with_area}
-use Rattle.mm_space.specs.Spaces.{AddressSpace, Reach}
+use Rattle.mm_space.specs.Spaces.{Reach}
 
 -- the granule of a byte in a page of an area, counted from the area's first byte
 -- RISC-V Unprivileged ISA 20191213, 8.2: the reservation set; that it is the area's: profile

@@ -8,7 +8,7 @@ ghost use Rattle.mm_areas.specs.Hints.{allows_at};
 ghost use Rattle.mm_space.specs.Accesses.{executable};
 ghost use Rattle.mm_space.specs.Spaces.{space_of};
 
-use crate::Space;
+use crate::{Hints, Space};
 use mm_areas::Rights;
 use mm_frames::Row;
 use rv_table::Instr;
@@ -17,10 +17,12 @@ use std::alloc::Global;
 /// Of how many pages the decoded words are kept.
 const KEPT: usize = 64;
 
-/// The pages whose words are kept decoded: of those of one number modulo 64 one at most, so 64 of all.
+/// The pages whose words are kept decoded: of those of one number modulo 64 one at most, so 64 of all. With them are
+/// guesses at where they lie.
 #[derive(Debug, Drop)]
 pub(crate) struct Decoded {
     pages: [Option<u64>; KEPT],
+    hints: Hints,
 }
 
 impl Decoded {
@@ -28,6 +30,7 @@ impl Decoded {
     pub(crate) fn none() -> Decoded {
         Decoded {
             pages: [None; KEPT],
+            hints: Hints::new(),
         }
     }
 
@@ -51,16 +54,19 @@ impl Space {
         ensures row { OnTrue result (has_row_at self.new.areas page ≡ true) }
         ensures same { space_of self.new ≡ space_of self.old }
     {
-        if !self.may_execute(page) {
+        let hint = self.areas.hint_from(self.decoded.hints.of(page), page);
+        self.decoded.hints.keep(page, hint);
+        if !self.areas.decode(alloc, hint, page, Rights::EXECUTE) {
             return false;
         }
         self.make_room(page);
-        self.areas.decode(alloc, page)
+        true
     }
 
     /// Keeps a page among those whose words are there, and gives up those of another that has to go for it.
     fn make_room(&mut self, page: u64)
-        ensures { space_of self.new ≡ space_of self.old }
+        ensures row { has_row_at self.new.areas page ≡ has_row_at self.old.areas page }
+        ensures same { space_of self.new ≡ space_of self.old }
     {
         if let Some(other) = self.decoded.keep(page) {
             if other != page {
@@ -69,18 +75,8 @@ impl Space {
         }
     }
 
-    /// Whether a page is mapped and may be executed.
-    fn may_execute(&self, page: u64) -> bool
-        ensures { result ≡ allows_at (space_of self.now).mapping.pages page executable }
-    {
-        match self.areas.page(page) {
-            Some(page) => page.rights.allows(Rights::EXECUTE),
-            None => false,
-        }
-    }
-
-    /// The decoded words of a page, where they are there: 1,024 instructions, and none for a word that is none.
-    pub fn words(&self, page: u64) -> Option<&[Option<Instr>]>
+    /// The decoded words of a page, where they are there: 1,024 instructions, `Illegal` for a word that is none.
+    pub fn words(&self, page: u64) -> Option<&[Instr]>
         ensures there { is_some result ≡ has_row_at self.now.areas page }
         ensures words { IfSome result (λ words. row_at (space_of self.now).mapping.pages page ≡ Some words.now) }
     {
@@ -94,7 +90,8 @@ impl Space {
         ensures words { IfSome result (λ row. row_at (space_of self.old).mapping.pages page ≡ Some (words_of row)) }
         ensures same { space_of self.new ≡ space_of self.old }
     {
-        self.areas.take_row(page)
+        let hint = self.decoded.hints.of(page);
+        self.areas.take_row(hint, page)
     }
 
     /// Puts back the decoded words of a page, which are those of its bytes.
@@ -104,6 +101,7 @@ impl Space {
         ensures same { space_of self.new ≡ space_of self.old }
     {
         self.make_room(page);
-        self.areas.put_row(page, row);
+        let hint = self.decoded.hints.of(page);
+        self.areas.put_row(hint, page, row);
     }
 }

@@ -33,12 +33,12 @@ impl Hints {
 
     /// The guess at a page.
     #[inline(always)]
-    fn of(&self, page: u64) -> usize {
+    pub(crate) fn of(&self, page: u64) -> usize {
         self.regions[(page % 64) as usize]
     }
 
     /// Keeps a guess at a page, in the place of another's.
-    fn keep(&mut self, page: u64, hint: usize) {
+    pub(crate) fn keep(&mut self, page: u64, hint: usize) {
         self.regions[(page % 64) as usize] = hint;
     }
 }

@@ -1,6 +1,7 @@
 //! Stores.
 
 ghost use Rattle.std.specs.Prelude.{◌≡◌, ◌≢◌, ℕ, ◌≤◌, true, false, List, OnOk, OnErr, Ok, Err};
+ghost use Rattle.std.specs.Bool.{OnTrue};
 ghost use Rattle.std.specs.FinMap as map_of;
 ghost use Rattle.rv_table.specs.Bytes.{AllowsAs, loaded};
 ghost use Rattle.rv_table.specs.Words.{IsWidth};
@@ -8,8 +9,9 @@ ghost use Rattle.rv_table.specs.declared.error.MemErr.TheVariants as MemErr;
 ghost use Rattle.mm_areas.specs.Mappings.{mapping};
 ghost use Rattle.mm_space.specs.Accesses.{byte_at, writable};
 ghost use Rattle.mm_space.specs.Places.{AreAsReady, is_ready, is_ready_at, shared_at};
-ghost use Rattle.mm_space.specs.Puts.{after_stored, put_byte, put_bytes};
-ghost use Rattle.mm_space.specs.Spaces.{reach};
+ghost use Rattle.mm_space.specs.Puts.{AllowsNear, after_stored, put_byte, put_bytes};
+ghost use Rattle.mm_space.specs.Spaces.{reach, space_of};
+ghost use Rattle.mm_space.specs.declared.handed.Handed.{Handed};
 
 use crate::{Handed, Space};
 use mm_areas::{Content, Rights, SharedPage};
@@ -25,6 +27,36 @@ impl Space {
     /// - `Shared`: else the area of the first of them that lies in one which isn't handed in.
     /// - `Memory`: else, where a page that shares its bytes couldn't be copied.
     pub fn writable(
+        &mut self,
+        alloc: Global,
+        handed: &mut Handed,
+        at: u64,
+        width: u8,
+    ) -> Result<(), MemErr>
+        ensures room { AllowsAs (loaded (byte_at writable (reach self.old handed.old)) at width) result }
+        ensures ready { OnOk result (is_ready self.new handed.new at width ≡ true) }
+        ensures lean { is_ready self.old handed.old at width ≡ true → result ≢ Err MemErr.Memory }
+        ensures same { reach self.new handed.new ≡ reach self.old handed.old }
+    {
+        if self.has_room(at, width) {
+            return Ok(());
+        }
+        self.far_writable(alloc, handed, at, width)
+    }
+
+    /// Whether so many bytes at an address lie in one page that may be written and has its bytes for itself.
+    fn has_room(&self, at: u64, width: u8) -> bool
+        ensures room { OnTrue result (AllowsNear (space_of self.now) at width) }
+        ensures ready { OnTrue result ((handed : Handed) → is_ready self.now handed at width ≡ true) }
+    {
+        let hint = self.areas.hint(at / 4096);
+        let offset = (at % 4096) as usize;
+        self.areas
+            .has_room_near(hint, at / 4096, offset, width, Rights::WRITE)
+    }
+
+    /// `writable` byte by byte.
+    fn far_writable(
         &mut self,
         alloc: Global,
         handed: &mut Handed,

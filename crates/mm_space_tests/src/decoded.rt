@@ -28,7 +28,7 @@ fn decoded(space: &Space, pages: u64) -> u64 {
 }
 
 /// The instruction that a word of the page 256 is, where the page's words are there.
-fn word(space: &Space, index: usize) -> Option<Option<Instr>> {
+fn word(space: &Space, index: usize) -> Option<Instr> {
     space.words(256)?.get(index).copied()
 }
 
@@ -42,16 +42,16 @@ fn a_page_has_the_words_that_were_stored(rt: HostRuntime) -> Result<(), Fail> {
     }
     assert!(rt; word(&space, 0).is_none());
     assert!(rt; space.decode(rt.alloc(), 256));
-    assert!(rt; matches!(word(&space, 0), Some(Some(Instr::Addi { .. }))));
-    assert!(rt; matches!(word(&space, 1), Some(None)));
-    assert!(rt; matches!(word(&space, 1023), Some(Some(Instr::Ecall))));
+    assert!(rt; matches!(word(&space, 0), Some(Instr::Addi { .. })));
+    assert!(rt; matches!(word(&space, 1), Some(Instr::Illegal)));
+    assert!(rt; matches!(word(&space, 1023), Some(Instr::Ecall)));
     assert!(rt; word(&space, 1024).is_none());
     assert_eq!(rt;
         space.store(rt.alloc(), &mut none, 1, 0x10_0000, 4, 0x4052_01b3),
         Ok(())
     );
     assert!(rt; space.decode(rt.alloc(), 256));
-    assert!(rt; matches!(word(&space, 0), Some(Some(Instr::Sub { .. }))));
+    assert!(rt; matches!(word(&space, 0), Some(Instr::Sub { .. })));
     Ok(())
 }
 
@@ -115,7 +115,7 @@ fn a_run_of_bytes_takes_the_words_from_its_page(rt: HostRuntime) -> Result<(), F
     let mut space = code(rt.alloc(), 2)?;
     let mut none = Handed::none(rt.alloc());
     assert!(rt; space.decode(rt.alloc(), 256));
-    assert!(rt; matches!(word(&space, 1023), Some(None)));
+    assert!(rt; matches!(word(&space, 1023), Some(Instr::Illegal)));
     // ecall at the page's end
     let run = [0x73, 0, 0, 0];
     assert_eq!(rt;
@@ -124,6 +124,6 @@ fn a_run_of_bytes_takes_the_words_from_its_page(rt: HostRuntime) -> Result<(), F
     );
     assert!(rt; word(&space, 1023).is_none());
     assert!(rt; space.decode(rt.alloc(), 256));
-    assert!(rt; matches!(word(&space, 1023), Some(Some(Instr::Ecall))));
+    assert!(rt; matches!(word(&space, 1023), Some(Instr::Ecall)));
     Ok(())
 }

@@ -285,3 +285,54 @@ fn each_of_so_many_bytes_is_asked_for(rt: HostRuntime) -> Result<(), Fail> {
     pair.expect_bytes(&rt, Ok(LOW), Ok(HIGH));
     Ok(())
 }
+
+/// What may be written within the first page, by what it is, where the page behind it may be written.
+fn within(side: Side, at: u64) -> Result<(), MemErr> {
+    match side {
+        Side::Private => Ok(()),
+        Side::ReadOnly => Err(MemErr::Fault { addr: at }),
+        Side::Missing => Err(MemErr::Fault { addr: at }),
+        Side::Of(area) => {
+            if area == SECOND {
+                Err(MemErr::Shared(SECOND))
+            } else {
+                Ok(())
+            }
+        }
+    }
+}
+
+#[test]
+fn a_page_that_has_its_bytes_for_itself_may_be_written_by_its_right(
+    rt: HostRuntime,
+) -> Result<(), Fail> {
+    for side in [
+        Side::Private,
+        Side::ReadOnly,
+        Side::Missing,
+        Side::Of(FIRST),
+        Side::Of(SECOND),
+    ] {
+        let mut pair = Pair::of(rt.alloc(), side, Side::Private)?;
+        for (at, width) in [
+            (0x1_0000, 8),
+            (0x1_0ff8, 8),
+            (0x1_0ffc, 4),
+            (0x1_0ffe, 2),
+            (0x1_0fff, 1),
+            (0x1_0001, 3),
+        ] {
+            // the second time the page has its bytes for itself at any rate
+            for _turn in 0..2 {
+                assert_eq!(rt;
+                    pair.writable(at, width),
+                    within(side, at),
+                    "{width} bytes at {at:x} of {side:?}"
+                );
+            }
+        }
+        assert_eq!(rt; pair.writable(0x1_1ff8, 8), Ok(()));
+        pair.expect_bytes(&rt, first_bytes(side), Ok(HIGH));
+    }
+    Ok(())
+}

@@ -1,4 +1,4 @@
-use Rattle.std.proofs.Common.{◌-◌, ap, sym, ◌∙◌}
+use Rattle.std.proofs.Common.{◌-◌, refl, ap, sym, ◌∙◌}
 use Rattle.std.specs.Vec.{with_item}
 use Rattle.std.proofs.Math.ListN.{set}
 use Rattle.mm_frames.specs.Rows.{words_of}
@@ -11,7 +11,7 @@ use Rattle.mm_areas.proofs.areas.Areas.swap_row.Goals.{After-swap_row}
 
 written : (c : After-swap_row) → AreWritten c.args.page c.index_mut.result.now c.swap_row.new.self c.args.self.now.regions.items
     (set c.args.self.now.regions.items c.in-Some.index (record { first = c.index_mut-region.result.now.first; pages = with_item c.index_mut-region.result.now.pages (c.args.page - c.index_mut-region.result.now.first) c.swap_row.new.self }))
-written c = put_found c.as_slice.result.now c.args.self.now.regions.items c.in-Some.index c.index_mut-region.result.now c.args.page c.index_mut.result.now c.swap_row.new.self c.as_slice.ensures.value c.args.self.now.in_order c.in-Some.ensures.within c.in-Some.ensures.held c.index_mut-region.ensures.value c.index_mut.ensures.value
+written c = put_found c.args.self.now.regions.items c.args.self.now.regions.items c.in-Some.index c.index_mut-region.result.now c.args.page c.index_mut.result.now c.swap_row.new.self refl c.args.self.now.in_order c.in-Some.ensures.within c.in-Some.ensures.held c.index_mut-region.ensures.value c.index_mut.ensures.value
 
 pub invariant_of-self-clause-in_order : goal.invariant_of-self-clause-in_order
 invariant_of-self-clause-in_order c = (written (goal.at.invariant_of-self-clause-in_order c).After-swap_row).order
@@ -22,7 +22,7 @@ invariant_of-self-clause-counted c = c.args.self.now.counted ∙ sym (written (g
 pub swap_row-requires : goal.swap_row-requires
 swap_row-requires c =
     let old = c.index_mut.result.now in
-    let are = put_found c.as_slice.result.now c.args.self.now.regions.items c.in-Some.index c.index_mut-region.result.now c.args.page old old c.as_slice.ensures.value c.args.self.now.in_order c.in-Some.ensures.within c.in-Some.ensures.held c.index_mut-region.ensures.value c.index_mut.ensures.value in
+    let are = put_found c.args.self.now.regions.items c.args.self.now.regions.items c.in-Some.index c.index_mut-region.result.now c.args.page old old refl c.args.self.now.in_order c.in-Some.ensures.within c.in-Some.ensures.held c.index_mut-region.ensures.value c.index_mut.ensures.value in
     words_given c.args.row c.args.page old old c.args.self.now.regions.items _ are c.requires
 
 pub returns-in-Some-clause-there : goal.returns-in-Some-clause-there
@@ -44,7 +44,7 @@ pub returns-in-Some-clause-others : goal.returns-in-Some-clause-others
 returns-in-Some-clause-others c = rows_others c.args.page c.index_mut.result.now c.swap_row.new.self c.args.self.now.regions.items _ (written (goal.at.returns-in-Some-clause-others c).After-swap_row)
 
 pub returns-in-None-clause-there : goal.returns-in-None-clause-there
-returns-in-None-clause-there c = sym (ap has_row_in (not_found c.as_slice.result.now c.args.self.now.regions.items c.args.page c.as_slice.ensures.value c.args.self.now.in_order c.in-None.ensures.mapped))
+returns-in-None-clause-there c = sym (ap has_row_in (not_found c.args.self.now.regions.items c.args.self.now.regions.items c.args.page refl c.args.self.now.in_order c.in-None.ensures.mapped))
 
 pub returns-in-None-clause-row : goal.returns-in-None-clause-row
-returns-in-None-clause-row c = none_given c.args.row c.args.page c.args.self.now.regions.items c.args.self.now.in_order (not_found c.as_slice.result.now c.args.self.now.regions.items c.args.page c.as_slice.ensures.value c.args.self.now.in_order c.in-None.ensures.mapped) c.requires
+returns-in-None-clause-row c = none_given c.args.row c.args.page c.args.self.now.regions.items c.args.self.now.in_order (not_found c.args.self.now.regions.items c.args.self.now.regions.items c.args.page refl c.args.self.now.in_order c.in-None.ensures.mapped) c.requires

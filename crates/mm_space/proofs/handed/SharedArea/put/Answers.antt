@@ -1,4 +1,4 @@
-use Rattle.std.proofs.Common.{List, ℕ, map, refl, ap, sym, ◌∙◌}
+use Rattle.std.proofs.Common.{List, ℕ, ap, sym, ◌∙◌}
 use Rattle.std.proofs.lemmas.List.{length-map}
 use Rattle.rv_atomic.specs.AreaReservations.{after_store_here}
 use Rattle.rv_atomic.specs.declared.area_reservations.AreaReservation.{AreaReservation}
