@@ -16,18 +16,21 @@ use Rattle.rv_exec.specs.declared.flow.Flow.{Flow}
 use Rattle.rv_exec.specs.declared.flow.Flow.TheVariants as flows
 use Rattle.rv_exec.specs.declared.outcome.Step.{Step}
 
-of_word : (m : Memory) (r : Regs) (word : Accessed) (told : Instr) → IsOfWord word told → by_word m r word ≡ done_by m r told
+of_word : (m : Memory) (r : Regs) (word : Accessed) (told : Instr) → IsOfWord word told
+    → by_word m r word ≡ done_by m r told
 of_word m r (Value word) told is = ap (λ (i : Instr). done_by m r i) (sym is)
 of_word m r (Fault address) told is = elim is [ ]
 of_word m r (Shared area) told is = elim is [ ]
 
 -- what the next instruction does, where the task stands in the page
-in_row : (m : Memory) (r : Regs) (page : ℕ) (words : List Instr) → AreOfPage m.code page words → r.pc / 4096 ≡ page → r.pc % 4 ≡ 0
+in_row : (m : Memory) (r : Regs) (page : ℕ) (words : List Instr)
+    → AreOfPage m.code page words → r.pc / 4096 ≡ page → r.pc % 4 ≡ 0
     → exec m r ≡ done_by m r (slice_index_or words (r.pc % 4096 / 4) instr.Illegal)
 unfolding exec
 in_row m r page words are here aligned =
     of_word m r (loaded m.code r.pc 4) (slice_index_or words (r.pc % 4096 / 4) instr.Illegal)
-    (subst (λ (at : ℕ). IsOfWord (loaded m.code at 4) (slice_index_or words (r.pc % 4096 / 4) instr.Illegal)) (omega (arith, here, aligned))
+    (subst (λ (at : ℕ). IsOfWord (loaded m.code at 4) (slice_index_or words (r.pc % 4096 / 4) instr.Illegal))
+    (omega (arith, here, aligned))
     (are.each (r.pc % 4096 / 4) (omega arith)))
 
 -- the instruction that was read at the task's place is the one that stands there
@@ -37,12 +40,17 @@ stands m page words pc read are lookup =
     get_or_default words (pc % 4096 / 4) instr.Illegal read (rw are.whole (omega arith)) ∙ sym lookup
 
 -- it did as the instruction does that stands there
-pub flows_there : {State : Type 0} → (write : Write → State → State) → (why : Step) → (m : Memory) (r after : Regs) (page : ℕ) (words : List Instr) (read : Instr) (old new : State) (flow : Flow)
-    → AreOfPage m.code page words → r.pc / 4096 ≡ page → r.pc % 4 ≡ 0 → read ≡ slice_index_or words (r.pc % 4096 / 4) read
-    → FlowsAs write false why (done_by m r read) r after old new flow → FlowsAs write false why (exec m r) r after old new flow
+pub flows_there : {State : Type 0} → (write : Write → State → State) → (why : Step) → (m : Memory) (r after : Regs)
+    (page : ℕ) (words : List Instr) (read : Instr) (old new : State) (flow : Flow)
+    → AreOfPage m.code page words → r.pc / 4096 ≡ page → r.pc % 4 ≡ 0
+    → read ≡ slice_index_or words (r.pc % 4096 / 4) read
+    → FlowsAs write false why (done_by m r read) r after old new flow
+    → FlowsAs write false why (exec m r) r after old new flow
 flows_there write why m r after page words read old new flow are here aligned lookup did =
     subst (λ (done : Done). FlowsAs write false why done r after old new flow)
-    (sym (in_row m r page words are here aligned ∙ ap (λ (i : Instr). done_by m r i) (stands m page words r.pc read are lookup))) did
+    (sym (in_row m r page words are here aligned
+    ∙ ap (λ (i : Instr). done_by m r i) (stands m page words r.pc read are lookup)))
+    did
 
 -- one instruction more
 went_next : {State : Type 0} → (write : Write → State → State) → (why : Step) → (done : Done) → (r after : Regs) → (old new : State)

@@ -11,7 +11,8 @@ words_suc : (code : ℕ → Byte) (at n : ℕ) → are_words code at (suc n) ≡
 unfolding are_words
 words_suc code at n = refl
 
-instrs_suc : (code : ℕ → Byte) (at n : ℕ) → instrs_from code at (suc n) ≡ instrs_from code at n ++ (instr_read (loaded code (at + 4 * n) 4) ∷ [])
+instrs_suc : (code : ℕ → Byte) (at n : ℕ)
+    → instrs_from code at (suc n) ≡ instrs_from code at n ++ (instr_read (loaded code (at + 4 * n) 4) ∷ [])
 unfolding instrs_from
 instrs_suc code at n = refl
 
@@ -28,8 +29,8 @@ pub next_word : (code : ℕ → Byte) (at n word : ℕ) → loaded code (at + 4 
 next_word code at n word is before =
     ap (are_words code at) (add-one n) ∙ words_suc code at n ∙ and_from (are_words code at n) (is_value (loaded code (at + 4 * n) 4)) before (ap is_value is)
 
-pub next_instr : (code : ℕ → Byte) (at n word : ℕ) (row : List Instr) (told : Instr) → loaded code (at + 4 * n) 4 ≡ Value word
-    → told ≡ instr_of word → row ≡ instrs_from code at n → row ++ (told ∷ []) ≡ instrs_from code at (n + 1)
+pub next_instr : (code : ℕ → Byte) (at n word : ℕ) (row : List Instr) (told : Instr)
+    → loaded code (at + 4 * n) 4 ≡ Value word → told ≡ instr_of word → row ≡ instrs_from code at n → row ++ (told ∷ []) ≡ instrs_from code at (n + 1)
 next_instr code at n word row told is of_word before =
     let last : instr_read (loaded code (at + 4 * n) 4) ≡ told = ap instr_read is ∙ sym of_word in
     sym (ap (instrs_from code at) (add-one n) ∙ instrs_suc code at n ∙ (λ i. sym before i ++ (last i ∷ [])))

@@ -29,7 +29,8 @@ length_from code at (suc n) =
     ∙ add-one n
 
 at_place : (l : List Instr) (x : Instr) (n k : ℕ) → length l ≡ n → k < suc n
-    → (told : ℕ → Instr) → told n ≡ x → (k < n → slice_index_or l k instr.Illegal ≡ told k) → (k ≡ n) ⊎ (k ≡ n → ⊥) → slice_index_or (l ++ x ∷ []) k instr.Illegal ≡ told k
+    → (told : ℕ → Instr) → told n ≡ x → (k < n → slice_index_or l k instr.Illegal ≡ told k)
+    → (k ≡ n) ⊎ (k ≡ n → ⊥) → slice_index_or (l ++ x ∷ []) k instr.Illegal ≡ told k
 at_place l x n k long below told last before (inl same) =
     ap (λ j. slice_index_or (l ++ x ∷ []) j instr.Illegal) (same ∙ sym long)
     ∙ get_or-append_seam l x [] instr.Illegal
