@@ -1,3 +1,5 @@
+//! What system calls come to.
+
 ghost use Rattle.std.specs.Prelude.{◌≡◌, ◌≤◌, ℕ, List as Items, length, Some, IfOk};
 ghost use Rattle.kernel_model.specs.declared.kernel.Part.TheVariants.{OfConsole};
 ghost use Rattle.kernel_model.specs.InPlace.{WritesFew};
