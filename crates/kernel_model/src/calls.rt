@@ -29,7 +29,9 @@ pub enum Outcome {
 
 /// The call of a number, as far as the kernel has it: `write` and `exit_group`. Any other answers ENOSYS. It reads
 /// guest memory, and of the console only how many bytes that has.
-#[tactic(auto, using(sn_errno::proofs::CallLaws::only_number), unfolding(sn_errno::specs::Calls::call_of, sn_errno::specs::Calls::row_of))]
+#[rattlefmt::skip]
+#[tactic(auto, using(sn_errno::proofs::CallLaws::only_number),
+    unfolding(sn_errno::specs::Calls::call_of, sn_errno::specs::Calls::row_of))]
 pub fn call(
     alloc: Global,
     number: u64,
