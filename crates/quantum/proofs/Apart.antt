@@ -1,5 +1,5 @@
 -- A store within a page leaves the other pages, and their instructions.
-use Rattle.std.proofs.Common.{◌≡◌, ⊥, ℕ, zero, suc, ◌+◌, ◌/◌, ◌%◌, ◌^◌, ◌<◌, ◌≤◌, nat_lt, ◌&&◌, List, Option, Some, None, refl, ap, sym, ◌∙◌, arith}
+use Rattle.std.proofs.Common.{◌≡◌, ℕ, zero, suc, ◌+◌, ◌/◌, ◌%◌, ◌^◌, ◌<◌, ◌≤◌, nat_lt, ◌&&◌, List, Option, Some, None, refl, ap, sym, ◌∙◌, arith}
 use Rattle.std.specs.Prelude.{if◌then◌else◌, slice_set, Result, OnOk, Ok, Err}
 use Rattle.std.specs.FinMap as map
 use Rattle.rv_table.specs.Bytes.{behind}
@@ -53,10 +53,20 @@ instrs_by task page old new =
     if nat_lt page (2 ^ 52) && (allows_mapped found executable && is_whole (bytes_mapped found)) then row_mapped found
     else None)
 
-pub stored_apart : (task at width value : ℕ) (r : Reach) → at < 2 ^ 64 → at % 4096 + width ≤ 4096 → (page : ℕ)
+stored_apart : (task at width value : ℕ) (r : Reach) → at < 2 ^ 64 → at % 4096 + width ≤ 4096 → (page : ℕ)
     → (page ≡ at / 4096 → ⊥)
     → instrs_of (acting_on task (after_stored task at width value r)) page ≡ instrs_of (acting_on task r) page
 stored_apart task at width value r low within page apart =
     instrs_by task page r (after_stored task at width value r)
     (bytes_apart task at width value r page
     (λ k less same. apart (sym same ∙ omega (arith, low, within, less))))
+
+-- the rows of the other pages, where a store has been done
+pub rows_apart : {A E : Type 0} → (answer : Result A E) → (task at width value : ℕ) (old new : Reach) → at < 2 ^ 64
+    → OnOk answer (new ≡ after_stored task at width value old)
+    → OnOk answer (at % 4096 + width ≤ 4096 → (page : ℕ) → (page ≡ at / 4096 → ⊥)
+    → instrs_of (acting_on task new) page ≡ instrs_of (acting_on task old) page)
+rows_apart (Err e) task at width value old new low done = tt
+rows_apart (Ok a) task at width value old new low done = λ within page apart.
+    ap (λ (r : Reach). instrs_of (acting_on task r) page) done
+    ∙ stored_apart task at width value old low within page apart

@@ -1,3 +1,4 @@
+mod Apart
 mod Ready
 mod RowsThere
 mod SameTask
