@@ -1,5 +1,6 @@
 -- Segments of which the first is looked at, and the others after it.
-use Rattle.std.proofs.Common.{◌≡◌, ℕ, suc, ◌+◌, ◌-◌, ◌^◌, ◌<◌, ◌≤◌, List, [], ◌∷◌, length, take, drop, take_all, get_or, refl, sym, ap, subst, arith}
+use Rattle.std.proofs.Common.{◌≡◌, ℕ, suc, ◌+◌, ◌-◌, ◌^◌, ◌<◌, ◌≤◌, List, [], ◌∷◌, length, take, drop, take_all, get_or}
+use Rattle.std.proofs.Common.{refl, sym, ap, subst, arith}
 use Rattle.std.specs.Prelude.{All}
 use Rattle.std.specs.FinMap.{len}
 use Rattle.elf_image.specs.declared.image.Segment.{Segment}
@@ -25,7 +26,8 @@ rest_placed ss first some is placed =
     let both = subst (All IsPlaced) (first_and_rest ss first some is) placed in
     λ k d below. both (suc k) d (omega arith)
 
-pub first_placed : (ss : List Segment) (first : Segment) → 1 ≤ length ss → first ≡ get_or ss 0 first → All IsPlaced ss → IsPlaced first
+pub first_placed : (ss : List Segment) (first : Segment) → 1 ≤ length ss → first ≡ get_or ss 0 first → All IsPlaced ss
+    → IsPlaced first
 first_placed ss first some is placed = subst IsPlaced (sym is) (placed 0 first (omega arith))
 
 pub first_ends : (ss : List Segment) (first : Segment) → 1 ≤ length ss → first ≡ get_or ss 0 first → All IsPlaced ss →
@@ -40,5 +42,6 @@ rest_few all ss first most some is few =
       arith,
       few,
       ap (λ xs. len (segments_laid all xs)) (first_and_rest ss first some is),
-      laid_grows (first_page first) (run_of (image_page all) (first_page first) (page_count first)) (segments_laid all rest),
+      laid_grows (first_page first) (run_of (image_page all) (first_page first) (page_count first))
+          (segments_laid all rest),
     )

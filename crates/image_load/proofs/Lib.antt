@@ -1,3 +1,4 @@
+-- Lemmas of opening address spaces, by subject.
 pub mod Found
 pub mod StackReads
 pub mod Stacks

@@ -1,5 +1,6 @@
 -- A segment's pages of which those at its ends aren't made again where they are there.
-use Rattle.std.proofs.Common.{◌≡◌, ℕ, ◌+◌, ◌-◌, ◌^◌, ◌<◌, ◌≤◌, ◌⊎◌, Bool, true, false, cond, List, ◌∷◌, length, take, drop, get_or, Some, refl, sym, ap, ◌∙◌, inl, inr, arith}
+use Rattle.std.proofs.Common.{◌≡◌, ℕ, ◌+◌, ◌-◌, ◌^◌, ◌<◌, ◌≤◌, ◌⊎◌, Bool, true, false, cond, List, ◌∷◌, length, take}
+use Rattle.std.proofs.Common.{drop, get_or, Some, refl, sym, ap, ◌∙◌, inl, inr, arith}
 use Rattle.std.specs.Prelude.{All}
 use Rattle.std.specs.FinMap.{get, contains_key}
 use Rattle.sn_base.proofs.Maps.{same_by_get}
@@ -26,16 +27,19 @@ at_an_end pages first count from end q a false some is_a is_b begins ends low hi
 -- a page of the segment, made or there before
 page_made : (all ss : List Segment) (s : Segment) (from end q : ℕ) → 0 < page_count s →
     from ≡ first_page s + cond (contains_key (segments_laid all ss) (first_page s)) 1 0 →
-    end ≡ first_page s + page_count s - 1 + cond (contains_key (segments_laid all ss) (first_page s + page_count s - 1)) 0 1 →
+    end ≡ first_page s + page_count s - 1 + cond (contains_key (segments_laid all ss) (first_page s + page_count s - 1))
+    0 1 →
     first_page s ≤ q → q < first_page s + page_count s →
     get (laid from (run_of (image_page all) from (end - from)) (segments_laid all ss)) q ≡ Some (image_page all q)
 page_made all ss s from end q some begins ends low high = elim (where_page from (end - from) q) [
   | inl w ↦ in_run all (segments_laid all ss) from (end - from) q w.0 w.1
   | inr w ↦ out_of_run all (segments_laid all ss) from (end - from) q w.0
-      ∙ known_page all ss q (at_an_end (segments_laid all ss) (first_page s) (page_count s) from end q _ _ some refl refl begins ends low high w.0)
+      ∙ known_page all ss q (at_an_end (segments_laid all ss) (first_page s) (page_count s) from end q
+      _ _ some refl refl begins ends low high w.0)
 ]
 
-between : (pages : Pages) (first count from end : ℕ) (a b : Bool) → 0 < count → from ≡ first + cond a 1 0 → end ≡ first + count - 1 + cond b 0 1 →
+between : (pages : Pages) (first count from end : ℕ) (a b : Bool) → 0 < count → from ≡ first + cond a 1 0
+    → end ≡ first + count - 1 + cond b 0 1 →
     (first ≤ from) × (from + (end - from) ≤ first + count)
 between pages first count from end true true some begins ends = (omega arith, omega arith)
 between pages first count from end true false some begins ends = (omega arith, omega arith)
@@ -45,14 +49,17 @@ between pages first count from end false false some begins ends = (omega arith, 
 -- the pages that are made, with those that are there
 pub made_once : (all ss : List Segment) (s : Segment) (from end : ℕ) → 0 < page_count s →
     from ≡ first_page s + cond (contains_key (segments_laid all ss) (first_page s)) 1 0 →
-    end ≡ first_page s + page_count s - 1 + cond (contains_key (segments_laid all ss) (first_page s + page_count s - 1)) 0 1 →
+    end ≡ first_page s + page_count s - 1 + cond (contains_key (segments_laid all ss) (first_page s + page_count s - 1))
+    0 1 →
     laid from (run_of (image_page all) from (end - from)) (segments_laid all ss) ≡ segments_laid all (s ∷ ss)
 made_once all ss s from end some begins ends =
     let within = between (segments_laid all ss) (first_page s) (page_count s) from end _ _ some begins ends in
     same_by_get _ _ (λ q. elim (where_page (first_page s) (page_count s) q) [
-      | inl w ↦ page_made all ss s from end q some begins ends w.0 w.1 ∙ sym (in_run all (segments_laid all ss) (first_page s) (page_count s) q w.0 w.1)
+      | inl w ↦ page_made all ss s from end q some begins ends w.0 w.1
+          ∙ sym (in_run all (segments_laid all ss) (first_page s) (page_count s) q w.0 w.1)
       | inr w ↦
-          let far : (q < from) ⊎ (from + (end - from) ≤ q) = elim w.0 [ inl low ↦ inl (omega (arith, within.0)) | inr high ↦ inr (omega (arith, within.1)) ] in
+          let far : (q < from) ⊎ (from + (end - from) ≤ q) =
+          elim w.0 [ inl low ↦ inl (omega (arith, within.0)) | inr high ↦ inr (omega (arith, within.1)) ] in
           out_of_run all (segments_laid all ss) from (end - from) q far
           ∙ sym (out_of_run all (segments_laid all ss) (first_page s) (page_count s) q w.0)
     ])
@@ -60,7 +67,8 @@ made_once all ss s from end some begins ends =
 -- they lie where the segment's pages do
 pub made_within : (all ss : List Segment) (s : Segment) (from end : ℕ) → 0 < page_count s →
     from ≡ first_page s + cond (contains_key (segments_laid all ss) (first_page s)) 1 0 →
-    end ≡ first_page s + page_count s - 1 + cond (contains_key (segments_laid all ss) (first_page s + page_count s - 1)) 0 1 →
+    end ≡ first_page s + page_count s - 1 + cond (contains_key (segments_laid all ss) (first_page s + page_count s - 1))
+    0 1 →
     from + (end - from) ≤ first_page s + page_count s
 made_within all ss s from end some begins ends =
     (between (segments_laid all ss) (first_page s) (page_count s) from end _ _ some begins ends).1
@@ -81,12 +89,16 @@ some_page s placed = omega (arith, placed)
 
 known_begin : (all ss : List Segment) (s : Segment) (pages : Pages) (from end : ℕ) → IsToMake all ss s pages from end →
     from ≡ first_page s + cond (contains_key (segments_laid all (take (length ss - 1) (drop 1 ss))) (first_page s)) 1 0
-known_begin all ss s pages from end h = h.begins ∙ ap (λ p. first_page s + cond (contains_key p (first_page s)) 1 0) h.others
+known_begin all ss s pages from end h =
+    h.begins ∙ ap (λ p. first_page s + cond (contains_key p (first_page s)) 1 0) h.others
 
 known_end : (all ss : List Segment) (s : Segment) (pages : Pages) (from end : ℕ) → IsToMake all ss s pages from end →
-    end ≡ first_page s + page_count s - 1 + cond (contains_key (segments_laid all (take (length ss - 1) (drop 1 ss))) (first_page s + page_count s - 1)) 0 1
+    end ≡ first_page s + page_count s - 1
+    + cond (contains_key (segments_laid all (take (length ss - 1) (drop 1 ss))) (first_page s + page_count s - 1))
+    0 1
 known_end all ss s pages from end h =
-    h.ends ∙ ap (λ p. first_page s + page_count s - 1 + cond (contains_key p (first_page s + page_count s - 1)) 0 1) h.others
+    h.ends ∙ ap (λ p. first_page s + page_count s - 1 + cond (contains_key p (first_page s + page_count s - 1)) 0 1)
+    h.others
 
 pub laid_whole : (all ss : List Segment) (s : Segment) (pages : Pages) (from end count : ℕ) (ms : List Mapped) →
     IsToMake all ss s pages from end → count ≡ end - from → ms ≡ run_of (image_page all) from count →
@@ -107,6 +119,7 @@ ends_within all ss s pages from end count h many =
     omega (
       arith,
       many,
-      made_within all rest s from end some (known_begin all ss s pages from end h) (known_end all ss s pages from end h),
+      made_within all rest s from end some (known_begin all ss s pages from end h)
+          (known_end all ss s pages from end h),
       first_ends ss s h.some h.is h.placed,
     )

@@ -1,5 +1,6 @@
 -- What a function tells of numbers one after another, as a list.
-use Rattle.std.proofs.Common.{◌≡◌, ℕ, suc, ◌+◌, ◌<◌, List, [], ◌∷◌, ◌++◌, length, get_or, refl, sym, ap, ◌∙◌, add-one, arith}
+use Rattle.std.proofs.Common.{◌≡◌, ℕ, suc, ◌+◌, ◌<◌, List, [], ◌∷◌, ◌++◌, length, get_or, refl, sym, ap, ◌∙◌, add-one}
+use Rattle.std.proofs.Common.{arith}
 use Rattle.std.specs.Prelude.{map, slice_get, Some}
 use Rattle.std.proofs.lemmas.Option.{slice_get-get_or}
 use Rattle.std.proofs.lemmas.List.{ext_get_or, map_push}
@@ -10,11 +11,13 @@ pub length-run : {A : Type 0} (tells : ℕ → A) (first count : ℕ) → length
 unfolding run_of
 length-run tells first count = length-map-range_with_len tells first count
 
-pub get_or-run : {A : Type 0} (tells : ℕ → A) (first count k : ℕ) (d : A) → k < count → get_or (run_of tells first count) k d ≡ tells (first + k)
+pub get_or-run : {A : Type 0} (tells : ℕ → A) (first count k : ℕ) (d : A) → k < count
+    → get_or (run_of tells first count) k d ≡ tells (first + k)
 unfolding run_of
 get_or-run tells first count k d below = get_or-map-range_with_len tells first count k (first + k) d below refl
 
-pub get-run : {A : Type 0} (tells : ℕ → A) (first count k : ℕ) → k < count → slice_get (run_of tells first count) k ≡ Some (tells (first + k))
+pub get-run : {A : Type 0} (tells : ℕ → A) (first count k : ℕ) → k < count
+    → slice_get (run_of tells first count) k ≡ Some (tells (first + k))
 get-run tells first count k below =
     slice_get-get_or (run_of tells first count) k (tells first) (omega (arith, length-run tells first count))
     ∙ ap Some (get_or-run tells first count k (tells first) below)
@@ -31,11 +34,13 @@ pub run_none : {A : Type 0} (tells : ℕ → A) (first : ℕ) → run_of tells f
 unfolding run_of
 run_none tells first = refl
 
-pub run_next : {A : Type 0} (tells : ℕ → A) (first count : ℕ) → run_of tells first (suc count) ≡ tells first ∷ run_of tells (suc first) count
+pub run_next : {A : Type 0} (tells : ℕ → A) (first count : ℕ)
+    → run_of tells first (suc count) ≡ tells first ∷ run_of tells (suc first) count
 unfolding run_of
 run_next tells first count = ap (λ n. tells first ∷ run_of tells n count) (add-one first)
 
-pub run_more : {A : Type 0} (tells : ℕ → A) (first count : ℕ) → run_of tells first (count + 1) ≡ run_of tells first count ++ tells (first + count) ∷ []
+pub run_more : {A : Type 0} (tells : ℕ → A) (first count : ℕ)
+    → run_of tells first (count + 1) ≡ run_of tells first count ++ tells (first + count) ∷ []
 unfolding run_of
 run_more tells first count = map-range_with_len_more tells first count (first + count) refl
 

@@ -1,5 +1,6 @@
 -- What a program reads at the end of its stack.
-use Rattle.std.proofs.Common.{◌≡◌, ℕ, ◌+◌, ◌-◌, ◌*◌, ◌^◌, ◌<◌, ◌≤◌, List, [], ◌∷◌, ◌++◌, length, take, get_or, Some, refl, sym, ap, subst, ◌∙◌, arith, length-append}
+use Rattle.std.proofs.Common.{◌≡◌, ℕ, ◌+◌, ◌-◌, ◌*◌, ◌^◌, ◌<◌, ◌≤◌, List, [], ◌∷◌, ◌++◌, length, take, get_or, Some}
+use Rattle.std.proofs.Common.{refl, sym, ap, subst, ◌∙◌, arith, length-append}
 use Rattle.std.specs.Prelude.{All, replicate, slice_get, slice_range}
 use Rattle.std.specs.List.{flat_map}
 use Rattle.std.proofs.lemmas.List.{append-nil, append_assoc, get_or_append_left, get_or-append-add, length-replicate}
@@ -10,7 +11,9 @@ use Rattle.std.proofs.lemmas.Option.{slice_get_within, get_or_from_slice_get}
 use Rattle.sn_bytes.specs.Fields.{field, little_bytes}
 use Rattle.image_load.specs.declared.stack.Auxiliary.{Auxiliary}
 use Rattle.image_load.specs.declared.stack.OpeningStack.{OpeningStack}
-use Rattle.image_load.specs.Stacks.{ProgramStart, strings_bytes, strings_length, strings_room, addresses, args_address, env_address, auxiliary_vector, pointer_words, stack_words, words_length, stack_pointer, stack_bytes, word_at, AreBytesAt, IsStackOf}
+use Rattle.image_load.specs.Stacks.{ProgramStart, strings_bytes, strings_length, strings_room, addresses, args_address}
+use Rattle.image_load.specs.Stacks.{env_address, auxiliary_vector, pointer_words, stack_words, words_length}
+use Rattle.image_load.specs.Stacks.{stack_pointer, stack_bytes, word_at, AreBytesAt, IsStackOf}
 use Rattle.image_load.proofs.Found.{between, string_found, word_found, length-words}
 
 -- how many bytes strings take

@@ -1,5 +1,6 @@
 -- The parts of a stack, one more string and one more word at a time.
-use Rattle.std.proofs.Common.{◌≡◌, ℕ, ◌+◌, ◌-◌, ◌<◌, ◌≤◌, List, [], ◌∷◌, ◌++◌, length, take, get_or, sym, ap, ◌∙◌, arith}
+use Rattle.std.proofs.Common.{◌≡◌, ℕ, ◌+◌, ◌-◌, ◌<◌, ◌≤◌, List, [], ◌∷◌, ◌++◌, length, take, get_or, sym, ap, ◌∙◌}
+use Rattle.std.proofs.Common.{arith}
 use Rattle.std.specs.Prelude.{replicate}
 use Rattle.std.specs.List.{flat_map}
 use Rattle.std.proofs.lemmas.List.{append-nil, append_assoc, take_more, take-replicate}
@@ -7,7 +8,9 @@ use Rattle.std.proofs.lemmas.List.Sums.{sum_by_more}
 use Rattle.std.proofs.lemmas.List.Concat.{flat_map-append}
 use Rattle.std.proofs.lemmas.List.FromFn.{map-range_with_len_more}
 use Rattle.sn_bytes.specs.Fields.{little_bytes}
-use Rattle.image_load.specs.Stacks.{ProgramStart, strings_bytes, strings_length, first_addresses, addresses, args_address, env_address, auxiliary_vector, pointer_words, stack_words, words_length, stack_pointer, stack_bytes}
+use Rattle.image_load.specs.Stacks.{ProgramStart, strings_bytes, strings_length, first_addresses, addresses}
+use Rattle.image_load.specs.Stacks.{args_address, env_address, auxiliary_vector, pointer_words, stack_words}
+use Rattle.image_load.specs.Stacks.{words_length, stack_pointer, stack_bytes}
 
 -- how many bytes one more string takes
 pub length_more : (strings : List (List ℕ)) (k : ℕ) (d : List ℕ) → k < length strings →

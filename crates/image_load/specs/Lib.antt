@@ -1,3 +1,4 @@
+-- What contracts of this crate say, by subject.
 pub mod PageRights
 pub mod Stacks
 pub mod Pages

@@ -1,5 +1,6 @@
 -- The end of an opening task's stack: what stands from the stack pointer up, word by word and byte by byte.
-use Rattle.std.specs.Prelude.{◌≡◌, ◌⊎◌, ℕ, ◌+◌, ◌-◌, ◌*◌, ◌/◌, ◌^◌, ◌<◌, ◌≤◌, List, [], ◌∷◌, ◌++◌, length, map, take, replicate, sum_by, slice_get, slice_index, slice_range, Some}
+use Rattle.std.specs.Prelude.{◌≡◌, ◌⊎◌, ℕ, ◌+◌, ◌-◌, ◌*◌, ◌/◌, ◌^◌, ◌<◌, ◌≤◌, List, [], ◌∷◌, ◌++◌, length, map, take}
+use Rattle.std.specs.Prelude.{replicate, sum_by, slice_get, slice_index, slice_range, Some}
 use Rattle.std.specs.List.{flat_map, range_with_len}
 use Rattle.sn_bytes.specs.Fields.{field, little_bytes}
 use Rattle.image_load.specs.declared.stack.Auxiliary.{Auxiliary}

@@ -1,7 +1,8 @@
 //! The end of an opening task's stack: its strings, and the words that tell where they stand.
 
 ghost use Rattle.std.specs.Prelude.{◌≡◌, ◌+◌, ◌%◌, ◌^◌, ◌<◌, ◌≤◌, ◌++◌, length, replicate, IfOk, IfErr, OnOk};
-ghost use Rattle.image_load.specs.Stacks.{IsFaultOf, IsStackOf, IsTooBig, ProgramStart, args_address, stack_bytes, started, stack_pointer, strings_room, words_length};
+ghost use Rattle.image_load.specs.Stacks.{IsFaultOf, IsStackOf, IsTooBig, ProgramStart, args_address, stack_bytes};
+ghost use Rattle.image_load.specs.Stacks.{started, stack_pointer, strings_room, words_length};
 ghost use Rattle.image_load.specs.declared.stack.LoadErr.TheVariants.{Memory as WantOfMemory};
 
 use crate::strings::{is_too_big, put_strings, strings_length};

@@ -31,5 +31,6 @@ same_key seed other same =
     cc
 
 -- the same random bytes
-pub same_bytes : (seed other : List ℕ) (stream : ℕ) → SameBytes seed other → random_bytes seed stream ≡ random_bytes other stream
+pub same_bytes : (seed other : List ℕ) (stream : ℕ) → SameBytes seed other
+    → random_bytes seed stream ≡ random_bytes other stream
 same_bytes seed other stream same = rw (same_key seed other same) refl

@@ -1,3 +1,4 @@
+-- Lemmas of the one-thread kernel, by subject.
 pub mod BeginLemmas
 pub mod CountLemmas
 pub mod FaultLemmas

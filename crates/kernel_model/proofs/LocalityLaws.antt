@@ -1,6 +1,7 @@
 -- What a step reads and changes: a decision tree comes to the same where the parts that it looks at are the same, and
 -- changes leave every other part as it was.
-use Rattle.std.proofs.Common.{◌≡◌, ◌≢◌, ℕ, List, [], ◌∷◌, Option, Some, None, cond, refl, ap, sym, ◌∙◌, ◌⊎◌, inl, inr, option_map}
+use Rattle.std.proofs.Common.{◌≡◌, ◌≢◌, ℕ, List, [], ◌∷◌, Option, Some, None, cond, refl, ap, sym, ◌∙◌, ◌⊎◌, inl, inr}
+use Rattle.std.proofs.Common.{option_map}
 use Rattle.std.specs.Ordering.{nat_cmp, eq_by_cmp}
 use Rattle.std.specs.Cmp.{nat_cmp_total}
 use Rattle.std.specs.FinMap as map
@@ -9,22 +10,26 @@ use Rattle.kernel_model.specs.declared.kernel.Kernel.{Kernel}
 use Rattle.kernel_model.specs.declared.kernel.Part.{Part}
 use Rattle.kernel_model.specs.declared.kernel.Part.TheVariants.{OfTask, OfSpace, OfNode, OfConsole, OfFaults}
 use Rattle.kernel_model.specs.declared.entry.Entry.{Entry}
-use Rattle.kernel_model.specs.Parts.{Holds, Parts, parts, Prog, done, look, run, uses, IsIn, AgreeOn, Change, set_at, put, changed, parts_of}
+use Rattle.kernel_model.specs.Parts.{Holds, Parts, parts, Prog, done, look, run, uses, IsIn, AgreeOn, Change, set_at}
+use Rattle.kernel_model.specs.Parts.{put, changed, parts_of}
 use Rattle.kernel_model.specs.Step.{entry_row, step, stepped, used, touched, touches}
 
 -- ---- what a tree reads
 
 -- states that agree on what a tree looks at bring it to the same, and it looks at the same
-pub run_local : {A : Type 0} (a b : Parts) (tree : Prog A) → AgreeOn (uses a tree) a b → (uses b tree ≡ uses a tree) × (run b tree ≡ run a tree)
+pub run_local : {A : Type 0} (a b : Parts) (tree : Prog A) → AgreeOn (uses a tree) a b
+    → (uses b tree ≡ uses a tree) × (run b tree ≡ run a tree)
 run_local a b (done x) same = (refl, refl)
 run_local {A} a b (look part then) same =
     let here : b part ≡ a part = sym (same part (inl refl)) in
-    let rest : (uses b (then (a part)) ≡ uses a (then (a part))) × (run b (then (a part)) ≡ run a (then (a part))) = run_local a b (then (a part)) (λ q is. same q (inr is)) in (
+    let rest : (uses b (then (a part)) ≡ uses a (then (a part))) × (run b (then (a part)) ≡ run a (then (a part))) =
+    run_local a b (then (a part)) (λ q is. same q (inr is)) in (
       ap (λ (c : Holds part). part ∷ uses b (then c)) here ∙ ap (λ (ps : List Part). part ∷ ps) rest.0,
       ap (λ (c : Holds part). run b (then c)) here ∙ rest.1,
     )
 
-pub same_reads : (a b : Kernel) (e : Entry) → AgreeOn (used a e) (parts a) (parts b) → (used b e ≡ used a e) × (run (parts b) (entry_row e) ≡ run (parts a) (entry_row e))
+pub same_reads : (a b : Kernel) (e : Entry) → AgreeOn (used a e) (parts a) (parts b)
+    → (used b e ≡ used a e) × (run (parts b) (entry_row e) ≡ run (parts a) (entry_row e))
 same_reads a b e = run_local (parts a) (parts b) (entry_row e)
 
 -- ---- what a change leaves
@@ -34,15 +39,19 @@ module _ {V : Type 0} where
   set_same key (Some value) m = get-insert_same m key value
   set_same key None m = get-remove_same m key
 
-  set_other : (key q : ℕ) (content : Option V) (m : map.FinMap nat_cmp V) → key ≢ q → map.get (set_at key content m) q ≡ map.get m q
+  set_other : (key q : ℕ) (content : Option V) (m : map.FinMap nat_cmp V) → key ≢ q
+      → map.get (set_at key content m) q ≡ map.get m q
   set_other key q (Some value) m apart = get-insert_other m key q value apart
   set_other key q None m apart = get-remove_other m key q apart
 
-  set_alike : (key q : ℕ) (content : Option V) (m n : map.FinMap nat_cmp V) → map.get m q ≡ map.get n q → map.get (set_at key content m) q ≡ map.get (set_at key content n) q
+  set_alike : (key q : ℕ) (content : Option V) (m n : map.FinMap nat_cmp V) → map.get m q ≡ map.get n q
+      → map.get (set_at key content m) q ≡ map.get (set_at key content n) q
   set_alike key q (Some value) m n e =
-      map.get-insert nat_cmp_total m key value q ∙ ap (cond (eq_by_cmp nat_cmp q key) (Some value)) e ∙ sym (map.get-insert nat_cmp_total n key value q)
+      map.get-insert nat_cmp_total m key value q ∙ ap (cond (eq_by_cmp nat_cmp q key) (Some value)) e
+      ∙ sym (map.get-insert nat_cmp_total n key value q)
   set_alike key q None m n e =
-      map.get-remove nat_cmp_total m key q ∙ ap (cond (eq_by_cmp nat_cmp q key) None) e ∙ sym (map.get-remove nat_cmp_total n key q)
+      map.get-remove nat_cmp_total m key q ∙ ap (cond (eq_by_cmp nat_cmp q key) None) e
+      ∙ sym (map.get-remove nat_cmp_total n key q)
 
 -- a part that was put holds what was put
 put_same : (p : Part) (content : Holds p) (k : Kernel) → parts (put p content k) p ≡ content
@@ -54,19 +63,22 @@ put_same OfFaults content k = refl
 
 -- another part holds what it held
 put_other : (q p : Part) (content : Holds q) (k : Kernel) → ¬ (p ≡ q) → parts (put q content k) p ≡ parts k p
-put_other (OfTask n) (OfTask m) content k apart = set_other n m content k.tasks (λ e. apart (ap (λ i. OfTask i) (sym e)))
+put_other (OfTask n) (OfTask m) content k apart =
+    set_other n m content k.tasks (λ e. apart (ap (λ i. OfTask i) (sym e)))
 put_other (OfTask n) (OfSpace m) content k apart = refl
 put_other (OfTask n) (OfNode m) content k apart = refl
 put_other (OfTask n) OfConsole content k apart = refl
 put_other (OfTask n) OfFaults content k apart = refl
 put_other (OfSpace n) (OfTask m) content k apart = refl
-put_other (OfSpace n) (OfSpace m) content k apart = set_other n m content k.spaces (λ e. apart (ap (λ i. OfSpace i) (sym e)))
+put_other (OfSpace n) (OfSpace m) content k apart =
+    set_other n m content k.spaces (λ e. apart (ap (λ i. OfSpace i) (sym e)))
 put_other (OfSpace n) (OfNode m) content k apart = refl
 put_other (OfSpace n) OfConsole content k apart = refl
 put_other (OfSpace n) OfFaults content k apart = refl
 put_other (OfNode n) (OfTask m) content k apart = refl
 put_other (OfNode n) (OfSpace m) content k apart = refl
-put_other (OfNode n) (OfNode m) content k apart = set_other n m content k.nodes (λ e. apart (ap (λ i. OfNode i) (sym e)))
+put_other (OfNode n) (OfNode m) content k apart =
+    set_other n m content k.nodes (λ e. apart (ap (λ i. OfNode i) (sym e)))
 put_other (OfNode n) OfConsole content k apart = refl
 put_other (OfNode n) OfFaults content k apart = refl
 put_other OfConsole (OfTask m) content k apart = refl
@@ -81,7 +93,8 @@ put_other OfFaults OfConsole content k apart = refl
 put_other OfFaults OfFaults content k apart = absurd (apart refl)
 
 -- kernels with the same in a part have the same there after one change
-put_alike : (q p : Part) (content : Holds q) (a b : Kernel) → parts a p ≡ parts b p → parts (put q content a) p ≡ parts (put q content b) p
+put_alike : (q p : Part) (content : Holds q) (a b : Kernel) → parts a p ≡ parts b p
+    → parts (put q content a) p ≡ parts (put q content b) p
 put_alike (OfTask n) (OfTask m) content a b e = set_alike n m content a.tasks b.tasks e
 put_alike (OfTask n) (OfSpace m) content a b e = e
 put_alike (OfTask n) (OfNode m) content a b e = e
@@ -110,23 +123,28 @@ put_alike OfFaults OfFaults content a b e = refl
 
 -- ---- what changes leave
 
-changed_other : (changes : List Change) (k : Kernel) (p : Part) → ¬ IsIn p (parts_of changes) → parts (changed changes k) p ≡ parts k p
+changed_other : (changes : List Change) (k : Kernel) (p : Part) → ¬ IsIn p (parts_of changes)
+    → parts (changed changes k) p ≡ parts k p
 changed_other [] k p apart = refl
 changed_other (c ∷ changes) k p apart =
     changed_other changes (put c.0 c.1 k) p (λ is. apart (inr is)) ∙ put_other c.0 p c.1 k (λ e. apart (inl e))
 
-changed_alike : (changes : List Change) (a b : Kernel) (p : Part) → (IsIn p (parts_of changes)) ⊎ (parts a p ≡ parts b p) → parts (changed changes a) p ≡ parts (changed changes b) p
+changed_alike : (changes : List Change) (a b : Kernel) (p : Part)
+    → (IsIn p (parts_of changes)) ⊎ (parts a p ≡ parts b p) → parts (changed changes a) p ≡ parts (changed changes b) p
 changed_alike [] a b p (inl is) = absurd is
 changed_alike [] a b p (inr e) = e
-changed_alike (c ∷ changes) a b p (inl (inl e)) = changed_alike changes (put c.0 c.1 a) (put c.0 c.1 b) p (inr (here p e))
+changed_alike (c ∷ changes) a b p (inl (inl e)) =
+    changed_alike changes (put c.0 c.1 a) (put c.0 c.1 b) p (inr (here p e))
   where
     here : (q : Part) → q ≡ c.0 → parts (put c.0 c.1 a) q ≡ parts (put c.0 c.1 b) q
     here q is = rw is (put_same c.0 c.1 a ∙ sym (put_same c.0 c.1 b))
 changed_alike (c ∷ changes) a b p (inl (inr is)) = changed_alike changes (put c.0 c.1 a) (put c.0 c.1 b) p (inl is)
-changed_alike (c ∷ changes) a b p (inr e) = changed_alike changes (put c.0 c.1 a) (put c.0 c.1 b) p (inr (put_alike c.0 p c.1 a b e))
+changed_alike (c ∷ changes) a b p (inr e) =
+    changed_alike changes (put c.0 c.1 a) (put c.0 c.1 b) p (inr (put_alike c.0 p c.1 a b e))
 
 -- the count of entries is no part
-parts_of_stepped : (k : Kernel) (changes : List Change) (p : Part) → parts (stepped k changes) p ≡ parts (changed changes k) p
+parts_of_stepped : (k : Kernel) (changes : List Change) (p : Part)
+    → parts (stepped k changes) p ≡ parts (changed changes k) p
 parts_of_stepped k changes (OfTask n) = refl
 parts_of_stepped k changes (OfSpace n) = refl
 parts_of_stepped k changes (OfNode n) = refl
@@ -135,17 +153,20 @@ parts_of_stepped k changes OfFaults = refl
 
 -- ---- what a step leaves
 
-rest_by : (k next : Kernel) (changes : Option (List Change)) → option_map (stepped k) changes ≡ Some next → (p : Part) → ¬ IsIn p (touched changes) → parts next p ≡ parts k p
+rest_by : (k next : Kernel) (changes : Option (List Change)) → option_map (stepped k) changes ≡ Some next
+    → (p : Part) → ¬ IsIn p (touched changes) → parts next p ≡ parts k p
 rest_by k next None e p apart = absurd (cc e)
 rest_by k next (Some changes) e p apart =
     let is : next ≡ stepped k changes = cc e in
     ap (λ (n : Kernel). parts n p) is ∙ parts_of_stepped k changes p ∙ changed_other changes k p apart
 
-pub rest_stays : (k next : Kernel) (e : Entry) → step k e ≡ Some next → (p : Part) → ¬ IsIn p (touches k e) → parts next p ≡ parts k p
+pub rest_stays : (k next : Kernel) (e : Entry) → step k e ≡ Some next → (p : Part) → ¬ IsIn p (touches k e)
+    → parts next p ≡ parts k p
 unfolding step
 rest_stays k next e = rest_by k next (run (parts k) (entry_row e))
 
-touched_by : (a b next other : Kernel) (changes : Option (List Change)) → option_map (stepped a) changes ≡ Some next → option_map (stepped b) changes ≡ Some other → (p : Part) → IsIn p (touched changes) → parts next p ≡ parts other p
+touched_by : (a b next other : Kernel) (changes : Option (List Change)) → option_map (stepped a) changes ≡ Some next
+    → option_map (stepped b) changes ≡ Some other → (p : Part) → IsIn p (touched changes) → parts next p ≡ parts other p
 touched_by a b next other None e f p is = absurd (cc e)
 touched_by a b next other (Some changes) e f p is =
     let here : next ≡ stepped a changes = cc e in
@@ -156,7 +177,9 @@ touched_by a b next other (Some changes) e f p is =
     ∙ sym (parts_of_stepped b changes p)
     ∙ sym (ap (λ (n : Kernel). parts n p) there)
 
-pub touched_alike : (a b next other : Kernel) (e : Entry) → AgreeOn (used a e) (parts a) (parts b) → step a e ≡ Some next → step b e ≡ Some other → (p : Part) → IsIn p (touches a e) → parts next p ≡ parts other p
+pub touched_alike : (a b next other : Kernel) (e : Entry) → AgreeOn (used a e) (parts a) (parts b)
+    → step a e ≡ Some next → step b e ≡ Some other → (p : Part) → IsIn p (touches a e) → parts next p ≡ parts other p
 unfolding step
 touched_alike a b next other e same first second =
-    touched_by a b next other (run (parts a) (entry_row e)) first (ap (option_map (stepped b)) (sym (same_reads a b e same).1) ∙ second)
+    touched_by a b next other (run (parts a) (entry_row e)) first
+    (ap (option_map (stepped b)) (sym (same_reads a b e same).1) ∙ second)

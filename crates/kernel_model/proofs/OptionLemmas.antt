@@ -5,14 +5,16 @@ use Rattle.std.specs.Option.{option_copied_mut}
 use Rattle.std.specs.Borrow.{Bor, MutBor}
 
 -- what was found is what is there
-pub found : {A : Type 0} (r : Option (Bor A)) (o : Option A) (x : Bor A) → option_copied r ≡ o → r ≡ Some x → o ≡ Some x.now
+pub found : {A : Type 0} (r : Option (Bor A)) (o : Option A) (x : Bor A) → option_copied r ≡ o → r ≡ Some x
+    → o ≡ Some x.now
 found r o x e is = sym e ∙ ap option_copied is
 
 pub not_found : {A : Type 0} (r : Option (Bor A)) (o : Option A) → option_copied r ≡ o → r ≡ None → o ≡ None
 not_found r o e is = sym e ∙ ap option_copied is
 
 -- the same of what was found for writing
-pub found_mut : {A : Type 0} (r : Option (MutBor A)) (o : Option A) (x : MutBor A) → option_copied_mut r ≡ o → r ≡ Some x → o ≡ Some x.now
+pub found_mut : {A : Type 0} (r : Option (MutBor A)) (o : Option A) (x : MutBor A) → option_copied_mut r ≡ o
+    → r ≡ Some x → o ≡ Some x.now
 found_mut r o x e is = sym e ∙ ap option_copied_mut is
 
 pub not_found_mut : {A : Type 0} (r : Option (MutBor A)) (o : Option A) → option_copied_mut r ≡ o → r ≡ None → o ≡ None

@@ -1,5 +1,7 @@
 -- Runs of instructions: one behind another, with no shared area in hand.
-use Rattle.std.proofs.Common.{◌≡◌, ◌≢◌, ℕ, zero, suc, ◌+◌, ◌-◌, ◌≤◌, ◌<◌, Bool, true, false, cond, List, [], ◌∷◌, Option, Some, None, option_map, refl, sym, ap, ◌∙◌, subst, ◌⊎◌, inl, inr, arith, add-zero, add-one}
+use Rattle.std.proofs.Common.{◌≡◌, ◌≢◌, ℕ, zero, suc, ◌+◌, ◌-◌, ◌≤◌, ◌<◌, Bool, true, false, cond, List, [], ◌∷◌}
+use Rattle.std.proofs.Common.{Option, Some, None, option_map, refl, sym, ap, ◌∙◌, subst, ◌⊎◌, inl, inr, arith, add-zero}
+use Rattle.std.proofs.Common.{add-one}
 use Rattle.std.specs.Prelude.{option_and_then, nat_le, ◌&&◌}
 use Rattle.std.proofs.lemmas.Bool.{le-leb}
 use Rattle.std.specs.FinMap as map
@@ -13,7 +15,8 @@ use Rattle.mm_areas.specs.Pages.{Held, Bytes, PageOf, Mapped}
 use Rattle.mm_space.specs.Accesses.{page_number, page_offset}
 use Rattle.mm_space.specs.Handing.{AreaState, InHand}
 use Rattle.mm_space.specs.Puts.{with_area, put_in_area, put_held, put_mapped, put_byte, put_bytes}
-use Rattle.mm_space.specs.Reserves.{reserve_in_area, reserve_held, reserve_mapped, leave_in_area, leave_held, leave_mapped}
+use Rattle.mm_space.specs.Reserves.{reserve_in_area, reserve_held, reserve_mapped, leave_in_area, leave_held}
+use Rattle.mm_space.specs.Reserves.{leave_mapped}
 use Rattle.mm_space.specs.Spaces.{AddressSpace, Reach}
 use Rattle.quantum.specs.Acting.{Acting, acting_on, memory_of, after_write}
 use Rattle.rv_exec.specs.Courses as courses
@@ -141,7 +144,8 @@ ran_alone zero g h none e =
     let is : h ≡ g = cc (e, ran_none g) in ap (λ (x : Going). x.acting.reach.hand) is ∙ none
 ran_alone (suc n) g h none e = by (ran n g) (λ m so_far. ran_alone n g m none so_far) (sym (ran_suc n g) ∙ e)
   where
-    by : (o : Option Going) → ((m : Going) → o ≡ Some m → m.acting.reach.hand ≡ []) → option_and_then one_more o ≡ Some h → h.acting.reach.hand ≡ []
+    by : (o : Option Going) → ((m : Going) → o ≡ Some m → m.acting.reach.hand ≡ [])
+        → option_and_then one_more o ≡ Some h → h.acting.reach.hand ≡ []
     by None before e = absurd (cc e)
     by (Some m) before e = one_alone m.acting (exec (memory_of m.acting) m.registers) h (before m refl) e
 
@@ -215,12 +219,15 @@ next_kept task space after r r' count (Traps signal) ran_is stop stopped =
 
 module _ (number n : ℕ) (running : Running) (after : AddressSpace) (r : Regs) where
   -- of so many instructions
-  pub row_ran : (task : Task) → ran n (going_in number running.space running.task.registers) ≡ Some (going_in number after r)
+  pub row_ran : (task : Task) → ran n (going_in number running.space running.task.registers)
+      ≡ Some (going_in number after r)
       → 1 ≤ n → n ≤ 10000 → task ≡ with_registers running.task r
       → run_row number n running ≡ Some (run_changes number (record { task = task; space = after }))
   row_ran task told low high is =
-      ap (λ b. cond (b && nat_le n 10000) (option_map (λ g. run_changes number (after_run running.task g)) (ran n g)) None) (le-leb 1 n low)
-      ∙ ap (λ b. cond b (option_map (λ g. run_changes number (after_run running.task g)) (ran n g)) None) (le-leb n 10000 high)
+      ap (λ b. cond (b && nat_le n 10000) (option_map (λ g. run_changes number (after_run running.task g)) (ran n g))
+      None) (le-leb 1 n low)
+      ∙ ap (λ b. cond b (option_map (λ g. run_changes number (after_run running.task g)) (ran n g)) None)
+      (le-leb n 10000 high)
       ∙ ap (option_map (λ g. run_changes number (after_run running.task g))) told
       ∙ ap (λ (t : Task). Some (run_changes number (record { task = t; space = after }))) (sym is)
     where
@@ -228,10 +235,12 @@ module _ (number n : ℕ) (running : Running) (after : AddressSpace) (r : Regs) 
       g = going_in number running.space running.task.registers
 
   -- and of one that stopped before, which does not fit
-  pub row_short : (count : ℕ) (told : Next) → ran count (going_in number running.space running.task.registers) ≡ Some (going_in number after r)
+  pub row_short : (count : ℕ) (told : Next) → ran count (going_in number running.space running.task.registers)
+      ≡ Some (going_in number after r)
       → StopsAt n count told (next_of (acting_in number after) r) → count ≢ n → run_row number n running ≡ None
   row_short count told ran_is stop apart =
-      ap (λ o. cond (nat_le 1 n && nat_le n 10000) (option_map (λ g. run_changes number (after_run running.task g)) o) None) (none told stop)
+      ap (λ o. cond (nat_le 1 n && nat_le n 10000) (option_map (λ g. run_changes number (after_run running.task g)) o)
+      None) (none told stop)
       ∙ by (nat_le 1 n && nat_le n 10000)
     where
       g : Going

@@ -1,5 +1,6 @@
 -- Steps done in place: the kernel that changes leave, told without the changes.
-use Rattle.std.specs.Prelude.{◌≡◌, ℕ, ◌==◌, List, [], ◌∷◌, Bool, false, ◌&&◌, Option, Some, None, option_map, ◌≤◌, length, not}
+use Rattle.std.specs.Prelude.{◌≡◌, ℕ, ◌==◌, List, [], ◌∷◌, Bool, false, ◌&&◌, Option, Some, None, option_map, ◌≤◌}
+use Rattle.std.specs.Prelude.{length, not}
 use Rattle.std.specs.FinMap as map
 use Rattle.host_node.specs.Tree.{Shape, child_of}
 use Rattle.kernel_model.specs.declared.calls.Outcome.{Outcome}

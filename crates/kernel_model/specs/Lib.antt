@@ -1,3 +1,4 @@
+-- What contracts of this crate say, by subject.
 pub mod Registers
 pub mod SpaceCodes
 pub mod Spaces

@@ -1,5 +1,6 @@
 -- The opening: the state after the opening execves, from the mount file, the granted trees and the record of both.
-use Rattle.std.specs.Prelude.{ℕ, ◌+◌, ◌==◌, nat_eq, nat_lt, nat_le, List, [], ◌∷◌, length, map, drop, Bool, true, false, ◌&&◌, not, Option, Some, None, Result, Ok, Err, if◌then◌else◌}
+use Rattle.std.specs.Prelude.{ℕ, ◌+◌, ◌==◌, nat_eq, nat_lt, nat_le, List, [], ◌∷◌, length, map, drop, Bool, true, false}
+use Rattle.std.specs.Prelude.{◌&&◌, not, Option, Some, None, Result, Ok, Err, if◌then◌else◌}
 use Rattle.std.specs.List.{list_any}
 use Rattle.std.specs.Str.{bytes_eq}
 use Rattle.std.specs.FinMap as map
@@ -27,15 +28,18 @@ use Rattle.image_load.specs.Pages.{pages_mapped}
 use Rattle.kernel_model.specs.Image.{image_of}
 use Rattle.kernel_model.specs.Numbers.{count_up}
 use Rattle.kernel_model.specs.Random.{opening_random}
-use Rattle.kernel_model.specs.FileTree.{Nodes, last_number, Child, Missing, Known, Unnumbered, child_at, root_node, owner_executes}
+use Rattle.kernel_model.specs.FileTree.{Nodes, last_number, Child, Missing, Known, Unnumbered, child_at, root_node}
+use Rattle.kernel_model.specs.FileTree.{owner_executes}
 use Rattle.kernel_model.specs.Faulted.{has_any, is_in_order, Nodes_so_far, number_all, node_changes, faulted}
 use Rattle.kernel_model.specs.Parts.{parts, Prog, done, look, run, ◌>>=◌, Change, changed}
 
--- an image as execve takes it: of an executable regular file of at most 67,108,864 bytes, with at most 16,384 pages
--- execve(2), ERRORS: EACCES, ENOEXEC, ENOMEM; a link answers ELOOP so far; the numbers and the order: profile
+-- whether an image has at most 16,384 pages
+-- execve(2), ERRORS, ENOMEM; the number: profile
 abbrev pub has_room : Image → Bool
 has_room image = nat_le (pages_mapped image) 16384
 
+-- an image as execve takes it: of an executable regular file of at most 67,108,864 bytes, with at most 16,384 pages
+-- execve(2), ERRORS: EACCES, ENOEXEC, ENOMEM; a link answers ELOOP so far; the numbers and the order: profile
 abbrev pub image_within : Option Image → Result Image Errno
 image_within None = Err ENOEXEC
 image_within (Some image) = if has_room image then Ok image else Err ENOMEM

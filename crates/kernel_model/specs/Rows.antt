@@ -1,5 +1,6 @@
 -- The system calls of a task: what a call replies, or that it ends the task's group, or what it writes.
-use Rattle.std.specs.Prelude.{ℕ, ◌+◌, ◌%◌, ◌^◌, ◌==◌, ◌||◌, nat_le, min, List, length, Bool, Option, Some, None, pos, if◌then◌else◌}
+use Rattle.std.specs.Prelude.{ℕ, ◌+◌, ◌%◌, ◌^◌, ◌==◌, ◌||◌, nat_le, min, List, length, Bool, Option, Some, None, pos}
+use Rattle.std.specs.Prelude.{if◌then◌else◌}
 use Rattle.sn_errno.specs.declared.errno.Errno.TheVariants.{EBADF, EFAULT, ENOSPC, ENOSYS}
 use Rattle.sn_errno.specs.Errors.{reply_of}
 use Rattle.kernel_model.specs.declared.calls.Outcome.{Outcome}

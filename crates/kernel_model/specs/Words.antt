@@ -1,5 +1,6 @@
 -- The words of the command line, after the program's name.
-use Rattle.std.specs.Prelude.{ℕ, List, [], ◌∷◌, Bool, true, false, Option, Some, None, if◌then◌else◌, codes, ◌+◌, ◌-◌, nat_le, ◌&&◌, ◌==◌}
+use Rattle.std.specs.Prelude.{ℕ, List, [], ◌∷◌, Bool, true, false, Option, Some, None, if◌then◌else◌, codes, ◌+◌, ◌-◌}
+use Rattle.std.specs.Prelude.{nat_le, ◌&&◌, ◌==◌}
 use Rattle.std.specs.Str.{bytes_eq}
 
 -- a run: the name of its mount file, how many workers, and whether the trace is printed

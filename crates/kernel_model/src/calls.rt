@@ -1,3 +1,5 @@
+//! What system calls come to.
+
 ghost use Rattle.std.specs.Prelude.{◌≡◌, ◌≤◌, ℕ, List as Items, length, Some, IfOk};
 ghost use Rattle.kernel_model.specs.declared.kernel.Part.TheVariants.{OfConsole};
 ghost use Rattle.kernel_model.specs.InPlace.{WritesFew};
@@ -27,7 +29,9 @@ pub enum Outcome {
 
 /// The call of a number, as far as the kernel has it: `write` and `exit_group`. Any other answers ENOSYS. It reads
 /// guest memory, and of the console only how many bytes that has.
-#[tactic(auto, using(sn_errno::proofs::CallLaws::only_number), unfolding(sn_errno::specs::Calls::call_of, sn_errno::specs::Calls::row_of))]
+#[rattlefmt::skip]
+#[tactic(auto, using(sn_errno::proofs::CallLaws::only_number),
+    unfolding(sn_errno::specs::Calls::call_of, sn_errno::specs::Calls::row_of))]
 pub fn call(
     alloc: Global,
     number: u64,

@@ -1,3 +1,5 @@
+//! The atomic steps of the kernel, as the commit log has them.
+
 use crate::Given;
 use sn_base::List;
 

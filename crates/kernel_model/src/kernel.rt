@@ -1,3 +1,5 @@
+//! The kernel's state, and the parts of it that a step reads and changes.
+
 use crate::GuestSpace;
 use host_node::Tree;
 use rv_table::Regs;

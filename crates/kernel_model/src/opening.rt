@@ -1,3 +1,5 @@
+//! What calls and opening execves drew and met, and the record of an opening.
+
 use mount_file::Mount;
 use sn_base::List;
 use sn_text::{Name, Text};

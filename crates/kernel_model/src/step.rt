@@ -1,6 +1,7 @@
 //! What an entry does to a kernel.
 
-ghost use Rattle.std.specs.Prelude.{◌≡◌, ℕ, true, false, None, Some, is_some, unwrap_or, IsTrue, IfOk, IfSome, OnOk, OnErr, OnSome};
+ghost use Rattle.std.specs.Prelude.{◌≡◌, ℕ, true, false, None, Some, is_some, unwrap_or, IsTrue, IfOk, IfSome, OnOk};
+ghost use Rattle.std.specs.Prelude.{OnErr, OnSome};
 ghost use Rattle.std.specs.FinMap as map;
 ghost use Rattle.kernel_model.specs.declared.entry.Entry.{Entry as AnEntry};
 ghost use Rattle.kernel_model.specs.declared.calls.Outcome.TheVariants.{Writes};
@@ -10,7 +11,8 @@ ghost use Rattle.mm_space.specs.Spaces.{AddressSpace};
 ghost use Rattle.kernel_model.specs.declared.kernel.Part.{Part as APart};
 ghost use Rattle.kernel_model.specs.Spaces.{acting_in};
 ghost use Rattle.kernel_model.specs.Parts.{IsIn, AgreeOn, changed, parts, run as outcome_in};
-ghost use Rattle.kernel_model.specs.Step.{step, entry_row, used, touches, task_of, live, by_given, failing, answered, run_changes};
+ghost use Rattle.kernel_model.specs.Step.{step, entry_row, used, touches, task_of, live, by_given, failing, answered};
+ghost use Rattle.kernel_model.specs.Step.{run_changes};
 ghost use Rattle.std.specs.Ordering.{int_eq};
 ghost use Rattle.sn_errno.specs.Errors.{reply_of};
 ghost use Rattle.sn_errno.specs.declared.errno.Errno.TheVariants.{EIO};

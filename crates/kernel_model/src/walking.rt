@@ -5,7 +5,8 @@ ghost use Rattle.std.specs.FinMap as map;
 ghost use Rattle.std.specs.List.{list_any};
 ghost use Rattle.kernel_model.specs.FileTree.{owner_executes};
 ghost use Rattle.kernel_model.specs.Faulted.{has_any};
-ghost use Rattle.kernel_model.specs.Opening.{image_in, executed, numbered_image, walk_of, draws_just, above_last, by_walk, name_in_path, execve_of};
+ghost use Rattle.kernel_model.specs.Opening.{image_in, executed, numbered_image, walk_of, draws_just, above_last};
+ghost use Rattle.kernel_model.specs.Opening.{by_walk, name_in_path, execve_of};
 ghost use Rattle.kernel_model.specs.Parts.{parts, run as outcome};
 ghost use Rattle.kernel_model.specs.Beginnings.{Executes, IsFrom, MayStart, fits};
 

@@ -1,4 +1,4 @@
-//! The random bytes of opening tasks, against another implementation of ChaCha20 with a counter and a stream of 64 bits.
+//! The random bytes of opening tasks, against another ChaCha20 with a counter and a stream of 64 bits.
 
 use crate::guests::opened;
 use kernel_model::opening_random;

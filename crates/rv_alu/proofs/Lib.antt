@@ -1,1 +1,2 @@
+-- Lemmas of division.
 pub mod Quotients

@@ -1,5 +1,6 @@
 -- The low 32 bits of a quotient of words are those of the quotient in 64 bits.
-use Rattle.std.proofs.Common.{◌≡◌, refl, sym, ap, ℕ, zero, suc, ◌/◌, ◌%◌, ◌^◌, ◌≤◌, ℤ, pos, negsuc, neg_ℤ, arith, unsigned_abs, int_div, FitsSigned}
+use Rattle.std.proofs.Common.{◌≡◌, refl, sym, ap, ℕ, zero, suc, ◌/◌, ◌%◌, ◌^◌, ◌≤◌, ℤ, pos, negsuc, neg_ℤ, arith}
+use Rattle.std.proofs.Common.{unsigned_abs, int_div, FitsSigned}
 use Rattle.std.specs.Int.{cast_unsigned, cast_signed, int_wrapping_div, w32, w64}
 use Rattle.rv_table.specs.Words.{bits_of, word}
 use native.Mathlib.Nat.{div-le_self}
@@ -24,8 +25,11 @@ size_of_word : (x : ℤ) → FitsSigned w32 x → unsigned_abs x ≤ 2 ^ 31
 size_of_word (pos n) fits = omega (arith, fits.sfits)
 size_of_word (negsuc n) fits = omega (arith, fits.sfits)
 
-low_of_quotient : (x y : ℤ) → FitsSigned w32 x → cast_unsigned w64 (int_div x y) % 2 ^ 32 ≡ cast_unsigned w32 (int_div x y)
-low_of_quotient x y fits = let size = size_of_quotient x y in let word = size_of_word x fits in low_of (int_div x y) (omega (arith, size, word))
+low_of_quotient : (x y : ℤ) → FitsSigned w32 x
+    → cast_unsigned w64 (int_div x y) % 2 ^ 32 ≡ cast_unsigned w32 (int_div x y)
+low_of_quotient x y fits =
+    let size = size_of_quotient x y in
+    let word = size_of_word x fits in low_of (int_div x y) (omega (arith, size, word))
 
 -- what `wrapping_div` of words gives, with its sign carried on
 pub quotient_of_words : (x y : ℤ) → FitsSigned w32 x → bits_of (int_wrapping_div w32 x y) ≡ word (bits_of (int_div x y))

@@ -5,7 +5,7 @@ use Rattle.rv_table.specs.declared.instr.Instr.{Instr}
 use Rattle.rv_table.specs.declared.instr.Instr.TheVariants as instr
 use Rattle.rv_table.specs.Words.{signed}
 
--- whether a branch is taken: `a` is what rs1 holds, and `b` what rs2 holds. An instruction that is no branch is not taken
+-- whether a branch is taken: `a` is what rs1 holds, and `b` what rs2 holds. No other instruction is taken
 unfoldable pub is_taken : Instr → (a b : ℕ) → Bool
 is_taken (instr.Beq rs1 rs2 imm) a b = nat_eq a b
 is_taken (instr.Bne rs1 rs2 imm) a b = not (nat_eq a b)

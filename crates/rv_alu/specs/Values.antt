@@ -1,10 +1,12 @@
 -- What the instructions of RV64I and RV64M compute, a row a line in the manual's order.
 -- RISC-V Unprivileged ISA 20191213, 2.4, 5.2, 7.1 and 7.2
-use Rattle.std.specs.Prelude.{ℕ, ◌+◌, ◌-◌, ◌*◌, ◌/◌, ◌%◌, ◌^◌, ℤ, pos, ◌*ℤ◌, nat_eq, nat_lt, int_lt, int_div, int_rem, bit_and, bit_or, bit_xor, if◌then◌else◌}
+use Rattle.std.specs.Prelude.{ℕ, ◌+◌, ◌-◌, ◌*◌, ◌/◌, ◌%◌, ◌^◌, ℤ, pos, ◌*ℤ◌, nat_eq, nat_lt, int_lt, int_div, int_rem}
+use Rattle.std.specs.Prelude.{bit_and, bit_or, bit_xor, if◌then◌else◌}
 use Rattle.std.specs.Int.{int_shr}
 use Rattle.rv_table.specs.declared.instr.Instr.{Instr}
 use Rattle.rv_table.specs.declared.instr.Instr.TheVariants as instr
-use Rattle.rv_table.specs.Words.{signed, bits_of, low_word, signed_word, word, flag, sum, difference, product, shifted_left, shifted_right}
+use Rattle.rv_table.specs.Words.{signed, bits_of, low_word, signed_word, word, flag, sum, difference, product}
+use Rattle.rv_table.specs.Words.{shifted_left, shifted_right}
 
 -- quotient and remainder, towards 0; what a division by 0 gives
 -- 7.2, Division Operations, table 7.1
@@ -14,8 +16,8 @@ quotient a b bits = if nat_eq bits 0 then 2 ^ 64 - 1 else bits_of (int_div a b)
 abbrev pub remainder : ℤ → ℤ → ℕ → ℕ → ℕ
 remainder a b dividend bits = if nat_eq bits 0 then dividend else bits_of (int_rem a b)
 
--- the value of an instruction: `a` is what rs1 holds, or pc for AUIPC, and `b` what rs2 holds. An instruction that computes
--- none has 0
+-- the value of an instruction: `a` is what rs1 holds, or pc for AUIPC, and `b` what rs2 holds. An instruction that
+-- computes none has 0
 unfoldable pub value_of : Instr → (a b : ℕ) → ℕ
 value_of (instr.Lui rd imm) a b = imm
 value_of (instr.Auipc rd imm) a b = sum a imm

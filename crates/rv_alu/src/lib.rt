@@ -5,10 +5,11 @@
 //! what rs2 holds. Immediates and shifts that an instruction says itself stand in it. Contracts see a register as the
 //! number from 0 to 2^64 - 1 that its bits are; where the manual speaks of a sign, they read it as two's complement.
 //!
-//! Proved of `alu`, of every instruction and all numbers: the value is `value_of`, the definition that has a row for each
-//! instruction in the manual's order. No instruction traps: a division by 0 and the one quotient that doesn't fit have
-//! the values that the manual gives them. A W instruction reads the low 32 bits alone, and its value has their sign
-//! carried on to 64. Proved of `is_taken`, in the same way: a branch is taken where the definition `is_taken` says so.
+//! Proved of `alu`, of every instruction and all numbers: the value is `value_of`, the definition that has a row for
+//! each instruction in the manual's order. No instruction traps: a division by 0 and the one quotient that doesn't fit
+//! have the values that the manual gives them. A W instruction reads the low 32 bits alone, and its value has their
+//! sign carried on to 64. Proved of `is_taken`, in the same way: a branch is taken where the definition `is_taken` says
+//! so.
 //! Nothing is asked of the caller, and no memory is taken.
 //!
 //! Not said: which registers and which immediate a word names (`rv_table`), where the value and a branch go, and what

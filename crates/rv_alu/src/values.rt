@@ -7,8 +7,8 @@ use crate::words::{less_signed, less_unsigned, word};
 use crate::{divide, multiply, shifts};
 use rv_table::Instr;
 
-/// The value that an instruction computes: `a` is what rs1 holds, or pc for AUIPC, and `b` what rs2 holds. An instruction
-/// that computes none has 0.
+/// The value that an instruction computes: `a` is what rs1 holds, or pc for AUIPC, and `b` what rs2 holds. An
+/// instruction that computes none has 0.
 #[tactic(auto, unfolding(crate::specs::Values::value_of))]
 #[inline(always)]
 pub fn alu(instr: &Instr, a: u64, b: u64) -> u64

@@ -1,4 +1,4 @@
--- The reservations that tasks have in a shared area: of each the task and the granule, counted from the area's first byte.
+-- The reservations that tasks have in a shared area: each has its task, and its granule from the area's first byte on.
 -- RISC-V Unprivileged ISA 20191213, 8.2, Load-Reserved/Store-Conditional Instructions
 use Rattle.std.specs.Prelude.{◌≢◌, ℕ, ◌==◌, ◌&&◌, ◌||◌, not, Bool, List, [], ◌∷◌, ◌++◌, filter, AllPairs}
 use Rattle.std.specs.List.{list_any}
@@ -28,13 +28,13 @@ without_here rs task = filter (λ r. not (r.task == task)) rs
 abbrev pub reserved_here : List AreaReservation → (task granule : ℕ) → List AreaReservation
 reserved_here rs task granule = without_here rs task ++ (record { task = task; granule = granule }) ∷ []
 
--- the reservations after a store to bytes of the area: each ends that is another task's and whose granule the store meets
+-- the reservations after a store to bytes of the area: each ends that is another task's and whose granule it meets
 -- 8.2: a store from another hart to the reservation set; a task's own stores end nothing: profile
 abbrev pub after_store_here : List AreaReservation → (task at width : ℕ) → List AreaReservation
 after_store_here rs task at width = filter (λ r. (r.task == task) || not (meets r.granule at width)) rs
 
--- the reservations after a task has put so many bytes of the area, however many: each ends that is another task's and has a
--- byte of its granule there
+-- the reservations after a task has put so many bytes of the area, however many: each ends that is another task's and
+-- has a byte of its granule there
 -- read(2): what a call puts into its buffer; 8.2: a store from another hart to the reservation set
 abbrev pub after_run_here : List AreaReservation → (task at count : ℕ) → List AreaReservation
 after_run_here rs task at count = filter (λ r. (r.task == task) || not (lies_over r.granule at count)) rs

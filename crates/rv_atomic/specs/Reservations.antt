@@ -1,6 +1,7 @@
 -- The reservations of one address space, what ends them, and when a store-conditional succeeds.
 -- RISC-V Unprivileged ISA 20191213, 8.2, Load-Reserved/Store-Conditional Instructions
-use Rattle.std.specs.Prelude.{◌≢◌, ℕ, zero, suc, ◌+◌, ◌*◌, ◌/◌, ◌%◌, ◌^◌, ◌==◌, ◌&&◌, ◌||◌, not, nat_lt, max, min, Bool, false, List, [], ◌∷◌, ◌++◌, filter, AllPairs}
+use Rattle.std.specs.Prelude.{◌≢◌, ℕ, zero, suc, ◌+◌, ◌*◌, ◌/◌, ◌%◌, ◌^◌, ◌==◌, ◌&&◌, ◌||◌, not, nat_lt, max, min, Bool}
+use Rattle.std.specs.Prelude.{false, List, [], ◌∷◌, ◌++◌, filter, AllPairs}
 use Rattle.std.specs.List.{list_any}
 use Rattle.rv_atomic.specs.declared.reservations.Reservation.{Reservation}
 
@@ -50,14 +51,14 @@ is_held rs task address width = list_any (λ r. (r.task == task) && ((r.address 
 abbrev pub lies_over : (number at count : ℕ) → Bool
 lies_over number at count = nat_lt (max (8 * number) at) (min (8 * number + 8) (at + count))
 
--- the reservations once so many bytes from an address on were mapped anew, unmapped or got other rights: none stays that
--- has a byte of its granule there
+-- the reservations once so many bytes from an address on were mapped anew, unmapped or got other rights: none stays
+-- that has a byte of its granule there
 -- mmap(2), munmap(2), mprotect(2); that a reservation is lost by them: profile
 abbrev pub outside_range : List Reservation → (at count : ℕ) → List Reservation
 outside_range rs at count = filter (λ r. not (lies_over (granule r.address) at count)) rs
 
--- the reservations after a task has put so many bytes from an address on, however many: each ends that is another task's
--- and has a byte of its granule there
+-- the reservations after a task has put so many bytes from an address on, however many: each ends that is another
+-- task's and has a byte of its granule there
 -- read(2): what a call puts into its buffer; 8.2: a store from another hart to the reservation set
 abbrev pub after_run : List Reservation → (task at count : ℕ) → List Reservation
 after_run rs task at count = filter (λ r. (r.task == task) || not (lies_over (granule r.address) at count)) rs

@@ -1,9 +1,11 @@
 //! The reservations that tasks have in a shared area.
 
-ghost use Rattle.std.specs.Prelude.{◌≡◌, ◌+◌, ◌^◌, ◌<◌, ◌≤◌, ◌↔◌, [], length, IsTrue, IsFalse, OnOk, OnErr, vec_len, vec_capacity};
+ghost use Rattle.std.specs.Prelude.{◌≡◌, ◌+◌, ◌^◌, ◌<◌, ◌≤◌, ◌↔◌, [], length, IsTrue, IsFalse, OnOk, OnErr, vec_len};
+ghost use Rattle.std.specs.Prelude.{vec_capacity};
 ghost use Rattle.rv_table.specs.Words.{IsWidth};
 ghost use Rattle.rv_atomic.specs.Reservations.{lies_over};
-ghost use Rattle.rv_atomic.specs.AreaReservations.{AtMostOneHere, after_run_here, after_store_here, is_held_here, is_reserving_here, reserved_here, without_here};
+ghost use Rattle.rv_atomic.specs.AreaReservations.{AtMostOneHere, after_run_here, after_store_here, is_held_here};
+ghost use Rattle.rv_atomic.specs.AreaReservations.{is_reserving_here, reserved_here, without_here};
 
 use sn_base::Memory;
 use std::alloc::Global;
@@ -87,8 +89,8 @@ impl AreaReservations {
         }
     }
 
-    /// Ends the other tasks' reservations of each granule that has one of so many bytes, whose first is `at` bytes behind
-    /// the area's first, where a call has put them for the task. It takes no memory.
+    /// Ends the other tasks' reservations of each granule that has one of so many bytes, whose first is `at` bytes
+    /// behind the area's first, where a call has put them for the task. It takes no memory.
     #[tactic(auto, using(crate::proofs::SinglesHere::single_after_run_here))]
     pub fn stored_run(&mut self, task: u32, at: u64, count: u64)
         requires { at + count ≤ 2 ^ 64 }

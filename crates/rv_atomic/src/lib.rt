@@ -12,10 +12,10 @@
 //! the new one (`ok`), or changes nothing (`err`), and that only where the task had none (`absent`). `stored` leaves
 //! `after_store`, which goes through the bytes of a store one by one. `take` answers whether the task had the
 //! reservation of just that address and width (`held`), and leaves those of the others in either case (`ended`).
-//! `holds` answers the same (`held`), and tells that no task has two (`single`); `is_reserving` answers whether the task
-//! has any. `stored_run` is `stored` for as many bytes as a call puts, and `drop_range` leaves those whose granule has no
-//! byte in the range. The list of an area has the same calls with the same clauses, and `leave` for a task that ends. Only
-//! `reserve` takes memory.
+//! `holds` answers the same (`held`), and tells that no task has two (`single`); `is_reserving` answers whether the
+//! task has any. `stored_run` is `stored` for as many bytes as a call puts, and `drop_range` leaves those whose granule
+//! has no byte in the range. The list of an area has the same calls with the same clauses, and `leave` for a task that
+//! ends. Only `reserve` takes memory.
 //!
 //! Not said: the loads and stores themselves, their alignment and order, and which stores `stored` is told of.
 //!

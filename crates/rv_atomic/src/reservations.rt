@@ -1,8 +1,10 @@
 //! The reservations of one address space.
 
-ghost use Rattle.std.specs.Prelude.{◌≡◌, ◌<◌, ◌+◌, ◌^◌, ◌↔◌, [], length, IsTrue, IsFalse, IfOk, OnOk, OnErr, vec_len, vec_capacity};
+ghost use Rattle.std.specs.Prelude.{◌≡◌, ◌<◌, ◌+◌, ◌^◌, ◌↔◌, [], length, IsTrue, IsFalse, IfOk, OnOk, OnErr, vec_len};
+ghost use Rattle.std.specs.Prelude.{vec_capacity};
 ghost use Rattle.rv_table.specs.Words.{IsWidth};
-ghost use Rattle.rv_atomic.specs.Reservations.{AtMostOneEach, after_run, after_store, is_held, is_reserving, lies_over, outside_range, reserved, without};
+ghost use Rattle.rv_atomic.specs.Reservations.{AtMostOneEach, after_run, after_store, is_held, is_reserving, lies_over};
+ghost use Rattle.rv_atomic.specs.Reservations.{outside_range, reserved, without};
 
 use sn_base::{List, Memory};
 use std::alloc::Global;
@@ -100,8 +102,8 @@ impl Reservations {
         }
     }
 
-    /// Ends the other tasks' reservations of each granule that has one of so many bytes from an address on, where a call
-    /// has put them for the task. It takes no memory.
+    /// Ends the other tasks' reservations of each granule that has one of so many bytes from an address on, where a
+    /// call has put them for the task. It takes no memory.
     #[tactic(auto, using(crate::proofs::Singles::single_after_run))]
     pub fn stored_run(&mut self, task: u32, at: u64, count: u64)
         ensures { self.new ≡ after_run self.old task at count }

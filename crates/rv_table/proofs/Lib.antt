@@ -1,0 +1,1 @@
+-- No lemma stands here: the checker computes what is proved of the table.

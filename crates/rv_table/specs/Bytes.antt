@@ -4,15 +4,15 @@ use Rattle.rv_table.specs.declared.error.Area.{Area}
 use Rattle.rv_table.specs.declared.error.MemErr.{MemErr}
 use Rattle.rv_table.specs.declared.error.MemErr.TheVariants as refusals
 
--- what a byte is to an access: it has a value, it may not be accessed, or it lies in a shared area that is not handed in
+-- what a byte is to an access: it has a value, it may not be accessed, or it lies in a shared area not handed in
 -- mmap(2), PROT_READ, PROT_WRITE and PROT_EXEC; shared areas: profile
 pub data Byte : Type 0 where
   Holds : ℕ → Byte
   Barred : Byte
   InArea : Area → Byte
 
--- memory as a task has it: what the byte at each address is to a fetch, to a load and to a store; and whether the task has a
--- reservation of that address and so many bytes
+-- memory as a task has it: what the byte at each address is to a fetch, to a load and to a store; and whether the task
+-- has a reservation of that address and so many bytes
 -- RISC-V Unprivileged ISA 20191213, 1.4, Memory; 8.2, Load-Reserved/Store-Conditional Instructions
 pub record Memory : Type 0 where
   pub code : ℕ → Byte
@@ -74,7 +74,9 @@ by_barred None accessed = accessed
 by_barred (Some address) accessed = Fault address
 
 unfoldable pub loaded : (ℕ → Byte) → (address width : ℕ) → Accessed
-loaded byte address width = by_barred (first_barred byte address width) (by_area (first_area byte address width) (number_from byte address width))
+loaded byte address width =
+    by_barred (first_barred byte address width)
+    (by_area (first_area byte address width) (number_from byte address width))
 
 -- an answer of memory is what the access comes to, or want of memory
 -- profile

@@ -57,10 +57,12 @@ abbrev pub s_immediate : ℕ → ℕ
 s_immediate word = sign_extend 11 (bits 25 7 word * 2 ^ 5 + bits 7 5 word)
 
 abbrev pub b_immediate : ℕ → ℕ
-b_immediate word = sign_extend 12 (bits 31 1 word * 2 ^ 12 + bits 7 1 word * 2 ^ 11 + bits 25 6 word * 2 ^ 5 + bits 8 4 word * 2)
+b_immediate word =
+    sign_extend 12 (bits 31 1 word * 2 ^ 12 + bits 7 1 word * 2 ^ 11 + bits 25 6 word * 2 ^ 5 + bits 8 4 word * 2)
 
 abbrev pub u_immediate : ℕ → ℕ
 u_immediate word = sign_extend 31 (bits 12 20 word * 2 ^ 12)
 
 abbrev pub j_immediate : ℕ → ℕ
-j_immediate word = sign_extend 20 (bits 31 1 word * 2 ^ 20 + bits 12 8 word * 2 ^ 12 + bits 20 1 word * 2 ^ 11 + bits 21 10 word * 2)
+j_immediate word =
+    sign_extend 20 (bits 31 1 word * 2 ^ 20 + bits 12 8 word * 2 ^ 12 + bits 20 1 word * 2 ^ 11 + bits 21 10 word * 2)

@@ -1,3 +1,4 @@
+-- What contracts of this crate say, by subject.
 pub mod Bytes
 pub mod Fields
 pub mod Table

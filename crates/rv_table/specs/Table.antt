@@ -4,7 +4,9 @@ use Rattle.std.specs.Prelude.{ℕ, nat_eq, List, [], ◌∷◌, ◌++◌, map, f
 use Rattle.std.specs.List.{flat_map}
 use Rattle.rv_table.specs.declared.instr.Instr.{Instr}
 use Rattle.rv_table.specs.declared.instr.Instr.TheVariants as instr
-use Rattle.rv_table.specs.Fields.{opcode_of, rd_of, funct3_of, rs1_of, rs2_of, funct7_of, funct6_of, funct5_of, shamt_of, word_shamt_of, i_immediate, s_immediate, b_immediate, u_immediate, j_immediate}
+use Rattle.rv_table.specs.Fields.{opcode_of, rd_of, funct3_of, rs1_of, rs2_of, funct7_of, funct6_of, funct5_of}
+use Rattle.rv_table.specs.Fields.{shamt_of, word_shamt_of, i_immediate, s_immediate, b_immediate, u_immediate}
+use Rattle.rv_table.specs.Fields.{j_immediate}
 
 -- a table's rows, each under its key; and all rows of a key
 -- profile
@@ -220,12 +222,16 @@ systems =
 abbrev pub by_funct3 : ((ℕ → ℕ → ℕ → Instr) → ℕ → Instr) → Rows (ℕ → ℕ → ℕ → Instr) → ℕ → List Instr
 by_funct3 format rows word = map (λ make. format make word) (rows_at (funct3_of word) rows)
 
-abbrev pub by_two : ((ℕ → ℕ → ℕ → Instr) → ℕ → Instr) → (ℕ → ℕ) → (ℕ → ℕ) → Rows (Rows (ℕ → ℕ → ℕ → Instr)) → ℕ → List Instr
-by_two format first second rows word = map (λ make. format make word) (flat_map (rows_at (second word)) (rows_at (first word) rows))
+abbrev pub by_two : ((ℕ → ℕ → ℕ → Instr) → ℕ → Instr) → (ℕ → ℕ) → (ℕ → ℕ) → Rows (Rows (ℕ → ℕ → ℕ → Instr))
+    → ℕ → List Instr
+by_two format first second rows word =
+    map (λ make. format make word) (flat_map (rows_at (second word)) (rows_at (first word) rows))
 
-abbrev pub by_three : ((ℕ → ℕ → Instr) → ℕ → Instr) → (ℕ → ℕ) → (ℕ → ℕ) → (ℕ → ℕ) → Rows (Rows (Rows (ℕ → ℕ → Instr))) → ℕ → List Instr
+abbrev pub by_three : ((ℕ → ℕ → Instr) → ℕ → Instr) → (ℕ → ℕ) → (ℕ → ℕ) → (ℕ → ℕ) → Rows (Rows (Rows (ℕ → ℕ → Instr)))
+    → ℕ → List Instr
 by_three format first second third rows word =
-    map (λ make. format make word) (flat_map (rows_at (third word)) (flat_map (rows_at (second word)) (rows_at (first word) rows)))
+    map (λ make. format make word)
+    (flat_map (rows_at (third word)) (flat_map (rows_at (second word)) (rows_at (first word) rows)))
 
 -- the instructions that the rows of an opcode make of a word
 -- chapter 24, RV32/64G Instruction Set Listings; table 24.1
@@ -241,10 +247,16 @@ opcodes =
     (0x13, λ word. by_funct3 i_format immediates word ++ by_two shift_format funct3_of funct6_of shifts word) ∷
     (0x33, by_two r_format funct7_of funct3_of registers) ∷
     (0x0f, λ word. rows_at (funct3_of word) fences) ∷
-    (0x73, λ word. rows_at word systems) ∷
-    (0x1b, λ word. by_funct3 i_format word_immediates word ++ by_two word_shift_format funct3_of funct7_of word_shifts word) ∷
-    (0x3b, by_two r_format funct7_of funct3_of word_registers) ∷
-    (0x2f, λ word. by_three load_reserved_format funct3_of funct5_of rs2_of load_reserveds word ++ by_two r_format funct3_of funct5_of atomics word) ∷ []
+    (0x73, λ word. rows_at word systems) ∷ (
+      0x1b,
+      λ word. by_funct3 i_format word_immediates word
+          ++ by_two word_shift_format funct3_of funct7_of word_shifts word,
+    ) ∷
+    (0x3b, by_two r_format funct7_of funct3_of word_registers) ∷ (
+      0x2f,
+      λ word. by_three load_reserved_format funct3_of funct5_of rs2_of load_reserveds word
+          ++ by_two r_format funct3_of funct5_of atomics word,
+    ) ∷ []
 
 -- the instructions that the rows of the table make of a word
 -- chapter 24, RV32/64G Instruction Set Listings

@@ -9,7 +9,8 @@ use crate::fields::{rd, rs1, rs2};
 
 /// By funct3 and funct5; LR by rs2 too, which is 0. The bits aq and rl are not looked at.
 pub fn atomic(word: u32) -> Option<Instr>
-    ensures { by_three load_reserved_format funct3_of funct5_of rs2_of load_reserveds word ++ by_two r_format funct3_of funct5_of atomics word ≡ option_to_list result }
+    ensures { by_three load_reserved_format funct3_of funct5_of rs2_of load_reserveds word
+        ++ by_two r_format funct3_of funct5_of atomics word ≡ option_to_list result }
 {
     let rd = rd(word);
     let rs1 = rs1(word);

@@ -2,7 +2,11 @@
 
 ghost use Rattle.std.specs.Prelude.{◌≡◌, option_to_list, ◌++◌};
 ghost use Rattle.rv_table.specs.Fields.{funct3_of, funct5_of, funct6_of, funct7_of, rs2_of};
-ghost use Rattle.rv_table.specs.Table.{by_funct3, by_two, by_three, rows_at, r_format, i_format, s_format, b_format, shift_format, word_shift_format, load_reserved_format, jumps, branches, loads, stores, immediates, shifts, registers, word_immediates, word_shifts, word_registers, load_reserveds, atomics, fences, systems, rows_of, IsOnly, instr_of};
+ghost use Rattle.rv_table.specs.Table.{by_funct3, by_two, by_three, rows_at, r_format, i_format, s_format, b_format};
+ghost use Rattle.rv_table.specs.Table.{shift_format, word_shift_format, load_reserved_format, jumps, branches, loads};
+ghost use Rattle.rv_table.specs.Table.{stores, immediates, shifts, registers, word_immediates, word_shifts};
+ghost use Rattle.rv_table.specs.Table.{word_registers, load_reserveds, atomics, fences, systems, rows_of, IsOnly};
+ghost use Rattle.rv_table.specs.Table.{instr_of};
 
 use crate::Instr;
 use crate::atomics::atomic;
@@ -124,7 +128,8 @@ fn store(word: u32) -> Option<Instr>
 
 /// By funct3; where that is a shift's, by the bits above the shift too.
 fn immediate(word: u32) -> Option<Instr>
-    ensures { by_funct3 i_format immediates word ++ by_two shift_format funct3_of funct6_of shifts word ≡ option_to_list result }
+    ensures { by_funct3 i_format immediates word ++ by_two shift_format funct3_of funct6_of shifts word
+        ≡ option_to_list result }
 {
     let rd = rd(word);
     let rs1 = rs1(word);

@@ -1,7 +1,8 @@
 //! The fields of an instruction word, as the decoder takes them.
 
 ghost use Rattle.std.specs.Prelude.{◌≡◌, ◌<◌};
-ghost use Rattle.rv_table.specs.Fields.{sign_extend, rd_of, rs1_of, rs2_of, shamt_of, word_shamt_of, i_immediate, s_immediate, b_immediate, u_immediate, j_immediate};
+ghost use Rattle.rv_table.specs.Fields.{sign_extend, rd_of, rs1_of, rs2_of, shamt_of, word_shamt_of, i_immediate};
+ghost use Rattle.rv_table.specs.Fields.{s_immediate, b_immediate, u_immediate, j_immediate};
 
 use crate::Reg;
 

@@ -2,7 +2,8 @@
 
 ghost use Rattle.std.specs.Prelude.{◌≡◌, option_to_list, ◌++◌};
 ghost use Rattle.rv_table.specs.Fields.{funct3_of, funct7_of};
-ghost use Rattle.rv_table.specs.Table.{by_funct3, by_two, r_format, i_format, word_shift_format, registers, word_immediates, word_shifts, word_registers};
+ghost use Rattle.rv_table.specs.Table.{by_funct3, by_two, r_format, i_format, word_shift_format, registers};
+ghost use Rattle.rv_table.specs.Table.{word_immediates, word_shifts, word_registers};
 
 use crate::Instr;
 use crate::fields::{i_immediate, rd, rs1, rs2, word_shamt};
@@ -39,7 +40,8 @@ pub fn register(word: u32) -> Option<Instr>
 
 /// By funct3; where that is a shift's, by funct7 too.
 pub fn word_immediate(word: u32) -> Option<Instr>
-    ensures { by_funct3 i_format word_immediates word ++ by_two word_shift_format funct3_of funct7_of word_shifts word ≡ option_to_list result }
+    ensures { by_funct3 i_format word_immediates word ++ by_two word_shift_format funct3_of funct7_of word_shifts word
+        ≡ option_to_list result }
 {
     match (word >> 12) % 8 {
         0 => Some(Instr::Addiw {

@@ -1,3 +1,5 @@
+//! Words of atomic instructions.
+
 use super::*;
 
 /// A row's name, and the numbers of rd, rs1 and rs2 that it takes from a word; rs2 is 0 for LR.

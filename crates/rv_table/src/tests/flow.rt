@@ -1,3 +1,5 @@
+//! Words of branches, stores, jumps and fences.
+
 use super::*;
 
 /// A row's name, and the numbers of rs1 and rs2 and the immediate that it takes from a word.

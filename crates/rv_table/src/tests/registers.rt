@@ -1,3 +1,5 @@
+//! Words of computations on two registers, and of those on words.
+
 use super::*;
 
 /// A row's name, and the numbers of rd, rs1 and rs2 that it takes from a word.

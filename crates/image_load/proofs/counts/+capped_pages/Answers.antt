@@ -1,3 +1,4 @@
+-- No segments have no pages.
 use Rattle.std.proofs.Common.{◌∙◌, sym, ap, min}
 use Rattle.std.specs.FinMap.{len}
 use Rattle.image_load.specs.Pages.{segments_laid}

@@ -1,3 +1,4 @@
+-- Each segment is counted once.
 use Rattle.std.proofs.Common.{length}
 use Rattle.image_load.proofs.counts.+capped_pages.Given as goal
 

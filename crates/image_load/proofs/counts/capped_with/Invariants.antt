@@ -1,3 +1,4 @@
+-- How far a segment's pages are counted.
 use Rattle.std.proofs.Common.{◌≡◌, ◌+◌, ◌-◌, ◌≤◌, List, min}
 use Rattle.std.specs.FinMap as map_of
 use Rattle.elf_image.specs.declared.image.Segment.{Segment}
@@ -11,7 +12,9 @@ invariant-loop-page l = record {
   low : l.start ≤ l.page;
   high : l.page ≤ l.start + l.many;
   counted : (all : List Segment) → l.count
-      ≡ min (map_of.len (laid l.page (run_of (image_page all) l.page (l.start + l.many - l.page)) (segments_laid all l.rest))) 16321;
+      ≡ min
+      (map_of.len (laid l.page (run_of (image_page all) l.page (l.start + l.many - l.page))
+      (segments_laid all l.rest))) 16321;
 }
 
 abbrev pub decreases-loop-page : goal.decreases-loop-page

@@ -1,3 +1,4 @@
+-- A capped count tells whether an image has more pages than the most.
 use Rattle.std.proofs.Common.{◌∙◌, ap, min}
 use Rattle.std.specs.FinMap.{len}
 use Rattle.elf_image.specs.Loadable.{Loadable}

@@ -1,3 +1,4 @@
+-- The image's pages, with the stack's laid over, make the opening address space.
 use Rattle.std.proofs.Common.{◌≡◌, ◌≤◌, List, length, map, sym, ap, ◌∙◌, arith}
 use Rattle.std.specs.FinMap.{len}
 use Rattle.std.proofs.lemmas.List.{length-map}
@@ -18,7 +19,8 @@ use Rattle.image_load.proofs.loading.mapped.Goals as goal
 
 pub laid_segments-requires-clause-limit : goal.laid_segments-requires-clause-limit
 laid_segments-requires-clause-limit c =
-    few_pages c.args.image.now c.as_slice-segments.result.now (c.as_slice-segments.ensures ∙ ap (λ (i : Loadable). i.segments) c.image.view_is) c.requires.limit
+    few_pages c.args.image.now c.as_slice-segments.result.now (c.as_slice-segments.ensures
+    ∙ ap (λ (i : Loadable). i.segments) c.image.view_is) c.requires.limit
 
 stack_long : (c : goal.In_ok-stack_pages) → length c.in_ok-stack_pages.field-0.items ≡ 64
 stack_long c =
@@ -31,8 +33,11 @@ lay-requires-clause-end c = omega (arith, stack_long c)
 
 pub lay-requires-clause-limit : goal.lay-requires-clause-limit
 lay-requires-clause-limit c =
-    let few = few_pages c.args.image.now c.as_slice-segments.result.now (c.as_slice-segments.ensures ∙ ap (λ (i : Loadable). i.segments) c.image.view_is) c.requires.limit in
-    let below : len (mapping c.in_ok-areas.areas).pages ≤ 16320 = omega (arith, few, ap (λ (m : Mapping). len m.pages) c.in_ok-areas.ensures) in
+    let few =
+    few_pages c.args.image.now c.as_slice-segments.result.now (c.as_slice-segments.ensures
+    ∙ ap (λ (i : Loadable). i.segments) c.image.view_is) c.requires.limit in
+    let below : len (mapping c.in_ok-areas.areas).pages ≤ 16320 =
+    omega (arith, few, ap (λ (m : Mapping). len m.pages) c.in_ok-areas.ensures) in
     few_with_stack (map mapped_by c.in_ok-stack_pages.field-0.items) (mapping c.in_ok-areas.areas).pages
     (length-map c.in_ok-stack_pages.field-0.items mapped_by ∙ stack_long c) below
 
@@ -45,10 +50,12 @@ returns-clause-space c =
     let inside = c.program.inside in
     let view : ProgramGiven = record { args = inside.args.now; env = inside.env.now; random = inside.random } in
     c.of.ensures
-    ∙ ap unreserved (mapping_made image start c.as_slice-segments.result.now c.in_ok-stack.stack.sp c.opening_break.result c.in_ok-stack.stack.bytes
+    ∙ ap unreserved (mapping_made image start c.as_slice-segments.result.now c.in_ok-stack.stack.sp
+    c.opening_break.result c.in_ok-stack.stack.bytes
     (map mapped_by c.in_ok-stack_pages.field-0.items) (mapping c.in_ok-areas.areas) _
     same
-    (c.in_ok-stack.ensures.sp ∙ ap (λ (g : ProgramGiven). stack_pointer (started g (auxiliary_of image))) c.program.view_is)
+    (c.in_ok-stack.ensures.sp
+    ∙ ap (λ (g : ProgramGiven). stack_pointer (started g (auxiliary_of image))) c.program.view_is)
     (c.in_ok-stack.ensures.bytes ∙ ap (λ (a : Auxiliary). stack_bytes (started view a)) c.auxiliary_of-auxiliary.ensures
     ∙ ap (λ (g : ProgramGiven). stack_bytes (started g (auxiliary_of image))) c.program.view_is)
     c.opening_break.ensures c.in_ok-stack_pages.ensures c.in_ok-areas.ensures c.in_ok-lay.ensures.ok)
@@ -59,4 +66,5 @@ returns-clause-pages c =
     let image = c.args.image.now in
     ap (λ (s : AddressSpace). len s.mapping.pages) (returns-clause-space c)
     ∙ pages_counted image (start_of image given.args given.env given.random)
-    (subst (λ (ss : List Segment). All IsPlaced ss) (ap (λ (i : Loadable). i.segments) c.image.view_is) c.image.invariant.placed)
+    (subst (λ (ss : List Segment). All IsPlaced ss) (ap (λ (i : Loadable). i.segments) c.image.view_is)
+    c.image.invariant.placed)

@@ -1,3 +1,4 @@
+-- A page of no segment is of zeros.
 use Rattle.std.proofs.Common.{[], ◌*◌, ◌∙◌, sym, ap, refl}
 use Rattle.image_load.specs.Pages.{image_byte, page_bytes}
 use Rattle.image_load.proofs.Firsts.{no_items}

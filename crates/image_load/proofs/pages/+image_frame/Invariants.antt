@@ -1,3 +1,4 @@
+-- Each segment puts its part of a page once.
 use Rattle.std.proofs.Common.{length}
 use Rattle.image_load.proofs.pages.+image_frame.Given as goal
 

@@ -1,3 +1,4 @@
+-- A segment's pages lie below the limit, and over those of the segments behind it.
 use Rattle.std.proofs.Common.{◌≡◌, length, map, sym, ap, ◌∙◌, arith, rules}
 use Rattle.std.specs.FinMap.{len}
 use Rattle.std.proofs.lemmas.List.{length-map}
@@ -22,11 +23,13 @@ laid_segments-requires t c =
 
 pub end_to_make-end-requires : goal.end_to_make-end-requires
 end_to_make-end-requires t c =
-    some_page c.first-item.result (first_placed c.args.segments.now c.first-item.result c.in-len1-up.len_at_least c.first-item.is c.requires.placed)
+    some_page c.first-item.result (first_placed c.args.segments.now c.first-item.result c.in-len1-up.len_at_least
+    c.first-item.is c.requires.placed)
 
 pub image_pages-requires : goal.image_pages-requires
 image_pages-requires t c =
-    let to_make : IsToMake c.args.all.now c.args.segments.now c.first-item.result (mapping c.in_ok-areas-in-len1-up.areas).pages c.first_to_make-from.result c.end_to_make-end.result =
+    let to_make : IsToMake c.args.all.now c.args.segments.now c.first-item.result
+    (mapping c.in_ok-areas-in-len1-up.areas).pages c.first_to_make-from.result c.end_to_make-end.result =
     record {
       some = c.in-len1-up.len_at_least;
       is = c.first-item.is;
@@ -39,7 +42,8 @@ image_pages-requires t c =
 
 pub lay-requires-clause-end : goal.lay-requires-clause-end
 lay-requires-clause-end t c =
-    let to_make : IsToMake c.args.all.now c.args.segments.now c.first-item.result (mapping c.in_ok-areas-in-len1-up.areas).pages c.first_to_make-from.result c.end_to_make-end.result =
+    let to_make : IsToMake c.args.all.now c.args.segments.now c.first-item.result
+    (mapping c.in_ok-areas-in-len1-up.areas).pages c.first_to_make-from.result c.end_to_make-end.result =
     record {
       some = c.in-len1-up.len_at_least;
       is = c.first-item.is;
@@ -55,7 +59,8 @@ lay-requires-clause-end t c =
 
 pub lay-requires-clause-limit : goal.lay-requires-clause-limit
 lay-requires-clause-limit t c =
-    let to_make : IsToMake c.args.all.now c.args.segments.now c.first-item.result (mapping c.in_ok-areas-in-len1-up.areas).pages c.first_to_make-from.result c.end_to_make-end.result =
+    let to_make : IsToMake c.args.all.now c.args.segments.now c.first-item.result
+    (mapping c.in_ok-areas-in-len1-up.areas).pages c.first_to_make-from.result c.end_to_make-end.result =
     record {
       some = c.in-len1-up.len_at_least;
       is = c.first-item.is;
@@ -64,12 +69,15 @@ lay-requires-clause-limit t c =
       begins = c.first_to_make-from.ensures;
       ends = c.end_to_make-end.ensures;
     } in
-    let whole = laid_whole _ _ _ _ _ _ c.saturating_sub.result (map mapped_by c.in_ok-pages-in-len1-up.pages.items) to_make c.saturating_sub.ensures c.in_ok-pages-in-len1-up.ensures in
+    let whole =
+    laid_whole _ _ _ _ _ _ c.saturating_sub.result (map mapped_by c.in_ok-pages-in-len1-up.pages.items)
+    to_make c.saturating_sub.ensures c.in_ok-pages-in-len1-up.ensures in
     omega (arith, c.requires.limit, ap len whole)
 
 pub returns-in_ok-lay-in-len1-up : goal.returns-in_ok-lay-in-len1-up
 returns-in_ok-lay-in-len1-up t c =
-    let to_make : IsToMake c.args.all.now c.args.segments.now c.first-item.result (mapping c.in_ok-areas-in-len1-up.areas).pages c.first_to_make-from.result c.end_to_make-end.result =
+    let to_make : IsToMake c.args.all.now c.args.segments.now c.first-item.result
+    (mapping c.in_ok-areas-in-len1-up.areas).pages c.first_to_make-from.result c.end_to_make-end.result =
     record {
       some = c.in-len1-up.len_at_least;
       is = c.first-item.is;
@@ -78,6 +86,9 @@ returns-in_ok-lay-in-len1-up t c =
       begins = c.first_to_make-from.ensures;
       ends = c.end_to_make-end.ensures;
     } in
-    let whole = laid_whole _ _ _ _ _ _ c.saturating_sub.result (map mapped_by c.in_ok-pages-in-len1-up.pages.items) to_make c.saturating_sub.ensures c.in_ok-pages-in-len1-up.ensures in
+    let whole =
+    laid_whole _ _ _ _ _ _ c.saturating_sub.result (map mapped_by c.in_ok-pages-in-len1-up.pages.items)
+    to_make c.saturating_sub.ensures c.in_ok-pages-in-len1-up.ensures in
     c.in_ok-lay-in-len1-up.ensures.ok ∙ ap (with_pages (mapping c.in_ok-areas-in-len1-up.areas)) whole
-    ∙ ap (λ (m : Mapping). with_pages m (segments_laid c.args.all.now c.args.segments.now)) c.in_ok-areas-in-len1-up.ensures
+    ∙ ap (λ (m : Mapping). with_pages m (segments_laid c.args.all.now c.args.segments.now))
+    c.in_ok-areas-in-len1-up.ensures

@@ -1,3 +1,4 @@
+-- Each segment's pages are laid once.
 use Rattle.std.proofs.Common.{length}
 use Rattle.image_load.proofs.pages.+laid_segments.Given as goal
 

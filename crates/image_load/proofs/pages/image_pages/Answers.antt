@@ -1,3 +1,4 @@
+-- Each round makes the next page of an image's run.
 use Rattle.std.proofs.Common.{◌≡◌, [], ◌∷◌, ◌++◌, ◌∙◌, map, sym, ap, rules}
 use Rattle.mm_areas.specs.Pages.{mapped_by}
 use Rattle.image_load.specs.Pages.{image_page}
@@ -14,4 +15,5 @@ loop-n-preserved c =
     let before = c.loop-n.pages.items in
     let page = c.in_ok-image_page.field-0 in
     let is : c.push.new.self.items ≡ before ++ page ∷ [] = search rules in
-    run_pushed mapped_by (image_page c.args.segments.now) c.args.first c.loop-n.n before c.push.new.self.items page c.loop-n.invariant is c.in_ok-image_page.ensures
+    run_pushed mapped_by (image_page c.args.segments.now) c.args.first c.loop-n.n before c.push.new.self.items
+    page c.loop-n.invariant is c.in_ok-image_page.ensures

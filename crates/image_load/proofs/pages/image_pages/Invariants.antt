@@ -1,3 +1,4 @@
+-- How far an image's run of pages is made.
 use Rattle.std.proofs.Common.{◌≡◌, map}
 use Rattle.mm_areas.specs.Pages.{mapped_by}
 use Rattle.image_load.specs.Pages.{image_page, run_of}

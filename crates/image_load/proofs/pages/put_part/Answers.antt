@@ -1,3 +1,4 @@
+-- The bytes of a segment that lie on a page are put there, and those of no other.
 use Rattle.std.proofs.Common.{◌≡◌, ℕ, List, ◌+◌, ◌-◌, ◌*◌, ◌∙◌, ◌≤◌, ap, length, min, max, arith}
 use Rattle.std.specs.Prelude.{slice_range}
 use Rattle.mm_frames.specs.Frames.{bytes_of}
@@ -22,6 +23,14 @@ returns-in_ok-write_bytes c byte is =
 
 pub returns-else-from-end : goal.returns-else-from-end
 returns-else-from-end c byte is =
-    let apart : min (c.args.address + length c.args.bytes.now) (4096 * c.args.page + 4096) ≤ max c.args.address (4096 * c.args.page) =
-    omega (arith, c.if-from-end.false, c.max-from.ensures, c.min-end.ensures, c.from-start.ensures, c.from-address.ensures) in
+    let apart : min (c.args.address + length c.args.bytes.now) (4096 * c.args.page + 4096)
+    ≤ max c.args.address (4096 * c.args.page) =
+    omega (
+      arith,
+      c.if-from-end.false,
+      c.max-from.ensures,
+      c.min-end.ensures,
+      c.from-start.ensures,
+      c.from-address.ensures,
+    ) in
     none_put c.args.address (4096 * c.args.page) 4096 c.args.bytes.now (bytes_of c.args.frame.now) byte apart is

@@ -1,3 +1,4 @@
+-- A page of the stack has that page's part of the opening bytes.
 use Rattle.std.proofs.Common.{◌≡◌, ℕ, ◌*◌, ◌∙◌, ap, refl}
 use Rattle.mm_frames.specs.Frames.{bytes_of}
 use Rattle.mm_areas.specs.Pages.Held.{Bytes}

@@ -1,3 +1,4 @@
+-- Each round makes the stack's next page.
 use Rattle.std.proofs.Common.{◌≡◌, [], ◌∷◌, ◌++◌, ◌∙◌, map, sym, ap, rules}
 use Rattle.mm_areas.specs.Pages.{mapped_by}
 use Rattle.image_load.specs.Pages.{stack_page, stack_first}
@@ -14,4 +15,5 @@ loop-n-preserved c =
     let before = c.loop-n.pages.items in
     let page = c.in_ok-stack_page.field-0 in
     let is : c.push.new.self.items ≡ before ++ page ∷ [] = search rules in
-    run_pushed mapped_by (stack_page c.args.stack.now.sp c.args.stack.now.bytes) stack_first c.loop-n.n before c.push.new.self.items page c.loop-n.invariant is c.in_ok-stack_page.ensures
+    run_pushed mapped_by (stack_page c.args.stack.now.sp c.args.stack.now.bytes) stack_first c.loop-n.n
+    before c.push.new.self.items page c.loop-n.invariant is c.in_ok-stack_page.ensures

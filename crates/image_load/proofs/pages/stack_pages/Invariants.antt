@@ -1,3 +1,4 @@
+-- How far the stack's pages are made.
 use Rattle.std.proofs.Common.{◌≡◌, map}
 use Rattle.mm_areas.specs.Pages.{mapped_by}
 use Rattle.image_load.specs.Pages.{run_of, stack_first, stack_page}

@@ -1,3 +1,4 @@
+-- Each segment is looked at once for its end.
 use Rattle.std.proofs.Common.{length}
 use Rattle.image_load.proofs.places.+highest_end.Given as goal
 

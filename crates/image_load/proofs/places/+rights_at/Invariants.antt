@@ -1,3 +1,4 @@
+-- Each segment is looked at once for its rights.
 use Rattle.std.proofs.Common.{length}
 use Rattle.image_load.proofs.places.+rights_at.Given as goal
 

@@ -1,3 +1,4 @@
+-- What is laid out is the opening stack of the strings, up to its top.
 use Rattle.std.proofs.Common.{arith}
 use Rattle.image_load.specs.Stacks.{ProgramStart}
 use Rattle.image_load.proofs.Stacks.{stack_laid}

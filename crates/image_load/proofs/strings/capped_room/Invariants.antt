@@ -1,3 +1,4 @@
+-- How far the room of strings is counted.
 use Rattle.std.proofs.Common.{◌≡◌, take, min}
 use Rattle.image_load.specs.Stacks.{strings_room}
 use Rattle.image_load.proofs.strings.capped_room.Given as goal

@@ -1,3 +1,4 @@
+-- How far strings are put, each with its zero byte.
 use Rattle.std.proofs.Common.{◌≡◌, ◌++◌, take}
 use Rattle.image_load.specs.Stacks.{strings_bytes}
 use Rattle.image_load.proofs.strings.put_strings.Given as goal

@@ -1,3 +1,4 @@
+-- How far the bytes of strings are counted.
 use Rattle.std.proofs.Common.{◌≡◌, take}
 use Rattle.image_load.specs.Stacks.{strings_length}
 use Rattle.image_load.proofs.strings.strings_length.Given as goal

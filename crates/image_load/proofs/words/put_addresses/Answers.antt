@@ -1,3 +1,4 @@
+-- Each round puts a string's address, and goes on behind that string.
 use Rattle.std.proofs.Common.{◌++◌, ◌∙◌, sym, ap, arith, length}
 use Rattle.std.specs.List.{flat_map}
 use Rattle.sn_bytes.specs.Fields.{little_bytes}

@@ -1,3 +1,4 @@
+-- How far the addresses of strings are put.
 use Rattle.std.proofs.Common.{◌≡◌, ◌+◌, ◌++◌, take}
 use Rattle.std.specs.List.{flat_map}
 use Rattle.sn_bytes.specs.Fields.{little_bytes}

@@ -1,3 +1,4 @@
+-- Each round puts one word of the auxiliary vector.
 use Rattle.std.proofs.Common.{◌++◌, ◌∙◌, get_or, sym, ap}
 use Rattle.sn_bytes.specs.Fields.{little_bytes}
 use Rattle.image_load.specs.Stacks.{auxiliary_vector}

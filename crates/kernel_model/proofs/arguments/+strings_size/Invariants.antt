@@ -1,3 +1,4 @@
+-- Each string is counted once.
 use Rattle.std.proofs.Common.{length}
 use Rattle.kernel_model.proofs.arguments.+strings_size.Given as goal
 

@@ -1,3 +1,4 @@
+-- The roots from a tree on have their numbers.
 use Rattle.std.proofs.Common.{◌≡◌, ◌+◌, drop}
 use Rattle.kernel_model.specs.Opening.{rooted}
 use Rattle.kernel_model.proofs.beginning.number_roots.Given as goal

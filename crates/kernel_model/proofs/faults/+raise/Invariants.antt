@@ -1,3 +1,4 @@
+-- Each rise is met once.
 use Rattle.std.proofs.Common.{length}
 use Rattle.kernel_model.proofs.faults.+raise.Given as goal
 

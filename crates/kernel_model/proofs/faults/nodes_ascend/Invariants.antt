@@ -1,3 +1,4 @@
+-- The nodes of rises ascend as far as those that are left do.
 use Rattle.std.proofs.Common.{◌≡◌, drop}
 use Rattle.kernel_model.specs.Faulted.{ascend_from, nodes_of}
 use Rattle.kernel_model.proofs.faults.nodes_ascend.Given as goal

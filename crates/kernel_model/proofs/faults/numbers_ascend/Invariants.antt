@@ -1,3 +1,4 @@
+-- Fresh numbers ascend as far as those that are left do.
 use Rattle.std.proofs.Common.{◌≡◌, drop}
 use Rattle.kernel_model.specs.Faulted.{ascend_from, numbers_of}
 use Rattle.kernel_model.proofs.faults.numbers_ascend.Given as goal

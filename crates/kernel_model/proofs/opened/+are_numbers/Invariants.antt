@@ -1,3 +1,4 @@
+-- Each number is looked at once.
 use Rattle.std.proofs.Common.{length}
 use Rattle.kernel_model.proofs.opened.+are_numbers.Given as goal
 

@@ -1,3 +1,4 @@
+-- Each opening task is looked at once.
 use Rattle.std.proofs.Common.{length}
 use Rattle.kernel_model.proofs.opened.+begin_words.Given as goal
 

@@ -1,3 +1,4 @@
+-- Each pair of names is compared once.
 use Rattle.std.proofs.Common.{length}
 use Rattle.kernel_model.proofs.opened.+same_names.Given as goal
 

@@ -1,3 +1,4 @@
+-- How far the key has the seed's bytes.
 use Rattle.std.proofs.Common.{◌≡◌, ℕ, ◌<◌, length, get_or}
 use Rattle.kernel_model.proofs.random.key_of.Given as goal
 

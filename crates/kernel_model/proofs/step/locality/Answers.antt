@@ -1,3 +1,4 @@
+-- What an entry does depends on the parts that it uses, and is to those that it touches.
 use Rattle.kernel_model.proofs.LocalityLaws.{same_reads, rest_stays, touched_alike}
 use Rattle.kernel_model.proofs.step.locality.Goals as goal
 

@@ -1,3 +1,4 @@
+-- Rises are of nodes with numbers where each is in the table.
 use Rattle.std.proofs.Common.{[], sym, ◌∙◌, rules, tests}
 use Rattle.std.specs.FinMap as map
 use Rattle.std.proofs.lemmas.Iterator.{YieldsList-from_slice}
@@ -8,5 +9,6 @@ use Rattle.kernel_model.proofs.kernel.Kernel.all_known.Goals as goal
 
 pub returns : goal.returns
 returns c =
-    all_from_yields_List (λ (r : Rise). map.contains_key c.args.self.now.nodes r.ino) _ _ _ c.all.ensures.ran (YieldsList-from_slice c.args.rises.now cc) (λ x b q k. search (rules, tests))
+    all_from_yields_List (λ (r : Rise). map.contains_key c.args.self.now.nodes r.ino) _ _ _ c.all.ensures.ran
+    (YieldsList-from_slice c.args.rises.now cc) (λ x b q k. search (rules, tests))
     ∙ sym (all_known_is c.args.rises.now [] c.args.self.now)

@@ -1,3 +1,4 @@
+-- A call's reply is of 64 bits, and its outcome changes its task alone.
 use mir.Val.{SFits, to_z, of_z}
 use mir.Syntax.{w64}
 use Rattle.std.proofs.Common.{◌≡◌, ap, sym, ◌∙◌, rules}
@@ -14,10 +15,17 @@ pub returns-in-Returns-clause-fits : goal.returns-in-Returns-clause-fits
 returns-in-Returns-clause-fits c =
     let replies : SFits w64 c.args.reply = search rules in
     let values : SFits w64 c.in-Returns.value = search rules in
-    let row : outcome_in (parts c.args.self.now) (answered c.args.caller.number c.args.caller.task c.args.reply c.args.outcome) ≡ one_task c.args.caller.number c.returned-after.result =
-    ap (λ o. outcome_in (parts c.args.self.now) (answered c.args.caller.number c.args.caller.task c.args.reply o)) c.in-Returns.is
-    ∙ ap (λ z. outcome_in (parts c.args.self.now) (answered c.args.caller.number c.args.caller.task z (Returns c.in-Returns.value))) (sym (to_z-of_z replies))
-    ∙ ap (λ z. outcome_in (parts c.args.self.now) (answered c.args.caller.number c.args.caller.task (to_z w64 (of_z w64 c.args.reply)) (Returns z))) (sym (to_z-of_z values))
+    let row : outcome_in (parts c.args.self.now)
+    (answered c.args.caller.number c.args.caller.task c.args.reply c.args.outcome)
+    ≡ one_task c.args.caller.number c.returned-after.result =
+    ap (λ o. outcome_in (parts c.args.self.now) (answered c.args.caller.number c.args.caller.task c.args.reply o))
+    c.in-Returns.is
+    ∙ ap
+    (λ z. outcome_in (parts c.args.self.now) (answered c.args.caller.number c.args.caller.task z
+    (Returns c.in-Returns.value))) (sym (to_z-of_z replies))
+    ∙ ap
+    (λ z. outcome_in (parts c.args.self.now) (answered c.args.caller.number c.args.caller.task
+    (to_z w64 (of_z w64 c.args.reply)) (Returns z))) (sym (to_z-of_z values))
     ∙ c.returned-after.ensures c.args.caller.number (parts c.args.self.now) in
     same_fits (one_task c.args.caller.number c.returned-after.result) _ c.set_task.result row c.set_task.ensures.fits
 
@@ -25,27 +33,47 @@ pub returns-in-Returns-clause-ok : goal.returns-in-Returns-clause-ok
 returns-in-Returns-clause-ok c =
     let replies : SFits w64 c.args.reply = search rules in
     let values : SFits w64 c.in-Returns.value = search rules in
-    let row : outcome_in (parts c.args.self.now) (answered c.args.caller.number c.args.caller.task c.args.reply c.args.outcome) ≡ one_task c.args.caller.number c.returned-after.result =
-    ap (λ o. outcome_in (parts c.args.self.now) (answered c.args.caller.number c.args.caller.task c.args.reply o)) c.in-Returns.is
-    ∙ ap (λ z. outcome_in (parts c.args.self.now) (answered c.args.caller.number c.args.caller.task z (Returns c.in-Returns.value))) (sym (to_z-of_z replies))
-    ∙ ap (λ z. outcome_in (parts c.args.self.now) (answered c.args.caller.number c.args.caller.task (to_z w64 (of_z w64 c.args.reply)) (Returns z))) (sym (to_z-of_z values))
+    let row : outcome_in (parts c.args.self.now)
+    (answered c.args.caller.number c.args.caller.task c.args.reply c.args.outcome)
+    ≡ one_task c.args.caller.number c.returned-after.result =
+    ap (λ o. outcome_in (parts c.args.self.now) (answered c.args.caller.number c.args.caller.task c.args.reply o))
+    c.in-Returns.is
+    ∙ ap
+    (λ z. outcome_in (parts c.args.self.now) (answered c.args.caller.number c.args.caller.task z
+    (Returns c.in-Returns.value))) (sym (to_z-of_z replies))
+    ∙ ap
+    (λ z. outcome_in (parts c.args.self.now) (answered c.args.caller.number c.args.caller.task
+    (to_z w64 (of_z w64 c.args.reply)) (Returns z))) (sym (to_z-of_z values))
     ∙ c.returned-after.ensures c.args.caller.number (parts c.args.self.now) in
-    same_ok (one_task c.args.caller.number c.returned-after.result) _ c.args.self.now c.set_task.new.self row c.set_task.ensures.ok
+    same_ok (one_task c.args.caller.number c.returned-after.result) _ c.args.self.now c.set_task.new.self
+    row c.set_task.ensures.ok
 
 pub returns-in-Exits-clause-fits : goal.returns-in-Exits-clause-fits
 returns-in-Exits-clause-fits c =
     let replies : SFits w64 c.args.reply = search rules in
-    let row : outcome_in (parts c.args.self.now) (answered c.args.caller.number c.args.caller.task c.args.reply c.args.outcome) ≡ one_task c.args.caller.number c.exited-after.result =
-    ap (λ o. outcome_in (parts c.args.self.now) (answered c.args.caller.number c.args.caller.task c.args.reply o)) c.in-Exits.is
-    ∙ ap (λ z. outcome_in (parts c.args.self.now) (answered c.args.caller.number c.args.caller.task z (Exits c.in-Exits.code))) (sym (to_z-of_z replies))
+    let row : outcome_in (parts c.args.self.now)
+    (answered c.args.caller.number c.args.caller.task c.args.reply c.args.outcome)
+    ≡ one_task c.args.caller.number c.exited-after.result =
+    ap (λ o. outcome_in (parts c.args.self.now) (answered c.args.caller.number c.args.caller.task c.args.reply o))
+    c.in-Exits.is
+    ∙ ap
+    (λ z. outcome_in (parts c.args.self.now) (answered c.args.caller.number c.args.caller.task z
+    (Exits c.in-Exits.code))) (sym (to_z-of_z replies))
     ∙ c.exited-after.ensures c.args.caller.number (parts c.args.self.now) in
-    same_fits (one_task c.args.caller.number c.exited-after.result) _ c.set_task-in-Exits.result row c.set_task-in-Exits.ensures.fits
+    same_fits (one_task c.args.caller.number c.exited-after.result) _ c.set_task-in-Exits.result row
+    c.set_task-in-Exits.ensures.fits
 
 pub returns-in-Exits-clause-ok : goal.returns-in-Exits-clause-ok
 returns-in-Exits-clause-ok c =
     let replies : SFits w64 c.args.reply = search rules in
-    let row : outcome_in (parts c.args.self.now) (answered c.args.caller.number c.args.caller.task c.args.reply c.args.outcome) ≡ one_task c.args.caller.number c.exited-after.result =
-    ap (λ o. outcome_in (parts c.args.self.now) (answered c.args.caller.number c.args.caller.task c.args.reply o)) c.in-Exits.is
-    ∙ ap (λ z. outcome_in (parts c.args.self.now) (answered c.args.caller.number c.args.caller.task z (Exits c.in-Exits.code))) (sym (to_z-of_z replies))
+    let row : outcome_in (parts c.args.self.now)
+    (answered c.args.caller.number c.args.caller.task c.args.reply c.args.outcome)
+    ≡ one_task c.args.caller.number c.exited-after.result =
+    ap (λ o. outcome_in (parts c.args.self.now) (answered c.args.caller.number c.args.caller.task c.args.reply o))
+    c.in-Exits.is
+    ∙ ap
+    (λ z. outcome_in (parts c.args.self.now) (answered c.args.caller.number c.args.caller.task z
+    (Exits c.in-Exits.code))) (sym (to_z-of_z replies))
     ∙ c.exited-after.ensures c.args.caller.number (parts c.args.self.now) in
-    same_ok (one_task c.args.caller.number c.exited-after.result) _ c.args.self.now c.set_task-in-Exits.new.self row c.set_task-in-Exits.ensures.ok
+    same_ok (one_task c.args.caller.number c.exited-after.result) _ c.args.self.now c.set_task-in-Exits.new.self
+    row c.set_task-in-Exits.ensures.ok

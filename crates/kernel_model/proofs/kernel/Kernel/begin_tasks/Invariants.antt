@@ -1,3 +1,4 @@
+-- What is left to begin comes to what the whole does.
 use Rattle.std.proofs.Common.{◌≡◌, ◌+◌, drop}
 use Rattle.kernel_model.specs.Opening.{tasks_begun}
 use Rattle.kernel_model.proofs.kernel.Kernel.begin_tasks.Given as goal

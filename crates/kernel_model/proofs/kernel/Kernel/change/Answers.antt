@@ -1,3 +1,4 @@
+-- A call does its row where it met nothing, and else leaves what it met and fails.
 use mir.Val.{SFits, to_z, of_z}
 use mir.Syntax.{w64}
 use Rattle.std.proofs.Common.{◌≡◌, Option, List, Some, ap, sym, ◌∙◌, subst, is_some, unwrap_or, rules}
@@ -15,9 +16,12 @@ pub returns-then-is_quiet-clause-fits : goal.returns-then-is_quiet-clause-fits
 returns-then-is_quiet-clause-fits c =
     let fits : SFits w64 c.in-Call.reply = search rules in
     let row =
-    row_quiet c.args.self.now c.live.new.self c.args.entry.now c.task-number.result c.in-Call.task c.in-Call.no c.in-Call.args c.in-Call.given c.in-Call.reply (to_z w64 (of_z w64 c.in-Call.reply)) c.in-Some.running
-    c.live.ensures.kept c.task-number.ensures (c.in_ok-running.ensures.running ∙ c.in-Some.is) c.in-Call.is (to_z-of_z fits) (sym c.in_ok-stands-in-Call.ensures.stands ∙ c.if-not-stands.false)
-    c.stands_at.new.space c.in_ok-outcome-in-Call.outcome (c.in_ok-stands-in-Call.ensures.kept c.if-not-stands.false) (sym c.is_quiet.ensures ∙ c.if-is_quiet.true)
+    row_quiet c.args.self.now c.live.new.self c.args.entry.now c.task-number.result c.in-Call.task c.in-Call.no
+    c.in-Call.args c.in-Call.given c.in-Call.reply (to_z w64 (of_z w64 c.in-Call.reply)) c.in-Some.running
+    c.live.ensures.kept c.task-number.ensures (c.in_ok-running.ensures.running ∙ c.in-Some.is) c.in-Call.is
+    (to_z-of_z fits) (sym c.in_ok-stands-in-Call.ensures.stands ∙ c.if-not-stands.false)
+    c.stands_at.new.space c.in_ok-outcome-in-Call.outcome (c.in_ok-stands-in-Call.ensures.kept c.if-not-stands.false)
+    (sym c.is_quiet.ensures ∙ c.if-is_quiet.true)
     (c.in_ok-outcome-in-Call.ensures.row (parts c.live.new.self) (sym c.len.ensures)) in
     let P : Option (List Change) → Type 0 = λ o. IfOk c.answer.result (λ b. b ≡ is_some o) in
     subst P (sym row) c.answer.ensures.fits
@@ -26,20 +30,31 @@ pub returns-then-is_quiet-clause-ok : goal.returns-then-is_quiet-clause-ok
 returns-then-is_quiet-clause-ok c =
     let fits : SFits w64 c.in-Call.reply = search rules in
     let row =
-    row_quiet c.args.self.now c.live.new.self c.args.entry.now c.task-number.result c.in-Call.task c.in-Call.no c.in-Call.args c.in-Call.given c.in-Call.reply (to_z w64 (of_z w64 c.in-Call.reply)) c.in-Some.running
-    c.live.ensures.kept c.task-number.ensures (c.in_ok-running.ensures.running ∙ c.in-Some.is) c.in-Call.is (to_z-of_z fits) (sym c.in_ok-stands-in-Call.ensures.stands ∙ c.if-not-stands.false)
-    c.stands_at.new.space c.in_ok-outcome-in-Call.outcome (c.in_ok-stands-in-Call.ensures.kept c.if-not-stands.false) (sym c.is_quiet.ensures ∙ c.if-is_quiet.true)
+    row_quiet c.args.self.now c.live.new.self c.args.entry.now c.task-number.result c.in-Call.task c.in-Call.no
+    c.in-Call.args c.in-Call.given c.in-Call.reply (to_z w64 (of_z w64 c.in-Call.reply)) c.in-Some.running
+    c.live.ensures.kept c.task-number.ensures (c.in_ok-running.ensures.running ∙ c.in-Some.is) c.in-Call.is
+    (to_z-of_z fits) (sym c.in_ok-stands-in-Call.ensures.stands ∙ c.if-not-stands.false)
+    c.stands_at.new.space c.in_ok-outcome-in-Call.outcome (c.in_ok-stands-in-Call.ensures.kept c.if-not-stands.false)
+    (sym c.is_quiet.ensures ∙ c.if-is_quiet.true)
     (c.in_ok-outcome-in-Call.ensures.row (parts c.live.new.self) (sym c.len.ensures)) in
-    let P : Option (List Change) → Type 0 = λ o. OnOk c.answer.result (c.answer.new.self ≡ unwrap_or (changed_by o c.args.self.now) c.args.self.now) in
+    let P : Option (List Change) → Type 0 =
+    λ o. OnOk c.answer.result (c.answer.new.self ≡ unwrap_or (changed_by o c.args.self.now) c.args.self.now) in
     subst P (sym row)
-    (subst (λ (k : Kernel). OnOk c.answer.result (c.answer.new.self ≡ unwrap_or (changed_by (outcome_in (parts c.live.new.self) (answered c.task-number.result c.in-Some.running.task (to_z w64 (of_z w64 c.in-Call.reply)) c.in_ok-outcome-in-Call.outcome)) k) k)) c.live.ensures.kept c.answer.ensures.ok)
+    (subst (λ (k : Kernel). OnOk c.answer.result (c.answer.new.self
+    ≡ unwrap_or
+    (changed_by
+    (outcome_in (parts c.live.new.self) (answered c.task-number.result c.in-Some.running.task
+    (to_z w64 (of_z w64 c.in-Call.reply)) c.in_ok-outcome-in-Call.outcome)) k) k)) c.live.ensures.kept
+    c.answer.ensures.ok)
 
 pub returns-else-is_quiet-clause-fits : goal.returns-else-is_quiet-clause-fits
 returns-else-is_quiet-clause-fits c =
     let fits : SFits w64 c.in-Call.reply = search rules in
     let row =
-    row_given c.args.self.now c.live.new.self c.args.entry.now c.task-number.result c.in-Call.task c.in-Call.no c.in-Call.args c.in-Call.given c.in-Call.reply (to_z w64 (of_z w64 c.in-Call.reply)) c.in-Some.running
-    c.live.ensures.kept c.task-number.ensures (c.in_ok-running.ensures.running ∙ c.in-Some.is) c.in-Call.is (to_z-of_z fits) (sym c.in_ok-stands-in-Call.ensures.stands ∙ c.if-not-stands.false) in
+    row_given c.args.self.now c.live.new.self c.args.entry.now c.task-number.result c.in-Call.task c.in-Call.no
+    c.in-Call.args c.in-Call.given c.in-Call.reply (to_z w64 (of_z w64 c.in-Call.reply)) c.in-Some.running
+    c.live.ensures.kept c.task-number.ensures (c.in_ok-running.ensures.running ∙ c.in-Some.is) c.in-Call.is
+    (to_z-of_z fits) (sym c.in_ok-stands-in-Call.ensures.stands ∙ c.if-not-stands.false) in
     let P : Option (List Change) → Type 0 = λ o. IfOk c.by_given.result (λ b. b ≡ is_some o) in
     subst P (sym row) (c.by_given.ensures.fits c.in-Some.running.space c.in-Call.no c.in-Call.args)
 
@@ -47,8 +62,17 @@ pub returns-else-is_quiet-clause-ok : goal.returns-else-is_quiet-clause-ok
 returns-else-is_quiet-clause-ok c =
     let fits : SFits w64 c.in-Call.reply = search rules in
     let row =
-    row_given c.args.self.now c.live.new.self c.args.entry.now c.task-number.result c.in-Call.task c.in-Call.no c.in-Call.args c.in-Call.given c.in-Call.reply (to_z w64 (of_z w64 c.in-Call.reply)) c.in-Some.running
-    c.live.ensures.kept c.task-number.ensures (c.in_ok-running.ensures.running ∙ c.in-Some.is) c.in-Call.is (to_z-of_z fits) (sym c.in_ok-stands-in-Call.ensures.stands ∙ c.if-not-stands.false) in
-    let P : Option (List Change) → Type 0 = λ o. OnOk c.by_given.result (c.by_given.new.self ≡ unwrap_or (changed_by o c.args.self.now) c.args.self.now) in
+    row_given c.args.self.now c.live.new.self c.args.entry.now c.task-number.result c.in-Call.task c.in-Call.no
+    c.in-Call.args c.in-Call.given c.in-Call.reply (to_z w64 (of_z w64 c.in-Call.reply)) c.in-Some.running
+    c.live.ensures.kept c.task-number.ensures (c.in_ok-running.ensures.running ∙ c.in-Some.is) c.in-Call.is
+    (to_z-of_z fits) (sym c.in_ok-stands-in-Call.ensures.stands ∙ c.if-not-stands.false) in
+    let P : Option (List Change) → Type 0 =
+    λ o. OnOk c.by_given.result (c.by_given.new.self ≡ unwrap_or (changed_by o c.args.self.now) c.args.self.now) in
     subst P (sym row)
-    (subst (λ (k : Kernel). OnOk c.by_given.result (c.by_given.new.self ≡ unwrap_or (changed_by (outcome_in (parts c.live.new.self) (by_given c.task-number.result c.in-Some.running.task c.in-Some.running.space c.in-Call.no c.in-Call.args (to_z w64 (of_z w64 c.in-Call.reply)) c.in-Call.given)) k) k)) c.live.ensures.kept (c.by_given.ensures.ok c.in-Some.running.space c.in-Call.no c.in-Call.args))
+    (subst (λ (k : Kernel). OnOk c.by_given.result (c.by_given.new.self
+    ≡ unwrap_or
+    (changed_by
+    (outcome_in (parts c.live.new.self)
+    (by_given c.task-number.result c.in-Some.running.task c.in-Some.running.space c.in-Call.no c.in-Call.args
+    (to_z w64 (of_z w64 c.in-Call.reply)) c.in-Call.given)) k) k)) c.live.ensures.kept
+    (c.by_given.ensures.ok c.in-Some.running.space c.in-Call.no c.in-Call.args))

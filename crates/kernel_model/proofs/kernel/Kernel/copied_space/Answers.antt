@@ -1,3 +1,4 @@
+-- An address space that was copied stands in its place as before.
 use Rattle.std.proofs.Common.{◌≡◌, ℕ, Option, Some, ap, sym, ◌∙◌}
 use Rattle.std.specs.Ordering.{nat_cmp}
 use Rattle.std.specs.FinMap as map
@@ -15,8 +16,10 @@ put_back k number space after found same =
 
 pub returns-in_err-copy-in-Some-clause-kept : goal.returns-in_err-copy-in-Some-clause-kept
 returns-in_err-copy-in-Some-clause-kept c =
-    put_back c.args.self.now c.args.number c.in-Some.space.now c.copy.new.self c.in-Some.ensures.value c.copy.ensures.kept
+    put_back c.args.self.now c.args.number c.in-Some.space.now c.copy.new.self c.in-Some.ensures.value
+    c.copy.ensures.kept
 
 pub returns-in_ok-copy-in-Some-clause-kept : goal.returns-in_ok-copy-in-Some-clause-kept
 returns-in_ok-copy-in-Some-clause-kept c =
-    put_back c.args.self.now c.args.number c.in-Some.space.now c.copy.new.self c.in-Some.ensures.value c.copy.ensures.kept
+    put_back c.args.self.now c.args.number c.in-Some.space.now c.copy.new.self c.in-Some.ensures.value
+    c.copy.ensures.kept

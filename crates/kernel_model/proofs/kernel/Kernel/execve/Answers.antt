@@ -1,10 +1,12 @@
+-- An opening execve goes on where its strings are not too long.
 use Rattle.std.proofs.Common.{sym}
 use Rattle.kernel_model.proofs.WalkLemmas.{as_walked, fitting_starts, none_starts}
 use Rattle.kernel_model.proofs.kernel.Kernel.execve.Goals as goal
 
 pub returns-clause-does : goal.returns-clause-does
 returns-clause-does c =
-    as_walked c.args.self.now c.execve_walked-2.new.self c.args.program.now c.name_in_path-name.result.now c.args.given.now c.in_ok-walk.walk.draws c.in_ok-walk.walk.image c.execve_walked-2.result
+    as_walked c.args.self.now c.execve_walked-2.new.self c.args.program.now c.name_in_path-name.result.now
+    c.args.given.now c.in_ok-walk.walk.draws c.in_ok-walk.walk.image c.execve_walked-2.result
     (sym c.if-is_too_long.ensures) c.name_in_path-name.ensures c.in_ok-walk.ensures c.execve_walked-2.ensures.does
 
 pub returns-then-is_too_long-clause-may : goal.returns-then-is_too_long-clause-may

@@ -1,3 +1,4 @@
+-- An execve that walked there answers EIO where it met a rise, and goes on where it met none.
 use Rattle.std.proofs.Common.{ap, sym, ◌∙◌}
 use Rattle.std.specs.Prelude.{not}
 use Rattle.kernel_model.specs.Faulted.{faulted}
@@ -9,8 +10,17 @@ use Rattle.kernel_model.proofs.kernel.Kernel.execve_walked.Goals as goal
 
 pub returns-then-not-branch-clause-does : goal.returns-then-not-branch-clause-does
 returns-then-not-branch-clause-does c =
-    rises_unfit c.args.self.now c.args.name.now c.args.given.now c.args.walk.draws c.args.walk.image (has_any_not c.args.given.now.rises c.is_empty.result c.is_empty.ensures ∙ ap not c.if-is_empty.false) (sym c.is_in_order.ensures ∙ c.if-not-is_in_order.false) (done_nothing (outcome (parts c.args.self.now) (faulted c.args.given.now)) c.in_ok-faulted.field-0 c.args.self.now c.faulted.new.self c.in_ok-faulted.ensures.fits c.in_ok-faulted.ensures.ok c.if-not-branch.true).0
+    rises_unfit c.args.self.now c.args.name.now c.args.given.now c.args.walk.draws c.args.walk.image
+    (has_any_not c.args.given.now.rises c.is_empty.result c.is_empty.ensures ∙ ap not c.if-is_empty.false)
+    (sym c.is_in_order.ensures ∙ c.if-not-is_in_order.false)
+    (done_nothing (outcome (parts c.args.self.now) (faulted c.args.given.now)) c.in_ok-faulted.field-0
+    c.args.self.now c.faulted.new.self c.in_ok-faulted.ensures.fits c.in_ok-faulted.ensures.ok
+    c.if-not-branch.true).0
 
 pub returns-clause-does : goal.returns-clause-does
 returns-clause-does c =
-    rises_fail c.args.self.now c.args.name.now c.args.given.now c.args.walk.draws c.args.walk.image (has_any_not c.args.given.now.rises c.is_empty.result c.is_empty.ensures ∙ ap not c.if-is_empty.false) (sym c.is_in_order.ensures ∙ c.if-not-is_in_order.false) c.faulted.new.self (done_all (outcome (parts c.args.self.now) (faulted c.args.given.now)) c.in_ok-faulted.field-0 c.args.self.now c.faulted.new.self c.in_ok-faulted.ensures.fits c.in_ok-faulted.ensures.ok c.if-not-branch.false)
+    rises_fail c.args.self.now c.args.name.now c.args.given.now c.args.walk.draws c.args.walk.image
+    (has_any_not c.args.given.now.rises c.is_empty.result c.is_empty.ensures ∙ ap not c.if-is_empty.false)
+    (sym c.is_in_order.ensures ∙ c.if-not-is_in_order.false) c.faulted.new.self
+    (done_all (outcome (parts c.args.self.now) (faulted c.args.given.now)) c.in_ok-faulted.field-0 c.args.self.now
+    c.faulted.new.self c.in_ok-faulted.ensures.fits c.in_ok-faulted.ensures.ok c.if-not-branch.false)

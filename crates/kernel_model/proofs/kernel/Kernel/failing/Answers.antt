@@ -1,3 +1,4 @@
+-- A call in which a host call failed leaves what it met and answers EIO.
 use Rattle.std.proofs.Common.{◌≡◌, Some, None, refl, ap, sym, ◌∙◌}
 use mir.Val.{to_z, of_z}
 use mir.Syntax.{w64}
@@ -13,36 +14,89 @@ use Rattle.kernel_model.specs.Step.{failing, with_registers}
 use Rattle.kernel_model.specs.Parts.{parts, put}
 use Rattle.kernel_model.specs.Parts.{run as outcome}
 use Rattle.kernel_model.specs.InPlace.{changed_by}
-use Rattle.kernel_model.proofs.StepLemmas.{failing_other, failing_none, failing_some, faulted_tasks, refused_fits, refused_ok, taken_fits, taken_ok, done_all, done_nothing, task_put}
+use Rattle.kernel_model.proofs.StepLemmas.{failing_other, failing_none, failing_some, faulted_tasks, refused_fits}
+use Rattle.kernel_model.proofs.StepLemmas.{refused_ok, taken_fits, taken_ok, done_all, done_nothing, task_put}
 use Rattle.kernel_model.proofs.kernel.Kernel.failing.Goals as goal
 
 pub returns-then-not-is_failure-clause-fits : goal.returns-then-not-is_failure-clause-fits
-returns-then-not-is_failure-clause-fits c = refused_fits (outcome (parts c.args.self.now) (failing c.args.caller.number c.args.caller.task c.args.reply c.args.given.now)) (failing_other c.args.caller.number c.args.caller.task c.args.reply c.args.given.now (parts c.args.self.now) (ap (λ z. int_eq z (reply_of EIO)) (sym (to_z-of_z c.ranges.reply)) ∙ sym c.is_failure.ensures ∙ c.if-not-is_failure.true))
+returns-then-not-is_failure-clause-fits c =
+    refused_fits
+    (outcome (parts c.args.self.now) (failing c.args.caller.number c.args.caller.task c.args.reply
+    c.args.given.now)) (failing_other c.args.caller.number c.args.caller.task c.args.reply c.args.given.now
+    (parts c.args.self.now) (ap (λ z. int_eq z (reply_of EIO)) (sym (to_z-of_z c.ranges.reply))
+    ∙ sym c.is_failure.ensures ∙ c.if-not-is_failure.true))
 
 pub returns-then-not-is_failure-clause-ok : goal.returns-then-not-is_failure-clause-ok
-returns-then-not-is_failure-clause-ok c = refused_ok (outcome (parts c.args.self.now) (failing c.args.caller.number c.args.caller.task c.args.reply c.args.given.now)) c.args.self.now c.args.self.now (failing_other c.args.caller.number c.args.caller.task c.args.reply c.args.given.now (parts c.args.self.now) (ap (λ z. int_eq z (reply_of EIO)) (sym (to_z-of_z c.ranges.reply)) ∙ sym c.is_failure.ensures ∙ c.if-not-is_failure.true)) refl
+returns-then-not-is_failure-clause-ok c =
+    refused_ok
+    (outcome (parts c.args.self.now) (failing c.args.caller.number c.args.caller.task c.args.reply
+    c.args.given.now)) c.args.self.now c.args.self.now
+    (failing_other c.args.caller.number c.args.caller.task c.args.reply c.args.given.now (parts c.args.self.now)
+    (ap (λ z. int_eq z (reply_of EIO)) (sym (to_z-of_z c.ranges.reply)) ∙ sym c.is_failure.ensures
+    ∙ c.if-not-is_failure.true)) refl
 
 pub returns-then-not-branch-clause-fits : goal.returns-then-not-branch-clause-fits
-returns-then-not-branch-clause-fits c = refused_fits (outcome (parts c.args.self.now) (failing c.args.caller.number c.args.caller.task c.args.reply c.args.given.now)) (failing_none c.args.caller.number c.args.caller.task c.args.reply c.args.given.now (parts c.args.self.now) (done_nothing (outcome (parts c.args.self.now) (faulted c.args.given.now)) c.in_ok-faulted.field-0 c.args.self.now c.faulted.new.self c.in_ok-faulted.ensures.fits c.in_ok-faulted.ensures.ok c.if-not-branch.true).0)
+returns-then-not-branch-clause-fits c =
+    refused_fits
+    (outcome (parts c.args.self.now) (failing c.args.caller.number c.args.caller.task c.args.reply
+    c.args.given.now)) (failing_none c.args.caller.number c.args.caller.task c.args.reply c.args.given.now
+    (parts c.args.self.now) (done_nothing (outcome (parts c.args.self.now) (faulted c.args.given.now))
+    c.in_ok-faulted.field-0 c.args.self.now c.faulted.new.self c.in_ok-faulted.ensures.fits
+    c.in_ok-faulted.ensures.ok c.if-not-branch.true).0)
 
 pub returns-then-not-branch-clause-ok : goal.returns-then-not-branch-clause-ok
 returns-then-not-branch-clause-ok c =
-    let nothing : ((outcome (parts c.args.self.now) (faulted c.args.given.now)) ≡ None) × (c.faulted.new.self ≡ c.args.self.now) = done_nothing (outcome (parts c.args.self.now) (faulted c.args.given.now)) c.in_ok-faulted.field-0 c.args.self.now c.faulted.new.self c.in_ok-faulted.ensures.fits c.in_ok-faulted.ensures.ok c.if-not-branch.true in
-    refused_ok (outcome (parts c.args.self.now) (failing c.args.caller.number c.args.caller.task c.args.reply c.args.given.now)) c.args.self.now c.faulted.new.self (failing_none c.args.caller.number c.args.caller.task c.args.reply c.args.given.now (parts c.args.self.now) nothing.0) nothing.1
+    let nothing : ((outcome (parts c.args.self.now) (faulted c.args.given.now)) ≡ None)
+    × (c.faulted.new.self ≡ c.args.self.now) =
+    done_nothing (outcome (parts c.args.self.now) (faulted c.args.given.now)) c.in_ok-faulted.field-0
+    c.args.self.now c.faulted.new.self c.in_ok-faulted.ensures.fits c.in_ok-faulted.ensures.ok
+    c.if-not-branch.true in
+    refused_ok
+    (outcome (parts c.args.self.now) (failing c.args.caller.number c.args.caller.task c.args.reply
+    c.args.given.now)) c.args.self.now c.faulted.new.self
+    (failing_none c.args.caller.number c.args.caller.task c.args.reply c.args.given.now (parts c.args.self.now)
+    nothing.0) nothing.1
 
 pub replace-requires : goal.replace-requires
 replace-requires c =
-    let all : changed_by (outcome (parts c.args.self.now) (faulted c.args.given.now)) c.args.self.now ≡ Some c.faulted.new.self = done_all (outcome (parts c.args.self.now) (faulted c.args.given.now)) c.in_ok-faulted.field-0 c.args.self.now c.faulted.new.self c.in_ok-faulted.ensures.fits c.in_ok-faulted.ensures.ok c.if-not-branch.false in
+    let all : changed_by (outcome (parts c.args.self.now) (faulted c.args.given.now)) c.args.self.now
+    ≡ Some c.faulted.new.self =
+    done_all (outcome (parts c.args.self.now) (faulted c.args.given.now)) c.in_ok-faulted.field-0 c.args.self.now
+    c.faulted.new.self c.in_ok-faulted.ensures.fits c.in_ok-faulted.ensures.ok c.if-not-branch.false in
     ap (λ m. map.contains_key m c.from.result) (faulted_tasks c.args.given.now c.args.self.now c.faulted.new.self all)
     ∙ ap (map.contains_key c.args.self.now.tasks) c.from.ensures ∙ c.requires
 
 pub returns-clause-fits : goal.returns-clause-fits
 returns-clause-fits c =
-    let all : changed_by (outcome (parts c.args.self.now) (faulted c.args.given.now)) c.args.self.now ≡ Some c.faulted.new.self = done_all (outcome (parts c.args.self.now) (faulted c.args.given.now)) c.in_ok-faulted.field-0 c.args.self.now c.faulted.new.self c.in_ok-faulted.ensures.fits c.in_ok-faulted.ensures.ok c.if-not-branch.false in
-    taken_fits (outcome (parts c.args.self.now) (failing c.args.caller.number c.args.caller.task c.args.reply c.args.given.now)) c.args.self.now (put (OfTask c.args.caller.number) (Some (with_registers c.args.caller.task (replied c.args.caller.task.registers (reply_of EIO)))) c.faulted.new.self) (failing_some c.args.caller.number c.args.caller.task c.args.reply c.args.given.now c.args.self.now c.faulted.new.self (ap (λ z. int_eq z (reply_of EIO)) (sym (to_z-of_z c.ranges.reply)) ∙ sym c.is_failure.ensures ∙ c.if-not-is_failure.false) all)
+    let all : changed_by (outcome (parts c.args.self.now) (faulted c.args.given.now)) c.args.self.now
+    ≡ Some c.faulted.new.self =
+    done_all (outcome (parts c.args.self.now) (faulted c.args.given.now)) c.in_ok-faulted.field-0 c.args.self.now
+    c.faulted.new.self c.in_ok-faulted.ensures.fits c.in_ok-faulted.ensures.ok c.if-not-branch.false in
+    taken_fits
+    (outcome (parts c.args.self.now) (failing c.args.caller.number c.args.caller.task c.args.reply
+    c.args.given.now)) c.args.self.now
+    (put (OfTask c.args.caller.number)
+    (Some (with_registers c.args.caller.task (replied c.args.caller.task.registers (reply_of EIO))))
+    c.faulted.new.self) (failing_some c.args.caller.number c.args.caller.task c.args.reply c.args.given.now
+    c.args.self.now c.faulted.new.self (ap (λ z. int_eq z (reply_of EIO)) (sym (to_z-of_z c.ranges.reply))
+    ∙ sym c.is_failure.ensures ∙ c.if-not-is_failure.false) all)
 
 pub returns-clause-ok : goal.returns-clause-ok
 returns-clause-ok c =
-    let all : changed_by (outcome (parts c.args.self.now) (faulted c.args.given.now)) c.args.self.now ≡ Some c.faulted.new.self = done_all (outcome (parts c.args.self.now) (faulted c.args.given.now)) c.in_ok-faulted.field-0 c.args.self.now c.faulted.new.self c.in_ok-faulted.ensures.fits c.in_ok-faulted.ensures.ok c.if-not-branch.false in
-    taken_ok (outcome (parts c.args.self.now) (failing c.args.caller.number c.args.caller.task c.args.reply c.args.given.now)) c.args.self.now (put (OfTask c.args.caller.number) (Some (with_registers c.args.caller.task (replied c.args.caller.task.registers (reply_of EIO)))) c.faulted.new.self) _ (failing_some c.args.caller.number c.args.caller.task c.args.reply c.args.given.now c.args.self.now c.faulted.new.self (ap (λ z. int_eq z (reply_of EIO)) (sym (to_z-of_z c.ranges.reply)) ∙ sym c.is_failure.ensures ∙ c.if-not-is_failure.false) all)
-    (task_put c.faulted.new.self c.args.caller.number c.from.result c.replied-after.result (with_registers c.args.caller.task (replied c.args.caller.task.registers (reply_of EIO))) c.replace.new.self c.replace.ensures c.from.ensures (c.replied-after.ensures ∙ ap (λ v. with_registers c.args.caller.task (replied c.args.caller.task.registers (to_z w64 (of_z w64 v)))) (c.number.ensures ∙ c.of.ensures)))
+    let all : changed_by (outcome (parts c.args.self.now) (faulted c.args.given.now)) c.args.self.now
+    ≡ Some c.faulted.new.self =
+    done_all (outcome (parts c.args.self.now) (faulted c.args.given.now)) c.in_ok-faulted.field-0 c.args.self.now
+    c.faulted.new.self c.in_ok-faulted.ensures.fits c.in_ok-faulted.ensures.ok c.if-not-branch.false in
+    taken_ok
+    (outcome (parts c.args.self.now) (failing c.args.caller.number c.args.caller.task c.args.reply
+    c.args.given.now)) c.args.self.now
+    (put (OfTask c.args.caller.number)
+    (Some (with_registers c.args.caller.task (replied c.args.caller.task.registers (reply_of EIO))))
+    c.faulted.new.self) _ (failing_some c.args.caller.number c.args.caller.task c.args.reply c.args.given.now
+    c.args.self.now c.faulted.new.self (ap (λ z. int_eq z (reply_of EIO)) (sym (to_z-of_z c.ranges.reply))
+    ∙ sym c.is_failure.ensures ∙ c.if-not-is_failure.false) all)
+    (task_put c.faulted.new.self c.args.caller.number c.from.result c.replied-after.result
+    (with_registers c.args.caller.task (replied c.args.caller.task.registers (reply_of EIO))) c.replace.new.self
+    c.replace.ensures c.from.ensures (c.replied-after.ensures
+    ∙ ap (λ v. with_registers c.args.caller.task (replied c.args.caller.task.registers (to_z w64 (of_z w64 v))))
+    (c.number.ensures ∙ c.of.ensures)))

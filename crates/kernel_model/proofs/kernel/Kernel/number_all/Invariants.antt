@@ -1,3 +1,4 @@
+-- The fresh numbers so far are given.
 use Rattle.std.proofs.Common.{◌≡◌, Some, take}
 use Rattle.kernel_model.specs.InPlace.{numbered}
 use Rattle.kernel_model.proofs.kernel.Kernel.number_all.Given as goal

@@ -1,3 +1,4 @@
+-- The fresh numbers that are left stand as over the kernel before them.
 use Rattle.std.proofs.Common.{◌≡◌, Some, take}
 use Rattle.kernel_model.specs.declared.kernel.Kernel.{Kernel}
 use Rattle.kernel_model.specs.InPlace.{numbered}

@@ -1,3 +1,4 @@
+-- A name not met yet has its number among those that are left.
 use Rattle.std.proofs.Common.{◌≡◌, drop}
 use Rattle.kernel_model.specs.FileTree.{number_in}
 use Rattle.kernel_model.proofs.kernel.Node.number_of.Given as goal

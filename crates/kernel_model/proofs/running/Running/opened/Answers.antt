@@ -1,3 +1,4 @@
+-- The strings of an opening task are not too large, and its address space is the opening one.
 use Rattle.std.proofs.Common.{◌≡◌, ℕ, false, List, ap, sym, ◌∙◌}
 use Rattle.elf_image.specs.declared.image.Image.{Image}
 use Rattle.image_load.specs.Loading.{opening_space}
@@ -15,7 +16,8 @@ not_big_here args env a b e f short big =
 same_space : (image : Image) (args env a b : List (List ℕ)) (random r : List ℕ) → a ≡ args → b ≡ env → r ≡ random
     → opening_space image a b r ≡ opening_space image args env random
 same_space image args env a b random r e f g =
-    ap (λ x. opening_space image x b r) e ∙ ap (λ x. opening_space image args x r) f ∙ ap (opening_space image args env) g
+    ap (λ x. opening_space image x b r) e ∙ ap (λ x. opening_space image args x r) f
+    ∙ ap (opening_space image args env) g
 
 pub unreachable-requires : goal.unreachable-requires
 unreachable-requires c =
