@@ -1,12 +1,12 @@
 //! Runs of mount files that are refused, and of what a task may be given.
 
-use super::cases::{Ended, case_of, faults_at, planned, run_case};
-use super::guests::guest;
-use super::{TRACED, fresh_at};
-use crate::outcome::{Fault, Outcome};
+use crate::cases::{Ended, case_of, faults_at, planned, run_case};
+use crate::guests::guest;
+use crate::runs::{TRACED, fresh_at};
 use host_memory::Op;
 use host_node::Tree;
 use mount_file::MountFault;
+use sentry_run::{Fault, Outcome};
 use sn_errno::Errno;
 use sn_vectors::programs::WRITES_NOTHING;
 use std::alloc::Global;

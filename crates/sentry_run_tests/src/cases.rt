@@ -1,11 +1,12 @@
+//! What a run goes over: mount files, a host in memory and a sink; and the run itself.
+
 ghost use Rattle.std.specs.Prelude.{◌≡◌, ◌≤◌, true, IfOk};
 ghost use Rattle.host_node.specs.Tree.{none_lent};
 
-use crate::outcome::Outcome;
-use crate::run::run_sentry;
-use crate::tests::narrow::NarrowSink;
+use crate::narrow::NarrowSink;
 use host_memory::{Op, World};
 use host_node::Tree;
+use sentry_run::{Outcome, run_sentry};
 use sn_edge::{MemSink, MemSource};
 use sn_text::{Folder, Route, name_of};
 use std::alloc::Global;

@@ -1,3 +1,5 @@
+//! The images of guests, whole and with other bytes in their headers.
+
 use sn_base::{List, Memory};
 use sn_vectors::image_of;
 use std::alloc::Global;

@@ -1,22 +1,18 @@
+//! Runs of guests: their texts, traces and answers, and what is refused.
+
 ghost use Rattle.std.specs.Prelude.{◌≡◌, true};
 ghost use Rattle.host_node.specs.Tree.{none_lent};
 
-mod cases;
-mod guests;
-mod hosts;
-mod mounts;
-mod narrow;
-
-use crate::outcome::{Fault, Outcome};
-use cases::{
-    Case, EIGHT_ENTRIES, Ended, MOUNTS, SHORT_MOUNTS, case_of, case_under, faults_at, planned,
-    run_case, run_into,
+use crate::cases::{
+    Case, EIGHT_ENTRIES, Ended, MOUNTS, SHORT_MOUNTS, bare_case, case_of, case_under, faults_at,
+    planned, run_case, run_into,
 };
-use guests::{guest, guest_with};
+use crate::guests::{guest, guest_with};
+use crate::narrow::NarrowSink;
 use host_memory::Op;
 use host_node::Tree;
 use kernel_model::Entry;
-use narrow::NarrowSink;
+use sentry_run::{Fault, Outcome};
 use sn_base::List;
 use sn_edge::{MemSink, Source};
 use sn_errno::Errno;
@@ -30,10 +26,10 @@ use std::test::Fail;
 const TEXT: &[u8] = b"group 1 exit 0\n2 1 write 1 0 0 0 0 0 = 0\n4 1 exit_group 0 0 0 0 0 0 = ?\n";
 
 /// The words of a run that prints its trace.
-const TRACED: [&str; 3] = ["run", "m", "--trace"];
+pub const TRACED: [&str; 3] = ["run", "m", "--trace"];
 
 /// A case of the guest that writes nothing and exits.
-fn quiet_case(rt: HostRuntime) -> Result<Case, Fail> {
+pub fn quiet_case(rt: HostRuntime) -> Result<Case, Fail> {
     case_of(
         rt,
         MOUNTS,
@@ -207,7 +203,7 @@ fn a_program_that_is_no_executable_file_is_refused(rt: HostRuntime) -> Result<()
             errno: Errno::ELOOP
         }
     );
-    let missing = cases::bare_case(rt, MOUNTS)?;
+    let missing = bare_case(rt, MOUNTS)?;
     assert_eq!(rt;
         run_case(rt, missing, &TRACED)?.outcome.fault,
         Fault::Image {
@@ -219,7 +215,7 @@ fn a_program_that_is_no_executable_file_is_refused(rt: HostRuntime) -> Result<()
 }
 
 /// How many numbers the opening of the first task drew.
-fn fresh_at(outcome: &Outcome) -> Option<usize> {
+pub fn fresh_at(outcome: &Outcome) -> Option<usize> {
     let opened = outcome.opening.tasks.get(0)?;
     Some(opened.given.fresh.len())
 }
@@ -340,8 +336,8 @@ fn code_without_the_right_to_run_ends_the_guest_by_signal_11(rt: HostRuntime) ->
     Ok(())
 }
 
-/// The answer, the number of entries and the text of a run of a guest whose first word is that one, before seven words of
-/// zeros.
+/// The answer, the number of entries and the text of a run of a guest whose first word is that one, before seven
+/// words of zeros.
 fn run_first(rt: HostRuntime, word: u32) -> Result<(Fault, usize, List<u8>), Fail> {
     let alloc = rt.alloc();
     let image = guest(alloc, &[word, 0, 0, 0, 0, 0, 0, 0])?;

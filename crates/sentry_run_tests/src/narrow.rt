@@ -1,3 +1,5 @@
+//! A sink that takes a few bytes at a time.
+
 ghost use Rattle.std.specs.Prelude.{Some};
 
 use sn_edge::{EdgeErr, MemSink, Sink};

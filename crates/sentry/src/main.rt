@@ -1,40 +1,19 @@
-//! The program `sentry`: it runs the task of a mount file over a granted folder, and gives its output, its exit
-//! status and the trace of its calls.
+//! The program `sentry`: it runs the task of a mount file over a granted folder, and gives its output, its exit status
+//! and the trace of its calls.
 //!
-//! `main` makes the real objects (the system's files, folders and standard output) and calls `run_sentry`, which a
-//! caller may give a host in memory instead. Then it writes one line to standard error where the run has no text, and
-//! ends with the run's status.
+//! `main` makes the real objects (the system's files, folders and standard output) and calls `run_sentry` of
+//! `sentry_run`, which a caller may give a host in memory instead. Then it writes one line to standard error where the
+//! run has no text, and ends with the run's status.
 //!
-//! Proved of `run_sentry`: each answer has its cause (`usage`, `mounts`, `source_fault`, `grant`, `image`, `host_fault`,
-//! `sink_fault`, `done`, `full`, and the clauses that end in `exact`), what is accepted comes to its end (`complete`), the
-//! trace is a history of the one-thread kernel from the opening with each Run whole (`history`, `bound`, `empty`), inode
-//! numbers run up without a gap (`gapless`, `below`), the text is that of the state which the trace leaves (`text`,
-//! `text_front`, `text_none`), and the world is the one before with that state's tree in place of the granted folder
-//! (`world`, `image_world`, `world_same`, `outside`). What names a tree holds where the host tells its tree.
+//! Proved: the functions here are safe, and end. What a run comes to is proved of `run_sentry`.
 //!
 //! Not said: what the system's files hold, when memory runs out, and that the line on standard error comes out.
 //!
 //! Standard: Linux man-pages, execve(2), write(2), exit_group(2), path_resolution(7); RISC-V Unprivileged ISA 20191213.
 #![tactic(auto)]
 
-mod conclude;
-mod engine;
-mod grants;
-mod machine;
-mod outcome;
-mod play;
-mod report;
-mod run;
-#[cfg(test)]
-mod tests;
-mod text;
-mod walk;
-mod words;
-
 use host_folder::Folders;
-use outcome::Fault;
-use report::report;
-use run::run_sentry;
+use sentry_run::{Fault, report, run_sentry};
 use sn_edge::{FileSource, StdSink};
 use std::io::ErrorKind;
 use std::process::ExitCode;

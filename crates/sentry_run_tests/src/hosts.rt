@@ -1,11 +1,11 @@
 //! Runs over a host some of whose calls are to fail.
 
-use super::cases::{Ended, MOUNTS, faults_at, grants, planned, run_case};
-use super::{TRACED, cases, quiet_case};
-use crate::outcome::{Fault, Outcome};
+use crate::cases::{Ended, MOUNTS, empty_case, faults_at, grants, planned, run_case};
+use crate::runs::{TRACED, quiet_case};
 use host_memory::Op;
 use host_node::HostWorld;
 use kernel_model::Rise;
+use sentry_run::{Fault, Outcome};
 use sn_errno::Errno;
 use std::test::Fail;
 
@@ -30,7 +30,7 @@ fn a_grant_that_is_not_made_fails_nothing(rt: HostRuntime) -> Result<(), Fail> {
 
 #[test]
 fn a_folder_that_is_not_there_is_named_by_its_number(rt: HostRuntime) -> Result<(), Fail> {
-    let Ended { outcome, .. } = run_case(rt, cases::empty_case(rt, MOUNTS)?, &TRACED)?;
+    let Ended { outcome, .. } = run_case(rt, empty_case(rt, MOUNTS)?, &TRACED)?;
     assert_eq!(rt; outcome.fault, Fault::Grant { mount: 1 });
     assert_eq!(rt; outcome.status, 11);
     Ok(())
@@ -53,8 +53,8 @@ const CALLS: [HostCall; 5] = [
     HostCall { names: &["root", "init"], op: Op::ReadAt, ino: 2 },
 ];
 
-/// A run in which the k-th call of a method of a node is to fail: how it came out, and the counts of the root and of the
-/// program's node then.
+/// A run in which the k-th call of a method of a node is to fail: how it came out, and the counts of the root and of
+/// the program's node then.
 fn run_failing(
     rt: HostRuntime,
     call: &HostCall,

@@ -1,0 +1,38 @@
+//! A run of the Sentry, from its words to its text: the task of a mount file over a granted folder, with its output,
+//! its exit status and the trace of its calls.
+//!
+//! A caller gives `run_sentry` the words, a source of mount files, a host and a sink: the system's own, as the program
+//! `sentry` does, or others in memory. It has an `Outcome` back, whose `Fault` says how the run came out. `report`
+//! writes one line to standard error where the run has no text. `read_words` reads the words as a `Command`, and
+//! `printed_text` makes the text of a state and a trace.
+//!
+//! Proved of `run_sentry`: each answer has its cause (`usage`, `mounts`, `source_fault`, `grant`, `image`,
+//! `host_fault`, `sink_fault`, `done`, `full`, and the clauses that end in `exact`), what is accepted comes to its end
+//! (`complete`), the trace is a history of the one-thread kernel from the opening with each Run whole (`history`,
+//! `bound`, `empty`), inode numbers run up without a gap (`gapless`, `below`), the text is that of the state which the
+//! trace leaves (`text`, `text_front`, `text_none`), and the world is the one before with that state's tree in place of
+//! the granted folder (`world`, `image_world`, `world_same`, `outside`). What names a tree holds where the host tells
+//! its tree.
+//!
+//! Not said: what the system's files hold, when memory runs out, and that the line on standard error comes out.
+//!
+//! Standard: Linux man-pages, execve(2), write(2), exit_group(2), path_resolution(7); RISC-V Unprivileged ISA 20191213.
+#![tactic(auto)]
+
+mod conclude;
+mod engine;
+mod grants;
+mod machine;
+mod outcome;
+mod play;
+mod report;
+mod run;
+mod text;
+mod walk;
+mod words;
+
+pub use outcome::{Fault, Outcome};
+pub use report::report;
+pub use run::run_sentry;
+pub use text::printed_text;
+pub use words::{Command, read_words};

@@ -1,0 +1,27 @@
+//! Tests of a run of the Sentry, from its words to its text, over a host, a source and a sink in memory.
+//!
+//! The contract of `run_sentry` says what a run comes to; here guests are run to their end, with their text and their
+//! trace, and programs, mount files and folders that can't be run are refused with the status of their cause. Each call
+//! of the host, the source and the sink fails in turn, and a sink takes a piece at a time. Words are read as a command,
+//! and the text of a state and a trace is printed. Guests are those of `sn_vectors`.
+//!
+//! Expected values are from outside: the RISC-V and ELF-64 manuals, the Linux manual pages by hand, and for random
+//! bytes another implementation of ChaCha20.
+#![tactic(auto)]
+
+#[cfg(test)]
+mod cases;
+#[cfg(test)]
+mod guests;
+#[cfg(test)]
+mod hosts;
+#[cfg(test)]
+mod mounts;
+#[cfg(test)]
+mod narrow;
+#[cfg(test)]
+mod runs;
+#[cfg(test)]
+mod text;
+#[cfg(test)]
+mod words;
