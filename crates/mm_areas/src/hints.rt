@@ -1,15 +1,16 @@
 //! Numbers of pages by hints: guesses at the region that has a page, which are tested where they are used.
 
-ghost use Rattle.std.specs.Prelude.{◌≡◌, ℕ, ◌+◌, ◌-◌, ◌^◌, ◌<◌, ◌≤◌, ◌↔◌, true, false, length, is_some, IsTrue, Some, None, [], IfSome, SomeIff, unwrap_or};
+ghost use Rattle.std.specs.Prelude.{◌≡◌, ℕ, ◌+◌, ◌-◌, ◌^◌, ◌<◌, ◌≤◌, ◌↔◌, true, false, length, is_some, IsTrue, Some, None, [], IfSome, SomeIff, unwrap_or, option_map};
 ghost use Rattle.std.specs.Bool.{OnTrue, OnFalse};
 ghost use Rattle.mm_frames.specs.Numbers.{IsInPage, number_in, with_number};
 ghost use Rattle.std.specs.List.{HoldsAt};
+ghost use Rattle.std.specs.Option.{option_copied};
 ghost use Rattle.mm_areas.specs.Pages.{is_within, mapped_by};
 ghost use Rattle.mm_areas.specs.Contents.{bytes_mapped, changed};
 ghost use Rattle.mm_areas.specs.Own.{is_own_content};
 ghost use Rattle.mm_areas.specs.DecodedWords.{has_row_content};
 
-use crate::regions::find;
+use crate::regions::{find, page_in};
 use crate::{Areas, Content, Page, Rights};
 
 impl Page {
@@ -113,6 +114,15 @@ impl Areas {
         } else {
             find(self.regions.as_slice(), page)
         }
+    }
+
+    /// The page of that number, or `None` where it isn't mapped, by a hint: a wrong one costs a look-up.
+    #[tactic(auto, using(crate::proofs::RegionLaws::order_from_test))]
+    pub fn page_from(&self, hint: usize, page: u64) -> Option<&Page>
+        ensures { option_map mapped_by (option_copied result) ≡ map_of.get (mapping self.now).pages page }
+    {
+        let index = self.index_near(hint, page)?;
+        Some(page_in(self.regions.as_slice(), index, page))
     }
 
     /// Whether a hint is right.

@@ -1,6 +1,6 @@
 //! Regions in order: where a page is, how they are cut, what is taken out and what is put in.
 
-ghost use Rattle.std.specs.Prelude.{◌≡◌, ℕ, ◌+◌, ◌-◌, ◌^◌, ◌<◌, ◌≤◌, nat_le, true, false, length, map, option_map, is_some, IfSome, IfOk, OnOk, OnErr, vec_len, vec_capacity, slice_get};
+ghost use Rattle.std.specs.Prelude.{◌≡◌, ℕ, ◌+◌, ◌-◌, ◌^◌, ◌<◌, ◌≤◌, nat_le, true, false, length, map, option_map, is_some, Some, IfSome, IfOk, OnOk, OnErr, vec_len, vec_capacity, slice_get};
 ghost use Rattle.std.specs.List.{HoldsAt, remove_range};
 ghost use Rattle.std.specs.Option.{option_copied};
 ghost use Rattle.std.specs.FinMap as map_of;
@@ -173,6 +173,16 @@ pub(crate) fn page_at(regions: &[Region], page: u64) -> Option<&Page>
     ensures { option_map mapped_by (option_copied result) ≡ map_of.get (pages_of regions.now) page }
 {
     let index = find(regions, page)?;
+    Some(page_in(regions, index, page))
+}
+
+/// The page of that number, in the region of an index, which has it.
+pub(crate) fn page_in(regions: &[Region], index: usize, page: u64) -> &Page
+    requires order { AreFrom 0 regions.now }
+    requires within { index < length regions.now }
+    requires held { HoldsAt (λ r. is_within r.first (length r.pages.items) page ≡ true) regions.now index }
+    ensures { map_of.get (pages_of regions.now) page ≡ Some (mapped_by result.now) }
+{
     let region = &regions[index];
-    Some(&region.pages[(page - region.first) as usize])
+    &region.pages[(page - region.first) as usize]
 }

@@ -8,7 +8,7 @@ ghost use Rattle.mm_areas.specs.Hints.{allows_at};
 ghost use Rattle.mm_space.specs.Accesses.{executable};
 ghost use Rattle.mm_space.specs.Spaces.{space_of};
 
-use crate::{Hints, Space};
+use crate::Space;
 use mm_areas::Rights;
 use mm_frames::Row;
 use rv_table::Instr;
@@ -17,12 +17,10 @@ use std::alloc::Global;
 /// Of how many pages the decoded words are kept.
 const KEPT: usize = 64;
 
-/// The pages whose words are kept decoded: of those of one number modulo 64 one at most, so 64 of all. With them are
-/// guesses at where they lie.
+/// The pages whose words are kept decoded: of those of one number modulo 64 one at most, so 64 of all.
 #[derive(Debug, Drop)]
 pub(crate) struct Decoded {
     pages: [Option<u64>; KEPT],
-    hints: Hints,
 }
 
 impl Decoded {
@@ -30,7 +28,6 @@ impl Decoded {
     pub(crate) fn none() -> Decoded {
         Decoded {
             pages: [None; KEPT],
-            hints: Hints::new(),
         }
     }
 
@@ -54,8 +51,8 @@ impl Space {
         ensures row { OnTrue result (has_row_at self.new.areas page ≡ true) }
         ensures same { space_of self.new ≡ space_of self.old }
     {
-        let hint = self.areas.hint_from(self.decoded.hints.of(page), page);
-        self.decoded.hints.keep(page, hint);
+        let hint = self.areas.hint_from(self.hints.of(page), page);
+        self.hints.keep(page, hint);
         if !self.areas.decode(alloc, hint, page, Rights::EXECUTE) {
             return false;
         }
@@ -90,7 +87,7 @@ impl Space {
         ensures words { IfSome result (λ row. row_at (space_of self.old).mapping.pages page ≡ Some (words_of row)) }
         ensures same { space_of self.new ≡ space_of self.old }
     {
-        let hint = self.decoded.hints.of(page);
+        let hint = self.hints.of(page);
         self.areas.take_row(hint, page)
     }
 
@@ -101,7 +98,7 @@ impl Space {
         ensures same { space_of self.new ≡ space_of self.old }
     {
         self.make_room(page);
-        let hint = self.decoded.hints.of(page);
+        let hint = self.hints.of(page);
         self.areas.put_row(hint, page, row);
     }
 }

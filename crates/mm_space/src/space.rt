@@ -3,18 +3,21 @@
 ghost use Rattle.std.specs.Prelude.{◌≡◌, IfOk};
 ghost use Rattle.mm_areas.specs.Mappings.{mapping};
 
+use crate::Hints;
 use crate::decoded::Decoded;
 use mm_areas::Areas;
 use rv_atomic::Reservations;
 use sn_base::Memory;
 use std::alloc::Global;
 
-/// What is mapped in an address space, its break, and what its tasks have reserved.
+/// What is mapped in an address space, its break, and what its tasks have reserved; which pages have their words decoded,
+/// and guesses at where pages lie.
 #[derive(Drop)]
 pub struct Space {
     pub(crate) areas: Areas,
     pub(crate) reservations: Reservations,
     pub(crate) decoded: Decoded,
+    pub(crate) hints: Hints,
 }
 
 impl Space {
@@ -28,6 +31,7 @@ impl Space {
             areas,
             reservations: Reservations::new(alloc),
             decoded: Decoded::none(),
+            hints: Hints::new(),
         }
     }
 
@@ -62,6 +66,7 @@ impl Space {
             areas,
             reservations,
             decoded: Decoded::none(),
+            hints: Hints::new(),
         })
     }
 }

@@ -49,7 +49,7 @@ impl Space {
         ensures room { OnTrue result (AllowsNear (space_of self.now) at width) }
         ensures ready { OnTrue result ((handed : Handed) → is_ready self.now handed at width ≡ true) }
     {
-        let hint = self.areas.hint(at / 4096);
+        let hint = self.guess(at / 4096);
         let offset = (at % 4096) as usize;
         self.areas
             .has_room_near(hint, at / 4096, offset, width, Rights::WRITE)
@@ -94,7 +94,8 @@ impl Space {
             after_stored task at width value (reach self.old handed.old)) }
         ensures err { OnErr result (reach self.new handed.new ≡ reach self.old handed.old) }
     {
-        let hint = self.areas.hint(at / 4096);
+        let hint = self.guess(at / 4096);
+        self.hints.keep(at / 4096, hint);
         if self.store_by(hint, task, at, width, value) {
             return Ok(());
         }
@@ -108,11 +109,17 @@ impl Space {
         }
     }
 
+    /// A guess at the region of a page: right where one has it.
+    fn guess(&self, page: u64) -> usize {
+        self.areas.hint_from(self.hints.of(page), page)
+    }
+
     /// The page of a shared area that a page is.
     pub(crate) fn shared_page(&self, page: u64) -> Option<SharedPage>
         ensures { result ≡ shared_at (map_of.get (mapping self.now.areas).pages page) }
     {
-        match &self.areas.page(page)?.content {
+        let guess = self.hints.of(page);
+        match &self.areas.page_from(guess, page)?.content {
             Content::Private(_) => None,
             Content::Shared(page) => Some(*page),
         }
