@@ -95,6 +95,14 @@ fn a_hint_serves_the_region_that_it_names(rt: HostRuntime) -> Result<(), Fail> {
     assert_eq!(rt; areas.hint_from(hint, 5), 1);
     assert_eq!(rt; areas.hint_from(0, 5), 1);
     assert_eq!(rt; areas.hint_from(9, 3), 0);
+    for guess in [hint, 0, 9] {
+        assert_eq!(rt;
+            areas.page_from(guess, 5).map(|page| page.rights),
+            areas.page(5).map(|page| page.rights)
+        );
+        assert!(rt; areas.page_from(guess, 5).is_some());
+        assert!(rt; areas.page_from(guess, 3).is_none());
+    }
     Ok(())
 }
 
