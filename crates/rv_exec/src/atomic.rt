@@ -37,7 +37,7 @@ pub(crate) fn load_reserved<M: Mem, A: Access>(
     ensures aligned { regs.old.pc % 4 ≡ 0 → regs.new.pc % 4 ≡ 0 }
 {
     let at = regs.read(rs1);
-    if at % u64::from(kind.width()) != 0 {
+    if !kind.is_aligned(at) {
         return Flow::Trap(7);
     }
     match access.load(mem, at, kind.width()) {
@@ -72,7 +72,7 @@ pub(crate) fn store_conditional<M: Mem, A: Access>(
     ensures aligned { regs.old.pc % 4 ≡ 0 → regs.new.pc % 4 ≡ 0 }
 {
     let at = regs.read(rs1);
-    if at % u64::from(kind.width()) != 0 {
+    if !kind.is_aligned(at) {
         return Flow::Trap(7);
     }
     if access.writable(mem, at, kind.width()) {
@@ -131,7 +131,7 @@ pub(crate) fn operate<M: Mem, A: Access>(
 {
     let at = regs.read(rs1);
     let width = kind.width();
-    if at % u64::from(width) != 0 {
+    if !kind.is_aligned(at) {
         return Flow::Trap(7);
     }
     match access.operand(mem, at, width) {

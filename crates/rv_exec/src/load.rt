@@ -1,6 +1,6 @@
 //! What loads take, and what a register gets of it.
 
-ghost use Rattle.std.specs.Prelude.{◌≡◌};
+ghost use Rattle.std.specs.Prelude.{◌≡◌, ◌%◌, ◌==◌};
 ghost use Rattle.rv_table.specs.Words.{IsWidth};
 ghost use Rattle.rv_exec.specs.Execution.{extended};
 ghost use Rattle.rv_exec.specs.Loads.{width_of, extend_of, refused_by};
@@ -35,6 +35,22 @@ impl Load {
             Load::UnsignedByte => 1,
             Load::UnsignedHalf => 2,
             Load::UnsignedWord => 4,
+        }
+    }
+
+    /// Whether an address is a multiple of its width: the remainder by a width that isn't known takes long.
+    #[inline(always)]
+    pub(crate) fn is_aligned(self, at: u64) -> bool
+        ensures { result ≡ (at % width_of self == 0) }
+    {
+        match self {
+            Load::Byte => true,
+            Load::Half => at % 2 == 0,
+            Load::Word => at % 4 == 0,
+            Load::Double => at % 8 == 0,
+            Load::UnsignedByte => true,
+            Load::UnsignedHalf => at % 2 == 0,
+            Load::UnsignedWord => at % 4 == 0,
         }
     }
 
