@@ -20,7 +20,8 @@ use Rattle.sentry_run.specs.declared.outcome.Fault.TheVariants as faults
 use Rattle.sentry_run.specs.declared.outcome.Outcome.{Outcome}
 use Rattle.sentry_run.specs.Ran.{ReadsAs, FailsToRead}
 use Rattle.sentry_run.specs.Status.{status_of}
-use Rattle.sentry_run.specs.Outcome.{ReadsMounts, HasMountFault, granted, begun, state_after, world_after, WhereRead, RefusesAs, refused_kernel, IsUnread}
+use Rattle.sentry_run.specs.Outcome.{ReadsMounts, HasMountFault, granted, begun, state_after, world_after, WhereRead}
+use Rattle.sentry_run.specs.Outcome.{RefusesAs, refused_kernel, IsUnread}
 use Rattle.sentry_run.proofs.Courses.{Began, state_of}
 use Rattle.sentry_run.proofs.RunFacts.{AnyFacts, ToldFacts}
 use Rattle.sentry_run.proofs.Ways.{Sides, Over, Way, Misused, Unread, Over_file}
@@ -30,28 +31,38 @@ use Rattle.sentry_run.proofs.Ways.{Sides, Over, Way, Misused, Unread, Over_file}
 pub usage_is : (f : Fault) (r : Outcome) → r.fault ≡ faults.Usage → r.fault ≡ f → f ≡ faults.Usage
 usage_is f r e h = sym h ∙ e
 
-pub fails_as : (s : Sides) (command : Command) (r : Outcome) (f : Fault) → FailsToRead command s.shelf s.count s.now r.fault → r.fault ≡ f → FailsToRead command s.shelf s.count s.now f
+pub fails_as : (s : Sides) (command : Command) (r : Outcome) (f : Fault)
+    → FailsToRead command s.shelf s.count s.now r.fault → r.fault ≡ f → FailsToRead command s.shelf s.count s.now f
 fails_as s command r f h e = subst (FailsToRead command s.shelf s.count s.now) e h
 
-pub any_as : (s : Sides) (command : Command) (m : Mounts) (r : Outcome) (f : Fault) → Over s command m r → r.fault ≡ f → AnyFacts m.entries r.trace s.sink s.sink' s.sinks s.sinks' s.hosts s.hosts' f
+pub any_as : (s : Sides) (command : Command) (m : Mounts) (r : Outcome) (f : Fault) → Over s command m r
+    → r.fault ≡ f → AnyFacts m.entries r.trace s.sink s.sink' s.sinks s.sinks' s.hosts s.hosts' f
 any_as s command m r f o e = subst (AnyFacts m.entries r.trace s.sink s.sink' s.sinks s.sinks' s.hosts s.hosts') e o.any
 
-pub told_as : (s : Sides) (command : Command) (m : Mounts) (r : Outcome) (f : Fault) → Over s command m r → r.fault ≡ f → (w : Shape) → s.world ≡ Some w → ToldFacts m w s.world' r.opening r.trace command.trace s.sink s.sink' f
-told_as s command m r f o e w told = subst (ToldFacts m w s.world' r.opening r.trace command.trace s.sink s.sink') e (o.told w told)
+pub told_as : (s : Sides) (command : Command) (m : Mounts) (r : Outcome) (f : Fault) → Over s command m r
+    → r.fault ≡ f → (w : Shape) → s.world ≡ Some w
+    → ToldFacts m w s.world' r.opening r.trace command.trace s.sink s.sink' f
+told_as s command m r f o e w told =
+    subst (ToldFacts m w s.world' r.opening r.trace command.trace s.sink s.sink') e (o.told w told)
 
 -- ---- facts where a mount file was read
 
-pub where_none : (mounts : Option Mounts) (world : Option Shape) (F : Mounts → Shape → Type 0) → mounts ≡ None → WhereRead mounts world F
+pub where_none : (mounts : Option Mounts) (world : Option Shape) (F : Mounts → Shape → Type 0) → mounts ≡ None
+    → WhereRead mounts world F
 where_none None world F e = tt
 where_none (Some m) world F e = cc
 
-pub where_read : (mounts : Option Mounts) (world : Option Shape) (F : Mounts → Shape → Type 0) (m : Mounts) → mounts ≡ Some m → ((w : Shape) → world ≡ Some w → F m w) → WhereRead mounts world F
+pub where_read : (mounts : Option Mounts) (world : Option Shape) (F : Mounts → Shape → Type 0) (m : Mounts)
+    → mounts ≡ Some m → ((w : Shape) → world ≡ Some w → F m w) → WhereRead mounts world F
 where_read None world F m e f = tt
 where_read (Some n) None F m e f = tt
 where_read (Some n) (Some w) F m e f = subst (λ (x : Mounts). F x w) (sym (same_Some n m e)) (f w refl)
 
-pub if_state : (m : Mounts) (world : Shape) (after : Option Shape) (o : Opening) (trace : List Entry) (state : Kernel) (F : Kernel → Type 0) → Began m world after o trace state → F state → IfSome (state_after m world o trace) F
-if_state m world after o trace state F b f = subst (λ (k : Option Kernel). IfSome k F) (sym (state_of m world after o trace state b)) f
+pub if_state : (m : Mounts) (world : Shape) (after : Option Shape) (o : Opening) (trace : List Entry)
+    (state : Kernel) (F : Kernel → Type 0) → Began m world after o trace state → F state
+    → IfSome (state_after m world o trace) F
+if_state m world after o trace state F b f =
+    subst (λ (k : Option Kernel). IfSome k F) (sym (state_of m world after o trace state b)) f
 
 -- ---- status and causes
 
@@ -76,10 +87,12 @@ usage_exact s r (Unread command e w u) h = let f : None ≡ Some command = sym h
 usage_exact s r (Over_file command e w m d o) h = let f : None ≡ Some command = sym h ∙ e in cc
 
 no_reads : (shelf : Option Shelf) → ReadsWithin shelf shelf 65537
-no_reads shelf = record { files = refl; taken = omega arith; within = omega arith; read = omega arith; reads = omega arith }
+no_reads shelf =
+    record { files = refl; taken = omega arith; within = omega arith; read = omega arith; reads = omega arith }
 
 pub source_read : (s : Sides) (r : Outcome) → Way s r → ReadsWithin s.shelf s.shelf' 65537
-source_read s r (Misused e n) = subst (λ (x : Option Shelf). ReadsWithin s.shelf x 65537) (sym n.same_shelf) (no_reads s.shelf)
+source_read s r (Misused e n) =
+    subst (λ (x : Option Shelf). ReadsWithin s.shelf x 65537) (sym n.same_shelf) (no_reads s.shelf)
 source_read s r (Unread command e w u) = w
 source_read s r (Over_file command e w m d o) = w
 
@@ -100,8 +113,11 @@ host_fault s r (Over_file command e w m d o) h = (any_as s command m r faults.Ho
 
 -- ---- the mount file
 
-reads_some : (s : Sides) (command : Command) (mounts : Option Mounts) (m : Mounts) → s.words ≡ Some command → mounts ≡ Some m → ReadsMounts (Some command) s.shelf (Some m) → ReadsMounts s.words s.shelf mounts
-reads_some s command mounts m e f h = subst (λ (c : Option Command). ReadsMounts c s.shelf mounts) (sym e) (subst (λ (o : Option Mounts). ReadsMounts (Some command) s.shelf o) (sym f) h)
+reads_some : (s : Sides) (command : Command) (mounts : Option Mounts) (m : Mounts) → s.words ≡ Some command
+    → mounts ≡ Some m → ReadsMounts (Some command) s.shelf (Some m) → ReadsMounts s.words s.shelf mounts
+reads_some s command mounts m e f h =
+    subst (λ (c : Option Command). ReadsMounts c s.shelf mounts) (sym e)
+    (subst (λ (o : Option Mounts). ReadsMounts (Some command) s.shelf o) (sym f) h)
 
 reads_nothing : (words : Option Command) (shelf : Option Shelf) → ReadsMounts words shelf None
 reads_nothing None shelf = refl
@@ -109,7 +125,8 @@ reads_nothing (Some command) None = tt
 reads_nothing (Some command) (Some files) = tt
 
 unread_mounts : (s : Sides) (mounts : Option Mounts) → mounts ≡ None → ReadsMounts s.words s.shelf mounts
-unread_mounts s mounts e = subst (λ (o : Option Mounts). ReadsMounts s.words s.shelf o) (sym e) (reads_nothing s.words s.shelf)
+unread_mounts s mounts e =
+    subst (λ (o : Option Mounts). ReadsMounts s.words s.shelf o) (sym e) (reads_nothing s.words s.shelf)
 
 pub read : (s : Sides) (r : Outcome) → Way s r → ReadsMounts s.words s.shelf r.mounts
 read s r (Misused e n) = unread_mounts s r.mounts n.refused.mounts
@@ -153,9 +170,11 @@ unread_world s r (Misused e n) h = n.same_world
 unread_world s r (Unread command e w u) h = u.same_world
 unread_world s r (Over_file command e w m d o) h = let f : None ≡ Some m = sym h ∙ o.read in cc
 
-pub mounts_bytes : (s : Sides) (r : Outcome) → Way s r → (f : MountFault) → r.fault ≡ faults.Mounts f → HasMountFault s.words s.shelf f
+pub mounts_bytes : (s : Sides) (r : Outcome) → Way s r → (f : MountFault) → r.fault ≡ faults.Mounts f
+    → HasMountFault s.words s.shelf f
 mounts_bytes s r (Misused e n) f h = let g = usage_is (faults.Mounts f) r n.refused.fault h in cc
-mounts_bytes s r (Unread command e w u) f h = subst (λ (c : Option Command). HasMountFault c s.shelf f) (sym e) (fails_as s command r (faults.Mounts f) u.fails h)
+mounts_bytes s r (Unread command e w u) f h =
+    subst (λ (c : Option Command). HasMountFault c s.shelf f) (sym e) (fails_as s command r (faults.Mounts f) u.fails h)
 mounts_bytes s r (Over_file command e w m d o) f h = absurd (any_as s command m r (faults.Mounts f) o h)
 
 -- ---- grant and image
@@ -168,23 +187,30 @@ grant_number s r (Over_file command e w m d o) k h = (any_as s command m r (faul
 abbrev pub NoFolder : Mounts → Shape → Type 0
 NoFolder m w = granted m.mounts w ≡ None
 
-pub grant_folder : (s : Sides) (r : Outcome) → Way s r → (n : ℕ) → r.fault ≡ faults.Grant n → WhereRead r.mounts s.world NoFolder
+pub grant_folder : (s : Sides) (r : Outcome) → Way s r → (n : ℕ) → r.fault ≡ faults.Grant n
+    → WhereRead r.mounts s.world NoFolder
 grant_folder s r (Misused e n) k h = where_none r.mounts s.world NoFolder n.refused.mounts
 grant_folder s r (Unread command e w u) k h = where_none r.mounts s.world NoFolder u.refused.mounts
-grant_folder s r (Over_file command e w m d o) k h = where_read r.mounts s.world NoFolder m o.read (λ v told. (told_as s command m r (faults.Grant k) o h v told).2)
+grant_folder s r (Over_file command e w m d o) k h =
+    where_read r.mounts s.world NoFolder m o.read (λ v told. (told_as s command m r (faults.Grant k) o h v told).2)
 
-pub image : (s : Sides) (r : Outcome) → Way s r → (task : ℕ) (errno : Errno) → r.fault ≡ faults.Image task errno → WhereRead r.mounts s.world (λ m w. RefusesAs (begun m w r.opening) task errno)
+pub image : (s : Sides) (r : Outcome) → Way s r → (task : ℕ) (errno : Errno) → r.fault ≡ faults.Image task errno
+    → WhereRead r.mounts s.world (λ m w. RefusesAs (begun m w r.opening) task errno)
 image s r (Misused e n) task errno h = where_none r.mounts s.world _ n.refused.mounts
 image s r (Unread command e w u) task errno h = where_none r.mounts s.world _ u.refused.mounts
-image s r (Over_file command e w m d o) task errno h = where_read r.mounts s.world (λ m w. RefusesAs (begun m w r.opening) task errno) m o.read
-    (λ v told. let t = told_as s command m r (faults.Image task errno) o h v told in (t.1.left, t.1.refuses ∙ ap (λ n. Refuses t.1.left n errno) (sym t.0)))
+image s r (Over_file command e w m d o) task errno h =
+    where_read r.mounts s.world (λ m w. RefusesAs (begun m w r.opening) task errno) m o.read
+    (λ v told. let t = told_as s command m r (faults.Image task errno) o h v told in
+    (t.1.left, t.1.refuses ∙ ap (λ n. Refuses t.1.left n errno) (sym t.0)))
 
 pub image_world : (s : Sides) (r : Outcome) → Way s r → (task : ℕ) (errno : Errno) → r.fault ≡ faults.Image task errno
-    → WhereRead r.mounts s.world (λ m w. IfSome (refused_kernel (begun m w r.opening)) (λ k. s.world' ≡ Some (world_after m r.opening r.left k w)))
+    → WhereRead r.mounts s.world (λ m w. IfSome (refused_kernel (begun m w r.opening))
+    (λ k. s.world' ≡ Some (world_after m r.opening r.left k w)))
 image_world s r (Misused e n) task errno h = where_none r.mounts s.world _ n.refused.mounts
 image_world s r (Unread command e w u) task errno h = where_none r.mounts s.world _ u.refused.mounts
 image_world s r (Over_file command e w m d o) task errno h =
-    where_read r.mounts s.world (λ m w. IfSome (refused_kernel (begun m w r.opening)) (λ k. s.world' ≡ Some (world_after m r.opening r.left k w))) m o.read
+    where_read r.mounts s.world (λ m w. IfSome (refused_kernel (begun m w r.opening))
+    (λ k. s.world' ≡ Some (world_after m r.opening r.left k w))) m o.read
     (λ v told. let t = told_as s command m r (faults.Image task errno) o h v told in
     subst (λ b. IfSome (refused_kernel b) (λ k. s.world' ≡ Some (world_after m r.opening r.left k v))) (sym t.1.refuses)
     (t.1.settles ∙ ap (λ l. Some (world_after m r.opening l t.1.left v)) (sym o.left)))

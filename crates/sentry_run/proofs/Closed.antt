@@ -6,7 +6,8 @@ use Rattle.kernel_model.specs.Printed.{is_closed}
 one_less : (n : ℕ) → suc (suc n) - 1 ≡ suc (suc n - 1)
 one_less n = omega arith
 
-pub closed_last : (bytes : List ℕ) (last : ℕ) → slice_get bytes (length bytes - 1) ≡ Some last → is_closed bytes ≡ (last == 10)
+pub closed_last : (bytes : List ℕ) (last : ℕ) → slice_get bytes (length bytes - 1) ≡ Some last
+    → is_closed bytes ≡ (last == 10)
 closed_last [] last h = absurd (cc h)
 closed_last (c ∷ []) last h = cc h
 closed_last (c ∷ d ∷ cs) last h = closed_last (d ∷ cs) last (rw (one_less (length cs)) at h)

@@ -4,11 +4,14 @@ use Rattle.std.specs.Prelude.{Option, Some, None, Err, IfSome, IsSomeAnd, option
 use Rattle.std.specs.Option.{option_map_or}
 use Rattle.host_node.specs.declared.kind.Kind.{Kind}
 use Rattle.host_node.specs.declared.kind.Kind.TheVariants.{Dir}
-use Rattle.host_node.specs.Tree.{Shape, directory, file, link, lent, kind_of, faults_of, is_lent, none_lent, child_of, with_child, lend_child}
+use Rattle.host_node.specs.Tree.{Shape, directory, file, link, lent, kind_of, faults_of, is_lent, none_lent, child_of}
+use Rattle.host_node.specs.Tree.{with_child, lend_child}
 use Rattle.host_node.specs.Routes.{subtree, put_subtree, directory_at}
 use Rattle.host_node.specs.Told.{CanLend, CanTakeBack, TakesBack, CanGrant, TellsGranted, ComesFrom, CanSettle, Settles}
-use Rattle.host_node.proofs.TreeLemmas.{with_child-lend, directory_from_child, child_of-with_same, lend_child_found, none_lent-child_of}
-use Rattle.host_node.proofs.RouteLemmas.{put-put_subtree, none_lent-subtree, is_free-none_lent, subtree-directory_at, is_directory-directory_at, subtree-granted}
+use Rattle.host_node.proofs.TreeLemmas.{with_child-lend, directory_from_child, child_of-with_same, lend_child_found}
+use Rattle.host_node.proofs.TreeLemmas.{none_lent-child_of}
+use Rattle.host_node.proofs.RouteLemmas.{put-put_subtree, none_lent-subtree, is_free-none_lent, subtree-directory_at}
+use Rattle.host_node.proofs.RouteLemmas.{is_directory-directory_at, subtree-granted}
 use Rattle.sn_errno.specs.declared.errno.Errno.{Errno}
 use Rattle.sn_errno.specs.declared.errno.Errno.TheVariants.{ENOENT, EACCES}
 use Rattle.kernel_model.specs.declared.entry.Entry.{Entry}
@@ -30,13 +33,19 @@ use Rattle.sentry_run.specs.Granted.{PlaysRoot, IsUngranted, first_names, Plays,
 
 -- ---- what was answered fits the walk
 
-refused_walk : (t : Shape) (name : List ℕ) → owner_executes t ≡ false → walked_in t name ≡ record { draws = false; image = Err EACCES }
-refused_walk t name x = ap (λ b. if b then walked_by (child_of name t) else record { draws = false; image = Err EACCES }) x
+refused_walk : (t : Shape) (name : List ℕ) → owner_executes t ≡ false
+    → walked_in t name ≡ record { draws = false; image = Err EACCES }
+refused_walk t name x =
+    ap (λ b. if b then walked_by (child_of name t) else record { draws = false; image = Err EACCES }) x
 
-missing_walk : (t : Shape) (name : List ℕ) → owner_executes t ≡ true → child_of name t ≡ None → walked_in t name ≡ record { draws = false; image = Err ENOENT }
-missing_walk t name x e = ap (λ b. if b then walked_by (child_of name t) else record { draws = false; image = Err EACCES }) x ∙ ap walked_by e
+missing_walk : (t : Shape) (name : List ℕ) → owner_executes t ≡ true → child_of name t ≡ None
+    → walked_in t name ≡ record { draws = false; image = Err ENOENT }
+missing_walk t name x e =
+    ap (λ b. if b then walked_by (child_of name t) else record { draws = false; image = Err EACCES }) x ∙ ap walked_by e
 
-loads_fit : (t : Shape) (name : List ℕ) (s : Shape) (child : Option Shape) (met : Met) (answer : Answer) → owner_executes t ≡ true → child_of name t ≡ Some s → faults_of s < 2 ^ 64 → Loads s child met answer → Fits t name met answer
+loads_fit : (t : Shape) (name : List ℕ) (s : Shape) (child : Option Shape) (met : Met) (answer : Answer)
+    → owner_executes t ≡ true → child_of name t ≡ Some s → faults_of s < 2 ^ 64 → Loads s child met answer
+    → Fits t name met answer
 loads_fit t name s child Drawn (Starts image) x e l h = (s, x, e, h.0, l)
 loads_fit t name s child Drawn (Refuses errno) x e l h = (s, x, e, h.0, l)
 loads_fit t name s child Drawn Memory x e l h = tt
@@ -50,9 +59,12 @@ loads_fit t name s child (RootFailed d) (Starts image) x e l h = absurd h
 loads_fit t name s child (RootFailed d) (Refuses errno) x e l h = absurd h
 loads_fit t name s child (RootFailed d) Memory x e l h = tt
 
-lends_fit : (t : Shape) (name : List ℕ) (root : Option Shape) (child : Option (Option Shape)) (met : Met) (answer : Answer) → owner_executes t ≡ true → LendsFrom t name root child met answer → Fits t name met answer
+lends_fit : (t : Shape) (name : List ℕ) (root : Option Shape) (child : Option (Option Shape)) (met : Met)
+    (answer : Answer) → owner_executes t ≡ true → LendsFrom t name root child met answer → Fits t name met answer
 lends_fit t name root (Some child) met answer x h = loads_fit t name h.1 child met answer x h.2 h.3 h.4
-lends_fit t name root None Nothing (Refuses errno) x h = subst (λ (e : Errno). walked_in t name ≡ record { draws = false; image = Err e }) (sym h.2) (missing_walk t name x h.1)
+lends_fit t name root None Nothing (Refuses errno) x h =
+    subst (λ (e : Errno). walked_in t name ≡ record { draws = false; image = Err e }) (sym h.2)
+    (missing_walk t name x h.1)
 lends_fit t name root None Nothing Memory x h = tt
 lends_fit t name root None Nothing (Starts image) x h = absurd h
 lends_fit t name root None (RootFailed d) (Refuses errno) x h = (h.0, h.1)
@@ -65,13 +77,16 @@ lends_fit t name root None (ChildFailed d) (Refuses errno) x h = absurd h
 lends_fit t name root None (ChildFailed d) (Starts image) x h = absurd h
 lends_fit t name root None (ChildFailed d) Memory x h = tt
 
-pub walked_fits : (t : Shape) (name : List ℕ) (root : Option Shape) (child : Option (Option Shape)) (met : Met) (answer : Answer) → WalksTo t name root child met answer → Fits t name met answer
+pub walked_fits : (t : Shape) (name : List ℕ) (root : Option Shape) (child : Option (Option Shape)) (met : Met)
+    (answer : Answer) → WalksTo t name root child met answer → Fits t name met answer
 walked_fits t name root child met answer (inl h) = lends_fit t name root child met answer h.0 h.1
 walked_fits t name root child met answer (inr (inl h)) =
-    subst (λ (m : Met). Fits t name m answer) (sym h.3) (subst (λ (a : Answer). Fits t name Nothing a) (sym h.4) (refused_walk t name h.0))
+    subst (λ (m : Met). Fits t name m answer) (sym h.3)
+    (subst (λ (a : Answer). Fits t name Nothing a) (sym h.4) (refused_walk t name h.0))
 walked_fits t name root child met answer (inr (inr (inl h))) = subst (λ (a : Answer). Fits t name met a) (sym h.3) tt
 walked_fits t name root child met answer (inr (inr (inr h))) =
-    subst (λ (m : Met). Fits t name m answer) (sym h.4) (subst (λ (a : Answer). Fits t name (RootFailed h.0) a) (sym h.5) (refl, h.1))
+    subst (λ (m : Met). Fits t name m answer) (sym h.4)
+    (subst (λ (a : Answer). Fits t name (RootFailed h.0) a) (sym h.5) (refl, h.1))
 
 -- ---- the root, with the program's node in its place
 
@@ -82,22 +97,32 @@ not_lent (link text faults) e = refl
 not_lent (lent kind) e = cc
 
 -- the program's node came back as it then told itself
-back_as : (t : Shape) (name : List ℕ) (s : Shape) (child : Option Shape) (own : Shape) (after : Option Shape) → child ≡ Some own → TakesBack name (Some (lend_child name t)) child after → after ≡ Some (with_child name own (lend_child name t))
-back_as t name s child own after c b = subst (λ (o : Option Shape). TakesBack name (Some (lend_child name t)) o after) c b
+back_as : (t : Shape) (name : List ℕ) (s : Shape) (child : Option Shape) (own : Shape) (after : Option Shape)
+    → child ≡ Some own → TakesBack name (Some (lend_child name t)) child after
+    → after ≡ Some (with_child name own (lend_child name t))
+back_as t name s child own after c b =
+    subst (λ (o : Option Shape). TakesBack name (Some (lend_child name t)) o after) c b
 
-lent_there : (t : Shape) (name : List ℕ) (s : Shape) → child_of name t ≡ Some s → IsSomeAnd (child_of name (lend_child name t)) (λ x. is_lent x ≡ true)
+lent_there : (t : Shape) (name : List ℕ) (s : Shape) → child_of name t ≡ Some s
+    → IsSomeAnd (child_of name (lend_child name t)) (λ x. is_lent x ≡ true)
 lent_there t name s e =
     let found : child_of name (lend_child name t) ≡ Some (lent (kind_of s)) =
-    ap (child_of name) (lend_child_found name s t e) ∙ child_of-with_same name (lent (kind_of s)) t (directory_from_child name t s e) in
+    ap (child_of name) (lend_child_found name s t e)
+    ∙ child_of-with_same name (lent (kind_of s)) t (directory_from_child name t s e) in
     subst (λ (o : Option Shape). IsSomeAnd o (λ x. is_lent x ≡ true)) (sym found) refl
 
-loads_back : (t : Shape) (name : List ℕ) (s : Shape) (child : Option Shape) (met : Met) (answer : Answer) (after : Option Shape) → child_of name t ≡ Some s → Loads s child met answer
+loads_back : (t : Shape) (name : List ℕ) (s : Shape) (child : Option Shape) (met : Met) (answer : Answer)
+    (after : Option Shape) → child_of name t ≡ Some s → Loads s child met answer
     → TakesBack name (Some (lend_child name t)) child after → after ≡ Some (given_back t name met)
-loads_back t name s child Drawn (Starts image) after e h b = back_as t name s child s after h.1 b ∙ ap Some (with_child-lend name s t e)
-loads_back t name s child Drawn (Refuses errno) after e h b = back_as t name s child s after h.1 b ∙ ap Some (with_child-lend name s t e)
-loads_back t name s child Drawn Memory after e h b = back_as t name s child s after h b ∙ ap Some (with_child-lend name s t e)
+loads_back t name s child Drawn (Starts image) after e h b =
+    back_as t name s child s after h.1 b ∙ ap Some (with_child-lend name s t e)
+loads_back t name s child Drawn (Refuses errno) after e h b =
+    back_as t name s child s after h.1 b ∙ ap Some (with_child-lend name s t e)
+loads_back t name s child Drawn Memory after e h b =
+    back_as t name s child s after h b ∙ ap Some (with_child-lend name s t e)
 loads_back t name s child (ChildFailed d) (Refuses errno) after e h b =
-    back_as t name s child (faulted_by d s) after h.2 b ∙ ap (λ o. Some (option_map_or (λ x. with_child name (faulted_by d x) (lend_child name t)) o t)) (sym e)
+    back_as t name s child (faulted_by d s) after h.2 b
+    ∙ ap (λ o. Some (option_map_or (λ x. with_child name (faulted_by d x) (lend_child name t)) o t)) (sym e)
 loads_back t name s child (ChildFailed d) (Starts image) after e h b = absurd h
 loads_back t name s child (ChildFailed d) Memory after e h b = absurd h
 loads_back t name s child Nothing answer after e h b = absurd (no_load answer h)
@@ -113,20 +138,26 @@ loads_back t name s child (RootFailed d) answer after e h b = absurd (no_load an
     no_load (Refuses errno) h = h
     no_load Memory h = h
 
-pub can_take_back : (t : Shape) (name : List ℕ) (root : Option Shape) (child : Option Shape) (met : Met) (answer : Answer) → WalksTo t name root (Some child) met answer → CanTakeBack name root
-can_take_back t name root child met answer (inl h) = subst (λ (o : Option Shape). CanTakeBack name o) (sym h.1.0) (lent_there t name h.1.1 h.1.2)
+pub can_take_back : (t : Shape) (name : List ℕ) (root : Option Shape) (child : Option Shape) (met : Met)
+    (answer : Answer) → WalksTo t name root (Some child) met answer → CanTakeBack name root
+can_take_back t name root child met answer (inl h) =
+    subst (λ (o : Option Shape). CanTakeBack name o) (sym h.1.0) (lent_there t name h.1.1 h.1.2)
 can_take_back t name root child met answer (inr (inl h)) = absurd (let e = h.2 in cc)
 can_take_back t name root child met answer (inr (inr (inl h))) = absurd (let e = h.1 in cc)
 can_take_back t name root child met answer (inr (inr (inr h))) = absurd (let e = h.3 in cc)
 
-pub walked_back : (t : Shape) (name : List ℕ) (root : Option Shape) (child : Option Shape) (met : Met) (answer : Answer) (after : Option Shape) → WalksTo t name root (Some child) met answer
+pub walked_back : (t : Shape) (name : List ℕ) (root : Option Shape) (child : Option Shape) (met : Met)
+    (answer : Answer) (after : Option Shape) → WalksTo t name root (Some child) met answer
     → TakesBack name root child after → after ≡ Some (given_back t name met)
-walked_back t name root child met answer after (inl h) b = loads_back t name h.1.1 child met answer after h.1.2 h.1.4 (subst (λ (o : Option Shape). TakesBack name o child after) h.1.0 b)
+walked_back t name root child met answer after (inl h) b =
+    loads_back t name h.1.1 child met answer after h.1.2 h.1.4
+    (subst (λ (o : Option Shape). TakesBack name o child after) h.1.0 b)
 walked_back t name root child met answer after (inr (inl h)) b = absurd (let e = h.2 in cc)
 walked_back t name root child met answer after (inr (inr (inl h))) b = absurd (let e = h.1 in cc)
 walked_back t name root child met answer after (inr (inr (inr h))) b = absurd (let e = h.3 in cc)
 
-lends_alone : (t : Shape) (name : List ℕ) (root : Option Shape) (met : Met) (answer : Answer) → LendsFrom t name root None met answer → root ≡ Some (given_back t name met)
+lends_alone : (t : Shape) (name : List ℕ) (root : Option Shape) (met : Met) (answer : Answer)
+    → LendsFrom t name root None met answer → root ≡ Some (given_back t name met)
 lends_alone t name root Nothing (Refuses errno) h = h.0
 lends_alone t name root Nothing Memory h = h
 lends_alone t name root Nothing (Starts image) h = absurd h
@@ -140,7 +171,8 @@ lends_alone t name root (ChildFailed d) (Refuses errno) h = absurd h
 lends_alone t name root (ChildFailed d) (Starts image) h = absurd h
 lends_alone t name root (ChildFailed d) Memory h = absurd h
 
-pub walked_alone : (t : Shape) (name : List ℕ) (root : Option Shape) (met : Met) (answer : Answer) → WalksTo t name root None met answer → root ≡ Some (given_back t name met)
+pub walked_alone : (t : Shape) (name : List ℕ) (root : Option Shape) (met : Met) (answer : Answer)
+    → WalksTo t name root None met answer → root ≡ Some (given_back t name met)
 walked_alone t name root met answer (inl h) = lends_alone t name root met answer h.1
 walked_alone t name root met answer (inr (inl h)) = h.1 ∙ ap (λ m. Some (given_back t name m)) (sym h.3)
 walked_alone t name root met answer (inr (inr (inl h))) = h.0 ∙ ap (λ m. Some (given_back t name m)) (sym h.2)
@@ -150,29 +182,49 @@ walked_alone t name root met answer (inr (inr (inr h))) = h.2 ∙ ap (λ m. Some
 
 -- what was shown of each tree that fits
 abbrev pub EndsForAll : Bool → Mounts → List ℕ → Met → Answer → Opening → List Entry → End → Type 0
-EndsForAll is_long mounts name met answer opening trace end = (t : Shape) → faults_of t < 2 ^ 64 → FitsFor is_long t name met answer → Ended mounts t (given_back t name met) opening trace end
+EndsForAll is_long mounts name met answer opening trace end =
+    (t : Shape) → faults_of t < 2 ^ 64 → FitsFor is_long t name met answer
+    → Ended mounts t (given_back t name met) opening trace end
 
 -- nothing that was not walked to has a child
-unwalked_child : (told root : Option Shape) (child : Option Shape) (met : Met) (answer : Answer) → Unwalked told root (Some child) met answer → ⊥
+unwalked_child : (told root : Option Shape) (child : Option Shape) (met : Met) (answer : Answer)
+    → Unwalked told root (Some child) met answer → ⊥
 unwalked_child told root child met answer u = let e = u.2 in cc
 
-pub plays_back : (b : Bool) (mounts : Mounts) (name : List ℕ) (told root : Option Shape) (child : Option Shape) (met : Met) (answer : Answer) (after : Option Shape) (opening : Opening) (trace : List Entry) (end : End)
-    → Execves b told name root (Some child) met answer → TakesBack name root child after → EndsForAll b mounts name met answer opening trace end → PlaysRoot mounts told after opening trace end
-plays_back true mounts name told root child met answer after opening trace end w b ends = absurd (unwalked_child told root child met answer w)
-plays_back false mounts name None root child met answer after opening trace end w b ends = subst (λ (o : Option Shape). TakesBack name o child after) w b
-plays_back false mounts name (Some t) root child met answer after opening trace end w b ends =
-    (given_back t name met, walked_back t name root child met answer after w.1 b, ends t w.0 (walked_fits t name root (Some child) met answer w.1))
+pub plays_back : (b : Bool) (mounts : Mounts) (name : List ℕ) (told root : Option Shape) (child : Option Shape)
+    (met : Met) (answer : Answer) (after : Option Shape) (opening : Opening) (trace : List Entry) (end : End)
+    → Execves b told name root (Some child) met answer → TakesBack name root child after
+    → EndsForAll b mounts name met answer opening trace end → PlaysRoot mounts told after opening trace end
+plays_back true mounts name told root child met answer after opening trace end w b ends =
+    absurd (unwalked_child told root child met answer w)
+plays_back false mounts name None root child met answer after opening trace end w b ends =
+    subst (λ (o : Option Shape). TakesBack name o child after) w b
+plays_back false mounts name (Some t) root child met answer after opening trace end w b ends = (
+  given_back t name met,
+  walked_back t name root child met answer after w.1 b,
+  ends t w.0 (walked_fits t name root (Some child) met answer w.1),
+)
 
-pub plays_alone : (b : Bool) (mounts : Mounts) (name : List ℕ) (told root : Option Shape) (met : Met) (answer : Answer) (opening : Opening) (trace : List Entry) (end : End)
-    → Execves b told name root None met answer → EndsForAll b mounts name met answer opening trace end → PlaysRoot mounts told root opening trace end
+pub plays_alone : (b : Bool) (mounts : Mounts) (name : List ℕ) (told root : Option Shape) (met : Met)
+    (answer : Answer) (opening : Opening) (trace : List Entry) (end : End)
+    → Execves b told name root None met answer → EndsForAll b mounts name met answer opening trace end
+    → PlaysRoot mounts told root opening trace end
 plays_alone true mounts name None root met answer opening trace end w ends = w.1
-plays_alone true mounts name (Some t) root met answer opening trace end w ends =
-    (t, w.1, subst (λ (x : Shape). Ended mounts t x opening trace end) (ap (given_back t name) w.3) (ends t w.0 (w.3, w.4)))
+plays_alone true mounts name (Some t) root met answer opening trace end w ends = (
+  t,
+  w.1,
+  subst (λ (x : Shape). Ended mounts t x opening trace end) (ap (given_back t name) w.3)
+      (ends t w.0 (w.3, w.4)),
+)
 plays_alone false mounts name None root met answer opening trace end w ends = w
-plays_alone false mounts name (Some t) root met answer opening trace end w ends =
-    (given_back t name met, walked_alone t name root met answer w.1, ends t w.0 (walked_fits t name root None met answer w.1))
+plays_alone false mounts name (Some t) root met answer opening trace end w ends = (
+  given_back t name met,
+  walked_alone t name root met answer w.1,
+  ends t w.0 (walked_fits t name root None met answer w.1),
+)
 
-pub takes_back : (b : Bool) (name : List ℕ) (told root : Option Shape) (child : Option Shape) (met : Met) (answer : Answer) → Execves b told name root (Some child) met answer → CanTakeBack name root
+pub takes_back : (b : Bool) (name : List ℕ) (told root : Option Shape) (child : Option Shape) (met : Met)
+    (answer : Answer) → Execves b told name root (Some child) met answer → CanTakeBack name root
 takes_back true name told root child met answer w = absurd (unwalked_child told root child met answer w)
 takes_back false name None root child met answer w = subst (λ (o : Option Shape). CanTakeBack name o) (sym w) tt
 takes_back false name (Some t) root child met answer w = can_take_back t name root child met answer w.1
@@ -195,7 +247,8 @@ free_child name t n = by_child (child_of name t) refl
     by_child None e = tt
     by_child (Some s) e = not_lent s (none_lent-child_of name s t n e)
 
-pub can_lend : (names : List (List ℕ)) (name : List ℕ) (world root : Option Shape) (count : ℕ) (what : Kind) → IsUngranted world → TellsGranted names world root count what → CanLend name root
+pub can_lend : (names : List (List ℕ)) (name : List ℕ) (world root : Option Shape) (count : ℕ) (what : Kind)
+    → IsUngranted world → TellsGranted names world root count what → CanLend name root
 can_lend names name None root count what u g = subst (λ (o : Option Shape). CanLend name o) (sym g) tt
 can_lend names name (Some w) root count what u g = by_directory (directory_at names w) refl g
   where
@@ -206,20 +259,27 @@ can_lend names name (Some w) root count what u g = by_directory (directory_at na
         let own : CanLend name (Some t) = (is_directory-directory_at names t w e, free_child name t free) in
         subst (λ (o : Option Shape). CanLend name o) (sym from.0) own
 
-pub can_settle : (names : List (List ℕ)) (world world1 root : Option Shape) (count : ℕ) (what : Kind) → TellsGranted names world root count what → world1 ≡ option_map (put_subtree names (lent Dir)) world → CanSettle names world1
+pub can_settle : (names : List (List ℕ)) (world world1 root : Option Shape) (count : ℕ) (what : Kind)
+    → TellsGranted names world root count what → world1 ≡ option_map (put_subtree names (lent Dir)) world
+    → CanSettle names world1
 can_settle names None world1 root count what g e = subst (λ (o : Option Shape). CanSettle names o) (sym e) tt
-can_settle names (Some w) world1 root count what g e = subst (λ (o : Option Shape). CanSettle names o) (sym e) (by_directory (directory_at names w) refl g)
+can_settle names (Some w) world1 root count what g e =
+    subst (λ (o : Option Shape). CanSettle names o) (sym e) (by_directory (directory_at names w) refl g)
   where
-    by_directory : (o : Option Shape) → directory_at names w ≡ o → ComesFrom o root count what → subtree names (put_subtree names (lent Dir) w) ≡ Some (lent Dir)
+    by_directory : (o : Option Shape) → directory_at names w ≡ o → ComesFrom o root count what
+        → subtree names (put_subtree names (lent Dir) w) ≡ Some (lent Dir)
     by_directory None d from = absurd from
     by_directory (Some t) d from = subtree-granted names t w d
 
-pub first_names_of : (mounts : List Mount) (m : Mount) → slice_get mounts 0 ≡ Some m → first_names mounts ≡ m.folder.names
+pub first_names_of : (mounts : List Mount) (m : Mount) → slice_get mounts 0 ≡ Some m
+    → first_names mounts ≡ m.folder.names
 first_names_of [] m e = cc
 first_names_of (x ∷ xs) m e = let same : x ≡ m = cc in ap (λ (y : Mount). y.folder.names) same
 
 -- an end after a grant, over the granted tree
-inner_plays : (mounts : Mounts) (names : List (List ℕ)) (w : Shape) (after : Option Shape) (opening : Opening) (trace : List Entry) (end : End) → IsInner end → PlaysOver mounts names w after opening trace end → Plays mounts names w after opening trace end
+inner_plays : (mounts : Mounts) (names : List (List ℕ)) (w : Shape) (after : Option Shape) (opening : Opening)
+    (trace : List Entry) (end : End) → IsInner end → PlaysOver mounts names w after opening trace end
+    → Plays mounts names w after opening trace end
 inner_plays mounts names w after opening trace (ends.Done k) i p = p
 inner_plays mounts names w after opening trace (ends.Full k) i p = p
 inner_plays mounts names w after opening trace (ends.Image errno) i p = p
@@ -227,22 +287,31 @@ inner_plays mounts names w after opening trace ends.Memory i p = inr p
 inner_plays mounts names w after opening trace ends.HostFault i p = absurd i
 inner_plays mounts names w after opening trace ends.Grant i p = absurd i
 
-pub plays_in : (mounts : Mounts) (names : List (List ℕ)) (world world1 world2 root root1 : Option Shape) (count : ℕ) (what : Kind) (opening : Opening) (trace : List Entry) (end : End)
-    → first_names mounts.mounts ≡ names → TellsGranted names world root count what → world1 ≡ option_map (put_subtree names (lent Dir)) world → PlaysRoot mounts root root1 opening trace end → IsInner end
+pub plays_in : (mounts : Mounts) (names : List (List ℕ)) (world world1 world2 root root1 : Option Shape)
+    (count : ℕ) (what : Kind) (opening : Opening) (trace : List Entry) (end : End)
+    → first_names mounts.mounts ≡ names → TellsGranted names world root count what
+    → world1 ≡ option_map (put_subtree names (lent Dir)) world → PlaysRoot mounts root root1 opening trace end
+    → IsInner end
     → Settles names world1 root1 world2 → PlaysIn mounts world world2 opening trace end
-plays_in mounts names None world1 world2 root root1 count what opening trace end f g e p i s = subst (λ (o : Option Shape). Settles names o root1 world2) e s
+plays_in mounts names None world1 world2 root root1 count what opening trace end f g e p i s =
+    subst (λ (o : Option Shape). Settles names o root1 world2) e s
 plays_in mounts names (Some w) world1 world2 root root1 count what opening trace end f g e p i s =
-    subst (λ (ns : List (List ℕ)). Plays mounts ns w world2 opening trace end) (sym f) (inner_plays mounts names w world2 opening trace end i (by_directory (directory_at names w) refl g))
+    subst (λ (ns : List (List ℕ)). Plays mounts ns w world2 opening trace end) (sym f)
+    (inner_plays mounts names w world2 opening trace end i (by_directory (directory_at names w) refl g))
   where
-    over_tree : (t : Shape) → directory_at names w ≡ Some t → PlaysRoot mounts (Some t) root1 opening trace end → PlaysOver mounts names w world2 opening trace end
+    over_tree : (t : Shape) → directory_at names w ≡ Some t → PlaysRoot mounts (Some t) root1 opening trace end
+        → PlaysOver mounts names w world2 opening trace end
     over_tree t d p =
         let settled : world2 ≡ Some (put_subtree names p.0 (put_subtree names (lent Dir) w)) =
-        subst (λ (o : Option Shape). Settles names o (Some p.0) world2) e (subst (λ (o : Option Shape). Settles names world1 o world2) p.1 s) in
+        subst (λ (o : Option Shape). Settles names o (Some p.0) world2) e
+        (subst (λ (o : Option Shape). Settles names world1 o world2) p.1 s) in
         (t, d, p.0, settled ∙ ap Some (put-put_subtree names p.0 (lent Dir) w), p.2)
 
-    by_directory : (o : Option Shape) → directory_at names w ≡ o → ComesFrom o root count what → PlaysOver mounts names w world2 opening trace end
+    by_directory : (o : Option Shape) → directory_at names w ≡ o → ComesFrom o root count what
+        → PlaysOver mounts names w world2 opening trace end
     by_directory None d from = absurd from
-    by_directory (Some t) d from = over_tree t d (subst (λ (o : Option Shape). PlaysRoot mounts o root1 opening trace end) from.0 p)
+    by_directory (Some t) d from =
+        over_tree t d (subst (λ (o : Option Shape). PlaysRoot mounts o root1 opening trace end) from.0 p)
 
 pub inner_fault : (end : End) → IsInner end → end ≡ ends.HostFault → ⊥
 inner_fault end i e = subst (λ (x : End). IsInner x) e i

@@ -32,7 +32,8 @@ abbrev pub Found : List (ℕ × Task) → List (ℕ × Task) → Type 0
 Found all [] = Unit {0}
 Found all (e ∷ es) = (find nat_cmp e.0 all ≡ Some e.1) × Found all es
 
-found_behind : (e0 : ℕ × Task) (all es : List (ℕ × Task)) → T (below_all nat_cmp e0.0 es) → Found all es → Found (e0 ∷ all) es
+found_behind : (e0 : ℕ × Task) (all es : List (ℕ × Task)) → T (below_all nat_cmp e0.0 es) → Found all es
+    → Found (e0 ∷ all) es
 found_behind e0 all [] below found = tt
 found_behind e0 all (e ∷ es) below found = (
   ap (λ b. cond b (Some e0.1) (find nat_cmp e.0 all)) (above e0.0 e.0 (first _ _ below)) ∙ found.0,
@@ -55,7 +56,8 @@ line_of number None = []
 abbrev pub line_at : FinMap nat_cmp Task → ℕ → List ℕ
 line_at m number = line_of number (get m number)
 
-lines_found : (m : FinMap nat_cmp Task) (es : List (ℕ × Task)) → Found (entries m) es → flat_map (line_at m) (map (λ e. e.0) es) ≡ groups_text es
+lines_found : (m : FinMap nat_cmp Task) (es : List (ℕ × Task)) → Found (entries m) es
+    → flat_map (line_at m) (map (λ e. e.0) es) ≡ groups_text es
 lines_found m [] found = refl
 lines_found m (e ∷ es) found =
     let here : get m e.0 ≡ Some e.1 = get-entries m e.0 ∙ found.0 in

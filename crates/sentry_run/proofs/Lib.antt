@@ -1,3 +1,4 @@
+-- Lemmas of a run, by subject.
 pub mod MachineRows
 pub mod Walks
 pub mod Histories

@@ -42,15 +42,19 @@ pub record Over (s : Sides) (command : Command) (m : Mounts) (r : Outcome) : Typ
   pub numbers : IsGapless (numbers_opened r.opening)
   pub bound : length r.trace ≤ m.entries
   pub any : AnyFacts m.entries r.trace s.sink s.sink' s.sinks s.sinks' s.hosts s.hosts' r.fault
-  pub told : (w : Shape) → s.world ≡ Some w → ToldFacts m w s.world' r.opening r.trace command.trace s.sink s.sink' r.fault
+  pub told : (w : Shape) → s.world ≡ Some w
+      → ToldFacts m w s.world' r.opening r.trace command.trace s.sink s.sink' r.fault
   pub untold : s.world ≡ None → s.world' ≡ None
 
 pub data Way (s : Sides) (r : Outcome) : Type 0 where
   Misused : s.words ≡ None → NoCommand s.shelf s.shelf' s.world s.world' s.sink s.sink' r → Way s r
-  Unread : (command : Command) → s.words ≡ Some command → ReadsWithin s.shelf s.shelf' 65537 → NotRead command s.shelf s.count s.now s.world s.world' s.sink s.sink' r → Way s r
-  Over_file : (command : Command) → s.words ≡ Some command → ReadsWithin s.shelf s.shelf' 65537 → (m : Mounts) → ReadsAs command s.shelf m → Over s command m r → Way s r
+  Unread : (command : Command) → s.words ≡ Some command → ReadsWithin s.shelf s.shelf' 65537
+      → NotRead command s.shelf s.count s.now s.world s.world' s.sink s.sink' r → Way s r
+  Over_file : (command : Command) → s.words ≡ Some command → ReadsWithin s.shelf s.shelf' 65537 → (m : Mounts)
+      → ReadsAs command s.shelf m → Over s command m r → Way s r
 
-over_of : (s : Sides) (command : Command) (m : Mounts) (r : Outcome) → RanOver m command.trace s.world s.world' s.hosts s.hosts' s.sink s.sink' s.sinks s.sinks' r → Over s command m r
+over_of : (s : Sides) (command : Command) (m : Mounts) (r : Outcome)
+    → RanOver m command.trace s.world s.world' s.hosts s.hosts' s.sink s.sink' s.sinks s.sinks' r → Over s command m r
 over_of s command m r ran = record {
   status = ran.status;
   read = ran.read;
@@ -59,27 +63,60 @@ over_of s command m r ran = record {
   drawn = ran.drawn;
   numbers = ran.numbers;
   bound = ran.bound;
-  any = any_facts m.entries r.trace command.trace s.sink s.sink' s.sinks s.sinks' s.hosts s.hosts' r.fault ran.end ran.trace ran.host ran.concludes;
-  told = λ w e. told_facts m w s.world' r.opening r.trace command.trace s.sink s.sink' s.sinks s.sinks' r.fault (ap length ran.one.mounts_are)
-      (course m w s.world' r.opening r.trace command.trace s.sink s.sink' s.sinks s.sinks' r.fault ran.end (ap length ran.one.mounts_are)
+  any =
+      any_facts m.entries r.trace command.trace s.sink s.sink' s.sinks s.sinks' s.hosts s.hosts' r.fault
+      ran.end ran.trace ran.host ran.concludes;
+  told =
+      λ w e. told_facts m w s.world' r.opening r.trace command.trace s.sink s.sink' s.sinks s.sinks' r.fault
+      (ap length ran.one.mounts_are)
+      (course m w s.world' r.opening r.trace command.trace s.sink s.sink' s.sinks s.sinks' r.fault ran.end
+      (ap length ran.one.mounts_are)
       (subst (λ (o : Option Shape). PlaysIn m o s.world' r.opening r.trace ran.end) e ran.plays) ran.concludes);
   untold = λ e. subst (λ (o : Option Shape). PlaysIn m o s.world' r.opening r.trace ran.end) e ran.plays;
 }
 
-way_by : (s : Sides) (r : Outcome) (words : Option Command) → s.words ≡ words → RanCommand words s.shelf s.shelf' s.count s.now s.world s.world' s.hosts s.hosts' s.sink s.sink' s.sinks s.sinks' r → Way s r
+way_by : (s : Sides) (r : Outcome) (words : Option Command) → s.words ≡ words
+    → RanCommand words s.shelf s.shelf' s.count s.now s.world s.world' s.hosts s.hosts' s.sink s.sink'
+    s.sinks s.sinks' r → Way s r
 way_by s r None e ran = Misused e ran
 way_by s r (Some command) e ran = by ran.1
   where
-    by : (NotRead command s.shelf s.count s.now s.world s.world' s.sink s.sink' r ⊎ Read command s.shelf s.world s.world' s.hosts s.hosts' s.sink s.sink' s.sinks s.sinks' r) → Way s r
+    by : (NotRead command s.shelf s.count s.now s.world s.world' s.sink s.sink' r
+        ⊎ Read command s.shelf s.world s.world' s.hosts s.hosts' s.sink s.sink' s.sinks s.sinks' r) → Way s r
     by (inl u) = Unread command e ran.0 u
     by (inr d) = Over_file command e ran.0 d.mounts d.reads (over_of s command d.mounts r d.ran)
 
-pub way_of : (s : Sides) (r : Outcome) → RanWords s.words s.shelf s.shelf' s.count s.now s.world s.world' s.hosts s.hosts' s.sink s.sink' s.sinks s.sinks' r → Way s r
+pub way_of : (s : Sides) (r : Outcome)
+    → RanWords s.words s.shelf s.shelf' s.count s.now s.world s.world' s.hosts s.hosts' s.sink s.sink'
+    s.sinks s.sinks' r → Way s r
 way_of s r ran = way_by s r s.words refl ran.ran
 
 -- the sides of a run, and its way, from what is known of it
-abbrev pub sides_of : {words : Option Command} {shelf shelf' : Option Shelf} {count now : ℕ} {world world' : Option Shape} {hosts hosts' : ℕ} {sink sink' : Option (List ℕ)} {sinks sinks' : ℕ} {r : Outcome} → RanWords words shelf shelf' count now world world' hosts hosts' sink sink' sinks sinks' r → Sides
-sides_of {words} {shelf} {shelf'} {count} {now} {world} {world'} {hosts} {hosts'} {sink} {sink'} {sinks} {sinks'} {r} ran = record { words = words; shelf = shelf; shelf' = shelf'; count = count; now = now; world = world; world' = world'; hosts = hosts; hosts' = hosts'; sink = sink; sink' = sink'; sinks = sinks; sinks' = sinks' }
+abbrev pub sides_of : {words : Option Command} {shelf shelf' : Option Shelf} {count now : ℕ}
+    {world world' : Option Shape} {hosts hosts' : ℕ} {sink sink' : Option (List ℕ)} {sinks sinks' : ℕ} {r : Outcome}
+    → RanWords words shelf shelf' count now world world' hosts hosts' sink sink' sinks sinks' r → Sides
+sides_of {words} {shelf} {shelf'} {count} {now} {world} {world'} {hosts} {hosts'} {sink} {sink'} {sinks}
+    {sinks'} {r} ran =
+    record {
+      words = words;
+      shelf = shelf;
+      shelf' = shelf';
+      count = count;
+      now = now;
+      world = world;
+      world' = world';
+      hosts = hosts;
+      hosts' = hosts';
+      sink = sink;
+      sink' = sink';
+      sinks = sinks;
+      sinks' = sinks';
+    }
 
-pub way_from : {words : Option Command} {shelf shelf' : Option Shelf} {count now : ℕ} {world world' : Option Shape} {hosts hosts' : ℕ} {sink sink' : Option (List ℕ)} {sinks sinks' : ℕ} {r : Outcome} (ran : RanWords words shelf shelf' count now world world' hosts hosts' sink sink' sinks sinks' r) → Way (sides_of ran) r
-way_from {words} {shelf} {shelf'} {count} {now} {world} {world'} {hosts} {hosts'} {sink} {sink'} {sinks} {sinks'} {r} ran = way_of (sides_of ran) r ran
+pub way_from : {words : Option Command} {shelf shelf' : Option Shelf} {count now : ℕ} {world world' : Option Shape}
+    {hosts hosts' : ℕ} {sink sink' : Option (List ℕ)} {sinks sinks' : ℕ} {r : Outcome}
+    (ran : RanWords words shelf shelf' count now world world' hosts hosts' sink sink' sinks sinks' r)
+    → Way (sides_of ran) r
+way_from {words} {shelf} {shelf'} {count} {now} {world} {world'} {hosts} {hosts'} {sink} {sink'} {sinks}
+    {sinks'} {r} ran =
+    way_of (sides_of ran) r ran

@@ -17,7 +17,8 @@ Fronts sink after text = (n : ℕ) × (after ≡ with_taken sink (take n text))
 
 -- the text was taken and the run came out so, or the sink failed or memory ran out after a front of it
 -- profile
-abbrev pub Writes : Kernel → List Entry → Bool → Fault → (sink after : Option (List ℕ)) → (count now : ℕ) → Fault → Type 0
+abbrev pub Writes : Kernel → List Entry → Bool → Fault → (sink after : Option (List ℕ)) → (count now : ℕ)
+    → Fault → Type 0
 Writes kernel trace flag whole sink after count now fault =
     ((fault ≡ whole) × (after ≡ with_taken sink (printed kernel trace flag)))
     ⊎ ((fault ≡ faults.SinkFault) × Rose count now × Fronts sink after (printed kernel trace flag))
@@ -26,8 +27,10 @@ Writes kernel trace flag whole sink after count now fault =
 -- how a run comes out that ended so
 -- profile
 abbrev pub Concludes : End → List Entry → Bool → (sink after : Option (List ℕ)) → (count now : ℕ) → Fault → Type 0
-Concludes (ends.Done kernel) trace flag sink after count now fault = Writes kernel trace flag faults.Done sink after count now fault
-Concludes (ends.Full kernel) trace flag sink after count now fault = Writes kernel trace flag faults.Full sink after count now fault
+Concludes (ends.Done kernel) trace flag sink after count now fault =
+    Writes kernel trace flag faults.Done sink after count now fault
+Concludes (ends.Full kernel) trace flag sink after count now fault =
+    Writes kernel trace flag faults.Full sink after count now fault
 Concludes (ends.Image errno) trace flag sink after count now fault = (fault ≡ faults.Image 1 errno) × (after ≡ sink)
 Concludes ends.HostFault trace flag sink after count now fault = (fault ≡ faults.HostFault) × (after ≡ sink)
 Concludes ends.Grant trace flag sink after count now fault = (fault ≡ faults.Grant 1) × (after ≡ sink)

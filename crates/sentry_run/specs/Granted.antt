@@ -14,7 +14,8 @@ use Rattle.sentry_run.specs.Played.{Ended, nothing_opened}
 -- profile
 abbrev pub PlaysRoot : Mounts → (told after : Option Shape) → Opening → List Entry → End → Type 0
 PlaysRoot mounts None after opening trace end = after ≡ None
-PlaysRoot mounts (Some t) after opening trace end = (tree : Shape) × (after ≡ Some tree) × Ended mounts t tree opening trace end
+PlaysRoot mounts (Some t) after opening trace end =
+    (tree : Shape) × (after ≡ Some tree) × Ended mounts t tree opening trace end
 
 -- no folder of the world is granted
 -- profile
@@ -37,18 +38,25 @@ Untouched world after opening trace = (after ≡ Some world) × (opening ≡ not
 -- profile
 abbrev pub PlaysOver : Mounts → List (List ℕ) → Shape → Option Shape → Opening → List Entry → End → Type 0
 PlaysOver mounts names world after opening trace end =
-    (t : Shape) × (directory_at names world ≡ Some t) × (tree : Shape) × (after ≡ Some (put_subtree names tree world)) × Ended mounts t tree opening trace end
+    (t : Shape) × (directory_at names world ≡ Some t) × (tree : Shape) × (after ≡ Some (put_subtree names tree world))
+    × Ended mounts t tree opening trace end
 
 -- what the opening and the run leave of the world, where it tells
 -- profile
 abbrev pub Plays : Mounts → List (List ℕ) → Shape → Option Shape → Opening → List Entry → End → Type 0
 Plays mounts names world after opening trace ends.HostFault = Untouched world after opening trace
-Plays mounts names world after opening trace ends.Grant = Untouched world after opening trace × (directory_at names world ≡ None)
-Plays mounts names world after opening trace ends.Memory = Untouched world after opening trace ⊎ PlaysOver mounts names world after opening trace ends.Memory
-Plays mounts names world after opening trace (ends.Done kernel) = PlaysOver mounts names world after opening trace (ends.Done kernel)
-Plays mounts names world after opening trace (ends.Full kernel) = PlaysOver mounts names world after opening trace (ends.Full kernel)
-Plays mounts names world after opening trace (ends.Image errno) = PlaysOver mounts names world after opening trace (ends.Image errno)
+Plays mounts names world after opening trace ends.Grant =
+    Untouched world after opening trace × (directory_at names world ≡ None)
+Plays mounts names world after opening trace ends.Memory =
+    Untouched world after opening trace ⊎ PlaysOver mounts names world after opening trace ends.Memory
+Plays mounts names world after opening trace (ends.Done kernel) =
+    PlaysOver mounts names world after opening trace (ends.Done kernel)
+Plays mounts names world after opening trace (ends.Full kernel) =
+    PlaysOver mounts names world after opening trace (ends.Full kernel)
+Plays mounts names world after opening trace (ends.Image errno) =
+    PlaysOver mounts names world after opening trace (ends.Image errno)
 
 abbrev pub PlaysIn : Mounts → (world after : Option Shape) → Opening → List Entry → End → Type 0
 PlaysIn mounts None after opening trace end = after ≡ None
-PlaysIn mounts (Some world) after opening trace end = Plays mounts (first_names mounts.mounts) world after opening trace end
+PlaysIn mounts (Some world) after opening trace end =
+    Plays mounts (first_names mounts.mounts) world after opening trace end

@@ -1,3 +1,4 @@
+-- What contracts of this crate say, by subject.
 pub mod Machine
 pub mod MachineKernel
 pub mod Walk

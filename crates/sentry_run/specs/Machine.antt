@@ -40,9 +40,11 @@ kernel_opened seed program image nodes =
 -- write(2)
 abbrev pub Changes : List ℕ → List ℕ → Task → Option (List Change) → Type 0
 Changes before after task changes =
-    ((after ≡ before) × (changes ≡ Some (task_change 1 task ∷ []))) ⊎ (changes ≡ Some ((OfConsole, after) ∷ task_change 1 task ∷ []))
+    ((after ≡ before) × (changes ≡ Some (task_change 1 task ∷ [])))
+    ⊎ (changes ≡ Some ((OfConsole, after) ∷ task_change 1 task ∷ []))
 
--- a Run that leaves this task over this address space is whole: it has 10,000 instructions, or the next one calls or traps
+-- a Run that leaves this task over this address space is whole: it has 10,000 instructions, or the next one calls or
+-- traps
 -- profile
 abbrev pub IsWholeRun : Entry → AddressSpace → Task → Type 0
 IsWholeRun (Run task n) space after =

@@ -1,5 +1,6 @@
 -- What the clauses of a run speak of: the state that its trace leaves, and the world then.
-use Rattle.std.specs.Prelude.{◌≡◌, ◌⊎◌, ℕ, List, [], ◌∷◌, length, take, Bool, true, false, All, AllPairs, Option, Some, None, IsSome, IfSome, ⊤, unwrap_or, option_and_then, option_map}
+use Rattle.std.specs.Prelude.{◌≡◌, ◌⊎◌, ℕ, List, [], ◌∷◌, length, take, Bool, true, false, All, AllPairs, Option, Some}
+use Rattle.std.specs.Prelude.{None, IsSome, IfSome, ⊤, unwrap_or, option_and_then, option_map}
 use Rattle.host_node.specs.Tree.{Shape}
 use Rattle.host_node.specs.Routes.{directory_at}
 use Rattle.sn_edge.specs.Shelf.{Shelf, content_at}
@@ -23,7 +24,8 @@ use Rattle.kernel_model.specs.FileTree.{Child, Missing, child_at}
 use Rattle.kernel_model.specs.Numbers.{IsUnnumbered, left_fresh}
 use Rattle.kernel_model.specs.Settled.{tree_now, settled, outside}
 use Rattle.sentry_run.specs.declared.outcome.Fault.{Fault}
-use Rattle.sentry_run.specs.declared.outcome.Fault.TheVariants.{Done, Usage, Mounts as MountsRefused, Image, SourceFault, SinkFault, Full, Memory, HostFault, Grant}
+use Rattle.sentry_run.specs.declared.outcome.Fault.TheVariants.{Done, Usage, Mounts as MountsRefused, Image}
+use Rattle.sentry_run.specs.declared.outcome.Fault.TheVariants.{SourceFault, SinkFault, Full, Memory, HostFault, Grant}
 
 -- a fact of what an object tells, where it tells
 -- profile
@@ -70,7 +72,8 @@ MayFailToRead fault _ = ⊥
 -- profile
 abbrev pub granted : List Mount → Shape → Option (List Shape)
 granted [] world = Some []
-granted (m ∷ mounts) world = option_and_then (λ t. option_map (λ ts. t ∷ ts) (granted mounts world)) (directory_at m.folder.names world)
+granted (m ∷ mounts) world =
+    option_and_then (λ t. option_map (λ ts. t ∷ ts) (granted mounts world)) (directory_at m.folder.names world)
 
 -- what the opening over the granted trees comes to
 -- profile
@@ -91,7 +94,8 @@ started_kernel (Misfits task) = None
 -- the state that a trace leaves from the opening: none where the trace is no history
 -- profile
 abbrev pub state_after : Mounts → Shape → Opening → List Entry → Option Kernel
-state_after mounts world opening trace = option_and_then (λ (k : Kernel). replay k trace) (started_kernel (begun mounts world opening))
+state_after mounts world opening trace =
+    option_and_then (λ (k : Kernel). replay k trace) (started_kernel (begun mounts world opening))
 
 -- the mount file, where it was accepted, and the world's tree, where it is told
 -- profile
@@ -102,8 +106,10 @@ WhereRead (Some mounts) (Some world) fact = fact mounts world
 
 -- a fact of the state that the trace leaves, where there is one
 -- profile
-abbrev pub WhereState : Option Mounts → Option Shape → Opening → List Entry → (Mounts → Shape → Kernel → Type 0) → Type 0
-WhereState mounts world opening trace fact = WhereRead mounts world (λ m w. IfSome (state_after m w opening trace) (fact m w))
+abbrev pub WhereState : Option Mounts → Option Shape → Opening → List Entry → (Mounts → Shape → Kernel → Type 0)
+    → Type 0
+WhereState mounts world opening trace fact =
+    WhereRead mounts world (λ m w. IfSome (state_after m w opening trace) (fact m w))
 
 -- the trace is a history from the opening: each of its steps is defined, and each Run of it is whole
 -- profile
@@ -237,7 +243,8 @@ pub record IsLeftOver (left : Left) (k : Kernel) : Type 0 where
 
 -- the words, the file, the folder and the image are accepted
 -- profile
-pub record IsAccepted (words : Option Command) (shelf : Option Shelf) (world : Option Shape) (opening : Opening) : Type 0 where
+pub record IsAccepted (words : Option Command) (shelf : Option Shelf) (world : Option Shape)
+    (opening : Opening) : Type 0 where
   pub command : Command
   pub words_are : words ≡ Some command
   pub files : Shelf
@@ -268,4 +275,5 @@ world_after mounts opening left state world = settled mounts.mounts opening.root
 -- the world is told, and outside the grants it is as it was
 -- profile
 abbrev pub KeepsOutside : Mounts → Shape → Option Shape → Type 0
-KeepsOutside mounts world after = (w : Shape) × (after ≡ Some w) × (outside mounts.mounts w ≡ outside mounts.mounts world)
+KeepsOutside mounts world after =
+    (w : Shape) × (after ≡ Some w) × (outside mounts.mounts w ≡ outside mounts.mounts world)

@@ -49,7 +49,8 @@ first_is_too_long (program ∷ programs) = is_too_long program.args program.env
 -- the record of an opening with one mount and one task
 -- profile
 abbrev pub record_of : Mounts → Program → Given → Opening
-record_of m p given = record { mounts = m.mounts; roots = 1 ∷ []; tasks = record { words = p.args; given = given } ∷ [] }
+record_of m p given =
+    record { mounts = m.mounts; roots = 1 ∷ []; tasks = record { words = p.args; given = given } ∷ [] }
 
 -- what was met and answered is what the walk over this tree comes to
 -- execve(2)
@@ -57,9 +58,13 @@ abbrev pub Fits : Shape → List ℕ → Met → Answer → Type 0
 Fits t name met answers.Memory = Unit {0}
 Fits t name Nothing (answers.Refuses errno) = walked_in t name ≡ record { draws = false; image = Err errno }
 Fits t name (RootFailed d) (answers.Refuses errno) = (errno ≡ EIO) × (0 < d)
-Fits t name Drawn (answers.Refuses errno) = (s : Shape) × (owner_executes t ≡ true) × (child_of name t ≡ Some s) × (executed s ≡ Err errno) × (faults_of s < 2 ^ 64)
+Fits t name Drawn (answers.Refuses errno) =
+    (s : Shape) × (owner_executes t ≡ true) × (child_of name t ≡ Some s) × (executed s ≡ Err errno)
+    × (faults_of s < 2 ^ 64)
 Fits t name (ChildFailed d) (answers.Refuses errno) = (s : Shape) × (child_of name t ≡ Some s) × (errno ≡ EIO) × (0 < d)
-Fits t name Drawn (answers.Starts image) = (s : Shape) × (owner_executes t ≡ true) × (child_of name t ≡ Some s) × (executed s ≡ Ok image) × (faults_of s < 2 ^ 64)
+Fits t name Drawn (answers.Starts image) =
+    (s : Shape) × (owner_executes t ≡ true) × (child_of name t ≡ Some s) × (executed s ≡ Ok image)
+    × (faults_of s < 2 ^ 64)
 Fits t name _ _ = ⊥
 
 -- the same, where nothing is walked to if the strings are too long
@@ -74,12 +79,14 @@ abbrev pub given_back : Shape → List ℕ → Met → Shape
 given_back t name Nothing = t
 given_back t name (RootFailed d) = faulted_by d t
 given_back t name Drawn = t
-given_back t name (ChildFailed d) = option_map_or (λ s. with_child name (faulted_by d s) (lend_child name t)) (child_of name t) t
+given_back t name (ChildFailed d) =
+    option_map_or (λ s. with_child name (faulted_by d s) (lend_child name t)) (child_of name t) t
 
 -- a run from the opening over a tree: the trace is a history that leaves this state, each Run in it whole, and the
 -- root's tree is that one then
 -- profile
-pub record Runs (mounts : Mounts) (tree after : Shape) (opening : Opening) (trace : List Entry) (state : Kernel) : Type 0 where
+pub record Runs (mounts : Mounts) (tree after : Shape) (opening : Opening) (trace : List Entry)
+    (state : Kernel) : Type 0 where
   pub start : Kernel
   pub opens : opening_of mounts (tree ∷ []) opening ≡ Opens start
   pub replayed : replay start trace ≡ Some state
@@ -102,10 +109,14 @@ pub record Failed (mounts : Mounts) (tree after : Shape) (opening : Opening) (er
 -- how a run over a tree ended, and what it left
 -- profile
 abbrev pub Ended : Mounts → Shape → Shape → Opening → List Entry → End → Type 0
-Ended mounts tree after opening trace (ends.Done kernel) = (state : Kernel) × Runs mounts tree after opening trace state × SameText state kernel × (any_live state ≡ false)
-Ended mounts tree after opening trace (ends.Full kernel) = (state : Kernel) × Runs mounts tree after opening trace state × SameText state kernel × (any_live state ≡ true) × (length trace ≡ mounts.entries)
+Ended mounts tree after opening trace (ends.Done kernel) =
+    (state : Kernel) × Runs mounts tree after opening trace state × SameText state kernel × (any_live state ≡ false)
+Ended mounts tree after opening trace (ends.Full kernel) =
+    (state : Kernel) × Runs mounts tree after opening trace state × SameText state kernel × (any_live state ≡ true)
+    × (length trace ≡ mounts.entries)
 Ended mounts tree after opening trace (ends.Image errno) = Failed mounts tree after opening errno × (trace ≡ [])
-Ended mounts tree after opening trace ends.Memory = (trace ≡ []) ⊎ ((state : Kernel) × Runs mounts tree after opening trace state)
+Ended mounts tree after opening trace ends.Memory =
+    (trace ≡ []) ⊎ ((state : Kernel) × Runs mounts tree after opening trace state)
 Ended mounts tree after opening trace ends.HostFault = ⊥
 Ended mounts tree after opening trace ends.Grant = ⊥
 
@@ -130,7 +141,12 @@ over nodes k = record k { nodes = nodes; failed = map.empty }
 -- how a run from a kernel ended, with these nodes beside it
 -- profile
 abbrev pub RanFrom : Nodes → Kernel → ℕ → End → List Entry → Type 0
-RanFrom nodes start entries (ends.Done kernel) trace = (replay start trace ≡ Some (over nodes kernel)) × (each_whole start trace ≡ true) × (any_live (over nodes kernel) ≡ false)
-RanFrom nodes start entries (ends.Full kernel) trace = (replay start trace ≡ Some (over nodes kernel)) × (each_whole start trace ≡ true) × (any_live (over nodes kernel) ≡ true) × (length trace ≡ entries)
-RanFrom nodes start entries ends.Memory trace = Leaves nodes map.empty (replay start trace) × (each_whole start trace ≡ true)
+RanFrom nodes start entries (ends.Done kernel) trace =
+    (replay start trace ≡ Some (over nodes kernel)) × (each_whole start trace ≡ true)
+    × (any_live (over nodes kernel) ≡ false)
+RanFrom nodes start entries (ends.Full kernel) trace =
+    (replay start trace ≡ Some (over nodes kernel)) × (each_whole start trace ≡ true)
+    × (any_live (over nodes kernel) ≡ true) × (length trace ≡ entries)
+RanFrom nodes start entries ends.Memory trace =
+    Leaves nodes map.empty (replay start trace) × (each_whole start trace ≡ true)
 RanFrom nodes start entries _ trace = ⊥

@@ -40,13 +40,15 @@ ReadsAs command shelf mounts = WhereTold shelf (λ s. IsMountFile (bytes_read co
 -- profile
 abbrev pub FailsToRead : Command → Option Shelf → (count now : ℕ) → Fault → Type 0
 FailsToRead command shelf count now faults.SourceFault = Rose count now
-FailsToRead command shelf count now (faults.Mounts fault) = WhereTold shelf (λ s. IsFaultOf (bytes_read command s) fault)
+FailsToRead command shelf count now (faults.Mounts fault) =
+    WhereTold shelf (λ s. IsFaultOf (bytes_read command s) fault)
 FailsToRead command shelf count now faults.Memory = ⊤
 FailsToRead command shelf count now _ = ⊥
 
 -- a run over an accepted mount file
 -- profile
-pub record RanOver (mounts : Mounts) (flag : Bool) (world world' : Option Shape) (hosts hosts' : ℕ) (sink sink' : Option (List ℕ)) (sinks sinks' : ℕ) (r : Outcome) : Type 0 where
+pub record RanOver (mounts : Mounts) (flag : Bool) (world world' : Option Shape) (hosts hosts' : ℕ)
+    (sink sink' : Option (List ℕ)) (sinks sinks' : ℕ) (r : Outcome) : Type 0 where
   pub status : r.status ≡ status_of r.fault
   pub read : r.mounts ≡ Some mounts
   pub left : r.left ≡ no_left
@@ -62,34 +64,44 @@ pub record RanOver (mounts : Mounts) (flag : Bool) (world world' : Option Shape)
 
 -- a run of a command
 -- profile
-pub record NotRead (command : Command) (shelf : Option Shelf) (count now : ℕ) (world world' : Option Shape) (sink sink' : Option (List ℕ)) (r : Outcome) : Type 0 where
+pub record NotRead (command : Command) (shelf : Option Shelf) (count now : ℕ) (world world' : Option Shape)
+    (sink sink' : Option (List ℕ)) (r : Outcome) : Type 0 where
   pub fails : FailsToRead command shelf count now r.fault
   pub refused : IsRefused r.fault r
   pub same_world : world' ≡ world
   pub same_sink : sink' ≡ sink
 
-pub record Read (command : Command) (shelf : Option Shelf) (world world' : Option Shape) (hosts hosts' : ℕ) (sink sink' : Option (List ℕ)) (sinks sinks' : ℕ) (r : Outcome) : Type 0 where
+pub record Read (command : Command) (shelf : Option Shelf) (world world' : Option Shape) (hosts hosts' : ℕ)
+    (sink sink' : Option (List ℕ)) (sinks sinks' : ℕ) (r : Outcome) : Type 0 where
   pub mounts : Mounts
   pub reads : ReadsAs command shelf mounts
   pub ran : RanOver mounts command.trace world world' hosts hosts' sink sink' sinks sinks' r
 
-abbrev pub RanBy : Command → (shelf shelf' : Option Shelf) → (count now : ℕ) → (world world' : Option Shape) → (hosts hosts' : ℕ) → (sink sink' : Option (List ℕ)) → (sinks sinks' : ℕ) → Outcome → Type 0
+abbrev pub RanBy : Command → (shelf shelf' : Option Shelf) → (count now : ℕ) → (world world' : Option Shape)
+    → (hosts hosts' : ℕ) → (sink sink' : Option (List ℕ)) → (sinks sinks' : ℕ) → Outcome → Type 0
 RanBy command shelf shelf' count now world world' hosts hosts' sink sink' sinks sinks' r =
-    ReadsWithin shelf shelf' 65537 × (NotRead command shelf count now world world' sink sink' r ⊎ Read command shelf world world' hosts hosts' sink sink' sinks sinks' r)
+    ReadsWithin shelf shelf' 65537
+    × (NotRead command shelf count now world world' sink sink' r
+    ⊎ Read command shelf world world' hosts hosts' sink sink' sinks sinks' r)
 
 -- words that are no command
 -- profile
-pub record NoCommand (shelf shelf' : Option Shelf) (world world' : Option Shape) (sink sink' : Option (List ℕ)) (r : Outcome) : Type 0 where
+pub record NoCommand (shelf shelf' : Option Shelf) (world world' : Option Shape) (sink sink' : Option (List ℕ))
+    (r : Outcome) : Type 0 where
   pub refused : IsRefused faults.Usage r
   pub same_shelf : shelf' ≡ shelf
   pub same_world : world' ≡ world
   pub same_sink : sink' ≡ sink
 
-abbrev pub RanCommand : Option Command → (shelf shelf' : Option Shelf) → (count now : ℕ) → (world world' : Option Shape) → (hosts hosts' : ℕ) → (sink sink' : Option (List ℕ)) → (sinks sinks' : ℕ) → Outcome → Type 0
-RanCommand None shelf shelf' count now world world' hosts hosts' sink sink' sinks sinks' r = NoCommand shelf shelf' world world' sink sink' r
-RanCommand (Some command) shelf shelf' count now world world' hosts hosts' sink sink' sinks sinks' r = RanBy command shelf shelf' count now world world' hosts hosts' sink sink' sinks sinks' r
+abbrev pub RanCommand : Option Command → (shelf shelf' : Option Shelf) → (count now : ℕ) → (world world' : Option Shape)
+    → (hosts hosts' : ℕ) → (sink sink' : Option (List ℕ)) → (sinks sinks' : ℕ) → Outcome → Type 0
+RanCommand None shelf shelf' count now world world' hosts hosts' sink sink' sinks sinks' r =
+    NoCommand shelf shelf' world world' sink sink' r
+RanCommand (Some command) shelf shelf' count now world world' hosts hosts' sink sink' sinks sinks' r =
+    RanBy command shelf shelf' count now world world' hosts hosts' sink sink' sinks sinks' r
 
 -- a run of the words
 -- profile
-pub record RanWords (words : Option Command) (shelf shelf' : Option Shelf) (count now : ℕ) (world world' : Option Shape) (hosts hosts' : ℕ) (sink sink' : Option (List ℕ)) (sinks sinks' : ℕ) (r : Outcome) : Type 0 where
+pub record RanWords (words : Option Command) (shelf shelf' : Option Shelf) (count now : ℕ) (world world' : Option Shape)
+    (hosts hosts' : ℕ) (sink sink' : Option (List ℕ)) (sinks sinks' : ℕ) (r : Outcome) : Type 0 where
   pub ran : RanCommand words shelf shelf' count now world world' hosts hosts' sink sink' sinks sinks' r

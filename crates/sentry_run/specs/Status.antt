@@ -1,7 +1,8 @@
 -- The exit statuses.
 use Rattle.std.specs.Prelude.{ℕ}
 use Rattle.sentry_run.specs.declared.outcome.Fault.{Fault}
-use Rattle.sentry_run.specs.declared.outcome.Fault.TheVariants.{Done, Usage, Mounts, Image, SourceFault, SinkFault, Stuck, Full, Memory, HostFault, Grant}
+use Rattle.sentry_run.specs.declared.outcome.Fault.TheVariants.{Done, Usage, Mounts, Image, SourceFault, SinkFault}
+use Rattle.sentry_run.specs.declared.outcome.Fault.TheVariants.{Stuck, Full, Memory, HostFault, Grant}
 
 -- the exit status of a run that came out so
 -- profile

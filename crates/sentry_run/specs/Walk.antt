@@ -1,6 +1,8 @@
 -- The walk of an opening execve over a host's nodes.
-use Rattle.std.specs.Prelude.{◌≡◌, ◌⊎◌, ℕ, ◌+◌, ◌/◌, ◌%◌, ◌<◌, ◌≤◌, ◌^◌, List, [], ◌∷◌, length, Bool, true, false, Option, Some, None, Ok, Err}
-use Rattle.host_node.specs.Tree.{Shape, kind_of, faults_of, with_faults, bytes_of, attr_of, is_lent, child_of, lend_child}
+use Rattle.std.specs.Prelude.{◌≡◌, ◌⊎◌, ℕ, ◌+◌, ◌/◌, ◌%◌, ◌<◌, ◌≤◌, ◌^◌, List, [], ◌∷◌, length, Bool, true, false}
+use Rattle.std.specs.Prelude.{Option, Some, None, Ok, Err}
+use Rattle.host_node.specs.Tree.{Shape, kind_of, faults_of, with_faults, bytes_of, attr_of, is_lent, child_of}
+use Rattle.host_node.specs.Tree.{lend_child}
 use Rattle.host_node.specs.declared.kind.Kind.TheVariants.{File}
 use Rattle.host_node.specs.declared.kind.Attr.{Attr}
 use Rattle.sn_base.specs.Sums.{capped}
@@ -27,7 +29,8 @@ Refusal attr refusal = (s : Shape) → attr ≡ attr_of s → is_lent s ≡ fals
 -- the mode and size of a file refuse it so
 -- execve(2), ERRORS: EACCES, ENOEXEC
 abbrev pub FileRefusal : ℕ → ℕ → Option Errno → Type 0
-FileRefusal mode size (Some errno) = ((mode / 64 % 2 ≡ 0) × (errno ≡ EACCES)) ⊎ ((mode / 64 % 2 ≡ 1) × (67108864 < size) × (errno ≡ ENOEXEC))
+FileRefusal mode size (Some errno) =
+    ((mode / 64 % 2 ≡ 0) × (errno ≡ EACCES)) ⊎ ((mode / 64 % 2 ≡ 1) × (67108864 < size) × (errno ≡ ENOEXEC))
 FileRefusal mode size None = (mode / 64 % 2 ≡ 1) × (size ≤ 67108864)
 
 -- a node that is told stands here, and not with a borrower
@@ -84,7 +87,8 @@ abbrev pub given_by : List ℕ → Met → Given
 given_by name Nothing = record { fresh = []; rises = [] }
 given_by name (RootFailed d) = record { fresh = []; rises = record { ino = 1; count = d } ∷ [] }
 given_by name Drawn = record { fresh = record { dir = 1; name = name; ino = 2 } ∷ []; rises = [] }
-given_by name (ChildFailed d) = record { fresh = record { dir = 1; name = name; ino = 2 } ∷ []; rises = record { ino = 2; count = d } ∷ [] }
+given_by name (ChildFailed d) =
+    record { fresh = record { dir = 1; name = name; ino = 2 } ∷ []; rises = record { ino = 2; count = d } ∷ [] }
 
 -- a node with its count of faults risen
 -- profile
@@ -112,7 +116,9 @@ abbrev pub LendsFrom : Shape → List ℕ → Option Shape → Option (Option Sh
 LendsFrom t name root None Nothing (Refuses errno) = (root ≡ Some t) × (child_of name t ≡ None) × (errno ≡ ENOENT)
 LendsFrom t name root None Nothing Memory = root ≡ Some t
 LendsFrom t name root None (RootFailed d) (Refuses errno) = (errno ≡ EIO) × (0 < d) × (root ≡ Some (faulted_by d t))
-LendsFrom t name root (Some child) met answer = (root ≡ Some (lend_child name t)) × (s : Shape) × (child_of name t ≡ Some s) × (faults_of s < 2 ^ 64) × Loads s child met answer
+LendsFrom t name root (Some child) met answer =
+    (root ≡ Some (lend_child name t)) × (s : Shape) × (child_of name t ≡ Some s) × (faults_of s < 2 ^ 64)
+    × Loads s child met answer
 LendsFrom t name root _ _ _ = ⊥
 
 abbrev pub LendsTo : Option Shape → List ℕ → Option Shape → Option (Option Shape) → Met → Answer → Type 0
@@ -126,7 +132,8 @@ WalksTo t name root child met answer =
     ((owner_executes t ≡ true) × LendsFrom t name root child met answer)
     ⊎ ((owner_executes t ≡ false) × (root ≡ Some t) × (child ≡ None) × (met ≡ Nothing) × (answer ≡ Refuses EACCES))
     ⊎ ((root ≡ Some t) × (child ≡ None) × (met ≡ Nothing) × (answer ≡ Memory))
-    ⊎ ((d : ℕ) × (0 < d) × (root ≡ Some (faulted_by d t)) × (child ≡ None) × (met ≡ RootFailed d) × (answer ≡ Refuses EIO))
+    ⊎ ((d : ℕ) × (0 < d) × (root ≡ Some (faulted_by d t)) × (child ≡ None) × (met ≡ RootFailed d)
+    × (answer ≡ Refuses EIO))
 
 abbrev pub Walks : Option Shape → List ℕ → Option Shape → Option (Option Shape) → Met → Answer → Type 0
 Walks None name root child met answer = root ≡ None
@@ -135,8 +142,10 @@ Walks (Some t) name root child met answer = (faults_of t < 2 ^ 64) × WalksTo t 
 -- what an opening execve gave: where its strings are too long nothing is walked to
 -- execve(2), E2BIG
 abbrev pub Unwalked : Option Shape → Option Shape → Option (Option Shape) → Met → Answer → Type 0
-Unwalked told root child met answer = IsCounted told × (root ≡ told) × (child ≡ None) × (met ≡ Nothing) × (answer ≡ Refuses E2BIG)
+Unwalked told root child met answer =
+    IsCounted told × (root ≡ told) × (child ≡ None) × (met ≡ Nothing) × (answer ≡ Refuses E2BIG)
 
-abbrev pub Execves : (is_long : Bool) → Option Shape → List ℕ → Option Shape → Option (Option Shape) → Met → Answer → Type 0
+abbrev pub Execves : (is_long : Bool) → Option Shape → List ℕ → Option Shape → Option (Option Shape) → Met
+    → Answer → Type 0
 Execves true told name root child met answer = Unwalked told root child met answer
 Execves false told name root child met answer = Walks told name root child met answer

@@ -1,3 +1,5 @@
+//! How a run comes out, and the text that it leaves in the sink.
+
 ghost use Rattle.std.specs.Prelude.{◌≡◌, Some, OnOk, OnErr};
 ghost use Rattle.sn_base.specs.Faults.{HasCause};
 ghost use Rattle.sn_edge.specs.Errors.{has_failed};
@@ -53,7 +55,8 @@ fn written<K: Sink>(
     out: &mut K,
     whole: Fault,
 ) -> Fault
-    ensures { Writes kernel.now trace.now flag whole (K.told out.old) (K.told out.new) (K.count out.old) (K.count out.new) result }
+    ensures { Writes kernel.now trace.now flag whole (K.told out.old) (K.told out.new)
+        (K.count out.old) (K.count out.new) result }
 {
     match write_text(alloc, kernel, trace, flag, out) {
         Ok(()) => whole,
@@ -64,7 +67,8 @@ fn written<K: Sink>(
 
 /// How a run comes out, once its text is written where it has one.
 fn concluded<K: Sink>(alloc: Global, end: End, trace: &Trace, flag: bool, out: &mut K) -> Fault
-    ensures { Concludes end trace.now flag (K.told out.old) (K.told out.new) (K.count out.old) (K.count out.new) result }
+    ensures { Concludes end trace.now flag (K.told out.old) (K.told out.new)
+        (K.count out.old) (K.count out.new) result }
 {
     match end {
         End::Done(kernel) => written(alloc, &kernel, trace, flag, out, Fault::Done),
@@ -109,7 +113,8 @@ pub fn conclude<K: Sink>(
     flag: bool,
     out: &mut K,
 ) -> Outcome
-    ensures concludes { Concludes played.end played.trace flag (K.told out.old) (K.told out.new) (K.count out.old) (K.count out.new) result.fault }
+    ensures concludes { Concludes played.end played.trace flag (K.told out.old) (K.told out.new)
+        (K.count out.old) (K.count out.new) result.fault }
     ensures status { result.status ≡ status_of result.fault }
     ensures opening { result.opening ≡ played.opening }
     ensures trace { result.trace ≡ played.trace }

@@ -1,3 +1,5 @@
+//! The entries of a machine, one after another, until its task has ended or the trace is full.
+
 ghost use Rattle.std.specs.Prelude.{◌≡◌, ◌≤◌, ◌⊎◌, ℕ, true, false, length, Some, IfSome, []};
 ghost use Rattle.std.specs.List.{flat_map};
 ghost use Rattle.std.specs.Ordering.{nat_cmp};
@@ -23,10 +25,13 @@ pub struct Ran {
 /// Runs a machine until its task has ended or the trace has so many entries.
 pub fn run_machine(alloc: Global, machine: Machine, entries: u64) -> Ran
     // The trace is a history, of whatever nodes stand beside the machine.
-    ensures history { (nodes : Nodes) (failed : map.FinMap nat_cmp ℕ) → Leaves nodes failed (replay (kernel_of machine nodes failed 0) result.trace) }
+    ensures history { (nodes : Nodes) (failed : map.FinMap nat_cmp ℕ) →
+        Leaves nodes failed (replay (kernel_of machine nodes failed 0) result.trace) }
     ensures state { IfSome result.machine (λ m. (nodes : Nodes) (failed : map.FinMap nat_cmp ℕ) →
-        replay (kernel_of machine nodes failed 0) result.trace ≡ Some (kernel_of m nodes failed (length result.trace))) }
-    ensures whole { (nodes : Nodes) (failed : map.FinMap nat_cmp ℕ) → each_whole (kernel_of machine nodes failed 0) result.trace ≡ true }
+        replay (kernel_of machine nodes failed 0) result.trace
+        ≡ Some (kernel_of m nodes failed (length result.trace))) }
+    ensures whole { (nodes : Nodes) (failed : map.FinMap nat_cmp ℕ) →
+        each_whole (kernel_of machine nodes failed 0) result.trace ≡ true }
     ensures drawn { flat_map numbers_in result.trace ≡ [] }
     ensures bound { length result.trace ≤ entries }
     ensures ended { IfSome result.machine (λ m. (is_live m.task.life ≡ false) ⊎ (length result.trace ≡ entries)) }

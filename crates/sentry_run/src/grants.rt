@@ -1,3 +1,5 @@
+//! The grant of the one mount's folder, the run over it, and its return to the world.
+
 ghost use Rattle.std.specs.Prelude.{◌≡◌, ◌≤◌, length, [], IfOk};
 ghost use Rattle.std.specs.List.{flat_map};
 ghost use Rattle.sn_base.specs.Faults.{Rose};

@@ -1,3 +1,5 @@
+//! The machine of one task: its registers and life, its address space, the console, and the entries that it makes.
+
 ghost use Rattle.std.specs.Prelude.{◌≡◌, ℕ, ◌+◌, ◌<◌, [], ◌∷◌, Some, true, false, IfOk, OnErr};
 ghost use Rattle.std.specs.Ordering.{nat_cmp};
 ghost use Rattle.std.specs.FinMap as map;
@@ -106,7 +108,8 @@ fn call_entry(
 ) -> Result<Entry, Memory>
     requires { next_of (acting_in TASK space.now) task.old.registers ≡ Next.Calls }
     ensures row { IfOk result (λ entry. (s : Parts) → s OfConsole ≡ console.old →
-        Changes console.old console.new task.new (outcome_in s (row_of entry (record { task = task.old; space = space.now })))) }
+        Changes console.old console.new task.new
+        (outcome_in s (row_of entry (record { task = task.old; space = space.now })))) }
     ensures task { IfOk result (λ entry. task_of entry ≡ TASK) }
     ensures space { task.new.space ≡ task.old.space }
     ensures numbers { IfOk result (λ entry. numbers_in entry ≡ []) }
@@ -133,7 +136,8 @@ fn call_entry(
 /// Ends the task by the signal of its next instruction's trap.
 fn end_entry(task: &mut Task, space: &GuestSpace, signal: u8) -> Entry
     requires { next_of (acting_in TASK space.now) task.old.registers ≡ Next.Traps signal }
-    ensures row { (parts : Parts) → outcome_in parts (row_of result (record { task = task.old; space = space.now })) ≡ Some (task_change 1 task.new ∷ []) }
+    ensures row { (parts : Parts) → outcome_in parts (row_of result (record { task = task.old; space = space.now }))
+        ≡ Some (task_change 1 task.new ∷ []) }
     ensures task { task_of result ≡ TASK }
     ensures space { task.new.space ≡ task.old.space }
     ensures numbers { numbers_in result ≡ [] }

@@ -1,3 +1,5 @@
+//! How a run came out: its answer, its exit status, and what it tells of the opening, the trace and the mount file.
+
 ghost use Rattle.std.specs.Prelude.{◌≡◌};
 ghost use Rattle.sentry_run.specs.Status.{status_of};
 

@@ -1,3 +1,5 @@
+//! The opening of one task, and its run, from what the walk to its program gave.
+
 ghost use Rattle.std.specs.Prelude.{◌≡◌, ◌≤◌, ◌<◌, ◌^◌, true, false, [], length, Some, None, IfOk};
 ghost use Rattle.std.specs.FinMap as map;
 ghost use Rattle.std.specs.List.{flat_map};
@@ -9,7 +11,8 @@ ghost use Rattle.kernel_model.specs.Numbers.{IsGapless, numbers_opened, numbers_
 ghost use Rattle.sentry_run.specs.Machine.{kernel_opened};
 ghost use Rattle.sn_errno.specs.declared.errno.Errno.TheVariants.{E2BIG};
 ghost use Rattle.sentry_run.specs.Walk.{given_by};
-ghost use Rattle.sentry_run.specs.Played.{nothing_opened, record_of, NamesTask, first_is_too_long, FitsFor, given_back, Ended, RanFrom, TraceOf};
+ghost use Rattle.sentry_run.specs.Played.{nothing_opened, record_of, NamesTask, first_is_too_long, FitsFor, given_back};
+ghost use Rattle.sentry_run.specs.Played.{Ended, RanFrom, TraceOf};
 ghost use Rattle.sentry_run.specs.PlayedMachine.{EndsAs, FinishesAs, IsInner};
 
 use crate::engine::{Ran, run_machine};
@@ -199,7 +202,8 @@ fn ended(alloc: Global, machine: Machine, entries: u64) -> End
 pub fn play_loaded(alloc: Global, mounts: &Mounts, name: &Name, loaded: Loaded) -> Played
     requires named { NamesTask mounts.now name.now }
     requires long { first_is_too_long mounts.now.tasks ≡ true → loaded.answer ≡ Answer.Refuses E2BIG }
-    ensures ended { (t : Shape) → faults_of t < 2 ^ 64 → FitsFor (first_is_too_long mounts.now.tasks) t name.now loaded.met loaded.answer →
+    ensures ended { (t : Shape) → faults_of t < 2 ^ 64 →
+        FitsFor (first_is_too_long mounts.now.tasks) t name.now loaded.met loaded.answer →
         Ended mounts.now t (given_back t name.now loaded.met) result.opening result.trace result.end }
     ensures inner { IsInner result.end }
     ensures drawn { flat_map numbers_in result.trace ≡ [] }

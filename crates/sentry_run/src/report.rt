@@ -1,3 +1,5 @@
+//! The line on standard error of a run that came to nothing.
+
 use crate::outcome::Fault;
 use std::io;
 

@@ -1,4 +1,7 @@
-ghost use Rattle.std.specs.Prelude.{◌≡◌, ◌≢◌, ◌⊎◌, ◌≤◌, ℕ, true, false, [], length, map, string_bytes, Some, None, IfSome, IfOk, IfErr};
+//! A run of the Sentry, from its words to the text of its state.
+
+ghost use Rattle.std.specs.Prelude.{◌≡◌, ◌≢◌, ◌⊎◌, ◌≤◌, ℕ, true, false, [], length, map, string_bytes, Some, None};
+ghost use Rattle.std.specs.Prelude.{IfSome, IfOk, IfErr};
 ghost use Rattle.sn_base.specs.Faults.{Rose};
 ghost use Rattle.sn_edge.specs.Reading.{ReadsWithin};
 ghost use Rattle.sn_edge.specs.Taken.{with_taken};
@@ -11,8 +14,10 @@ ghost use Rattle.sentry_run.specs.Command.{command_of};
 ghost use Rattle.sentry_run.specs.Concluded.{Fronts};
 ghost use Rattle.sentry_run.specs.Granted.{IsUngranted};
 ghost use Rattle.mount_file.specs.Form.{HasOneTask};
-ghost use Rattle.sentry_run.specs.Outcome.{ReadsMounts, HasMountFault, MeetsFault, MayFailToRead, granted, begun, state_after, WhereRead, WhereState, IsHistory, RefusesAs, refused_kernel};
-ghost use Rattle.sentry_run.specs.Outcome.{IsUnread, HasRun, HasNotBegun, HasNoTrace, IsOver, MayFailToGrant, MayFailToStart, asks_trace, HasText, HasFront, text_of};
+ghost use Rattle.sentry_run.specs.Outcome.{ReadsMounts, HasMountFault, MeetsFault, MayFailToRead, granted, begun};
+ghost use Rattle.sentry_run.specs.Outcome.{state_after, WhereRead, WhereState, IsHistory, RefusesAs, refused_kernel};
+ghost use Rattle.sentry_run.specs.Outcome.{IsUnread, HasRun, HasNotBegun, HasNoTrace, IsOver, MayFailToGrant};
+ghost use Rattle.sentry_run.specs.Outcome.{MayFailToStart, asks_trace, HasText, HasFront, text_of};
 ghost use Rattle.sentry_run.specs.Outcome.{IsLeftOver, IsAccepted, HasEnded, world_after, KeepsOutside};
 ghost use Rattle.sentry_run.specs.Played.{no_left};
 ghost use Rattle.sentry_run.specs.Ran.{IsRefused, ReadsAs, FailsToRead, RanOver, RanBy, RanWords};
@@ -50,7 +55,8 @@ fn load_mounts<S: Source>(
     ensures read { ReadsWithin (S.told files.old) (S.told files.new) 65537 }
     ensures ok { IfOk result (ReadsAs (command_of command.now) (S.told files.old)) }
     ensures form { IfOk result HasOneTask }
-    ensures err { IfErr result (FailsToRead (command_of command.now) (S.told files.old) (S.count files.old) (S.count files.new)) }
+    ensures err { IfErr result (FailsToRead (command_of command.now) (S.told files.old)
+        (S.count files.old) (S.count files.new)) }
 {
     let bytes = match read_all(alloc, files, command.mounts, LONGEST_MOUNT_FILE) {
         Ok(bytes) => bytes,
@@ -74,7 +80,8 @@ fn run_mounts<W: HostWorld, K: Sink>(
 ) -> Outcome
     requires one { HasOneTask mounts }
     requires ungranted { IsUngranted (W.told host.old) }
-    ensures { RanOver mounts flag (W.told host.old) (W.told host.new) (W.count host.old) (W.count host.new) (K.told out.old) (K.told out.new) (K.count out.old) (K.count out.new) result }
+    ensures { RanOver mounts flag (W.told host.old) (W.told host.new) (W.count host.old) (W.count host.new)
+        (K.told out.old) (K.told out.new) (K.count out.old) (K.count out.new) result }
 {
     let played = play(alloc, &mounts, host);
     conclude(alloc, played, mounts, flag, out)
@@ -89,8 +96,10 @@ fn run_command<S: Source, W: HostWorld, K: Sink>(
     out: &mut K,
 ) -> Outcome
     requires ungranted { IsUngranted (W.told host.old) }
-    ensures { RanBy (command_of command.now) (S.told files.old) (S.told files.new) (S.count files.old) (S.count files.new)
-        (W.told host.old) (W.told host.new) (W.count host.old) (W.count host.new) (K.told out.old) (K.told out.new) (K.count out.old) (K.count out.new) result }
+    ensures { RanBy (command_of command.now) (S.told files.old) (S.told files.new)
+        (S.count files.old) (S.count files.new)
+        (W.told host.old) (W.told host.new) (W.count host.old) (W.count host.new)
+        (K.told out.old) (K.told out.new) (K.count out.old) (K.count out.new) result }
 {
     match load_mounts(alloc, command, files) {
         Ok(mounts) => run_mounts(alloc, mounts, command.trace, host, out),
@@ -107,8 +116,10 @@ fn run_words<S: Source, W: HostWorld, K: Sink>(
     out: &mut K,
 ) -> Outcome
     requires ungranted { IsUngranted (W.told host.old) }
-    ensures { RanWords (accepted (map string_bytes words.now)) (S.told files.old) (S.told files.new) (S.count files.old) (S.count files.new)
-        (W.told host.old) (W.told host.new) (W.count host.old) (W.count host.new) (K.told out.old) (K.told out.new) (K.count out.old) (K.count out.new) result }
+    ensures { RanWords (accepted (map string_bytes words.now)) (S.told files.old) (S.told files.new)
+        (S.count files.old) (S.count files.new)
+        (W.told host.old) (W.told host.new) (W.count host.old) (W.count host.new)
+        (K.told out.old) (K.told out.new) (K.count out.old) (K.count out.new) result }
 {
     match read_words(words) {
         Some(command) => run_command(alloc, &command, files, host, out),
@@ -139,53 +150,71 @@ pub fn run_sentry<S: Source, W: HostWorld, K: Sink>(
     ensures source_fault { result.fault ≡ Fault.SourceFault → Rose (S.count files.old) (S.count files.new) }
     // The source is read at most to its 65,537th byte, and each read takes a byte or is the last.
     ensures source_read { ReadsWithin (S.told files.old) (S.told files.new) 65537 }
-    ensures mounts { (fault : MountFault) → result.fault ≡ Fault.Mounts fault → HasMountFault (accepted (map string_bytes words.now)) (S.told files.old) fault }
-    ensures mounts_exact { (fault : MountFault) → MeetsFault (accepted (map string_bytes words.now)) (S.told files.old) fault → MayFailToRead fault result.fault }
+    ensures mounts { (fault : MountFault) → result.fault ≡ Fault.Mounts fault →
+        HasMountFault (accepted (map string_bytes words.now)) (S.told files.old) fault }
+    ensures mounts_exact { (fault : MountFault) →
+        MeetsFault (accepted (map string_bytes words.now)) (S.told files.old) fault → MayFailToRead fault result.fault }
     // The mount file that the outcome holds is what the bytes say.
     ensures read { ReadsMounts (accepted (map string_bytes words.now)) (S.told files.old) result.mounts }
     ensures unread { result.mounts ≡ None → IsUnread result.fault }
     ensures host_fault { result.fault ≡ Fault.HostFault → Rose (W.count host.old) (W.count host.new) }
-    ensures grant { (mount : ℕ) → result.fault ≡ Fault.Grant mount → WhereRead result.mounts (W.told host.old) (λ m w. granted m.mounts w ≡ None) }
+    ensures grant { (mount : ℕ) → result.fault ≡ Fault.Grant mount →
+        WhereRead result.mounts (W.told host.old) (λ m w. granted m.mounts w ≡ None) }
     ensures grant_number { (mount : ℕ) → result.fault ≡ Fault.Grant mount → mount ≡ 1 }
-    ensures grant_exact { WhereRead result.mounts (W.told host.old) (λ m w. granted m.mounts w ≡ None → MayFailToGrant result.fault) }
+    ensures grant_exact { WhereRead result.mounts (W.told host.old) (λ m w.
+        granted m.mounts w ≡ None → MayFailToGrant result.fault) }
     ensures image { (task : ℕ) (errno : Errno) → result.fault ≡ Fault.Image task errno →
         WhereRead result.mounts (W.told host.old) (λ m w. RefusesAs (begun m w result.opening) task errno) }
     ensures image_exact { WhereRead result.mounts (W.told host.old) (λ m w. (k : Kernel) (task : ℕ) (errno : Errno) →
         begun m w result.opening ≡ Refuses k task errno → MayFailToStart task errno result.fault) }
     ensures sink_fault { result.fault ≡ Fault.SinkFault → Rose (K.count out.old) (K.count out.new) }
-    ensures sink_over { result.fault ≡ Fault.SinkFault → WhereState result.mounts (W.told host.old) result.opening result.trace (λ m w k. IsOver m result.trace k) }
-    ensures done { result.fault ≡ Fault.Done → WhereState result.mounts (W.told host.old) result.opening result.trace (λ m w k. any_live k ≡ false) }
-    ensures full { result.fault ≡ Fault.Full → WhereState result.mounts (W.told host.old) result.opening result.trace (λ m w k. any_live k ≡ true) }
+    ensures sink_over { result.fault ≡ Fault.SinkFault →
+        WhereState result.mounts (W.told host.old) result.opening result.trace (λ m w k. IsOver m result.trace k) }
+    ensures done { result.fault ≡ Fault.Done →
+        WhereState result.mounts (W.told host.old) result.opening result.trace (λ m w k. any_live k ≡ false) }
+    ensures full { result.fault ≡ Fault.Full →
+        WhereState result.mounts (W.told host.old) result.opening result.trace (λ m w k. any_live k ≡ true) }
     ensures full_length { result.fault ≡ Fault.Full → IfSome result.mounts (λ m. length result.trace ≡ m.entries) }
     // ---- the trace
-    ensures history { HasRun result.fault → WhereRead result.mounts (W.told host.old) (λ m w. IsHistory m w result.opening result.trace) }
-    ensures history_memory { result.fault ≡ Fault.Memory → WhereRead result.mounts (W.told host.old) (λ m w. (result.trace ≡ []) ⊎ IsHistory m w result.opening result.trace) }
+    ensures history { HasRun result.fault →
+        WhereRead result.mounts (W.told host.old) (λ m w. IsHistory m w result.opening result.trace) }
+    ensures history_memory { result.fault ≡ Fault.Memory → WhereRead result.mounts (W.told host.old) (λ m w.
+        (result.trace ≡ []) ⊎ IsHistory m w result.opening result.trace) }
     ensures bound { IfSome result.mounts (λ m. length result.trace ≤ m.entries) }
     ensures empty { HasNoTrace result.fault → result.trace ≡ [] }
     ensures unread_empty { result.mounts ≡ None → result.trace ≡ [] }
     // ---- the numbers
     ensures gapless { IsGapless (numbers_opened result.opening) }
     ensures below { HasAllBelow (numbers_drawn result.opening result.trace result.left) }
-    ensures left_over { WhereState result.mounts (W.told host.old) result.opening result.trace (λ m w k. IsLeftOver result.left k) }
+    ensures left_over { WhereState result.mounts (W.told host.old) result.opening result.trace (λ m w k.
+        IsLeftOver result.left k) }
     // So far nothing is left beside the trace.
     ensures nothing_left { result.left ≡ no_left }
     // ---- the text
-    ensures text { HasText result.fault → WhereState result.mounts (W.told host.old) result.opening result.trace (λ m w k.
-        K.told out.new ≡ with_taken (K.told out.old) (printed k result.trace (asks_trace (accepted (map string_bytes words.now))))) }
+    ensures text { HasText result.fault →
+        WhereState result.mounts (W.told host.old) result.opening result.trace (λ m w k.
+        K.told out.new ≡ with_taken (K.told out.old)
+        (printed k result.trace (asks_trace (accepted (map string_bytes words.now))))) }
     ensures text_front { HasFront result.fault → WhereRead result.mounts (W.told host.old) (λ m w.
-        Fronts (K.told out.old) (K.told out.new) (text_of (state_after m w result.opening result.trace) result.trace (asks_trace (accepted (map string_bytes words.now))))) }
+        Fronts (K.told out.old) (K.told out.new) (text_of (state_after m w result.opening result.trace)
+        result.trace (asks_trace (accepted (map string_bytes words.now))))) }
     ensures text_none { HasNoTrace result.fault → K.told out.new ≡ K.told out.old }
     ensures unread_text { result.mounts ≡ None → K.told out.new ≡ K.told out.old }
     // ---- the world
-    ensures world { HasRun result.fault → WhereState result.mounts (W.told host.old) result.opening result.trace (λ m w k.
+    ensures world { HasRun result.fault →
+        WhereState result.mounts (W.told host.old) result.opening result.trace (λ m w k.
         W.told host.new ≡ Some (world_after m result.opening result.left k w)) }
-    ensures image_world { (task : ℕ) (errno : Errno) → result.fault ≡ Fault.Image task errno → WhereRead result.mounts (W.told host.old) (λ m w.
-        IfSome (refused_kernel (begun m w result.opening)) (λ k. W.told host.new ≡ Some (world_after m result.opening result.left k w))) }
+    ensures image_world { (task : ℕ) (errno : Errno) → result.fault ≡ Fault.Image task errno →
+        WhereRead result.mounts (W.told host.old) (λ m w.
+        IfSome (refused_kernel (begun m w result.opening)) (λ k.
+        W.told host.new ≡ Some (world_after m result.opening result.left k w))) }
     ensures world_same { HasNotBegun result.fault → W.told host.new ≡ W.told host.old }
     ensures unread_world { result.mounts ≡ None → W.told host.new ≡ W.told host.old }
-    ensures outside { result.fault ≡ Fault.Memory → WhereRead result.mounts (W.told host.old) (λ m w. KeepsOutside m w (W.told host.new)) }
+    ensures outside { result.fault ≡ Fault.Memory →
+        WhereRead result.mounts (W.told host.old) (λ m w. KeepsOutside m w (W.told host.new)) }
     // ---- what is accepted comes to its end
-    ensures complete { IsAccepted (accepted (map string_bytes words.now)) (S.told files.old) (W.told host.old) result.opening →
+    ensures complete { IsAccepted (accepted (map string_bytes words.now)) (S.told files.old)
+        (W.told host.old) result.opening →
         (Rose (S.count files.old) (S.count files.new) → ⊥) → (Rose (W.count host.old) (W.count host.new) → ⊥) →
         (Rose (K.count out.old) (K.count out.new) → ⊥) → HasEnded result.fault }
 {

@@ -1,4 +1,5 @@
-// The text of a run: the console, the groups, and where it is asked for the trace.
+//! The text of a run: the console, the groups, and where it is asked for the trace.
+
 ghost use Rattle.std.specs.Prelude.{◌≡◌, IfOk, is_ok};
 ghost use Rattle.kernel_model.specs.Printed.{printed, console_text, is_closed};
 

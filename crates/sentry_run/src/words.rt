@@ -1,3 +1,5 @@
+//! The words of the command line, and the command that they are.
+
 ghost use Rattle.std.specs.Prelude.{◌≡◌, option_map, map, string_bytes};
 ghost use Rattle.kernel_model.specs.Words.{accepted, is_option, workers_of, traced, options};
 ghost use Rattle.sentry_run.specs.Command.{command_of};

@@ -1,4 +1,5 @@
-// The names of the system calls.
+//! The names of the system calls.
+
 ghost use Rattle.std.specs.Prelude.{◌≡◌, ◌++◌, OnOk};
 ghost use Rattle.sn_errno.specs.Calls.{call_name};
 

@@ -1,4 +1,5 @@
-// The lines of the thread groups.
+//! The lines of the thread groups.
+
 ghost use Rattle.std.specs.Prelude.{◌≡◌, ◌++◌, OnOk};
 ghost use Rattle.std.specs.FinMap as map;
 ghost use Rattle.kernel_model.specs.Printed.{group_text, groups_text};

@@ -1,4 +1,5 @@
-// The lines of a trace.
+//! The lines of a trace.
+
 ghost use Rattle.std.specs.Prelude.{◌≡◌, ◌++◌, OnOk, codes};
 ghost use Rattle.std.specs.Fmt.{decimal};
 ghost use Rattle.sn_errno.specs.Calls.{call_name};

@@ -1,3 +1,4 @@
+-- Each round adds an entry at the end of a history, or memory runs out.
 use Rattle.std.proofs.Common.{◌≡◌, ℕ, ◌+◌, false, List, [], ◌∷◌, ◌++◌, length, ap, sym, ◌∙◌, length-append}
 use Rattle.std.specs.Prelude.{Result, Ok, Err, OnOk, is_err, Some}
 use Rattle.std.specs.List.{flat_map}
@@ -19,15 +20,25 @@ none_more xs ys e h = ap (λ zs. zs ++ (ys ++ [])) e ∙ ap (λ zs. zs ++ []) h
 pub loop-place-preserved : goal.loop-place-preserved
 loop-place-preserved c =
     let grown = on_success c.push.result _ (sym c.is_err.ensures.value ∙ c.if-is_err.false) c.push.ensures.ok in
-    let longer : length c.push.new.self ≡ length c.loop-place.trace + 1 = ap length grown ∙ length-append c.loop-place.trace (c.in-Ok.entry ∷ []) in
+    let longer : length c.push.new.self ≡ length c.loop-place.trace + 1 =
+    ap length grown ∙ length-append c.loop-place.trace (c.in-Ok.entry ∷ []) in
     record {
       count = longer ∙ ap (λ (n : ℕ). n + 1) c.loop-place.invariant.count;
       state = λ nodes failed.
           ap (replay (kernel_of c.args.machine nodes failed 0)) grown
-          ∙ replay_more (kernel_of c.args.machine nodes failed 0) (kernel_of c.loop-place.machine nodes failed (length c.loop-place.trace)) _ c.loop-place.trace c.in-Ok.entry (c.loop-place.invariant.state nodes failed) (c.in-Ok.ensures.step nodes failed (length c.loop-place.trace))
+          ∙ replay_more (kernel_of c.args.machine nodes failed 0)
+          (kernel_of c.loop-place.machine nodes failed (length c.loop-place.trace)) _ c.loop-place.trace c.in-Ok.entry
+          (c.loop-place.invariant.state nodes failed) (c.in-Ok.ensures.step nodes failed (length c.loop-place.trace))
           ∙ ap (λ (n : ℕ). Some (kernel_of c.advance.new.self nodes failed n)) (sym longer);
-      drawn = ap (flat_map numbers_in) grown ∙ flat_map-append numbers_in c.loop-place.trace (c.in-Ok.entry ∷ []) ∙ none_more _ _ c.loop-place.invariant.drawn c.in-Ok.ensures.numbers;
+      drawn =
+          ap (flat_map numbers_in) grown ∙ flat_map-append numbers_in c.loop-place.trace (c.in-Ok.entry ∷ [])
+          ∙ none_more _ _ c.loop-place.invariant.drawn c.in-Ok.ensures.numbers;
       whole = λ nodes failed.
           ap (λ es. each_whole (kernel_of c.args.machine nodes failed 0) es) grown
-          ∙ whole_more (kernel_of c.args.machine nodes failed 0) (kernel_of c.loop-place.machine nodes failed (length c.loop-place.trace)) (kernel_of c.advance.new.self nodes failed (length c.loop-place.trace + 1)) c.loop-place.trace c.in-Ok.entry (c.loop-place.invariant.state nodes failed) (c.loop-place.invariant.whole nodes failed) (c.in-Ok.ensures.step nodes failed (length c.loop-place.trace)) (c.in-Ok.ensures.whole nodes failed (length c.loop-place.trace + 1));
+          ∙ whole_more (kernel_of c.args.machine nodes failed 0)
+          (kernel_of c.loop-place.machine nodes failed (length c.loop-place.trace))
+          (kernel_of c.advance.new.self nodes failed (length c.loop-place.trace + 1)) c.loop-place.trace c.in-Ok.entry
+          (c.loop-place.invariant.state nodes failed) (c.loop-place.invariant.whole nodes failed)
+          (c.in-Ok.ensures.step nodes failed (length c.loop-place.trace))
+          (c.in-Ok.ensures.whole nodes failed (length c.loop-place.trace + 1));
     }

@@ -1,3 +1,4 @@
+-- The trace so far is a whole history, and leaves the machine.
 use Rattle.std.proofs.Common.{◌≡◌, ℕ, true, length, []}
 use Rattle.std.specs.List.{flat_map}
 use Rattle.std.specs.Prelude.{Some}
@@ -13,7 +14,9 @@ use Rattle.sentry_run.proofs.engine.run_machine.Given as goal
 abbrev pub invariant-loop-place : goal.invariant-loop-place
 invariant-loop-place l = record {
   count : length l.trace ≡ l._place;
-  state : (nodes : Nodes) (failed : map.FinMap nat_cmp ℕ) → replay (kernel_of l.fn.machine nodes failed 0) l.trace ≡ Some (kernel_of l.machine nodes failed (length l.trace));
+  state : (nodes : Nodes) (failed : map.FinMap nat_cmp ℕ) → replay (kernel_of l.fn.machine nodes failed 0) l.trace
+      ≡ Some (kernel_of l.machine nodes failed (length l.trace));
   drawn : flat_map numbers_in l.trace ≡ [];
-  whole : (nodes : Nodes) (failed : map.FinMap nat_cmp ℕ) → each_whole (kernel_of l.fn.machine nodes failed 0) l.trace ≡ true;
+  whole : (nodes : Nodes) (failed : map.FinMap nat_cmp ℕ) → each_whole (kernel_of l.fn.machine nodes failed 0) l.trace
+      ≡ true;
 }

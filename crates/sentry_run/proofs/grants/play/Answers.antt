@@ -1,3 +1,4 @@
+-- The granted folder can be lent and settled, and the world then has the run's tree in its place.
 use Rattle.sentry_run.proofs.GivenBack.{can_grant, can_lend, can_settle, first_names_of, plays_in, inner_fault}
 use Rattle.sentry_run.proofs.grants.play.Goals as goal
 
@@ -7,24 +8,33 @@ grant-requires g c = can_grant _ _ c.requires.ungranted
 pub play_root-played-requires-clause-root : goal.play_root-played-requires-clause-root
 play_root-played-requires-clause-root g c =
     let node = rw c.in-Ok-Some.field-0-is at c.in-Ok-Some.ensures.node in
-    let lend = can_lend c.at.result.now.folder.names c.in-Ok.name (g.W.HostWorld.told c.args.host.now) (g.W.Node.HostNode.told c.in-Ok-Some.root) (g.W.Node.HostNode.count c.in-Ok-Some.root) (g.W.Node.HostNode.what c.in-Ok-Some.root) c.requires.ungranted node in
+    let lend =
+    can_lend c.at.result.now.folder.names c.in-Ok.name (g.W.HostWorld.told c.args.host.now)
+    (g.W.Node.HostNode.told c.in-Ok-Some.root) (g.W.Node.HostNode.count c.in-Ok-Some.root)
+    (g.W.Node.HostNode.what c.in-Ok-Some.root) c.requires.ungranted node in
     λ k l. lend
 
 pub settle-requires : goal.settle-requires
 settle-requires g c =
     let node = rw c.in-Ok-Some.field-0-is at c.in-Ok-Some.ensures.node in
     let tells = rw c.in-Ok-Some.field-0-is at c.in-Ok-Some.ensures.tells in
-    can_settle c.at.result.now.folder.names (g.W.HostWorld.told c.args.host.now) (g.W.HostWorld.told c.grant.new.self) (g.W.Node.HostNode.told c.in-Ok-Some.root) (g.W.Node.HostNode.count c.in-Ok-Some.root) (g.W.Node.HostNode.what c.in-Ok-Some.root) node tells
+    can_settle c.at.result.now.folder.names (g.W.HostWorld.told c.args.host.now) (g.W.HostWorld.told c.grant.new.self)
+    (g.W.Node.HostNode.told c.in-Ok-Some.root) (g.W.Node.HostNode.count c.in-Ok-Some.root)
+    (g.W.Node.HostNode.what c.in-Ok-Some.root) node tells
 
 pub returns-in-Ok-Some-clause-plays : goal.returns-in-Ok-Some-clause-plays
 returns-in-Ok-Some-clause-plays g c =
     let node = rw c.in-Ok-Some.field-0-is at c.in-Ok-Some.ensures.node in
     let tells = rw c.in-Ok-Some.field-0-is at c.in-Ok-Some.ensures.tells in
     let p = c.play_root-played in
-    plays_in c.args.mounts.now c.at.result.now.folder.names (g.W.HostWorld.told c.args.host.now) (g.W.HostWorld.told c.grant.new.self) (g.W.HostWorld.told c.settle.new.self)
-    (g.W.Node.HostNode.told c.in-Ok-Some.root) (g.W.Node.HostNode.told p.new.root) (g.W.Node.HostNode.count c.in-Ok-Some.root) (g.W.Node.HostNode.what c.in-Ok-Some.root)
+    plays_in c.args.mounts.now c.at.result.now.folder.names (g.W.HostWorld.told c.args.host.now)
+    (g.W.HostWorld.told c.grant.new.self) (g.W.HostWorld.told c.settle.new.self)
+    (g.W.Node.HostNode.told c.in-Ok-Some.root) (g.W.Node.HostNode.told p.new.root)
+    (g.W.Node.HostNode.count c.in-Ok-Some.root) (g.W.Node.HostNode.what c.in-Ok-Some.root)
     p.result.opening p.result.trace p.result.end
-    (first_names_of c.args.mounts.now.mounts c.at.result.now c.at.ensures) node tells p.ensures.plays p.ensures.inner c.settle.ensures.tells
+    (first_names_of c.args.mounts.now.mounts c.at.result.now c.at.ensures) node tells p.ensures.plays p.ensures.inner
+    c.settle.ensures.tells
 
 pub returns-in-Ok-Some-clause-fault : goal.returns-in-Ok-Some-clause-fault
-returns-in-Ok-Some-clause-fault g c = λ e. absurd (inner_fault c.play_root-played.result.end c.play_root-played.ensures.inner e)
+returns-in-Ok-Some-clause-fault g c =
+    λ e. absurd (inner_fault c.play_root-played.result.end c.play_root-played.ensures.inner e)

@@ -1,3 +1,4 @@
+-- How far the mounts are copied.
 use Rattle.std.proofs.Common.{◌≡◌, take}
 use Rattle.sentry_run.proofs.play.copied_mounts.Given as goal
 

@@ -1,3 +1,4 @@
+-- How far the words are copied.
 use Rattle.std.proofs.Common.{◌≡◌, take}
 use Rattle.sentry_run.proofs.play.copied_words.Given as goal
 

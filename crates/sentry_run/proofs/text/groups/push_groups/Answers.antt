@@ -1,3 +1,4 @@
+-- Each round adds the line of the next group, and the numbers are those of all tasks.
 use Rattle.std.proofs.Common.{◌≡◌, ◌++◌, get_or, ap, sym, ◌∙◌, take}
 use Rattle.std.proofs.lemmas.List.{append-nil, take_all}
 use Rattle.std.specs.Option.{option_copied}
@@ -18,7 +19,8 @@ loop-number-preserved c =
       | in-Some+in_ok-push_group w ↦
           let line = ap (line_of number) (sym c.get.ensures ∙ ap option_copied w.in-Some.is) in
           grown _ _ _ (line_at tasks number) _ _
-          (ap (λ v. v.items) w.out-is ∙ w.in_ok-push_group.ensures ∙ ap (λ text. c.loop-number.out.items ++ text) (sym line))
+          (ap (λ v. v.items) w.out-is ∙ w.in_ok-push_group.ensures
+          ∙ ap (λ text. c.loop-number.out.items ++ text) (sym line))
           c.loop-number.invariant next
       | in_default w ↦
           let line = ap (line_of number) (sym c.get.ensures ∙ ap option_copied w.in_default.is) in
@@ -32,4 +34,5 @@ returns c =
     let numbers = c.as_slice-number-items.result.now in
     let all : take c.loop-number.number-index numbers ≡ numbers = take_all _ numbers c.loop-number-test.false in
     let keys : numbers ≡ map.keys c.args.tasks.now = c.as_slice-number-items.ensures ∙ c.in_ok-numbers.ensures in
-    c.loop-number.invariant ∙ ap (λ ns. c.args.out.now.items ++ flat_map (line_at c.args.tasks.now) ns) (all ∙ keys) ∙ ap (λ text. c.args.out.now.items ++ text) (lines_of_keys c.args.tasks.now)
+    c.loop-number.invariant ∙ ap (λ ns. c.args.out.now.items ++ flat_map (line_at c.args.tasks.now) ns) (all ∙ keys)
+    ∙ ap (λ text. c.args.out.now.items ++ text) (lines_of_keys c.args.tasks.now)
