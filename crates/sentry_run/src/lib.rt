@@ -21,18 +21,18 @@
 
 mod conclude;
 mod engine;
+mod error_line;
 mod grants;
 mod machine;
 mod outcome;
 mod play;
-mod report;
 mod run;
 mod text;
 mod walk;
 mod words;
 
+pub use error_line::report;
 pub use outcome::{Fault, Outcome};
-pub use report::report;
 pub use run::run_sentry;
 pub use text::printed_text;
 pub use words::{Command, read_words};
