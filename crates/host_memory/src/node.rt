@@ -61,7 +61,7 @@ impl Model for MemoryNode {
 impl MemoryNode {
     /// The node of a tree that stands here, in a place of the host, not opened, with the calls of it and of
     /// what is below it that are to fail.
-    pub(crate) fn new(alloc: Global, tree: Tree, place: Route, plan: Plan) -> MemoryNode
+    pub fn new(alloc: Global, tree: Tree, place: Route, plan: Plan) -> MemoryNode
         requires { is_lent tree ≡ false }
         ensures tree { result.tree ≡ tree }
         ensures access { result.access ≡ NotOpened }

@@ -1,6 +1,6 @@
 use Rattle.host_node.specs.Tree.{faults_of, kind_of}
 use Rattle.host_memory.proofs.Worlds.{can_lend, lent_place, none_lent_back}
-use Rattle.host_memory.proofs.tests.kept.lent_stat_fails.Goals as goal
+use Rattle.host_memory_tests.proofs.kept.lent_stat_fails.Goals as goal
 
 pub lend-requires : goal.lend-requires
 lend-requires c = can_lend c.args.name.now c.args.parent.now.tree c.requires.directory c.requires.whole

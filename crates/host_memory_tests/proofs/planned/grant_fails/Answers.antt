@@ -3,7 +3,7 @@ use Rattle.host_node.specs.declared.kind.Kind.TheVariants.{Dir}
 use Rattle.host_node.specs.Routes.{put_subtree}
 use Rattle.host_node.specs.Tree.{lent, faults_of, kind_of}
 use Rattle.host_memory.proofs.Worlds.{can_grant, granted_place, none_lent_granted, none_lent_settled}
-use Rattle.host_memory.proofs.tests.planned.grant_fails.Goals as goal
+use Rattle.host_memory_tests.proofs.planned.grant_fails.Goals as goal
 
 pub grant-requires : goal.grant-requires
 grant-requires c = can_grant c.args.folder.now.names c.args.world.now.tree c.requires

@@ -1,6 +1,6 @@
 use Rattle.host_node.specs.Tree.{faults_of, kind_of}
 use Rattle.host_memory.proofs.Worlds.{can_grant, granted_place, none_lent_granted}
-use Rattle.host_memory.proofs.tests.granted.Goals as goal
+use Rattle.host_memory_tests.proofs.hosts.granted.Goals as goal
 
 pub grant-requires : goal.grant-requires
 grant-requires c = can_grant c.args.folder.now.names c.args.world.now.tree c.requires
