@@ -1,7 +1,10 @@
+//! The calls that are to fail, and how they are counted.
+
 ghost use Rattle.std.specs.Prelude.{◌≡◌, [], ◌∷◌, ◌++◌, ◌&&◌, ◌==◌, if◌then◌else◌, length, OnOk, OnErr};
 ghost use Rattle.std.specs.Str.{bytes_eq};
 ghost use lib.Pointwise.{pointwise};
-ghost use Rattle.host_memory.specs.Plans.{is_op, is_for, is_below, fails, one_less, after_call, lines_below, lines_beside};
+ghost use Rattle.host_memory.specs.Plans.{is_op, is_for, is_below, fails, one_less, after_call, lines_below};
+ghost use Rattle.host_memory.specs.Plans.{lines_beside};
 ghost use Rattle.host_memory.specs.declared.plan.PlanErr.TheVariants.{Memory as WantOfMemory};
 
 use sn_base::Memory;

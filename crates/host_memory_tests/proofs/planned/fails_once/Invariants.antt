@@ -1,3 +1,4 @@
+-- The node is an empty directory.
 use Rattle.std.proofs.Common.{◌≡◌}
 use Rattle.host_node.specs.Tree.{directory, no_children, faults_of}
 use Rattle.host_memory_tests.proofs.planned.fails_once.Given as goal

@@ -1,3 +1,4 @@
+-- A folder that is granted can be settled, and leaves nothing lent.
 use Rattle.std.proofs.Common.{◌≡◌, Some}
 use Rattle.host_node.specs.declared.kind.Kind.TheVariants.{Dir}
 use Rattle.host_node.specs.Routes.{put_subtree}
@@ -13,7 +14,8 @@ settle-requires c =
     let node = c.in-Ok-Some.node.tree in
     let told = rw c.in-Ok-Some.field-0-is at c.in-Ok-Some.ensures.node in
     let tells = rw c.in-Ok-Some.field-0-is at c.in-Ok-Some.ensures.tells in
-    granted_place c.args.folder.now.names c.args.world.now.tree c.grant.new.self.tree node (faults_of node) (kind_of node) told tells
+    granted_place c.args.folder.now.names c.args.world.now.tree c.grant.new.self.tree node (faults_of node)
+    (kind_of node) told tells
 
 pub returns-in-Ok-Some : goal.returns-in-Ok-Some
 returns-in-Ok-Some c =

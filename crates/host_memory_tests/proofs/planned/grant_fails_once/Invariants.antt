@@ -1,3 +1,4 @@
+-- The host has nothing lent.
 use Rattle.std.proofs.Common.{◌≡◌, true}
 use Rattle.host_node.specs.Tree.{none_lent}
 use Rattle.host_memory_tests.proofs.planned.grant_fails_once.Given as goal

@@ -1,3 +1,4 @@
+-- The node is a file.
 use Rattle.std.proofs.Common.{◌≡◌}
 use Rattle.host_node.specs.Tree.{file, bytes_of, faults_of}
 use Rattle.host_memory_tests.proofs.planned.open_fails_once.Given as goal

@@ -1,3 +1,4 @@
+-- The node is a file that is open.
 use Rattle.std.proofs.Common.{◌≡◌}
 use Rattle.host_node.specs.Tree.{file, bytes_of, faults_of}
 use Rattle.host_memory.specs.declared.node.Access.TheVariants.{Reading}
