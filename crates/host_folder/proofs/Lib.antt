@@ -1,3 +1,4 @@
+-- Lemmas of folders of the machine, by subject.
 mod OrderLemmas
 mod PathLemmas
 mod ReadLemmas

@@ -1,5 +1,6 @@
 -- The order of what a folder lists, as entries are added to it.
-use Rattle.std.proofs.Common.{◌≡◌, ℕ, true, List, [], ◌∷◌, ◌++◌, refl, ap, ◌∙◌, sym, subst, ◌+◌, ◌-◌, ◌<◌, arith, length, take, Some, slice_get}
+use Rattle.std.proofs.Common.{◌≡◌, ℕ, true, List, [], ◌∷◌, ◌++◌, refl, ap, ◌∙◌, sym, subst, ◌+◌, ◌-◌, ◌<◌, arith}
+use Rattle.std.proofs.Common.{length, take, Some, slice_get}
 use Rattle.std.specs.declared.cmp.Ordering.{Ordering}
 use Rattle.std.specs.declared.cmp.Ordering.TheVariants.{Less, Equal, Greater}
 use Rattle.std.specs.Ordering.{nat_cmp, is_lt}
@@ -23,18 +24,21 @@ below_push name [] last e l h = (h.0, (nat_list_cmp_total.trans name last.name e
 below_push name (x ∷ xs) last e l h = (h.0, below_push name xs last e l h.1)
 
 -- what is greater than the last goes in behind it
-pub ascending_push : (ls : List Listed) (last e : Listed) → slice_cmp nat_cmp last.name e.name ≡ Less → IsAscending (names_of (ls ++ last ∷ []))
+pub ascending_push : (ls : List Listed) (last e : Listed) → slice_cmp nat_cmp last.name e.name ≡ Less
+    → IsAscending (names_of (ls ++ last ∷ []))
     → IsAscending (names_of ((ls ++ last ∷ []) ++ e ∷ []))
 ascending_push [] last e l h = ((l, tt), (tt, tt))
 ascending_push (x ∷ xs) last e l h = (below_push x.name xs last e l h.0, ascending_push xs last e l h.1)
 
 -- what goes in at the end is greater than the last
-pub less_behind : (ls : List Listed) (last e : Listed) → IsAscending (names_of ((ls ++ last ∷ []) ++ e ∷ [])) → slice_cmp nat_cmp last.name e.name ≡ Less
+pub less_behind : (ls : List Listed) (last e : Listed) → IsAscending (names_of ((ls ++ last ∷ []) ++ e ∷ []))
+    → slice_cmp nat_cmp last.name e.name ≡ Less
 less_behind [] last e h = h.0.0
 less_behind (x ∷ xs) last e h = less_behind xs last e h.1
 
 -- a list ends with its last element
-pub ends_with_last : (ls : List Listed) (last : Listed) → slice_get ls (length ls - 1) ≡ Some last → ls ≡ take (length ls - 1) ls ++ last ∷ []
+pub ends_with_last : (ls : List Listed) (last : Listed) → slice_get ls (length ls - 1) ≡ Some last
+    → ls ≡ take (length ls - 1) ls ++ last ∷ []
 ends_with_last ls last h =
     let i = length ls - 1 in
     let within : i < length ls = slice_get_within ls i last h in
@@ -42,7 +46,8 @@ ends_with_last ls last h =
     sym all ∙ take_more ls i last within ∙ ap (λ x. take i ls ++ x ∷ []) (get_or_from_slice_get ls i last last h)
 
 -- what is greater than the last, if there is one, goes in at the end
-pub ascending_behind : (ls : List Listed) (last e : Listed) → slice_get ls (length ls - 1) ≡ Some last → slice_cmp nat_cmp last.name e.name ≡ Less
+pub ascending_behind : (ls : List Listed) (last e : Listed) → slice_get ls (length ls - 1) ≡ Some last
+    → slice_cmp nat_cmp last.name e.name ≡ Less
     → IsAscending (names_of ls) → IsAscending (names_of (ls ++ e ∷ []))
 ascending_behind ls last e here l h =
     let same = ends_with_last ls last here in
@@ -50,7 +55,8 @@ ascending_behind ls last e here l h =
     subst (λ xs. P (xs ++ e ∷ [])) (sym same) (ascending_push (take (length ls - 1) ls) last e l (subst P same h))
 
 -- what goes in at the end is greater than the last, if there is one
-pub ascending_last : (ls : List Listed) (last e : Listed) → slice_get ls (length ls - 1) ≡ Some last → IsAscending (names_of (ls ++ e ∷ []))
+pub ascending_last : (ls : List Listed) (last e : Listed) → slice_get ls (length ls - 1) ≡ Some last
+    → IsAscending (names_of (ls ++ e ∷ []))
     → slice_cmp nat_cmp last.name e.name ≡ Less
 ascending_last ls last e here h =
     let same = ends_with_last ls last here in

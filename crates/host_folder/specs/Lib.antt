@@ -1,3 +1,4 @@
+-- What contracts of folders of the machine say, by subject.
 pub mod Paths
 pub mod Kinds
 pub mod Failures

@@ -1,3 +1,5 @@
+//! How a node stands to its file.
+
 /// How a node stands to its file (open(2)).
 #[derive(Drop)]
 pub(crate) enum Access<F: Drop> {

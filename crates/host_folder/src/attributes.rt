@@ -1,3 +1,5 @@
+//! What a file of the machine is for us, and what a node tells of it.
+
 ghost use Rattle.std.specs.Prelude.{◌≡◌};
 ghost use Rattle.std.specs.Fs.{metadata_len};
 ghost use Rattle.host_folder.specs.Kinds.{IsKindOf, attr_by};

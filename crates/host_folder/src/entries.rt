@@ -1,5 +1,8 @@
+//! What a directory of the machine lists.
+
 ghost use Rattle.std.specs.Prelude.{◌≡◌, ◌↔◌, ◌∷◌, ◌++◌, []};
-ghost use Rattle.std.specs.Prelude.{All, IfOk, IfErr, IfSome, OnOk, IsOkUnless, IsTrue, IsErrAnd, IsPermutation, option_map};
+ghost use Rattle.std.specs.Prelude.{All, IfOk, IfErr, IfSome, OnOk, IsOkUnless, IsTrue, IsErrAnd, IsPermutation};
+ghost use Rattle.std.specs.Prelude.{option_map};
 ghost use Rattle.host_node.specs.Order.{IsAscending, names_of};
 ghost use Rattle.sn_text.specs.Names.{IsName};
 ghost use Rattle.host_folder.specs.Failures.{IsRefusalOf};

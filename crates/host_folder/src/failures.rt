@@ -1,3 +1,5 @@
+//! What errors of the system are for us, and how failures are counted.
+
 ghost use Rattle.std.specs.Prelude.{◌≡◌};
 ghost use Rattle.host_node.specs.Faults.{has_failed};
 ghost use Rattle.sn_base.specs.Faults.{HasCause};

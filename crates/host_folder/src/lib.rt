@@ -31,6 +31,3 @@ mod world;
 
 pub use node::FolderNode;
 pub use world::Folders;
-
-#[cfg(test)]
-mod tests;

@@ -1,3 +1,5 @@
+//! What looks at paths tell.
+
 ghost use Rattle.std.specs.Prelude.{◌≡◌, ◌≢◌, ◌↔◌, false, IsTrue, IfOk, IfErr, IsOkAnd, IsErrAnd};
 ghost use Rattle.std.specs.Fs.{file_type, IsDir};
 ghost use Rattle.std.specs.IoError.{error_kind};

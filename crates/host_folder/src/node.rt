@@ -1,3 +1,5 @@
+//! Directories, files and links of a granted folder, and their calls.
+
 ghost use Rattle.std.specs.Prelude.{◌≡◌, ◌≢◌, ◌≤◌, ◌∷◌, ◌++◌, [], length, string_bytes};
 ghost use Rattle.std.specs.Prelude.{All, IfOk, IfSome, OnOk, OnErr, IsNone, IsOkUnless, IsUtf8};
 ghost use Rattle.sn_base.specs.Faults.{HasCause};

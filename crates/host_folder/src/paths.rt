@@ -1,3 +1,5 @@
+//! Paths of folders, and of what is below them.
+
 ghost use Rattle.std.specs.Prelude.{◌≡◌, ◌++◌, ◌∷◌, All, IfOk, OnOk, IsOkUnless, IsUtf8, string_bytes};
 ghost use Rattle.host_folder.specs.Paths.{slashed, start_of};
 

@@ -1,3 +1,5 @@
+//! Reads of a file at an offset.
+
 ghost use Rattle.std.specs.Prelude.{◌<◌, ◌≤◌, length, take, IfOk};
 ghost use Rattle.std.specs.Io.KnownBytes.{Consumes, IsAtEnd};
 ghost use Rattle.host_folder.specs.Offsets.{ReadsFrom};

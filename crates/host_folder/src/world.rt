@@ -1,3 +1,5 @@
+//! The folders of the machine: what is granted, settled and buried.
+
 ghost use Rattle.std.specs.Prelude.{◌≡◌, ◌++◌, [], string_bytes, IfOk, IfSome};
 ghost use Rattle.sn_base.specs.Faults.{HasCause};
 ghost use Rattle.host_node.specs.Faults.{has_failed};

@@ -5,12 +5,14 @@ use Rattle.host_memory.specs.declared.plan.Op.{Op}
 use Rattle.host_memory.specs.Plans.{is_below, is_for, one_less, after_call, lines_below, lines_beside}
 
 -- lines beside a place, in front of lines below it, add none below it
-beside_adds_none : (place : List (List ℕ)) (xs ys : List Line) → lines_below place (lines_beside place xs ++ ys) ≡ lines_below place ys
+beside_adds_none : (place : List (List ℕ)) (xs ys : List Line)
+    → lines_below place (lines_beside place xs ++ ys) ≡ lines_below place ys
 beside_adds_none place [] ys = refl
 beside_adds_none place (x ∷ xs) ys = by (is_below place x) refl (beside_adds_none place xs ys)
   where
     by : (b : Bool) → is_below place x ≡ b → lines_below place (lines_beside place xs ++ ys) ≡ lines_below place ys
-        → lines_below place (cond (not b) (x ∷ lines_beside place xs) (lines_beside place xs) ++ ys) ≡ lines_below place ys
+        → lines_below place (cond (not b) (x ∷ lines_beside place xs) (lines_beside place xs) ++ ys)
+        ≡ lines_below place ys
     by true e more = more
     by false e more = rw e more
 
@@ -20,7 +22,8 @@ below_twice place [] = refl
 below_twice place (x ∷ xs) = by (is_below place x) refl (below_twice place xs)
   where
     by : (b : Bool) → is_below place x ≡ b → lines_below place (lines_below place xs) ≡ lines_below place xs
-        → lines_below place (cond b (x ∷ lines_below place xs) (lines_below place xs)) ≡ cond b (x ∷ lines_below place xs) (lines_below place xs)
+        → lines_below place (cond b (x ∷ lines_below place xs) (lines_below place xs))
+        ≡ cond b (x ∷ lines_below place xs) (lines_below place xs)
     by true e more = rw e (ap (λ ys. x ∷ ys) more)
     by false e more = more
 
@@ -33,7 +36,8 @@ lines_come_back place xs ys = beside_adds_none place xs (lines_below place ys) �
 pub after_call_below : (place at : List (List ℕ)) (op : Op) (xs : List Line)
     → lines_below place (after_call at op xs) ≡ after_call at op (lines_below place xs)
 after_call_below place at op [] = refl
-after_call_below place at op (x ∷ xs) = by (is_for at op x) refl (is_below place x) refl (after_call_below place at op xs)
+after_call_below place at op (x ∷ xs) =
+    by (is_for at op x) refl (is_below place x) refl (after_call_below place at op xs)
   where
     by : (m : Bool) → is_for at op x ≡ m → (b : Bool) → is_below place x ≡ b
         → lines_below place (after_call at op xs) ≡ after_call at op (lines_below place xs)

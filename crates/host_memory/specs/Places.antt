@@ -29,7 +29,8 @@ parent_of names shape = directory_at (way_of names) shape
 -- profile
 abbrev pub put_under : List (List ℕ) → Shape → Shape → Shape
 put_under names new shape =
-    option_map_or (λ parent. put_subtree (way_of names) (with_child (last_of names) new parent) shape) (parent_of names shape) shape
+    option_map_or (λ parent. put_subtree (way_of names) (with_child (last_of names) new parent) shape)
+    (parent_of names shape) shape
 
 -- why nothing can be put where names lead, if so: no directory is there for it, or something is there already
 -- mkdir(2), ENOENT, ENOTDIR and EEXIST; order of errors: profile

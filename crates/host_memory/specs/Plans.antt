@@ -1,5 +1,6 @@
 -- Calls of a host in memory that are planned to fail.
-use Rattle.std.specs.Prelude.{◌≡◌, ◌≢◌, ℕ, ◌+◌, ◌-◌, ◌==◌, List, [], ◌∷◌, ◌++◌, Bool, true, false, ◌&&◌, not, Option, Some, None, Result, Ok, Err, IsSome, if◌then◌else◌, map, filter}
+use Rattle.std.specs.Prelude.{◌≡◌, ◌≢◌, ℕ, ◌+◌, ◌-◌, ◌==◌, List, [], ◌∷◌, ◌++◌, Bool, true, false, ◌&&◌, not, Option}
+use Rattle.std.specs.Prelude.{Some, None, Result, Ok, Err, IsSome, if◌then◌else◌, map, filter}
 use Rattle.std.specs.List.{list_any, starts_with}
 use Rattle.std.specs.Str.{bytes_eq}
 use lib.Pointwise.{pointwise}

@@ -26,8 +26,5 @@ mod world;
 
 pub use node::{Access, MemoryNode};
 pub use places::PutErr;
-pub use plan::{Op, PlanErr};
+pub use plan::{Line, Op, Plan, PlanErr};
 pub use world::World;
-
-#[cfg(test)]
-mod tests;

@@ -1,14 +1,21 @@
-ghost use Rattle.std.specs.Prelude.{◌≡◌, ◌≤◌, ◌++◌, ◌-◌, false, Some, None, Ok, Err, length, min, option_map, if◌then◌else◌, IfOk, IfSome, IfNone, OnOk, OnErr};
+//! Nodes of a host in memory, and their calls.
+
+ghost use Rattle.std.specs.Prelude.{◌≡◌, ◌≤◌, ◌++◌, ◌-◌, false, Some, None, Ok, Err, length, min, option_map};
+ghost use Rattle.std.specs.Prelude.{if◌then◌else◌, IfOk, IfSome, IfNone, OnOk, OnErr};
 ghost use Rattle.std.specs.Bool.{OnTrue};
 ghost use Rattle.host_node.specs.declared.error.HostErr.TheVariants.{Failed};
 ghost use Rattle.host_node.specs.Faults.{has_failed};
 ghost use Rattle.sn_base.specs.Faults.{Rose, HasCause};
 ghost use Rattle.host_node.specs.Order.{IsAscending, names_of};
-ghost use Rattle.host_node.specs.Told.{Closed as NotOpen, after_open, kept, TellsAttr, CanList, TellsListing, CanLend, LacksChild, TellsLent, after_lend, CanOpen, CanRead, ReadsAt, CanTakeBack, TakesBack};
+ghost use Rattle.host_node.specs.Told.{Closed as NotOpen, after_open, kept, TellsAttr, CanList, TellsListing, CanLend};
+ghost use Rattle.host_node.specs.Told.{LacksChild, TellsLent, after_lend, CanOpen, CanRead, ReadsAt, CanTakeBack};
+ghost use Rattle.host_node.specs.Told.{TakesBack};
 ghost use Rattle.host_node.specs.Tree.{attr_of, bytes_of, child_of, faults_of, kind_of, is_lent};
 ghost use Rattle.host_memory.specs.Access.{opened_as};
-ghost use Rattle.host_memory.specs.InMemory.{is_to_fail, after_call_of, after_open_of, lent_from, after_lend_of, with_back};
-ghost use Rattle.host_memory.specs.Plans.{fails, after_call, lines_below, lines_after, place_below, failed_once, FailsAsPlanned};
+ghost use Rattle.host_memory.specs.InMemory.{is_to_fail, after_call_of, after_open_of, lent_from, after_lend_of};
+ghost use Rattle.host_memory.specs.InMemory.{with_back};
+ghost use Rattle.host_memory.specs.Plans.{fails, after_call, lines_below, lines_after, place_below, failed_once};
+ghost use Rattle.host_memory.specs.Plans.{FailsAsPlanned};
 ghost use Rattle.host_memory.specs.declared.node.Access.TheVariants.{Closed as NotOpened};
 ghost use Rattle.host_memory.specs.declared.plan.Op.TheVariants.{Stat, List as Listed, Lend, Open, ReadAt};
 
@@ -61,7 +68,7 @@ impl Model for MemoryNode {
 impl MemoryNode {
     /// The node of a tree that stands here, in a place of the host, not opened, with the calls of it and of
     /// what is below it that are to fail.
-    pub(crate) fn new(alloc: Global, tree: Tree, place: Route, plan: Plan) -> MemoryNode
+    pub fn new(alloc: Global, tree: Tree, place: Route, plan: Plan) -> MemoryNode
         requires { is_lent tree ≡ false }
         ensures tree { result.tree ≡ tree }
         ensures access { result.access ≡ NotOpened }

@@ -1,3 +1,5 @@
+//! What stands in a tree where names lead: how it is looked at, exchanged and put there.
+
 ghost use Rattle.std.specs.Prelude.{◌≡◌, ◌<◌, [], ◌∷◌, None, length, IsSome, IfErr, OnOk, OnErr, option_copied};
 ghost use Rattle.host_node.specs.Routes.{subtree, put_subtree};
 ghost use Rattle.host_memory.specs.Places.{put_under, put_fault, IsPutFaultOf};

@@ -1,7 +1,10 @@
+//! The calls that are to fail, and how they are counted.
+
 ghost use Rattle.std.specs.Prelude.{◌≡◌, [], ◌∷◌, ◌++◌, ◌&&◌, ◌==◌, if◌then◌else◌, length, OnOk, OnErr};
 ghost use Rattle.std.specs.Str.{bytes_eq};
 ghost use lib.Pointwise.{pointwise};
-ghost use Rattle.host_memory.specs.Plans.{is_op, is_for, is_below, fails, one_less, after_call, lines_below, lines_beside};
+ghost use Rattle.host_memory.specs.Plans.{is_op, is_for, is_below, fails, one_less, after_call, lines_below};
+ghost use Rattle.host_memory.specs.Plans.{lines_beside};
 ghost use Rattle.host_memory.specs.declared.plan.PlanErr.TheVariants.{Memory as WantOfMemory};
 
 use sn_base::Memory;
@@ -44,19 +47,19 @@ impl From<Memory> for PlanErr {
 
 /// A call that is to fail: one of a method of the node in a place.
 #[derive(Drop)]
-pub(crate) struct Line {
+pub struct Line {
     /// The names that lead to the node from the world's tree. The world has none itself, and a grant is its lend.
-    pub(crate) place: Route,
+    pub place: Route,
     /// The method.
-    pub(crate) op: Op,
+    pub op: Op,
     /// Which call from now it is: 1 is the next, and 0 none.
-    pub(crate) left: u64,
+    pub left: u64,
 }
 
 /// The calls that are to fail. Contracts see it as the list of its lines.
 #[cycle(plan)]
 #[derive(Drop)]
-pub(crate) struct Plan {
+pub struct Plan {
     first: Link,
 }
 
@@ -138,14 +141,14 @@ impl Line {
 
 impl Plan {
     /// No lines. It takes no memory.
-    pub(crate) fn new() -> Plan
+    pub fn new() -> Plan
         ensures { result ≡ [] }
     {
         Plan { first: Link::End }
     }
 
     /// Adds a line in front. An `Err` leaves the plan as it was.
-    pub(crate) fn add(&mut self, alloc: Global, line: Line) -> Result<(), Memory>
+    pub fn add(&mut self, alloc: Global, line: Line) -> Result<(), Memory>
         ensures ok { OnOk result (self.new ≡ line ∷ self.old) }
         ensures err { OnErr result (self.new ≡ self.old) }
     {

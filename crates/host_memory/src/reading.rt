@@ -1,3 +1,5 @@
+//! Reads of bytes at an offset.
+
 ghost use Rattle.std.specs.Prelude.{◌≡◌, ◌-◌, ◌++◌, length, take, drop, min};
 
 /// Copies bytes from an offset to the front of a buffer, all that are there, up to the buffer's length, and

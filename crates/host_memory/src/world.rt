@@ -1,4 +1,7 @@
-ghost use Rattle.std.specs.Prelude.{option_copied, option_map, ◌≡◌, [], ◌∷◌, ◌++◌, false, Some, None, Ok, IfOk, IfErr, IfSome, IfNone, OnOk, OnErr};
+//! A host in memory: what is put and planned, granted and settled.
+
+ghost use Rattle.std.specs.Prelude.{option_copied, option_map, ◌≡◌, [], ◌∷◌, ◌++◌, false, Some, None, Ok, IfOk, IfErr};
+ghost use Rattle.std.specs.Prelude.{IfSome, IfNone, OnOk, OnErr};
 ghost use Rattle.host_node.specs.declared.kind.Kind.TheVariants.{Dir as Directory};
 ghost use Rattle.host_node.specs.Faults.{has_failed};
 ghost use Rattle.sn_base.specs.Faults.{HasCause};

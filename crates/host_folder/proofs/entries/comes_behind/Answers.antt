@@ -1,3 +1,4 @@
+-- An entry comes behind others where its name is greater than the last.
 use Rattle.std.proofs.Common.{◌≡◌, ◌-◌, true, refl, Some, length, slice_get, sym}
 use Rattle.std.specs.declared.cmp.Ordering.TheVariants.{Less}
 use Rattle.std.specs.Ordering.{is_lt}

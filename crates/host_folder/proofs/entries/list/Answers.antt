@@ -1,3 +1,4 @@
+-- What is listed has names, in the order of the system and in that of their bytes.
 use Rattle.std.proofs.Common.{List, All, IfOk, IsPermutation, Result, Ok, Err}
 use Rattle.std.proofs.lemmas.List.Sorted.{All-permutation}
 use Rattle.host_node.specs.declared.listing.Listed.{Listed}

@@ -1,3 +1,4 @@
+-- The entries so far have names.
 use Rattle.std.proofs.Common.{All}
 use Rattle.sn_text.specs.Names.{IsName}
 use Rattle.host_folder.proofs.entries.read_entries.Given as goal

@@ -1,3 +1,4 @@
+-- The path so far is the folder's with the names so far, and those are text.
 use Rattle.std.proofs.Common.{◌≡◌, ◌++◌, string_bytes, take, All, IsUtf8}
 use Rattle.host_folder.specs.Paths.{slashed}
 use Rattle.host_folder.proofs.paths.path_of.Given as goal

@@ -1,3 +1,4 @@
+-- A look at what is below takes one name less.
 use Rattle.std.proofs.Common.{length}
 use Rattle.host_memory.proofs.places.+look_at.Given as goal
 

@@ -1,3 +1,4 @@
+-- What is put below takes one name less.
 use Rattle.std.proofs.Common.{length}
 use Rattle.host_memory.proofs.places.+put_at.Given as goal
 

@@ -1,3 +1,4 @@
+-- What changes its place below takes one name less.
 use Rattle.std.proofs.Common.{length}
 use Rattle.host_memory.proofs.places.+swap_at.Given as goal
 

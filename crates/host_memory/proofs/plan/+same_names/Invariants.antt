@@ -1,3 +1,4 @@
+-- Each look at two routes takes a name of each.
 use Rattle.std.proofs.Common.{length}
 use Rattle.host_memory.proofs.plan.+same_names.Given as goal
 

@@ -1,3 +1,4 @@
+-- The path of a child is that of its directory with its name behind a slash.
 use Rattle.std.proofs.Common.{◌≡◌, ◌∷◌, ◌++◌, [], string_bytes, append_assoc, IsUtf8}
 use Rattle.std.proofs.lemmas.List.Elements.{All-push}
 use Rattle.host_folder.specs.Paths.{slashed}

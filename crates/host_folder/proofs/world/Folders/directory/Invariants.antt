@@ -1,3 +1,4 @@
+-- The path so far is where the folder begins, with the names so far.
 use Rattle.std.proofs.Common.{◌≡◌, ◌++◌, string_bytes, take}
 use Rattle.host_folder.specs.Paths.{slashed, start_of}
 use Rattle.host_folder.proofs.world.Folders.directory.Given as goal

@@ -1,3 +1,4 @@
+-- A directory that is granted stood here.
 use Rattle.std.proofs.Common.{◌≡◌, ap}
 use Rattle.host_memory.specs.InMemory.{HostInMemory}
 use Rattle.host_memory.proofs.PlaceLemmas.{is_here}

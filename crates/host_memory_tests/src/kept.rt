@@ -1,8 +1,10 @@
+//! Nodes that are granted and lent, meet calls, and come back with their plans.
+
 ghost use Rattle.std.specs.Prelude.{◌≡◌, true, IfOk};
 ghost use Rattle.host_node.specs.Tree.{is_directory, none_lent};
 
-use super::{folder_of, granted, is_failure, put, world_of};
-use crate::*;
+use crate::hosts::{folder_of, granted, is_failure, put, world_of};
+use host_memory::{MemoryNode, Op, World};
 use host_node::{HostNode, HostWorld, Tree};
 use sn_base::List;
 use sn_text::{Folder, Name, Route, name_of};
@@ -46,7 +48,7 @@ fn lent_stat_fails(alloc: Global, parent: &mut MemoryNode, name: &Name) -> Resul
 }
 
 /// The same below a folder, which is granted for it and settled.
-#[tactic(auto, using(crate::proofs::Worlds::none_lent_settled))]
+#[tactic(auto, using(host_memory::proofs::Worlds::none_lent_settled))]
 fn stat_fails(alloc: Global, world: &mut World, folder: &Folder, name: &Name) -> Result<bool, Fail>
     requires { none_lent world.old.tree ≡ true }
     ensures { IfOk result (λ _. none_lent world.new.tree ≡ true) }

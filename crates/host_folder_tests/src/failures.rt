@@ -1,6 +1,8 @@
-use super::faulty::Faulty;
-use super::{folder, granted, lent, name, route};
-use crate::Folders;
+//! Calls of the system that fail, and how they are answered and counted.
+
+use crate::faulty::Faulty;
+use crate::grants::{folder, granted, lent, name, route};
+use host_folder::Folders;
 use host_node::{HostErr, HostNode, HostWorld, Listing};
 use sn_text::{Route, name_of};
 use std::test::Fail;

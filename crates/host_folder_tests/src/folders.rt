@@ -1,5 +1,7 @@
-use super::{folder, granted, lent, make_folder, name, route};
-use crate::Folders;
+//! Folders of the machine: what is listed, read, told and opened of their files.
+
+use crate::grants::{folder, granted, lent, make_folder, name, route};
+use host_folder::Folders;
 use host_node::{Attr, HostErr, HostNode, HostWorld, Kind, Listing};
 use sn_text::Route;
 use std::fs;

@@ -1,8 +1,6 @@
-mod failures;
-mod faulty;
-mod folders;
+//! Folders that the tests make, and what is granted and lent of them.
 
-use crate::{FolderNode, Folders};
+use host_folder::{FolderNode, Folders};
 use host_node::{HostNode, HostWorld};
 use sn_text::{Folder, Name, Route, name_of};
 use std::alloc::Global;
@@ -11,11 +9,11 @@ use std::fs::Files;
 use std::os::unix::fs::symlink;
 use std::test::Fail;
 
-fn name(alloc: Global, text: &str) -> Result<Name, Fail> {
+pub(crate) fn name(alloc: Global, text: &str) -> Result<Name, Fail> {
     Ok(name_of(alloc, text.as_bytes())?)
 }
 
-fn route(alloc: Global, text: &str) -> Result<Route, Fail> {
+pub(crate) fn route(alloc: Global, text: &str) -> Result<Route, Fail> {
     let mut route = Route::new(alloc);
     for part in text.split('/') {
         route.push(name(alloc, part)?)?;
@@ -23,7 +21,7 @@ fn route(alloc: Global, text: &str) -> Result<Route, Fail> {
     Ok(route)
 }
 
-fn folder(alloc: Global, text: &str) -> Result<Folder, Fail> {
+pub(crate) fn folder(alloc: Global, text: &str) -> Result<Folder, Fail> {
     let route = route(alloc, text)?;
     if route.is_empty() {
         return Err(Fail::from("a folder has a name"));
@@ -32,7 +30,7 @@ fn folder(alloc: Global, text: &str) -> Result<Folder, Fail> {
 }
 
 /// The directory at a path, which must be there.
-fn granted<R: Files + AllocGlobal + Clone + Drop + Send>(
+pub(crate) fn granted<R: Files + AllocGlobal + Clone + Drop + Send>(
     world: &mut Folders<R>,
     alloc: Global,
     path: &str,
@@ -44,7 +42,7 @@ where
 }
 
 /// What stands under a name of a granted folder, which must be there.
-fn lent<R: Files + AllocGlobal + Clone + Drop + Send>(
+pub(crate) fn lent<R: Files + AllocGlobal + Clone + Drop + Send>(
     root: &mut FolderNode<R>,
     alloc: Global,
     text: &str,
@@ -60,7 +58,7 @@ where
 
 /// A new folder with the file `hello` of twelve bytes, the directory `below`, and the links `out`, which leads
 /// outside, and `again`, which leads to `below`.
-fn make_folder(rt: HostRuntime, path: &str) -> Result<(), Fail> {
+pub(crate) fn make_folder(rt: HostRuntime, path: &str) -> Result<(), Fail> {
     let _ = fs::remove_dir_all(&rt, path);
     fs::create_dir(&rt, path)?;
     fs::create_dir(&rt, format!(in rt.alloc(); "{path}/below")?)?;

@@ -1,9 +1,10 @@
+-- A folder that is granted can be settled, and leaves nothing lent.
 use Rattle.std.proofs.Common.{◌≡◌, Some}
 use Rattle.host_node.specs.declared.kind.Kind.TheVariants.{Dir}
 use Rattle.host_node.specs.Routes.{put_subtree}
 use Rattle.host_node.specs.Tree.{lent, faults_of, kind_of}
 use Rattle.host_memory.proofs.Worlds.{can_grant, granted_place, none_lent_granted, none_lent_settled}
-use Rattle.host_memory.proofs.tests.planned.grant_fails.Goals as goal
+use Rattle.host_memory_tests.proofs.planned.grant_fails.Goals as goal
 
 pub grant-requires : goal.grant-requires
 grant-requires c = can_grant c.args.folder.now.names c.args.world.now.tree c.requires
@@ -13,7 +14,8 @@ settle-requires c =
     let node = c.in-Ok-Some.node.tree in
     let told = rw c.in-Ok-Some.field-0-is at c.in-Ok-Some.ensures.node in
     let tells = rw c.in-Ok-Some.field-0-is at c.in-Ok-Some.ensures.tells in
-    granted_place c.args.folder.now.names c.args.world.now.tree c.grant.new.self.tree node (faults_of node) (kind_of node) told tells
+    granted_place c.args.folder.now.names c.args.world.now.tree c.grant.new.self.tree node (faults_of node)
+    (kind_of node) told tells
 
 pub returns-in-Ok-Some : goal.returns-in-Ok-Some
 returns-in-Ok-Some c =

@@ -1,3 +1,5 @@
+//! A system of which some calls fail.
+
 ghost use Rattle.std.specs.Prelude.{IsErr};
 
 use std::alloc::{Allocator, Global};
@@ -11,12 +13,12 @@ use std::io::{Cursor, ErrorKind, Read, Seek, SeekFrom, Write};
 /// other one that can't be looked at; `locked` can't be read. For a look at `full` there is no memory. A file has a
 /// byte that is read, and then fails.
 #[derive(Clone, Copy)]
-pub(super) struct Faulty {
+pub(crate) struct Faulty {
     rt: HostRuntime,
 }
 
 impl Faulty {
-    pub(super) fn new(rt: HostRuntime) -> Faulty {
+    pub(crate) fn new(rt: HostRuntime) -> Faulty {
         Faulty { rt }
     }
 }
@@ -105,7 +107,7 @@ impl Files for Faulty {
 
 /// A file of which one byte is read, and no more.
 #[derive(Drop)]
-pub(super) struct OneByte {
+pub(crate) struct OneByte {
     is_read: bool,
 }
 

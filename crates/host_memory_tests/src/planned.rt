@@ -1,9 +1,10 @@
+//! Calls that fail where they were planned to, and alone are counted.
+
 ghost use Rattle.std.specs.Prelude.{◌≡◌, true, IfOk};
 ghost use Rattle.host_node.specs.Tree.{directory as dir, no_children, faults_of, none_lent};
 
-use super::{file_node, folder_of, granted, is_failure, world_of};
-use crate::plan::{Line, Plan};
-use crate::*;
+use crate::hosts::{file_node, folder_of, granted, is_failure, world_of};
+use host_memory::{Line, MemoryNode, Op, Plan, World};
 use host_node::{HostErr, HostNode, HostWorld, Listing, Tree};
 use sn_text::{Folder, Route, name_of};
 use std::alloc::Global;

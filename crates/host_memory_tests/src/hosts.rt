@@ -1,0 +1,88 @@
+//! Hosts in memory, folders and nodes that the tests begin with.
+
+ghost use Rattle.std.specs.Prelude.{◌≡◌, true, Some, IfOk};
+ghost use Rattle.host_node.specs.declared.kind.Kind.TheVariants.{Dir as Directory};
+ghost use Rattle.host_node.specs.Routes.{subtree, put_subtree};
+ghost use Rattle.host_node.specs.Tree.{file as regular, lent as away, is_directory, none_lent};
+ghost use Rattle.host_memory.specs.declared.node.Access.TheVariants.{Closed as NotOpened};
+
+use host_memory::{Line, MemoryNode, Op, Plan, World};
+use host_node::{HostErr, HostWorld, Tree};
+use sn_base::List;
+use sn_text::{Folder, Route, name_of};
+use std::alloc::Global;
+use std::test::Fail;
+
+/// The folder of these names.
+pub(crate) fn folder_of(alloc: Global, names: &[&str]) -> Result<Folder, Fail> {
+    let mut route = Route::new(alloc);
+    for name in names {
+        route.push(name_of(alloc, name.as_bytes())?)?;
+    }
+    if route.is_empty() {
+        return Err(Fail::from("a folder has a name"));
+    }
+    Ok(Folder::new(false, route))
+}
+
+/// A host with a tree put where names lead.
+#[tactic(auto, using(host_memory::proofs::Worlds::none_lent_put))]
+pub(crate) fn put(alloc: Global, world: World, names: &[&str], tree: Tree) -> Result<World, Fail>
+    requires world { none_lent world.tree ≡ true }
+    requires tree { none_lent tree ≡ true }
+    ensures { IfOk result (λ world. none_lent world.tree ≡ true) }
+{
+    let mut world = world;
+    world.put(alloc, &folder_of(alloc, names)?, tree)?;
+    Ok(world)
+}
+
+/// A host with an empty directory `d`.
+pub(crate) fn world_of(alloc: Global) -> Result<World, Fail>
+    ensures { IfOk result (λ world. none_lent world.tree ≡ true) }
+{
+    put(
+        alloc,
+        World::new(alloc),
+        &["d"],
+        Tree::directory(alloc, 0o700),
+    )
+}
+
+/// The directory where a folder's names lead, granted.
+pub(crate) fn granted(world: &mut World, folder: &Folder) -> Result<MemoryNode, Fail>
+    requires { none_lent world.old.tree ≡ true }
+    ensures node { IfOk result (λ node. subtree folder.now.names world.old.tree ≡ Some node.tree) }
+    ensures directory { IfOk result (λ node. is_directory node.tree ≡ true) }
+    ensures whole { IfOk result (λ node. none_lent node.tree ≡ true) }
+    ensures tree { IfOk result (λ _. world.new.tree ≡
+        put_subtree folder.now.names (away Directory) world.old.tree) }
+    ensures place { IfOk result (λ _. subtree folder.now.names world.new.tree ≡ Some (away Directory)) }
+{
+    match world.grant(folder) {
+        Ok(Some(node)) => Ok(node),
+        Ok(None) => Err(Fail::from("nothing granted")),
+        Err(e) => Err(Fail::from(e)),
+    }
+}
+
+/// The node of a file of which a call is to fail.
+pub(crate) fn file_node(alloc: Global, bytes: &[u8], op: Op, k: u64) -> Result<MemoryNode, Fail>
+    ensures tree { IfOk result (λ node. node.tree ≡ regular bytes.now 420 0) }
+    ensures closed { IfOk result (λ node. node.access ≡ NotOpened) }
+{
+    let mut plan = Plan::new();
+    let place = Route::new(alloc);
+    plan.add(alloc, Line { place, op, left: k })?;
+    let tree = Tree::file(0o644, List::from_slice(alloc, bytes)?);
+    Ok(MemoryNode::new(alloc, tree, Route::new(alloc), plan))
+}
+
+/// Whether a call failed on the host. Want of memory is an error of the test.
+pub(crate) fn is_failure<T: Drop>(answer: Result<T, HostErr>) -> Result<bool, Fail> {
+    match answer {
+        Ok(_) => Ok(false),
+        Err(HostErr::Failed) => Ok(true),
+        Err(e) => Err(Fail::from(e)),
+    }
+}
