@@ -1,5 +1,6 @@
 pub mod Accesses
 pub mod Changes
+pub mod Conditionals
 pub mod Handing
 pub mod PageSights
 pub mod Places

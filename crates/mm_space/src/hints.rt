@@ -1,10 +1,11 @@
 //! Loads and stores by hints: the fast form, which answers nothing wide and leaves what it can't do to the exact one.
 
-ghost use Rattle.std.specs.Prelude.{◌≡◌, ℕ, ◌+◌, ◌/◌, ◌%◌, ◌<◌, IfSome};
+ghost use Rattle.std.specs.Prelude.{◌≡◌, ℕ, ◌+◌, ◌/◌, ◌%◌, ◌<◌, ◌↔◌, IfSome, IsTrue};
 ghost use Rattle.std.specs.Bool.{OnTrue, OnFalse};
 ghost use Rattle.std.specs.FinMap as map_of;
 ghost use Rattle.rv_table.specs.Words.{IsWidth};
 ghost use Rattle.mm_space.specs.Accesses.{LoadsNear, readable};
+ghost use Rattle.mm_space.specs.Conditionals.{HasRoomBy};
 ghost use Rattle.mm_space.specs.Places.{AreAsReady};
 ghost use Rattle.mm_space.specs.Puts.{StoresNear};
 ghost use Rattle.mm_space.specs.Spaces.{space_of};
@@ -137,6 +138,7 @@ impl Space {
         ensures apart { OnTrue result ((page : ℕ) → (page ≡ at / 4096 → ⊥) → map_of.get (space_of self.new).mapping.pages page
             ≡ map_of.get (space_of self.old).mapping.pages page) }
         ensures unchanged { OnFalse result (space_of self.new ≡ space_of self.old) }
+        ensures fits { IsTrue result ↔ HasRoomBy self.old hint at width }
         ensures ready { OnFalse result ((handed : Handed) → AreAsReady self.old self.new handed handed) }
     {
         let offset = (at % 4096) as usize;

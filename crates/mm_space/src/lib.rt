@@ -30,6 +30,7 @@
 mod access;
 mod area_runs;
 mod changes;
+mod conditionals;
 mod decoded;
 mod handed;
 mod hints;

@@ -1,4 +1,4 @@
-mod Apart
+mod Conditional
 mod Ready
 mod RowsThere
 mod SameTask

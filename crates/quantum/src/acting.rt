@@ -81,6 +81,12 @@ impl Mem for Acting {
             .store_near(&mut self.hints, self.task, at, width, value)
     }
 
+    #[inline(always)]
+    fn conditional_near(&mut self, at: u64, width: u8, value: u64) -> Option<bool> {
+        self.space
+            .conditional_near(&mut self.hints, self.task, at, width, value)
+    }
+
     ghost written = { written };
 
     ghost itself = { itself };

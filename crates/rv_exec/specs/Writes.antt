@@ -1,5 +1,5 @@
 -- What instructions write beside registers, and memory after it.
-use Rattle.std.specs.Prelude.{◌≡◌, ℕ, zero, suc, ◌/◌, ◌%◌, ◌^◌, ◌<◌, ◌==◌, ◌&&◌, Bool, false, List, [], ◌∷◌, if◌then◌else◌}
+use Rattle.std.specs.Prelude.{◌≡◌, ℕ, zero, suc, ◌/◌, ◌%◌, ◌^◌, ◌<◌, ◌==◌, ◌&&◌, Bool, true, false, List, [], ◌∷◌, if◌then◌else◌}
 use Rattle.rv_table.specs.Bytes.{Byte, Holds, Barred, InArea, Memory, behind}
 
 -- what an instruction writes: so many of a number's bytes, the task's reservation, or the end of it, by a
@@ -55,6 +55,12 @@ IsAfter is_same (Reserves at width) before after =
     (value : ℕ) → before.data_ at ≡ Holds value
     → Reserving (λ address size. (address == at) && (size == width)) before after
 IsAfter is_same (Releases at) before after = Reserving (λ address size. false) before after
+
+-- what a store-conditional writes, where it finds its reservation and where it doesn't
+-- RISC-V Unprivileged ISA 20191213, 8.2, SC
+abbrev pub conditional_writes : (held : Bool) → (address width value : ℕ) → List Write
+conditional_writes true address width value = Releases address ∷ Stores address width value ∷ []
+conditional_writes false address width value = Releases address ∷ []
 
 -- what is told of memory after some writes, one after another, by what it is after each
 -- RISC-V Unprivileged ISA 20191213, 1.4, Memory

@@ -1,14 +1,10 @@
 //! Atomic instructions: load-reserved, store-conditional, and atomic memory operations.
 
-ghost use Rattle.std.specs.Prelude.{◌≡◌, ◌≢◌, ℕ, ◌/◌, ◌%◌, true, false, Ok};
-ghost use Rattle.std.specs.Bool.{OnTrue, OnFalse};
-ghost use Rattle.rv_table.specs.Bytes.{AllowsAs, loaded};
+ghost use Rattle.std.specs.Prelude.{◌≡◌, ◌≢◌, ◌%◌, false};
 ghost use Rattle.rv_table.specs.Registers.{reg};
-ghost use Rattle.rv_table.specs.Words.{IsWidth};
 ghost use Rattle.rv_exec.specs.Execution.{load_reserved, operates, store_conditional};
 ghost use Rattle.rv_exec.specs.Flows.{FlowsAs};
 ghost use Rattle.rv_exec.specs.Loads.{width_of, extend_of};
-ghost use Rattle.rv_exec.specs.Writes.{Stores, Releases};
 ghost use Rattle.rv_exec.specs.declared.outcome.Step.TheVariants as Step;
 
 use crate::access::Access;
@@ -75,36 +71,11 @@ pub(crate) fn store_conditional<M: Mem, A: Access>(
     if !kind.is_aligned(at) {
         return Flow::Trap(7);
     }
-    if access.writable(mem, at, kind.width()) {
-        if store_if_reserved(mem, at, kind.width(), regs.read(rs2)) {
-            put(regs, rd, 0)
-        } else {
-            put(regs, rd, 1)
-        }
-    } else {
-        Flow::Refused
+    match access.conditional(mem, at, kind.width(), regs.read(rs2)) {
+        Some(true) => put(regs, rd, 0),
+        Some(false) => put(regs, rd, 1),
+        None => Flow::Refused,
     }
-}
-
-/// Stores at an address where a store is sure to take no memory, if it is reserved, and ends the reservation. Answers
-/// whether it was reserved.
-fn store_if_reserved<M: Mem>(mem: &mut M, at: u64, width: u8, value: u64) -> bool
-    requires width { IsWidth width }
-    requires aligned { at % width ≡ 0 }
-    requires room { AllowsAs (loaded (M.seen (M.told mem.old)).room at width) (Ok tt) }
-    requires ready { M.is_ready mem.old at width ≡ true }
-    ensures held { result ≡ (M.seen (M.told mem.old)).reserves at width }
-    ensures ended { OnFalse result (M.told mem.new ≡ M.after (Releases at) (M.told mem.old)) }
-    ensures stored { OnTrue result (M.told mem.new ≡
-        M.after (Stores at width value) (M.after (Releases at) (M.told mem.old))) }
-    ensures rows { (page : ℕ) → (page ≡ at / 4096 → ⊥) →
-        M.instrs (M.told mem.new) page ≡ M.instrs (M.told mem.old) page }
-{
-    let is_reserved = mem.take(at, width);
-    if !is_reserved {
-        return false;
-    }
-    mem.store(at, width, value).is_ok()
 }
 
 /// Puts what memory holds at an address into a register, and what the instruction makes of it and of another number

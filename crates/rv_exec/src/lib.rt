@@ -14,9 +14,9 @@
 //!
 //! Asked of a memory: the number of an access is its bytes', the lowest first (`word`, `number`), a store answers by
 //! what its bytes are (`room`), writes them (`ok`) or changes nothing (`err`), and takes no memory where `writable`
-//! said yes (`ready`); `take` tells of the reservation (`held`) and ends it (`ended`). A store inside a page leaves the
-//! other pages' instructions (`rows`), and a reservation, made or ended, leaves all. What is near: `load_near` and
-//! `store_near` are fast forms, for what is at hand, and may do nothing.
+//! said yes (`ready`); `take` tells of the reservation (`held`) and ends it (`ended`). A reservation leaves all pages'
+//! instructions (`rows`). `load_near`, `store_near` and `conditional_near` are fast forms, for what is at hand, which
+//! may do nothing, and leave the other pages' instructions (`rows`).
 //! Laws: after a write each byte is what the write puts at its place (`written`), an address is of its own byte
 //! (`itself`), and a page's decoded words, its row, are those of its bytes (`decoded`).
 //!

@@ -1,12 +1,13 @@
 //! Memory as instructions use it.
 
-ghost use Rattle.std.specs.Prelude.{◌≡◌, ◌≢◌, ℕ, ◌+◌, ◌/◌, ◌%◌, ◌<◌, ◌≤◌, ◌^◌, Bool, true, false, Ok, List, Option, Some, IsOk, IfSome, OnOk, OnErr};
+ghost use Rattle.std.specs.Prelude.{◌≡◌, ◌≢◌, ℕ, ◌/◌, ◌<◌, ◌^◌, Bool, true, false, Ok, List, Option, Some, IsOk, IfSome};
+ghost use Rattle.std.specs.Prelude.{OnOk, OnErr, is_some};
 ghost use Rattle.std.specs.Bool.{OnTrue, OnFalse};
 ghost use Rattle.rv_table.specs.declared.instr.Instr.{Instr};
 ghost use Rattle.rv_table.specs.Words.{IsWidth};
 ghost use Rattle.rv_table.specs.Bytes.{Memory as Seen, AnswersAs, AllowsAs, Value, loaded};
 ghost use Rattle.rv_exec.specs.Rows.{AreOfPage};
-ghost use Rattle.rv_exec.specs.Writes.{Write, Stores, Reserves, Releases, IsAfter};
+ghost use Rattle.rv_exec.specs.Writes.{Write, Stores, Reserves, Releases, IsAfter, all_after, conditional_writes};
 
 use rv_table::MemErr;
 use sn_base::Memory;
@@ -58,16 +59,13 @@ pub trait Mem {
         ensures same { told self.new ≡ told self.old };
 
     /// Stores so many of a number's bytes, the lowest first, at an address, each of which may be written, and ends
-    /// other tasks' reservations of the granules that it meets. It needs no alignment. Inside a page it leaves what
-    /// other pages have decoded. A refusal changes nothing.
+    /// other tasks' reservations of the granules that it meets. It needs no alignment. A refusal changes nothing.
     fn store(&mut self, at: u64, width: u8, value: u64) -> Result<(), MemErr>
         requires { IsWidth width }
         ensures room { AllowsAs (loaded (seen (told self.old)).room at width) result }
         ensures ready { is_ready self.old at width ≡ true → result ≢ Err MemErr.Memory }
         ensures lean { takes_memory ≡ false → result ≢ Err MemErr.Memory }
         ensures ok { OnOk result (told self.new ≡ after (Stores at width value) (told self.old)) }
-        ensures rows { OnOk result (at % 4096 + width ≤ 4096 → (page : ℕ) → (page ≡ at / 4096 → ⊥) →
-            instrs (told self.new) page ≡ instrs (told self.old) page) }
         ensures err { OnErr result (told self.new ≡ told self.old) };
 
     /// Puts the task's reservation of an address and so many bytes in the place of the one that it had. A refusal
@@ -83,7 +81,6 @@ pub trait Mem {
     fn take(&mut self, at: u64, width: u8) -> bool
         ensures held { result ≡ (seen (told self.old)).reserves at width }
         ensures ended { told self.new ≡ after (Releases at) (told self.old) }
-        ensures rows { (page : ℕ) → instrs (told self.new) page ≡ instrs (told self.old) page }
         ensures ready { is_ready self.new at width ≡ is_ready self.old at width };
 
     /// What `load` answers, where that is a number and at hand: a fast form of it, which may do nothing at any address.
@@ -101,6 +98,19 @@ pub trait Mem {
         ensures rows { OnTrue result ((page : ℕ) → (page ≡ at / 4096 → ⊥) →
             instrs (told self.new) page ≡ instrs (told self.old) page) }
         ensures unchanged { OnFalse result (told self.new ≡ told self.old) };
+
+    /// Does what a store-conditional does where a store is granted, takes no memory, and is at hand, in the page of the
+    /// address alone: ends the task's reservation, and stores where that was of just that address and so many bytes,
+    /// which it answers. It may do nothing at any address, and answers `None` then.
+    fn conditional_near(&mut self, at: u64, width: u8, value: u64) -> Option<bool>
+        requires { IsWidth width }
+        ensures room { IfSome result (λ held. AllowsAs (loaded (seen (told self.old)).room at width) (Ok tt)) }
+        ensures held { IfSome result (λ held. held ≡ (seen (told self.old)).reserves at width) }
+        ensures done { IfSome result (λ held.
+            told self.new ≡ all_after after (conditional_writes held at width value) (told self.old)) }
+        ensures rows { IfSome result (λ held. (page : ℕ) → (page ≡ at / 4096 → ⊥) →
+            instrs (told self.new) page ≡ instrs (told self.old) page) }
+        ensures unchanged { is_some result ≡ false → told self.new ≡ told self.old };
 
     /// After a write, memory is what the write says.
     ghost written: { (state : State) → (write : Write) →

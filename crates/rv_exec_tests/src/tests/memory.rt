@@ -208,6 +208,17 @@ impl<const C: usize> Mem for Small<C> {
         }
     }
 
+    fn conditional_near(&mut self, at: u64, width: u8, value: u64) -> Option<bool> {
+        if !self.is_near || at % 4096 + u64::from(width) > 4096 || self.room(at, width).is_err() {
+            return None;
+        }
+        let is_held = self.take(at, width);
+        if is_held {
+            self.put(at, width, value);
+        }
+        Some(is_held)
+    }
+
     ghost written = { is_memory_after nat_eq };
 
     ghost itself = { λ state. itself };
