@@ -7,12 +7,14 @@ use Rattle.elf_image.specs.declared.header.ProgramHeader.{ProgramHeader}
 use Rattle.elf_image.specs.Headers.{is_load}
 use Rattle.elf_image.specs.Faults.{pairs, meet, has_overlap}
 
-list_any-map : {A B : Type 0} (p : B → Bool) (f : A → B) (xs : List A) → list_any p (map f xs) ≡ list_any (λ x. p (f x)) xs
+list_any-map : {A B : Type 0} (p : B → Bool) (f : A → B) (xs : List A)
+    → list_any p (map f xs) ≡ list_any (λ x. p (f x)) xs
 list_any-map p f [] = refl
 list_any-map p f (x ∷ xs) = ap (λ b. p (f x) || b) (list_any-map p f xs)
 
 -- a test of those that pass another is a test by both
-any_kept : {A : Type 0} (p q : A → Bool) (x : A) (b : Bool) (xs : List A) → list_any p (cond b (x ∷ xs) xs) ≡ ((b && p x) || list_any p xs)
+any_kept : {A : Type 0} (p q : A → Bool) (x : A) (b : Bool) (xs : List A) → list_any p (cond b (x ∷ xs) xs)
+    ≡ ((b && p x) || list_any p xs)
 any_kept p q x true xs = refl
 any_kept p q x false xs = refl
 
@@ -26,8 +28,11 @@ unfolding has_overlap
 overlap_none = refl
 
 one_more : (h : ProgramHeader) (b : Bool) (hs : List ProgramHeader) →
-    list_any meet (pairs (cond b (h ∷ hs) hs)) ≡ ((b && list_any (λ other. meet (h, other)) hs) || list_any meet (pairs hs))
-one_more h true hs = list_any-append meet (map (λ other. (h, other)) hs) (pairs hs) ∙ ap (λ b. b || list_any meet (pairs hs)) (list_any-map meet (λ other. (h, other)) hs)
+    list_any meet (pairs (cond b (h ∷ hs) hs))
+    ≡ ((b && list_any (λ other. meet (h, other)) hs) || list_any meet (pairs hs))
+one_more h true hs =
+    list_any-append meet (map (λ other. (h, other)) hs) (pairs hs)
+    ∙ ap (λ b. b || list_any meet (pairs hs)) (list_any-map meet (λ other. (h, other)) hs)
 one_more h false hs = refl
 
 -- headers overlap where the first meets a later one, or the later ones overlap

@@ -14,7 +14,8 @@ is_memory Memory = true
 is_memory fault = false
 
 -- a fault that no row has is never the first
-first_row : (b : Bool) (e : ImageFault) (rest : Option ImageFault) → is_memory e ≡ false → (rest ≡ Some Memory → ⊥) → (if b then Some e else rest) ≡ Some Memory → ⊥
+first_row : (b : Bool) (e : ImageFault) (rest : Option ImageFault) → is_memory e ≡ false → (rest ≡ Some Memory → ⊥)
+    → (if b then Some e else rest) ≡ Some Memory → ⊥
 first_row true e rest other none h = cc (other, ap_memory e h)
   where
     ap_memory : (e : ImageFault) → Some e ≡ Some Memory → is_memory e ≡ true
@@ -25,7 +26,8 @@ pub split_or : (a b : Bool) → (a || b) ≡ false → (a ≡ false) × (b ≡ f
 split_or true b h = absurd (cc h)
 split_or false b h = (refl, h)
 
-never_memory : (rows : List (Bool × ImageFault)) → list_any (λ row. is_memory row.1) rows ≡ false → first_fault rows ≡ Some Memory → ⊥
+never_memory : (rows : List (Bool × ImageFault)) → list_any (λ row. is_memory row.1) rows ≡ false
+    → first_fault rows ≡ Some Memory → ⊥
 never_memory [] other h = cc
 never_memory (row ∷ rows) other h =
     let both = split_or (is_memory row.1) (list_any (λ r. is_memory r.1) rows) other in
@@ -56,7 +58,8 @@ abbrev NoneHolds : List (Bool × ImageFault) → Type 0
 NoneHolds [] = Unit {0}
 NoneHolds (row ∷ rows) = (row.0 ≡ false) × NoneHolds rows
 
-no_row : (b : Bool) (e : ImageFault) (rest : Option ImageFault) → (if b then Some e else rest) ≡ None → (b ≡ false) × (rest ≡ None)
+no_row : (b : Bool) (e : ImageFault) (rest : Option ImageFault) → (if b then Some e else rest) ≡ None
+    → (b ≡ false) × (rest ≡ None)
 no_row true e rest h = absurd (cc h)
 no_row false e rest h = (refl, h)
 
@@ -78,7 +81,8 @@ pub record HasNoFault (bytes : List ℕ) : Type 0 where
 has_room : (size : ℕ) → nat_lt size 64 ≡ false → 64 ≤ size
 has_room size h = grind (arith, nat_tests)
 
-has_table : (size : ℕ) (file : FileHeader) → has_no_table size file ≡ false → (file.e_phnum ≤ 64) × (file.e_phoff + 56 * file.e_phnum ≤ size)
+has_table : (size : ℕ) (file : FileHeader) → has_no_table size file ≡ false
+    → (file.e_phnum ≤ 64) × (file.e_phoff + 56 * file.e_phnum ≤ size)
 has_table size file h = grind (arith, nat_tests)
 
 pub without_fault : (bytes : List ℕ) → image_fault bytes ≡ None → HasNoFault bytes
@@ -91,7 +95,8 @@ without_fault bytes h =
       room = has_room (length bytes) none.0;
       few = table.0;
       inside = table.1;
-      placed = (split_or (not (list_any is_loaded (program_headers bytes))) (list_any (is_misplaced (length bytes)) (program_headers bytes)) range).1;
+      placed = (split_or (not (list_any is_loaded (program_headers bytes)))
+          (list_any (is_misplaced (length bytes)) (program_headers bytes)) range).1;
       apart = none.1.1.1.1.1.1.1.1.1.0;
       entered = none.1.1.1.1.1.1.1.1.1.1.0;
     }

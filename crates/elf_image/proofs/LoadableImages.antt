@@ -19,7 +19,8 @@ length-headers : (bytes : List ℕ) → length (program_headers bytes) ≡ (file
 unfolding program_headers
 length-headers bytes = length-map-range_with_len _ 0 _
 
-kept_few : (bytes : List ℕ) (b : Bool) (h : ProgramHeader) (hs : List ProgramHeader) (n : ℕ) → length (map (segment_of bytes) hs) ≤ n →
+kept_few : (bytes : List ℕ) (b : Bool) (h : ProgramHeader) (hs : List ProgramHeader) (n : ℕ)
+    → length (map (segment_of bytes) hs) ≤ n →
     length (map (segment_of bytes) (cond b (h ∷ hs) hs)) ≤ n + 1
 kept_few bytes true h hs n le = omega arith
 kept_few bytes false h hs n le = omega arith
@@ -33,7 +34,8 @@ length-part offset size bytes =
     let long : offset + size - offset ≡ size = omega arith in
     omega (arith, length-take (offset + size - offset) (drop offset bytes))
 
-one_placed : (bytes : List ℕ) (h : ProgramHeader) → is_loaded h ≡ true → is_misplaced (length bytes) h ≡ false → IsPlaced (segment_of bytes h)
+one_placed : (bytes : List ℕ) (h : ProgramHeader) → is_loaded h ≡ true → is_misplaced (length bytes) h ≡ false
+    → IsPlaced (segment_of bytes h)
 one_placed bytes h load placed =
     let short = length-part h.p_offset h.p_filesz bytes in
     record {
@@ -43,12 +45,15 @@ one_placed bytes h load placed =
       below = grind (arith, nat_tests);
     }
 
-kept_placed : (bytes : List ℕ) (b : Bool) (h : ProgramHeader) (hs : List ProgramHeader) → is_loaded h ≡ b → is_misplaced (length bytes) h ≡ false →
+kept_placed : (bytes : List ℕ) (b : Bool) (h : ProgramHeader) (hs : List ProgramHeader) → is_loaded h ≡ b
+    → is_misplaced (length bytes) h ≡ false →
     All IsPlaced (map (segment_of bytes) hs) → All IsPlaced (map (segment_of bytes) (cond b (h ∷ hs) hs))
-kept_placed bytes true h hs load here rest = All-cons IsPlaced (segment_of bytes h) (map (segment_of bytes) hs) (one_placed bytes h load here) rest
+kept_placed bytes true h hs load here rest =
+    All-cons IsPlaced (segment_of bytes h) (map (segment_of bytes) hs) (one_placed bytes h load here) rest
 kept_placed bytes false h hs load here rest = rest
 
-placed : (bytes : List ℕ) (hs : List ProgramHeader) → list_any (is_misplaced (length bytes)) hs ≡ false → All IsPlaced (segments_of bytes hs)
+placed : (bytes : List ℕ) (hs : List ProgramHeader) → list_any (is_misplaced (length bytes)) hs ≡ false
+    → All IsPlaced (segments_of bytes hs)
 placed bytes [] none = λ k d below. absurd (omega arith)
 placed bytes (h ∷ hs) none =
     let both = split_or (is_misplaced (length bytes) h) (list_any (is_misplaced (length bytes)) hs) none in
@@ -65,10 +70,12 @@ counts (s ∷ ss) all =
     omega (arith, here, rest, sum_by-cons page_count s ss)
 
 -- they are those of an image
-pub loadable : (bytes : List ℕ) (ss : List Segment) → image_fault bytes ≡ None → ss ≡ segments_of bytes (program_headers bytes) → AreLoadable ss
+pub loadable : (bytes : List ℕ) (ss : List Segment) → image_fault bytes ≡ None
+    → ss ≡ segments_of bytes (program_headers bytes) → AreLoadable ss
 loadable bytes ss none same =
     let fit = without_fault bytes none in
-    let short : length ss ≤ 64 = omega (arith, ap length same, few bytes (program_headers bytes), length-headers bytes, fit.few) in
+    let short : length ss ≤ 64 =
+    omega (arith, ap length same, few bytes (program_headers bytes), length-headers bytes, fit.few) in
     let all : All IsPlaced ss = subst (All IsPlaced) (sym same) (placed bytes (program_headers bytes) fit.placed) in
     record {
       few = short;

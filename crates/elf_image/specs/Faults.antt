@@ -34,7 +34,7 @@ abbrev pub has_other_kind : FileHeader → Bool
 has_other_kind file = not (file.e_type == 2)
 
 -- the file wants compressed instructions, registers for floating point, or the small register file
--- RISC-V ELF psABI, File Header, e_flags: EF_RISCV_RVC 1, EF_RISCV_FLOAT_ABI 6, EF_RISCV_RVE 8; other flags pass: profile
+-- RISC-V ELF psABI, File Header, e_flags: EF_RISCV_RVC 1, EF_RISCV_FLOAT_ABI 6, EF_RISCV_RVE 8; others pass: profile
 abbrev pub has_other_flags : FileHeader → Bool
 has_other_flags file = not (file.e_flags % 16 == 0)
 
@@ -42,7 +42,8 @@ has_other_flags file = not (file.e_flags % 16 == 0)
 -- ELF-64 Object File Format, e_phentsize, e_phnum, e_phoff; at most 64: profile
 abbrev pub has_no_table : ℕ → FileHeader → Bool
 has_no_table size file =
-    not (file.e_phentsize == 56) || (file.e_phnum == 0) || nat_lt 64 file.e_phnum || nat_lt size (file.e_phoff + 56 * file.e_phnum)
+    not (file.e_phentsize == 56) || (file.e_phnum == 0) || nat_lt 64 file.e_phnum
+    || nat_lt size (file.e_phoff + 56 * file.e_phnum)
 
 -- the file wants an interpreter
 -- ELF-64 Object File Format, PT_INTERP
@@ -82,7 +83,8 @@ has_overlap headers = list_any meet (pairs (filter is_load headers))
 -- ELF-64 Object File Format, PT_LOAD, PF_X
 abbrev pub is_executed : ℕ → ProgramHeader → Bool
 is_executed address header =
-    is_load header && (header.p_flags % 2 == 1) && nat_le header.p_vaddr address && nat_lt address (header.p_vaddr + header.p_memsz)
+    is_load header && (header.p_flags % 2 == 1) && nat_le header.p_vaddr address
+    && nat_lt address (header.p_vaddr + header.p_memsz)
 
 -- no instruction can stand where the program starts
 -- ELF-64 Object File Format, e_entry; RISC-V Unprivileged ISA 20191213, Base Instruction-Length Encoding: 4 bytes each

@@ -72,7 +72,9 @@ impl Model for Image {
 ///
 /// The faults come in the order of `ImageFault`, so a fault of the bytes comes before want of memory, and nothing is
 /// allocated for what is refused.
-#[tactic(auto, using(crate::proofs::ImageFaults::fault_of_first, crate::proofs::ImageFaults::without_fault, crate::proofs::LoadableImages::loadable), unfolding(crate::specs::Images::image_in))]
+#[rattlefmt::skip]
+#[tactic(auto, using(crate::proofs::ImageFaults::fault_of_first, crate::proofs::ImageFaults::without_fault,
+    crate::proofs::LoadableImages::loadable), unfolding(crate::specs::Images::image_in))]
 pub fn read_image(alloc: Global, bytes: &[u8]) -> Result<Image, ImageFault>
     ensures ok { IfOk result (λ image. image ≡ image_in bytes.now) }
     ensures sound { OnOk result (image_fault bytes.now ≡ None) }

@@ -23,13 +23,15 @@ get-below first (Some d ∷ slots) q below =
     let other : first ≢ q = omega arith in
     get-insert_other (table_from (first + 1) slots) first q d other ∙ get-below (first + 1) slots q (omega arith)
 
-get-from : (first : ℕ) (slots : List (Option Descriptor)) (k q : ℕ) → q ≡ first + k → get (table_from first slots) q ≡ option_flatten (slice_get slots k)
+get-from : (first : ℕ) (slots : List (Option Descriptor)) (k q : ℕ) → q ≡ first + k
+    → get (table_from first slots) q ≡ option_flatten (slice_get slots k)
 get-from first [] k q at = get_of_empty q
 get-from first (None ∷ slots) zero q at = get-below (first + 1) slots q (omega arith)
 get-from first (None ∷ slots) (suc k) q at = get-from (first + 1) slots k q (omega arith)
 get-from first (Some d ∷ slots) zero q at =
     let same : q ≡ first = omega arith in
-    ap (get (insert (table_from (first + 1) slots) first d)) same ∙ get-insert_same (table_from (first + 1) slots) first d
+    ap (get (insert (table_from (first + 1) slots) first d)) same
+    ∙ get-insert_same (table_from (first + 1) slots) first d
 get-from first (Some d ∷ slots) (suc k) q at =
     let other : first ≢ q = omega arith in
     get-insert_other (table_from (first + 1) slots) first q d other ∙ get-from (first + 1) slots k q (omega arith)
@@ -39,34 +41,42 @@ pub get_at : (slots : List (Option Descriptor)) (q : ℕ) → get (table_of slot
 unfolding table_of
 get_at slots q = get-from 0 slots q q (omega arith)
 
-pub get_read : (slots : List (Option Descriptor)) (q : ℕ) (o : Option Descriptor) → q < length slots → o ≡ get_or slots q o → get (table_of slots) q ≡ o
-get_read slots q o within is = get_at slots q ∙ ap option_flatten (slice_get_read slots (length slots) q o refl within is)
+pub get_read : (slots : List (Option Descriptor)) (q : ℕ) (o : Option Descriptor) → q < length slots
+    → o ≡ get_or slots q o → get (table_of slots) q ≡ o
+get_read slots q o within is =
+    get_at slots q ∙ ap option_flatten (slice_get_read slots (length slots) q o refl within is)
 
 pub get_past : (slots : List (Option Descriptor)) (q : ℕ) → length slots ≤ q → get (table_of slots) q ≡ None
 get_past slots q past = get_at slots q ∙ ap option_flatten (slice_get_past slots q past)
 
 -- ---- a slot that is set
 
-slice_get-set_same : (slots : List (Option Descriptor)) (k : ℕ) (o : Option Descriptor) → k < length slots → slice_get (set slots k o) k ≡ Some o
+slice_get-set_same : (slots : List (Option Descriptor)) (k : ℕ) (o : Option Descriptor) → k < length slots
+    → slice_get (set slots k o) k ≡ Some o
 slice_get-set_same [] k o within = absurd (omega arith)
 slice_get-set_same (s ∷ slots) zero o within = refl
 slice_get-set_same (s ∷ slots) (suc k) o within = slice_get-set_same slots k o (omega arith)
 
-slice_get-set_other : (slots : List (Option Descriptor)) (k j : ℕ) (o : Option Descriptor) → k ≢ j → slice_get (set slots k o) j ≡ slice_get slots j
+slice_get-set_other : (slots : List (Option Descriptor)) (k j : ℕ) (o : Option Descriptor) → k ≢ j
+    → slice_get (set slots k o) j ≡ slice_get slots j
 slice_get-set_other [] k j o other = refl
 slice_get-set_other (s ∷ slots) zero zero o other = absurd (other refl)
 slice_get-set_other (s ∷ slots) zero (suc j) o other = refl
 slice_get-set_other (s ∷ slots) (suc k) zero o other = refl
 slice_get-set_other (s ∷ slots) (suc k) (suc j) o other = slice_get-set_other slots k j o (omega arith)
 
-pub get-set_same : (slots : List (Option Descriptor)) (k : ℕ) (o : Option Descriptor) → k < length slots → get (table_of (set slots k o)) k ≡ o
+pub get-set_same : (slots : List (Option Descriptor)) (k : ℕ) (o : Option Descriptor) → k < length slots
+    → get (table_of (set slots k o)) k ≡ o
 get-set_same slots k o within = get_at (set slots k o) k ∙ ap option_flatten (slice_get-set_same slots k o within)
 
-pub get-set_other : (slots : List (Option Descriptor)) (k j : ℕ) (o : Option Descriptor) → k ≢ j → get (table_of (set slots k o)) j ≡ get (table_of slots) j
-get-set_other slots k j o other = get_at (set slots k o) j ∙ ap option_flatten (slice_get-set_other slots k j o other) ∙ sym (get_at slots j)
+pub get-set_other : (slots : List (Option Descriptor)) (k j : ℕ) (o : Option Descriptor) → k ≢ j
+    → get (table_of (set slots k o)) j ≡ get (table_of slots) j
+get-set_other slots k j o other =
+    get_at (set slots k o) j ∙ ap option_flatten (slice_get-set_other slots k j o other) ∙ sym (get_at slots j)
 
 -- a slot that is filled
-pub table_filled : (slots : List (Option Descriptor)) (k : ℕ) (d : Descriptor) → k < length slots → table_of (set slots k (Some d)) ≡ insert (table_of slots) k d
+pub table_filled : (slots : List (Option Descriptor)) (k : ℕ) (d : Descriptor) → k < length slots
+    → table_of (set slots k (Some d)) ≡ insert (table_of slots) k d
 table_filled slots k d within = same_by_get _ _ (λ q. elim (cases_eq k q) [
   | inl same ↦
       ap (get (table_of (set slots k (Some d)))) (sym same)
@@ -76,7 +86,8 @@ table_filled slots k d within = same_by_get _ _ (λ q. elim (cases_eq k q) [
 ])
 
 -- a slot that is vacated
-pub table_vacated : (slots : List (Option Descriptor)) (k : ℕ) → k < length slots → table_of (set slots k None) ≡ remove (table_of slots) k
+pub table_vacated : (slots : List (Option Descriptor)) (k : ℕ) → k < length slots
+    → table_of (set slots k None) ≡ remove (table_of slots) k
 table_vacated slots k within = same_by_get _ _ (λ q. elim (cases_eq k q) [
   | inl same ↦
       ap (get (table_of (set slots k None))) (sym same)

@@ -26,12 +26,20 @@ pub times-take : (task n : ℕ) (ts : List ℕ) → times task (take n ts) ≤ t
 times-take task n ts = sum_by-take-le (λ t. cond (t == task) 1 0) ts n
 
 -- what a filter leaves of a list stands no more often than before
-pub times-filter : {X : Type 0} (task_of : X → ℕ) (keeps : X → Bool) (task : ℕ) (xs : List X) → times task (map task_of (filter keeps xs)) ≤ times task (map task_of xs)
+pub times-filter : {X : Type 0} (task_of : X → ℕ) (keeps : X → Bool) (task : ℕ) (xs : List X)
+    → times task (map task_of (filter keeps xs)) ≤ times task (map task_of xs)
 times-filter task_of keeps task [] = omega arith
 times-filter task_of keeps task (x ∷ xs) = by_test (keeps x) (times-filter task_of keeps task xs)
   where
-    by_test : (b : Bool) → times task (map task_of (filter keeps xs)) ≤ times task (map task_of xs) → times task (map task_of (cond b (x ∷ filter keeps xs) (filter keeps xs))) ≤ times task (map task_of (x ∷ xs))
-    by_test true h = omega (arith, h, times-cons task (task_of x) (map task_of (filter keeps xs)), times-cons task (task_of x) (map task_of xs))
+    by_test : (b : Bool) → times task (map task_of (filter keeps xs)) ≤ times task (map task_of xs)
+        → times task (map task_of (cond b (x ∷ filter keeps xs) (filter keeps xs))) ≤ times task (map task_of (x ∷ xs))
+    by_test true h =
+        omega (
+          arith,
+          h,
+          times-cons task (task_of x) (map task_of (filter keeps xs)),
+          times-cons task (task_of x) (map task_of xs),
+        )
     by_test false h = omega (arith, h, times-cons task (task_of x) (map task_of xs))
 
 -- a task that isn't found stands there never
@@ -46,13 +54,15 @@ pub not_found : (task : ℕ) (ts : List ℕ) → times task ts ≡ 0 → list_an
 not_found task [] h = refl
 not_found task (t ∷ ts) h = by_test (t == task) refl (not_found task ts)
   where
-    by_test : (b : Bool) → (t == task) ≡ b → (times task ts ≡ 0 → list_any (λ t. t == task) ts ≡ false) → (t == task || list_any (λ t. t == task) ts) ≡ false
+    by_test : (b : Bool) → (t == task) ≡ b → (times task ts ≡ 0 → list_any (λ t. t == task) ts ≡ false)
+        → (t == task || list_any (λ t. t == task) ts) ≡ false
     by_test true e rest =
         let one : weight (t == task) ≡ 1 = ap weight e in
         absurd (omega (arith, h, one, times-cons task t ts))
     by_test false e rest = ap (λ b. b || list_any (λ t. t == task) ts) e ∙ rest (omega (arith, h, times-cons task t ts))
 
 -- to find an item by its task is to find its task
-pub found_by_task : {X : Type 0} (task_of : X → ℕ) (task : ℕ) (xs : List X) → list_any (λ x. task_of x == task) xs ≡ list_any (λ t. t == task) (map task_of xs)
+pub found_by_task : {X : Type 0} (task_of : X → ℕ) (task : ℕ) (xs : List X) → list_any (λ x. task_of x == task) xs
+    ≡ list_any (λ t. t == task) (map task_of xs)
 found_by_task task_of task [] = refl
 found_by_task task_of task (x ∷ xs) = ap (λ b. (task_of x == task) || b) (found_by_task task_of task xs)

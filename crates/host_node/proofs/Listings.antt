@@ -11,7 +11,8 @@ abbrev pub listed : Entry → Listed
 listed e = record { name = e.name; kind = kind_of e.tree }
 
 -- one more entry at the end is one more listed
-pub listed-push : (es : List Entry) (e : Entry) → listed_from (children_from (es ++ e ∷ [])) ≡ listed_from (children_from es) ++ listed e ∷ []
+pub listed-push : (es : List Entry) (e : Entry) → listed_from (children_from (es ++ e ∷ []))
+    ≡ listed_from (children_from es) ++ listed e ∷ []
 listed-push [] e = refl
 listed-push (x ∷ xs) e = ap (λ l. listed x ∷ l) (listed-push xs e)
 

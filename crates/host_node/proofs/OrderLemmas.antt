@@ -15,10 +15,12 @@ use Rattle.host_node.specs.Levels.{children_from, entry_names, comes_before}
 use Rattle.host_node.proofs.EntryLemmas.{insert_more}
 
 -- a name that neither comes before another nor is the same comes behind it
-pub is_behind : (a b : List ℕ) → is_lt (slice_cmp nat_cmp a b) ≡ false → bytes_eq a b ≡ false → slice_cmp nat_cmp b a ≡ Less
+pub is_behind : (a b : List ℕ) → is_lt (slice_cmp nat_cmp a b) ≡ false → bytes_eq a b ≡ false
+    → slice_cmp nat_cmp b a ≡ Less
 is_behind a b l e = by (slice_cmp nat_cmp a b) l (is_eq-slice_cmp a b ∙ e) (nat_list_cmp_total.antisymm b a)
   where
-    by : (o : Ordering) → is_lt o ≡ false → is_eq o ≡ false → slice_cmp nat_cmp b a ≡ ordering_reverse o → slice_cmp nat_cmp b a ≡ Less
+    by : (o : Ordering) → is_lt o ≡ false → is_eq o ≡ false → slice_cmp nat_cmp b a ≡ ordering_reverse o
+        → slice_cmp nat_cmp b a ≡ Less
     by Less f g h = cc
     by Equal f g h = cc
     by Greater f g h = h
@@ -30,12 +32,14 @@ is_less Equal h = cc
 is_less Greater h = cc
 
 -- a name below one that is below others is below them
-pub below_all_before : (a b : List ℕ) (names : List (List ℕ)) → slice_cmp nat_cmp a b ≡ Less → IsBelowAll b names → IsBelowAll a names
+pub below_all_before : (a b : List ℕ) (names : List (List ℕ)) → slice_cmp nat_cmp a b ≡ Less
+    → IsBelowAll b names → IsBelowAll a names
 below_all_before a b [] l h = tt
 below_all_before a b (n ∷ names) l h = (nat_list_cmp_total.trans a b n l h.0, below_all_before a b names l h.1)
 
 -- a name stays below others where a greater one goes in among them
-pub below_all_insert : (a : List ℕ) (es : List Entry) (i : ℕ) (e : Entry) → slice_cmp nat_cmp a e.name ≡ Less → IsBelowAll a (entry_names es)
+pub below_all_insert : (a : List ℕ) (es : List Entry) (i : ℕ) (e : Entry) → slice_cmp nat_cmp a e.name ≡ Less
+    → IsBelowAll a (entry_names es)
     → IsBelowAll a (entry_names (insert es i e))
 below_all_insert a [] zero e l h = (l, tt)
 below_all_insert a [] (suc i) e l h = (l, tt)
@@ -43,10 +47,12 @@ below_all_insert a (x ∷ xs) zero e l h = (l, h)
 below_all_insert a (x ∷ xs) (suc i) e l h = (h.0, below_all_insert a xs i e l h.1)
 
 -- an entry under a free name that goes in before the first greater name leaves the entries in order
-pub ascending_insert : (name : List ℕ) (t : Shape) (es : List Entry) → IsAscending (entry_names es) → find_child name (children_from es) ≡ None
+pub ascending_insert : (name : List ℕ) (t : Shape) (es : List Entry) → IsAscending (entry_names es)
+    → find_child name (children_from es) ≡ None
     → IsAscending (entry_names (insert es (position_or_len (comes_before name) es) (record { name = name; tree = t })))
 ascending_insert name t [] h f = (tt, tt)
-ascending_insert name t (x ∷ xs) h f = by (comes_before name x) refl (bytes_eq name x.name) refl f (ascending_insert name t xs h.1)
+ascending_insert name t (x ∷ xs) h f =
+    by (comes_before name x) refl (bytes_eq name x.name) refl f (ascending_insert name t xs h.1)
   where
     n : ℕ
     n = position_or_len (comes_before name) xs
@@ -54,7 +60,8 @@ ascending_insert name t (x ∷ xs) h f = by (comes_before name x) refl (bytes_eq
     new : Entry
     new = record { name = name; tree = t }
 
-    by : (b : Bool) → comes_before name x ≡ b → (q : Bool) → bytes_eq name x.name ≡ q → cond q (Some x.tree) (find_child name (children_from xs)) ≡ None
+    by : (b : Bool) → comes_before name x ≡ b → (q : Bool) → bytes_eq name x.name ≡ q
+        → cond q (Some x.tree) (find_child name (children_from xs)) ≡ None
         → (find_child name (children_from xs) ≡ None → IsAscending (entry_names (insert xs n new)))
         → IsAscending (entry_names (insert (x ∷ xs) (cond (not b) (1 + n) 0) new))
     by b l true e g more = cc

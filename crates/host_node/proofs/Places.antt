@@ -9,7 +9,8 @@ below_or_end n l true e h = refl
 below_or_end n l false e h = grind (arith, nat_tests)
 
 -- the first place at which a test passes, or the length
-pub position_or_end : {X : Type 0} (p : X → Bool) (xs : List X) → unwrap_or (position p xs) (length xs) ≡ position_or_len p xs
+pub position_or_end : {X : Type 0} (p : X → Bool) (xs : List X)
+    → unwrap_or (position p xs) (length xs) ≡ position_or_len p xs
 position_or_end p xs = below_or_end (position_or_len p xs) (length xs) _ refl (prefix_len-le-length _ xs)
 
 -- that place is within the list, or its end

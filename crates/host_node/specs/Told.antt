@@ -113,7 +113,8 @@ CanRead (Some (lent kind)) opened = ⊥
 abbrev pub ReadsAt : ℕ → Option Shape → (count : ℕ) (before after : List ℕ) → Type 0
 ReadsAt offset None count before after = ⊤
 ReadsAt offset (Some t) count before after =
-    (count ≡ min (length before) (length (bytes_of t) - offset)) × (after ≡ take count (drop offset (bytes_of t)) ++ drop count before)
+    (count ≡ min (length before) (length (bytes_of t) - offset))
+    × (after ≡ take count (drop offset (bytes_of t)) ++ drop count before)
 
 -- what is told has the name as that of a node that stands with a borrower
 -- profile

@@ -131,7 +131,8 @@ replace_child name new (child other shape rest) =
 abbrev pub insert_child : List ℕ → Shape → Children → Children
 insert_child name new no_children = child name new no_children
 insert_child name new (child other shape rest) =
-    if is_lt (slice_cmp nat_cmp name other) then child name new (child other shape rest) else child other shape (insert_child name new rest)
+    if is_lt (slice_cmp nat_cmp name other) then child name new (child other shape rest)
+    else child other shape (insert_child name new rest)
 
 -- the entries with a node under a name: in the place of what stands there, or else one more, in order
 -- profile

@@ -96,7 +96,8 @@ mutual
   -- the tokens of a tree make it
   pub run_tokens : (shape : Shape) (more : List Token) (shapes : List Shape) (stack : List Children)
       → run (tokens shape more) shapes stack ≡ run more (shape ∷ shapes) stack
-  run_tokens (directory mode faults entries) more shapes stack = run_entries entries (inl (mode, faults) ∷ more) shapes stack
+  run_tokens (directory mode faults entries) more shapes stack =
+      run_entries entries (inl (mode, faults) ∷ more) shapes stack
   run_tokens (file bytes mode faults) more shapes stack = refl
   run_tokens (link text faults) more shapes stack = refl
   run_tokens (lent kind) more shapes stack = ap (λ k. run more (lent k ∷ shapes) stack) (kind_back kind)

@@ -1,3 +1,5 @@
+//! Why a call of a host is refused: it failed, or there was no memory on this side.
+
 ghost use Rattle.std.specs.Prelude.{◌≡◌};
 ghost use Rattle.host_node.specs.declared.error.HostErr.TheVariants.{Memory as WantOfMemory};
 

@@ -1,3 +1,5 @@
+//! File types, and what stat(2) tells of a node.
+
 /// What a node of a host is, of the file types of inode(7). A host has no others for us.
 #[derive(Clone, Copy, Debug, PartialEq, Eq)]
 pub enum Kind {

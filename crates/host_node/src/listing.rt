@@ -1,3 +1,5 @@
+//! The entries of a directory: their names, and what stands there.
+
 ghost use Rattle.std.specs.Prelude.{◌≡◌, ◌<◌, ◌↔◌, [], ◌∷◌, ◌++◌, length, take, IsTrue, OnOk, OnErr};
 ghost use Rattle.std.specs.Slice.{IsItemAt};
 

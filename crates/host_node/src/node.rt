@@ -1,3 +1,5 @@
+//! The calls of a directory, a file or a link of a host, and what each owes its holder.
+
 ghost use Rattle.std.specs.Prelude.{◌≡◌, ◌≤◌, ℕ, length, Option, Some, None, IfOk, IfSome, IfNone, OnOk, OnErr};
 ghost use Rattle.host_node.specs.declared.kind.Kind.{Kind};
 ghost use Rattle.host_node.specs.Tree.{Shape};

@@ -1,3 +1,5 @@
+//! Trees in memory: what they tell, list, and give out and take back.
+
 use crate::{Attr, Kind, Listed, Listing, Tree};
 use sn_base::List;
 use sn_text::{Text, name_of};

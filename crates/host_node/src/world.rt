@@ -1,3 +1,5 @@
+//! The trusted world of files: folders that are granted and settled, and nodes that are buried.
+
 ghost use Rattle.std.specs.Prelude.{◌≡◌, [], ◌∷◌, ◌++◌, ℕ, List, Option, IfOk, IfSome, IfNone, OnOk, OnErr};
 ghost use Rattle.host_node.specs.declared.kind.Kind.TheVariants.{Dir as Directory};
 ghost use Rattle.host_node.specs.Tree.{Shape};

@@ -21,15 +21,20 @@ near_within rs i page near = elim (cases_lt i (length rs)) [
 ]
 
 -- which has the page
-pub near_held : (rs : List Region) (i page : ℕ) → has_page (slice_get rs i) page ≡ true → (d : Region) → is_within (get_or rs i d).first (length (get_or rs i d).pages.items) page ≡ true
-near_held rs i page near d = sym (ap (λ (o : Option Region). has_page o page) (slice_get-get_or rs i d (near_within rs i page near))) ∙ near
+pub near_held : (rs : List Region) (i page : ℕ) → has_page (slice_get rs i) page ≡ true → (d : Region)
+    → is_within (get_or rs i d).first (length (get_or rs i d).pages.items) page ≡ true
+near_held rs i page near d =
+    sym (ap (λ (o : Option Region). has_page o page) (slice_get-get_or rs i d (near_within rs i page near))) ∙ near
 
 -- so that it is mapped
-pub near_mapped : (rs : List Region) (i page : ℕ) → are_from 0 rs ≡ true → has_page (slice_get rs i) page ≡ true → contains_key (pages_of rs) page ≡ true
+pub near_mapped : (rs : List Region) (i page : ℕ) → are_from 0 rs ≡ true → has_page (slice_get rs i) page ≡ true
+    → contains_key (pages_of rs) page ≡ true
 near_mapped rs i page order near = by (slice_get rs i) refl near
   where
     by : (o : Option Region) → slice_get rs i ≡ o → has_page o page ≡ true → contains_key (pages_of rs) page ≡ true
     by None is has = absurd (false≢true has)
     by (Some r) is has =
-        let bounds = within_bounds (get_or rs i r).first (length (get_or rs i r).pages.items) page (near_held rs i page near r) in
+        let bounds =
+        within_bounds (get_or rs i r).first (length (get_or rs i r).pages.items) page
+        (near_held rs i page near r) in
         has_in_region 0 rs i r page (order_from_test 0 rs order) (near_within rs i page near) bounds.0 bounds.1

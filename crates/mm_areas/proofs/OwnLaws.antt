@@ -12,21 +12,30 @@ use Rattle.mm_areas.specs.Regions.{pages_of}
 use Rattle.mm_areas.specs.Own.{page_in, is_own_at, is_own_content}
 use Rattle.mm_areas.proofs.WriteLaws.{AreWritten}
 
-private : (page : ℕ) (old new : Page) (olds news : List Region) → AreWritten page old new olds news → is_some (bytes_at (pages_of olds) page) ≡ is_some (bytes_mapped (Some (mapped_by old)))
+private : (page : ℕ) (old new : Page) (olds news : List Region) → AreWritten page old new olds news
+    → is_some (bytes_at (pages_of olds) page) ≡ is_some (bytes_mapped (Some (mapped_by old)))
 private page old new olds news are = ap (λ (m : Option Mapped). is_some (bytes_mapped m)) are.mapped
 
 -- a private page's bytes are its own then
-pub own_ok : {X E : Type 0} (answer : Result X E) (page : ℕ) (old new : Page) (olds news : List Region) → AreWritten page old new olds news → OnOk answer (is_some (bytes_mapped (Some (mapped_by old))) ≡ true → is_own_content new.content ≡ true) → OnOk answer (is_some (bytes_at (pages_of olds) page) ≡ true → is_own_at (page_in news page) ≡ true)
-own_ok (Ok x) page old new olds news are is = λ h. ap is_own_at are.here ∙ is (sym (private page old new olds news are) ∙ h)
+pub own_ok : {X E : Type 0} (answer : Result X E) (page : ℕ) (old new : Page) (olds news : List Region)
+    → AreWritten page old new olds news
+    → OnOk answer (is_some (bytes_mapped (Some (mapped_by old))) ≡ true → is_own_content new.content ≡ true)
+    → OnOk answer (is_some (bytes_at (pages_of olds) page) ≡ true → is_own_at (page_in news page) ≡ true)
+own_ok (Ok x) page old new olds news are is =
+    λ h. ap is_own_at are.here ∙ is (sym (private page old new olds news are) ∙ h)
 own_ok (Err e) page old new olds news are is = tt
 
 -- memory is wanting for a private page alone
-pub own_private : {X E : Type 0} (answer : Result X E) (page : ℕ) (old new : Page) (olds news : List Region) → AreWritten page old new olds news → OnErr answer (is_some (bytes_mapped (Some (mapped_by old))) ≡ true) → OnErr answer (is_some (bytes_at (pages_of olds) page) ≡ true)
+pub own_private : {X E : Type 0} (answer : Result X E) (page : ℕ) (old new : Page) (olds news : List Region)
+    → AreWritten page old new olds news → OnErr answer (is_some (bytes_mapped (Some (mapped_by old))) ≡ true)
+    → OnErr answer (is_some (bytes_at (pages_of olds) page) ≡ true)
 own_private (Ok x) page old new olds news are is = tt
 own_private (Err e) page old new olds news are is = private page old new olds news are ∙ is
 
 -- a page whose bytes were its own has them still
-pub own_still : (page : ℕ) (old new : Page) (olds news : List Region) → AreWritten page old new olds news → (is_own_content old.content ≡ true → is_own_content new.content ≡ true) → (q : ℕ) → is_own_at (page_in olds q) ≡ true → is_own_at (page_in news q) ≡ true
+pub own_still : (page : ℕ) (old new : Page) (olds news : List Region) → AreWritten page old new olds news
+    → (is_own_content old.content ≡ true → is_own_content new.content ≡ true) → (q : ℕ)
+    → is_own_at (page_in olds q) ≡ true → is_own_at (page_in news q) ≡ true
 own_still page old new olds news are still q was = elim (cases_eq q page) [
   | inl here ↦
       ap (λ (n : ℕ). is_own_at (page_in news n)) here ∙ ap is_own_at are.here
@@ -35,8 +44,11 @@ own_still page old new olds news are still q was = elim (cases_eq q page) [
 ]
 
 -- a page that isn't mapped is not private
-pub not_private : (slice olds : List Region) (page : ℕ) → slice ≡ olds → false ≡ contains_key (pages_of slice) page → is_some (bytes_at (pages_of olds) page) ≡ false
-not_private slice olds page same absent = of_none (get (pages_of olds) page) (ap (λ (rs : List Region). contains_key (pages_of rs) page) (sym same) ∙ sym absent)
+pub not_private : (slice olds : List Region) (page : ℕ) → slice ≡ olds → false ≡ contains_key (pages_of slice) page
+    → is_some (bytes_at (pages_of olds) page) ≡ false
+not_private slice olds page same absent =
+    of_none (get (pages_of olds) page)
+    (ap (λ (rs : List Region). contains_key (pages_of rs) page) (sym same) ∙ sym absent)
   where
     of_none : (o : Option Mapped) → is_some o ≡ false → is_some (bytes_mapped o) ≡ false
     of_none None is = refl

@@ -37,7 +37,8 @@ pub test_from_order : (page : ℕ) (rs : List Region) → AreFrom page rs → ar
 test_from_order page [] h = le-leb page (2 ^ 26) h
 test_from_order page (r ∷ rs) h =
     and_from (nat_le page r.first && nat_lt 0 (length r.pages.items)) (are_from (end_of r) rs)
-    (and_from (nat_le page r.first) (nat_lt 0 (length r.pages.items)) (le-leb page r.first h.0) (lt-ltb 0 (length r.pages.items) h.1))
+    (and_from (nat_le page r.first) (nat_lt 0 (length r.pages.items)) (le-leb page r.first h.0)
+    (lt-ltb 0 (length r.pages.items) h.1))
     (test_from_order (end_of r) rs h.2)
 
 -- regions from a page on are from each lower one on
@@ -61,13 +62,18 @@ get_below page (r ∷ rs) q h below =
     get-laid_below r.first (mapped_in r) (pages_of rs) q first ∙ get_below (end_of r) rs q h.2 next
 
 -- those of the first region, and those of the others
-pub get_in_first : (r : Region) (rs : List Region) (q : ℕ) → r.first ≤ q → q < end_of r → get (pages_of (r ∷ rs)) q ≡ slice_get (mapped_in r) (q - r.first)
-get_in_first r rs q low high = let to : q < r.first + length (mapped_in r) = omega (arith, length-mapped_in r) in get-laid_at r.first (mapped_in r) (pages_of rs) q low to
+pub get_in_first : (r : Region) (rs : List Region) (q : ℕ) → r.first ≤ q → q < end_of r
+    → get (pages_of (r ∷ rs)) q ≡ slice_get (mapped_in r) (q - r.first)
+get_in_first r rs q low high = let to : q < r.first + length (mapped_in r) =
+    omega (arith, length-mapped_in r) in get-laid_at r.first (mapped_in r) (pages_of rs) q low to
 
-pub get_behind_first : (r : Region) (rs : List Region) (q : ℕ) → end_of r ≤ q → get (pages_of (r ∷ rs)) q ≡ get (pages_of rs) q
-get_behind_first r rs q behind = let to : r.first + length (mapped_in r) ≤ q = omega (arith, length-mapped_in r) in get-laid_behind r.first (mapped_in r) (pages_of rs) q to
+pub get_behind_first : (r : Region) (rs : List Region) (q : ℕ) → end_of r ≤ q
+    → get (pages_of (r ∷ rs)) q ≡ get (pages_of rs) q
+get_behind_first r rs q behind = let to : r.first + length (mapped_in r) ≤ q =
+    omega (arith, length-mapped_in r) in get-laid_behind r.first (mapped_in r) (pages_of rs) q to
 
-pub get_before_first : (r : Region) (rs : List Region) (q : ℕ) → AreFrom (end_of r) rs → q < r.first → get (pages_of (r ∷ rs)) q ≡ None
+pub get_before_first : (r : Region) (rs : List Region) (q : ℕ) → AreFrom (end_of r) rs → q < r.first
+    → get (pages_of (r ∷ rs)) q ≡ None
 get_before_first r rs q h below =
     let next : q < end_of r = omega arith in
     get-laid_below r.first (mapped_in r) (pages_of rs) q below ∙ get_below (end_of r) rs q h next
@@ -81,17 +87,20 @@ pub len-pages_of : (page : ℕ) (rs : List Region) → AreFrom page rs → len (
 len-pages_of page [] h = len-empty nat_cmp Mapped
 len-pages_of page (r ∷ rs) h =
     let rest = len-pages_of (end_of r) rs h.2 in
-    let free = len-laid_free r.first (mapped_in r) (pages_of rs) (λ q low high. get_below (end_of r) rs q h.2 (omega (arith, length-mapped_in r))) in
+    let free = len-laid_free r.first (mapped_in r) (pages_of rs)
+    (λ q low high. get_below (end_of r) rs q h.2 (omega (arith, length-mapped_in r))) in
     free ∙ omega (arith, rest, length-mapped_in r)
 
 -- ---- regions in front of others
 
 -- what stands in front stays, whatever comes behind it
-pub pages_in_front : (front old new : List Region) → pages_of old ≡ pages_of new → pages_of (front ++ old) ≡ pages_of (front ++ new)
+pub pages_in_front : (front old new : List Region) → pages_of old ≡ pages_of new
+    → pages_of (front ++ old) ≡ pages_of (front ++ new)
 pages_in_front [] old new same = same
 pages_in_front (r ∷ front) old new same = ap (laid r.first (mapped_in r)) (pages_in_front front old new same)
 
-pub order_in_front : (page : ℕ) (front old new : List Region) → ((from : ℕ) → AreFrom from old → AreFrom from new) → AreFrom page (front ++ old) → AreFrom page (front ++ new)
+pub order_in_front : (page : ℕ) (front old new : List Region) → ((from : ℕ) → AreFrom from old → AreFrom from new)
+    → AreFrom page (front ++ old) → AreFrom page (front ++ new)
 order_in_front page [] old new each h = each page h
 order_in_front page (r ∷ front) old new each h = (h.0, h.1, order_in_front (end_of r) front old new each h.2)
 

@@ -12,14 +12,21 @@ use Rattle.mm_areas.proofs.RegionLaws.{end_of, mapped_in, length-mapped_in, orde
 -- ---- lists that are copied
 
 -- an item in its place that stands for what it did leaves the list so
-pub kept_more : {X Y : Type 0} (word : X → Y) (olds news : List X) (index : ℕ) (old new : X) → map word news ≡ map word olds → old ≡ get_or news index old → word new ≡ word old → map word (set news index new) ≡ map word olds
+pub kept_more : {X Y : Type 0} (word : X → Y) (olds news : List X) (index : ℕ) (old new : X)
+    → map word news ≡ map word olds → old ≡ get_or news index old → word new ≡ word old
+    → map word (set news index new) ≡ map word olds
 kept_more word olds news index old new are was same = map-set_same word news index new old (same ∙ ap word was) ∙ are
 
 -- one more copy, of the next item
-pub copied_more : {X Y : Type 0} (word : X → Y) (olds news copies : List X) (index : ℕ) (old copy : X) → index < length news → map word news ≡ map word olds → map word copies ≡ take index (map word olds) → old ≡ get_or news index old → word copy ≡ word old → map word (copies ++ copy ∷ []) ≡ take (index + 1) (map word olds)
+pub copied_more : {X Y : Type 0} (word : X → Y) (olds news copies : List X) (index : ℕ) (old copy : X)
+    → index < length news → map word news ≡ map word olds → map word copies ≡ take index (map word olds)
+    → old ≡ get_or news index old → word copy ≡ word old
+    → map word (copies ++ copy ∷ []) ≡ take (index + 1) (map word olds)
 copied_more word olds news copies index old copy within are copied was same =
     let size : length news ≡ length (map word olds) = sym (length-map news word) ∙ ap length are in
-    let next : get_or (map word olds) index (word old) ≡ word copy = ap (λ (ws : List _). get_or ws index (word old)) (sym are) ∙ get_or-map word news index old (word old) within ∙ ap word (sym was) ∙ sym same in
+    let next : get_or (map word olds) index (word old) ≡ word copy =
+    ap (λ (ws : List _). get_or ws index (word old)) (sym are) ∙ get_or-map word news index old (word old) within
+    ∙ ap word (sym was) ∙ sym same in
     map-append word copies (copy ∷ [])
     ∙ ap (λ (ws : List _). ws ++ word copy ∷ []) copied
     ∙ ap (λ w. take index (map word olds) ++ w ∷ []) (sym next)
@@ -27,7 +34,8 @@ copied_more word olds news copies index old copy within are copied was same =
 
 -- ---- regions that stand for the same
 
-seen_here : (x y : Region) (xs ys : List Region) → map seen_by (x ∷ xs) ≡ map seen_by (y ∷ ys) → (seen_by x ≡ seen_by y) × (map seen_by xs ≡ map seen_by ys)
+seen_here : (x y : Region) (xs ys : List Region) → map seen_by (x ∷ xs) ≡ map seen_by (y ∷ ys) → (seen_by x ≡ seen_by y)
+    × (map seen_by xs ≡ map seen_by ys)
 seen_here x y xs ys same = (cc same, cc same)
 
 pub seen_pages : (xs ys : List Region) → map seen_by xs ≡ map seen_by ys → pages_of xs ≡ pages_of ys
@@ -36,7 +44,8 @@ seen_pages [] (y ∷ ys) same = absurd (omega (arith, ap length same))
 seen_pages (x ∷ xs) [] same = absurd (omega (arith, ap length same))
 seen_pages (x ∷ xs) (y ∷ ys) same =
     let parts = seen_here x y xs ys same in
-    ap (λ (s : Seen). laid s.first s.pages (pages_of xs)) parts.0 ∙ ap (laid y.first (mapped_in y)) (seen_pages xs ys parts.1)
+    ap (λ (s : Seen). laid s.first s.pages (pages_of xs)) parts.0
+    ∙ ap (laid y.first (mapped_in y)) (seen_pages xs ys parts.1)
 
 order_seen : (from : ℕ) (xs ys : List Region) → map seen_by xs ≡ map seen_by ys → AreFrom from ys → AreFrom from xs
 order_seen from [] [] same h = h
@@ -45,7 +54,8 @@ order_seen from (x ∷ xs) [] same h = absurd (omega (arith, ap length same))
 order_seen from (x ∷ xs) (y ∷ ys) same h =
     let parts = seen_here x y xs ys same in
     let first = ap (λ (s : Seen). s.first) parts.0 in
-    let size : length x.pages.items ≡ length y.pages.items = sym (length-mapped_in x) ∙ ap (λ (s : Seen). length s.pages) parts.0 ∙ length-mapped_in y in
+    let size : length x.pages.items ≡ length y.pages.items =
+    sym (length-mapped_in x) ∙ ap (λ (s : Seen). length s.pages) parts.0 ∙ length-mapped_in y in
     let ends : end_of y ≡ end_of x = omega (arith, first, size) in (
       (let low : from ≤ x.first = omega (arith, h.0, first) in low),
       (let some : 0 < length x.pages.items = omega (arith, h.1, size) in some),

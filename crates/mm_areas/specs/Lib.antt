@@ -1,3 +1,4 @@
+-- What contracts of this crate say, by subject.
 pub mod Pages
 pub mod Regions
 pub mod Order

@@ -36,7 +36,9 @@ fn pages_after(areas: &Areas, at: Option<u64>, count: u64) -> u64
 }
 
 /// The page that a mapping begins at, or why there is none.
-#[tactic(auto, using(crate::proofs::RegionLaws::order_from_test, crate::proofs::PlaceLaws::highest_ends, crate::proofs::PlaceLaws::highest_takes))]
+#[rattlefmt::skip]
+#[tactic(auto, using(crate::proofs::RegionLaws::order_from_test, crate::proofs::PlaceLaws::highest_ends,
+    crate::proofs::PlaceLaws::highest_takes))]
 pub(crate) fn place(areas: &Areas, at: Option<u64>, length: u64) -> Result<u64, AreaErr>
     ensures fits { IfOk result (λ page. place_in (mapping areas.now).pages at (pages_in length) ≡ Some page) }
     ensures ok { OnOk result (map_fault (mapping areas.now) at length ≡ None) }

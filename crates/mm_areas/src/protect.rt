@@ -63,7 +63,9 @@ fn protect_pages(regions: &mut [Region], first: u64, end: u64, rights: Rights)
 impl Areas {
     /// Gives the pages of so many bytes from an address on other rights, where each of them is mapped. It takes no
     /// memory. Each page keeps its bytes as its own, if they were, and its decoded words.
-    #[tactic(auto, using(crate::proofs::RegionLaws::order_from_test, crate::proofs::RegionLaws::test_from_order, crate::proofs::ProtectLaws::as_many_protected))]
+    #[rattlefmt::skip]
+    #[tactic(auto, using(crate::proofs::RegionLaws::order_from_test, crate::proofs::RegionLaws::test_from_order,
+        crate::proofs::ProtectLaws::as_many_protected))]
     pub fn protect(&mut self, address: u64, length: u64, rights: Rights) -> Result<(), AreaErr>
         ensures ok { OnOk result (mapping self.new ≡ protected_in (mapping self.old) address length rights) }
         ensures fault { IfErr result (λ e. protect_fault (mapping self.old) address length ≡ Some e) }

@@ -20,7 +20,8 @@ pub record Mended (words : List Instr) (bytes : List ℕ) (low high : ℕ) : Typ
   pub above : (k : ℕ) → k < 1024 → high ≤ k → get_or words k instr.Illegal ≡ instr_of (number_in bytes (4 * k) 4)
 
 -- at the start the others are
-pub mended_none : (words : List Instr) (bytes : List ℕ) (offset count : ℕ) → AreOthers words bytes offset count → Mended words bytes (offset / 4) ((offset + count + 3) / 4)
+pub mended_none : (words : List Instr) (bytes : List ℕ) (offset count : ℕ) → AreOthers words bytes offset count
+    → Mended words bytes (offset / 4) ((offset + count + 3) / 4)
 mended_none words bytes offset count others = record {
   long = others.0;
   below = λ k small low. others.1 k small (inl (omega arith));
@@ -28,7 +29,9 @@ mended_none words bytes offset count others = record {
 }
 
 -- one more
-pub mended_more : (words : List Instr) (bytes : List ℕ) (low high : ℕ) (told : Instr) → low < 1024 → Mended words bytes low high → told ≡ instr_of (number_in bytes (4 * low) 4) → Mended (set words low told) bytes (low + 1) high
+pub mended_more : (words : List Instr) (bytes : List ℕ) (low high : ℕ) (told : Instr) → low < 1024
+    → Mended words bytes low high → told ≡ instr_of (number_in bytes (4 * low) 4)
+    → Mended (set words low told) bytes (low + 1) high
 mended_more words bytes low high told small mended is = record {
   long = length-set words low told ∙ mended.long;
   below = λ k within under. place k within (inl under);
@@ -43,17 +46,21 @@ mended_more words bytes low high told small mended is = record {
     other k within (inr over) apart = mended.above k within over
 
     by : (k : ℕ) → k < 1024 → (k < low + 1) ⊎ (high ≤ k) → (k ≡ low) ⊎ (k ≢ low) → IsWord (set words low told) bytes k
-    by k within side (inl at) = ap (λ n. get_or (set words low told) n instr.Illegal) at ∙ get_or-set_same words low told instr.Illegal inside ∙ is ∙ ap (λ n. instr_of (number_in bytes (4 * n) 4)) (sym at)
+    by k within side (inl at) =
+        ap (λ n. get_or (set words low told) n instr.Illegal) at ∙ get_or-set_same words low told instr.Illegal inside
+        ∙ is ∙ ap (λ n. instr_of (number_in bytes (4 * n) 4)) (sym at)
     by k within side (inr apart) = get_or-set_other words low k told instr.Illegal apart ∙ other k within side apart
 
     place : (k : ℕ) → k < 1024 → (k < low + 1) ⊎ (high ≤ k) → IsWord (set words low told) bytes k
     place k within side = by k within side (cases_eq k low)
 
 -- at the end all are
-pub mended_all : (words : List Instr) (bytes : List ℕ) (low high : ℕ) → high ≤ low → Mended words bytes low high → words ≡ row_of bytes
+pub mended_all : (words : List Instr) (bytes : List ℕ) (low high : ℕ) → high ≤ low
+    → Mended words bytes low high → words ≡ row_of bytes
 unfolding row_of
 mended_all words bytes low high met mended =
-    fill_by_all (λ k. instr_of (number_in bytes (4 * k) 4)) words 1024 instr.Illegal mended.long (λ k within. each k within (cases_lt k low))
+    fill_by_all (λ k. instr_of (number_in bytes (4 * k) 4)) words 1024 instr.Illegal mended.long
+    (λ k within. each k within (cases_lt k low))
   where
     each : (k : ℕ) → k < 1024 → (k < low) ⊎ (low ≤ k) → IsWord words bytes k
     each k within (inl under) = mended.below k within under

@@ -1,3 +1,4 @@
+-- What contracts of this crate say, by subject.
 pub mod Numbers
 pub mod Rows
 pub mod Bytes

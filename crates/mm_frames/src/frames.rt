@@ -190,7 +190,9 @@ impl Frames {
     }
 
     /// Makes other frames of the same bytes, which both share from then on. An `Err` changes no byte.
-    #[tactic(auto, using(crate::proofs::Pages::alike_more, crate::proofs::Pages::copied_more, crate::proofs::Pages::lost_more))]
+    #[rattlefmt::skip]
+    #[tactic(auto, using(crate::proofs::Pages::alike_more, crate::proofs::Pages::copied_more,
+        crate::proofs::Pages::lost_more))]
     pub fn share(&mut self, alloc: Global) -> Result<Frames, Memory>
         ensures kept { pages_of self.new ≡ pages_of self.old }
         ensures pages { IfOk result (λ others. pages_of others ≡ pages_of self.old) }

@@ -38,15 +38,20 @@ pub record IsPrivatePage (areas : Areas) (page : ℕ) : Type 0 where
   pub whole : length bytes ≡ 4096
 
 -- what a page by its number is
-found : (areas : Areas) (page : ℕ) (o : Option Page) → page_in areas.regions.items page ≡ o → map.get (mapping areas).pages page ≡ option_map mapped_by o
-found areas page o is = get_page 0 areas.regions.items page (order_from_test 0 areas.regions.items areas.in_order) ∙ ap (option_map mapped_by) is
+found : (areas : Areas) (page : ℕ) (o : Option Page) → page_in areas.regions.items page ≡ o
+    → map.get (mapping areas).pages page ≡ option_map mapped_by o
+found areas page o is = get_page 0 areas.regions.items page (order_from_test 0 areas.regions.items areas.in_order)
+    ∙ ap (option_map mapped_by) is
 
 -- a page whose bytes are its own is private
 pub own_page : (areas : Areas) (page : ℕ) → owns areas page ≡ true → IsPrivatePage areas page
 own_page areas page own = by (page_in areas.regions.items page) refl own
   where
-    by_content : (rights : Rights) (content : Content) → map.get (mapping areas).pages page ≡ Some (record { rights = rights; held = held_in content }) → is_own_content content ≡ true → IsPrivatePage areas page
-    by_content rights (Private frame) there is_own = record { rights = rights; bytes = bytes_of frame; there = there; whole = frame.whole }
+    by_content : (rights : Rights) (content : Content) → map.get (mapping areas).pages page
+        ≡ Some (record { rights = rights; held = held_in content }) → is_own_content content ≡ true
+        → IsPrivatePage areas page
+    by_content rights (Private frame) there is_own =
+        record { rights = rights; bytes = bytes_of frame; there = there; whole = frame.whole }
     by_content rights (Shared shared) there is_own = absurd (false≢true is_own)
 
     by : (o : Option Page) → page_in areas.regions.items page ≡ o → is_own_at o ≡ true → IsPrivatePage areas page
@@ -54,26 +59,42 @@ own_page areas page own = by (page_in areas.regions.items page) refl own
     by (Some p) is is_own = by_content p.rights p.content (found areas page (Some p) is) is_own
 
 -- and so is one that has bytes
-pub bytes_page : (areas : Areas) (page : ℕ) → is_some (bytes_at (mapping areas).pages page) ≡ true → IsPrivatePage areas page
+pub bytes_page : (areas : Areas) (page : ℕ) → is_some (bytes_at (mapping areas).pages page) ≡ true
+    → IsPrivatePage areas page
 bytes_page areas page has_bytes = by (page_in areas.regions.items page) refl has_bytes
   where
-    by_content : (rights : Rights) (content : Content) → map.get (mapping areas).pages page ≡ Some (record { rights = rights; held = held_in content }) → is_some (bytes_at (mapping areas).pages page) ≡ true → IsPrivatePage areas page
-    by_content rights (Private frame) there some = record { rights = rights; bytes = bytes_of frame; there = there; whole = frame.whole }
-    by_content rights (Shared shared) there some = absurd (false≢true (sym (ap (λ (o : Option Mapped). is_some (bytes_mapped o)) there) ∙ some))
+    by_content : (rights : Rights) (content : Content) → map.get (mapping areas).pages page
+        ≡ Some (record { rights = rights; held = held_in content }) → is_some (bytes_at (mapping areas).pages page)
+        ≡ true → IsPrivatePage areas page
+    by_content rights (Private frame) there some =
+        record { rights = rights; bytes = bytes_of frame; there = there; whole = frame.whole }
+    by_content rights (Shared shared) there some =
+        absurd (false≢true (sym (ap (λ (o : Option Mapped). is_some (bytes_mapped o)) there) ∙ some))
 
-    by : (o : Option Page) → page_in areas.regions.items page ≡ o → is_some (bytes_at (mapping areas).pages page) ≡ true → IsPrivatePage areas page
-    by None is some = absurd (false≢true (sym (ap (λ (o : Option Mapped). is_some (bytes_mapped o)) (found areas page None is)) ∙ some))
+    by : (o : Option Page) → page_in areas.regions.items page ≡ o → is_some (bytes_at (mapping areas).pages page) ≡ true
+        → IsPrivatePage areas page
+    by None is some =
+        absurd (false≢true
+        (sym (ap (λ (o : Option Mapped). is_some (bytes_mapped o)) (found areas page None is)) ∙ some))
     by (Some p) is some = by_content p.rights p.content (found areas page (Some p) is) some
 
 -- a number that a page gives by its right is what an access comes to
-pub load_done : (areas : Areas) (reservations : List Reservation) (right : Rights) (near : Bool) (at width : ℕ) (answer : Option ℕ) → at < 2 ^ 64
-    → SomeIff answer ((near ≡ true) × (allows_at (mapping areas).pages (at / 4096) right ≡ true) × (is_some (bytes_at (mapping areas).pages (at / 4096)) ≡ true) × IsInPage (at % 4096) width)
+pub load_done : (areas : Areas) (reservations : List Reservation) (right : Rights) (near : Bool) (at width : ℕ)
+    (answer : Option ℕ) → at < 2 ^ 64
+    → SomeIff answer ((near ≡ true) × (allows_at (mapping areas).pages (at / 4096) right ≡ true)
+    × (is_some (bytes_at (mapping areas).pages (at / 4096)) ≡ true) × IsInPage (at % 4096) width)
     (number_in (unwrap_or (bytes_at (mapping areas).pages (at / 4096)) []) (at % 4096) width)
     → IfSome answer (LoadsNear right (record { mapping = mapping areas; reservations = reservations }) at width)
 load_done areas reservations right near at width None small is = tt
 load_done areas reservations right near at width (Some value) small is = λ hand.
-    near_value right (record { space = record { mapping = mapping areas; reservations = reservations }; hand = hand }) page.bytes at width value small
-    (record { rights = page.rights; there = page.there; allowed = ap (λ (m : Option Mapped). allows_mapped m right) (sym page.there) ∙ is.0.1; whole = page.whole })
+    near_value right (record { space = record { mapping = mapping areas; reservations = reservations }; hand = hand })
+    page.bytes at width value small
+    (record {
+      rights = page.rights;
+      there = page.there;
+      allowed = ap (λ (m : Option Mapped). allows_mapped m right) (sym page.there) ∙ is.0.1;
+      whole = page.whole;
+    })
     is.0.3.1
     (is.1 ∙ ap (λ (o : Option Mapped). number_in (unwrap_or (bytes_mapped o) []) (at % 4096) width) page.there)
   where
@@ -89,12 +110,17 @@ module _ (task number : ℕ) (rights : Rights) (r : Reach) (low : number < 2 ^ 5
   private_of bytes = record { rights = rights; held = Bytes bytes }
 
   abbrev with_space : Pages → Reach
-  with_space ps = record { space = record { mapping = with_pages r.space.mapping ps; reservations = r.space.reservations }; hand = r.hand }
+  with_space ps =
+      record {
+        space = record { mapping = with_pages r.space.mapping ps; reservations = r.space.reservations };
+        hand = r.hand;
+      }
 
   abbrev with_bytes : List ℕ → Reach
   with_bytes bytes = with_space (map.insert pages number (private_of bytes))
 
-  pub byte_put : (at offset value : ℕ) (bytes : List ℕ) → at ≡ (number * 4096 + offset) % 2 ^ 64 → offset < 4096 → put_byte task at value (with_bytes bytes) ≡ with_bytes (slice_set bytes offset value)
+  pub byte_put : (at offset value : ℕ) (bytes : List ℕ) → at ≡ (number * 4096 + offset) % 2 ^ 64 → offset < 4096
+      → put_byte task at value (with_bytes bytes) ≡ with_bytes (slice_set bytes offset value)
   byte_put at offset value bytes is inside =
       let page_is : page_number at ≡ number = omega (arith, is, inside, low) in
       let offset_is : page_offset at ≡ offset = omega (arith, is, inside, low) in
@@ -102,24 +128,36 @@ module _ (task number : ℕ) (rights : Rights) (r : Reach) (low : number < 2 ^ 5
       let ps : Pages = map.insert pages number (private_of bytes) in
       ap (λ n. put_mapped task n (page_offset at) value (map.get ps n) (with_bytes bytes)) page_is
       ∙ ap (λ o. put_mapped task number o value (map.get ps number) (with_bytes bytes)) offset_is
-      ∙ ap (λ (m : Option Mapped). put_mapped task number offset value m (with_bytes bytes)) (get-insert_same pages number (private_of bytes))
-      ∙ ap (λ (m : Option Mapped). with_space (changed_at change number m ps)) (get-insert_same pages number (private_of bytes))
+      ∙ ap (λ (m : Option Mapped). put_mapped task number offset value m (with_bytes bytes))
+      (get-insert_same pages number (private_of bytes))
+      ∙ ap (λ (m : Option Mapped). with_space (changed_at change number m ps))
+      (get-insert_same pages number (private_of bytes))
       ∙ ap with_space (insert-insert pages number (private_of bytes) (private_of (change bytes)))
 
-  pub bytes_put : (bytes : List ℕ) → map.get pages number ≡ Some (private_of bytes) → (at offset count value : ℕ) → at ≡ (number * 4096 + offset) % 2 ^ 64 → offset + count ≤ 4096
+  pub bytes_put : (bytes : List ℕ) → map.get pages number ≡ Some (private_of bytes) → (at offset count value : ℕ)
+      → at ≡ (number * 4096 + offset) % 2 ^ 64 → offset + count ≤ 4096
       → put_bytes task at count value r ≡ with_bytes (with_number bytes offset count value)
   unfolding put_bytes with_number
-  bytes_put bytes there at offset zero value is inside = sym (ap with_space (insert_same pages number (private_of bytes) there))
+  bytes_put bytes there at offset zero value is inside =
+      sym (ap with_space (insert_same pages number (private_of bytes) there))
   bytes_put bytes there at offset (suc n) value is inside =
-      ap (put_byte task at (value % 256)) (bytes_put bytes there (behind at) (offset + 1) n (value / 256) (omega (arith, is)) (omega (arith, inside)))
+      ap (put_byte task at (value % 256))
+      (bytes_put bytes there (behind at) (offset + 1) n (value / 256) (omega (arith, is)) (omega (arith, inside)))
       ∙ byte_put at offset (value % 256) (with_number bytes (offset + 1) n (value / 256)) is (omega (arith, inside))
 
 -- a store into such a page
-pub store_done : (areas news : Areas) (was is : List Reservation) (done near : Bool) (task at width value : ℕ) → at < 2 ^ 64
-    → (IsTrue done ↔ ((near ≡ true) × (owns areas (at / 4096) ≡ true) × (allows_at (mapping areas).pages (at / 4096) writable ≡ true) × IsInPage (at % 4096) width))
-    → OnTrue done (mapping news ≡ with_pages (mapping areas) (with_change (mapping areas).pages (at / 4096) (λ bytes. with_number bytes (at % 4096) width value)))
+pub store_done : (areas news : Areas) (was is : List Reservation) (done near : Bool) (task at width value : ℕ)
+    → at < 2 ^ 64
+    → (IsTrue done ↔ ((near ≡ true) × (owns areas (at / 4096) ≡ true)
+    × (allows_at (mapping areas).pages (at / 4096) writable ≡ true) × IsInPage (at % 4096) width))
+    → OnTrue done
+    (mapping news
+    ≡ with_pages (mapping areas)
+    (with_change (mapping areas).pages (at / 4096) (λ bytes. with_number bytes (at % 4096) width value)))
     → is ≡ after_store was task at width
-    → OnTrue done (StoresNear (record { mapping = mapping areas; reservations = was }) (record { mapping = mapping news; reservations = is }) task at width value)
+    → OnTrue done
+    (StoresNear (record { mapping = mapping areas; reservations = was })
+    (record { mapping = mapping news; reservations = is }) task at width value)
 store_done areas news was is false near task at width value small fits changed ended = tt
 store_done areas news was is true near task at width value small fits changed ended = λ hand. (allows hand, made hand)
   where
@@ -148,7 +186,8 @@ store_done areas news was is true near task at width value small fits changed en
 
     allows : (hand : List InHand) → AllowsAs (loaded (byte_at writable (old hand)) at width) (Ok tt)
     allows hand =
-        room_there (byte_at writable (old hand)) at width (near_free writable (old hand) own.bytes at width small (is_private hand) inside)
+        room_there (byte_at writable (old hand)) at width
+        (near_free writable (old hand) own.bytes at width small (is_private hand) inside)
         (near_apart writable (old hand) own.bytes at width small (is_private hand) inside)
 
     change : List ℕ → List ℕ
@@ -160,7 +199,12 @@ store_done areas news was is true near task at width value small fits changed en
     made : (hand : List InHand) → with_mapping hand is (mapping news) ≡ after_stored task at width value (old hand)
     made hand =
         ap (with_mapping hand is) changed
-        ∙ ap (λ (rs : List Reservation). with_mapping hand rs (with_pages (mapping areas) (with_change pages page change))) ended
-        ∙ ap (λ (o : Option Mapped). with_mapping hand (after_store was task at width) (with_pages (mapping areas) (changed_at change page o pages))) own.there
-        ∙ sym (ap (λ (put : Reach). (let after : Reach = record { space = ended_by_store task at width put.space; hand = put.hand } in after))
-        (bytes_put task page own.rights (old hand) (omega (arith, small)) own.bytes own.there at (at % 4096) width value (omega (arith, small)) inside))
+        ∙ ap (λ (rs : List Reservation).
+        with_mapping hand rs (with_pages (mapping areas) (with_change pages page change))) ended
+        ∙ ap (λ (o : Option Mapped).
+        with_mapping hand (after_store was task at width)
+        (with_pages (mapping areas) (changed_at change page o pages))) own.there
+        ∙ sym (ap (λ (put : Reach).
+        (let after : Reach = record { space = ended_by_store task at width put.space; hand = put.hand } in after))
+        (bytes_put task page own.rights (old hand) (omega (arith, small)) own.bytes own.there at (at % 4096) width value
+        (omega (arith, small)) inside))

@@ -21,12 +21,17 @@ power_more n = simp unary_clauses
 grown_suc : (n byte rest : ℕ) → byte < 256 → rest < 256 ^ n → byte + 256 * rest < 256 ^ suc n
 grown_suc n byte rest b r = rw (power_more n) (omega (arith, b, r))
 
-pub grown : (count byte rest : ℕ) → (count ≡ 0 → ⊥) → byte < 256 → rest < 256 ^ (count - 1) → byte + 256 * rest < 256 ^ count
+pub grown : (count byte rest : ℕ) → (count ≡ 0 → ⊥) → byte < 256 → rest < 256 ^ (count - 1)
+    → byte + 256 * rest < 256 ^ count
 grown zero byte rest some b r = absurd (some refl)
-grown (suc n) byte rest some b r = grown_suc n byte rest b (subst (λ (m : ℕ). rest < 256 ^ m) (let one_less : suc n - 1 ≡ n = simp unary_clauses in one_less) r)
+grown (suc n) byte rest some b r =
+    grown_suc n byte rest b
+    (subst (λ (m : ℕ). rest < 256 ^ m) (let one_less : suc n - 1 ≡ n = simp unary_clauses in one_less) r)
 
-pub grown_fits : (count byte rest : ℕ) → (count ≡ 0 → ⊥) → count ≤ 8 → byte < 256 → rest < 256 ^ (count - 1) → byte + 256 * rest < 2 ^ 64
+pub grown_fits : (count byte rest : ℕ) → (count ≡ 0 → ⊥) → count ≤ 8 → byte < 256 → rest < 256 ^ (count - 1)
+    → byte + 256 * rest < 2 ^ 64
 grown_fits count byte rest some few b r = omega (arith, grown count byte rest some b r, room_for count few)
 
-pub scaled_fits : (count byte rest : ℕ) → (count ≡ 0 → ⊥) → count ≤ 8 → byte < 256 → rest < 256 ^ (count - 1) → 256 * rest < 2 ^ 64
+pub scaled_fits : (count byte rest : ℕ) → (count ≡ 0 → ⊥) → count ≤ 8 → byte < 256
+    → rest < 256 ^ (count - 1) → 256 * rest < 2 ^ 64
 scaled_fits count byte rest some few b r = omega (arith, grown_fits count byte rest some few b r)

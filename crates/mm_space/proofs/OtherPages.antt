@@ -8,12 +8,16 @@ use Rattle.mm_areas.specs.Mappings.{Mapping, with_pages}
 use Rattle.mm_areas.specs.Pages.{Mapped, Pages}
 
 -- another page is as before
-changed_apart : (pages : Pages) (page other : ℕ) (change : List ℕ → List ℕ) (at : Option Mapped) → (other ≡ page → ⊥) → map.get (changed_at change page at pages) other ≡ map.get pages other
+changed_apart : (pages : Pages) (page other : ℕ) (change : List ℕ → List ℕ) (at : Option Mapped) → (other ≡ page → ⊥)
+    → map.get (changed_at change page at pages) other ≡ map.get pages other
 changed_apart pages page other change None apart = refl
-changed_apart pages page other change (Some m) apart = get-insert_other pages page other (changed change m) (λ same. apart (sym same))
+changed_apart pages page other change (Some m) apart =
+    get-insert_other pages page other (changed change m) (λ same. apart (sym same))
 
-pub others_same : (old new : Mapping) (done : Bool) (page : ℕ) (change : List ℕ → List ℕ) → OnTrue done (new ≡ with_pages old (with_change old.pages page change))
+pub others_same : (old new : Mapping) (done : Bool) (page : ℕ) (change : List ℕ → List ℕ)
+    → OnTrue done (new ≡ with_pages old (with_change old.pages page change))
     → OnTrue done ((other : ℕ) → (other ≡ page → ⊥) → map.get new.pages other ≡ map.get old.pages other)
 others_same old new false page change is = tt
 others_same old new true page change is = λ other apart.
-    ap (λ (m : Mapping). map.get m.pages other) is ∙ changed_apart old.pages page other change (map.get old.pages page) apart
+    ap (λ (m : Mapping). map.get m.pages other) is
+    ∙ changed_apart old.pages page other change (map.get old.pages page) apart

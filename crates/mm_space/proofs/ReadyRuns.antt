@@ -12,7 +12,9 @@ use Rattle.mm_space.specs.Places.{is_ready, is_ready_at, is_ready_mapped}
 
 module _ (space : Space) (handed : Handed) where
   -- a piece of a page is ready where one byte of the page is
-  ready_from : (page byte : ℕ) → page < 2 ^ 52 → page_number byte ≡ page → is_ready_at space handed byte ≡ true → (at offset count : ℕ) → at ≡ (page * 4096 + offset) % 2 ^ 64 → offset + count ≤ 4096 → is_ready space handed at count ≡ true
+  ready_from : (page byte : ℕ) → page < 2 ^ 52 → page_number byte ≡ page → is_ready_at space handed byte ≡ true
+      → (at offset count : ℕ) → at ≡ (page * 4096 + offset) % 2 ^ 64 → offset + count ≤ 4096
+      → is_ready space handed at count ≡ true
   unfolding is_ready
   ready_from page byte low in_page ready at offset zero is inside = refl
   ready_from page byte low in_page ready at offset (suc n) is inside =
@@ -21,50 +23,67 @@ module _ (space : Space) (handed : Handed) where
       (sym (ap (λ k. is_ready_mapped space handed k (map.get (mapping space.areas).pages k)) page_is) ∙ ready)
       (ready_from page byte low in_page ready (behind at) (offset + 1) n (omega (arith, is)) (omega (arith, inside)))
 
-  pub piece_ready : (at count : ℕ) → at < 2 ^ 64 → at % 4096 + count ≤ 4096 → is_ready_at space handed at ≡ true → is_ready space handed at count ≡ true
+  pub piece_ready : (at count : ℕ) → at < 2 ^ 64 → at % 4096 + count ≤ 4096 → is_ready_at space handed at ≡ true
+      → is_ready space handed at count ≡ true
   piece_ready at count small inside ready =
-      ready_from (at / 4096) at (omega (arith, small)) (omega (arith, small)) ready at (at % 4096) count (omega (arith, small)) inside
+      ready_from (at / 4096) at (omega (arith, small)) (omega (arith, small)) ready at (at % 4096) count
+      (omega (arith, small)) inside
 
   -- a run is ready where its first part and the rest are
-  pub ready_split : (at first rest : ℕ) → at < 2 ^ 64 → is_ready space handed at first ≡ true → is_ready space handed ((at + first) % 2 ^ 64) rest ≡ true → is_ready space handed at (first + rest) ≡ true
+  pub ready_split : (at first rest : ℕ) → at < 2 ^ 64 → is_ready space handed at first ≡ true
+      → is_ready space handed ((at + first) % 2 ^ 64) rest ≡ true → is_ready space handed at (first + rest) ≡ true
   unfolding is_ready
-  ready_split at zero rest small here there = rw zero-add (ap (λ a. is_ready space handed a rest) (omega (arith, small)) ∙ there)
+  ready_split at zero rest small here there =
+      rw zero-add (ap (λ a. is_ready space handed a rest) (omega (arith, small)) ∙ there)
   ready_split at (suc n) rest small here there =
-      let parts : (is_ready_at space handed at ≡ true) × (is_ready space handed (behind at) n ≡ true) = and_parts (is_ready_at space handed at) (is_ready space handed (behind at) n) here in
+      let parts : (is_ready_at space handed at ≡ true) × (is_ready space handed (behind at) n ≡ true) =
+      and_parts (is_ready_at space handed at) (is_ready space handed (behind at) n) here in
       let number : suc n + rest ≡ suc (n + rest) = omega arith in
       ap (is_ready space handed at) number
       ∙ and_from (is_ready_at space handed at) (is_ready space handed (behind at) (n + rest)) parts.0
-      (ready_split (behind at) n rest (omega arith) parts.1 (ap (λ a. is_ready space handed a rest) (omega arith) ∙ there))
+      (ready_split (behind at) n rest (omega arith) parts.1
+      (ap (λ a. is_ready space handed a rest) (omega arith) ∙ there))
 
   -- each byte of a run that is ready is so
-  pub byte_ready : (at count done : ℕ) → at < 2 ^ 64 → done < count → is_ready space handed at count ≡ true → is_ready_at space handed ((at + done) % 2 ^ 64) ≡ true
+  pub byte_ready : (at count done : ℕ) → at < 2 ^ 64 → done < count → is_ready space handed at count ≡ true
+      → is_ready_at space handed ((at + done) % 2 ^ 64) ≡ true
   unfolding is_ready
   byte_ready at zero done small within ready = absurd (omega arith)
   byte_ready at (suc n) zero small within ready =
-      ap (is_ready_at space handed) (omega (arith, small)) ∙ (and_parts (is_ready_at space handed at) (is_ready space handed (behind at) n) ready).0
+      ap (is_ready_at space handed) (omega (arith, small))
+      ∙ (and_parts (is_ready_at space handed at) (is_ready space handed (behind at) n) ready).0
   byte_ready at (suc n) (suc d) small within ready =
       ap (is_ready_at space handed) (omega arith)
-      ∙ byte_ready (behind at) n d (omega arith) (omega (arith, within)) (and_parts (is_ready_at space handed at) (is_ready space handed (behind at) n) ready).1
+      ∙ byte_ready (behind at) n d (omega arith) (omega (arith, within))
+      (and_parts (is_ready_at space handed at) (is_ready space handed (behind at) n) ready).1
 
   -- so that one that isn't leaves the run unready
-  pub byte_unready : (at count done : ℕ) → at < 2 ^ 64 → done < count → is_ready_at space handed ((at + done) % 2 ^ 64) ≡ false → is_ready space handed at count ≡ false
+  pub byte_unready : (at count done : ℕ) → at < 2 ^ 64 → done < count → is_ready_at space handed ((at + done) % 2 ^ 64)
+      ≡ false → is_ready space handed at count ≡ false
   byte_unready at count done small within unready =
-      false_from_ne_true (is_ready space handed at count) (λ ready. both_ways (is_ready_at space handed ((at + done) % 2 ^ 64)) unready (byte_ready at count done small within ready))
+      false_from_ne_true (is_ready space handed at count)
+      (λ ready. both_ways (is_ready_at space handed ((at + done) % 2 ^ 64)) unready
+      (byte_ready at count done small within ready))
 
 -- where pages that are ready stay so, runs do
-pub still_ready : (space other : Space) (handed others : Handed) → ((address : ℕ) → is_ready_at space handed address ≡ true → is_ready_at other others address ≡ true)
+pub still_ready : (space other : Space) (handed others : Handed)
+    → ((address : ℕ) → is_ready_at space handed address ≡ true → is_ready_at other others address ≡ true)
     → (at count : ℕ) → is_ready space handed at count ≡ true → is_ready other others at count ≡ true
 unfolding is_ready
 still_ready space other handed others still at zero ready = refl
 still_ready space other handed others still at (suc n) ready =
-    let parts : (is_ready_at space handed at ≡ true) × (is_ready space handed (behind at) n ≡ true) = and_parts (is_ready_at space handed at) (is_ready space handed (behind at) n) ready in
-    and_from (is_ready_at other others at) (is_ready other others (behind at) n) (still at parts.0) (still_ready space other handed others still (behind at) n parts.1)
+    let parts : (is_ready_at space handed at ≡ true) × (is_ready space handed (behind at) n ≡ true) =
+    and_parts (is_ready_at space handed at) (is_ready space handed (behind at) n) ready in
+    and_from (is_ready_at other others at) (is_ready other others (behind at) n) (still at parts.0)
+    (still_ready space other handed others still (behind at) n parts.1)
 
 -- a byte that isn't ready after some have become so wasn't before
-pub unready_then : (space other : Space) (handed others : Handed) → ((address : ℕ) → is_ready_at space handed address ≡ true → is_ready_at other others address ≡ true)
+pub unready_then : (space other : Space) (handed others : Handed)
+    → ((address : ℕ) → is_ready_at space handed address ≡ true → is_ready_at other others address ≡ true)
     → (address : ℕ) → is_ready_at other others address ≡ false → is_ready_at space handed address ≡ false
 unready_then space other handed others still address unready =
-    false_from_ne_true (is_ready_at space handed address) (λ ready. both_ways (is_ready_at other others address) unready (still address ready))
+    false_from_ne_true (is_ready_at space handed address)
+    (λ ready. both_ways (is_ready_at other others address) unready (still address ready))
 
 pub none_ready : (space : Space) (handed : Handed) (at : ℕ) → is_ready space handed at 0 ≡ true
 unfolding is_ready

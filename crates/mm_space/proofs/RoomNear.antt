@@ -22,10 +22,12 @@ use Rattle.mm_space.proofs.ReadyRuns.{piece_ready}
 -- there is room for so many bytes, by a guess at the page
 abbrev pub HasRoom : Space → (near : Bool) → (at width : ℕ) → Type 0
 HasRoom space near at width =
-    (near ≡ true) × (owns space.areas (at / 4096) ≡ true) × (allows_at (mapping space.areas).pages (at / 4096) writable ≡ true) × IsInPage (at % 4096) width
+    (near ≡ true) × (owns space.areas (at / 4096) ≡ true)
+    × (allows_at (mapping space.areas).pages (at / 4096) writable ≡ true) × IsInPage (at % 4096) width
 
 -- they may be written
-pub room_allows : (done near : Bool) (space : Space) (at width : ℕ) → at < 2 ^ 64 → (IsTrue done ↔ HasRoom space near at width) → OnTrue done (AllowsNear (space_of space) at width)
+pub room_allows : (done near : Bool) (space : Space) (at width : ℕ) → at < 2 ^ 64
+    → (IsTrue done ↔ HasRoom space near at width) → OnTrue done (AllowsNear (space_of space) at width)
 room_allows false near space at width small fits = tt
 room_allows true near space at width small fits = λ hand.
     let page : IsPrivatePage space.areas (at / 4096) = own_page space.areas (at / 4096) (fits.0 refl).1 in
@@ -37,10 +39,13 @@ room_allows true near space at width small fits = λ hand.
       whole = page.whole;
     } in
     let inside : at % 4096 + width ≤ 4096 = (fits.0 refl).3.1 in
-    room_there (byte_at writable r) at width (near_free writable r page.bytes at width small private inside) (near_apart writable r page.bytes at width small private inside)
+    room_there (byte_at writable r) at width (near_free writable r page.bytes at width small private inside)
+    (near_apart writable r page.bytes at width small private inside)
 
 -- and their page has its bytes for itself
-pub room_ready : (done near : Bool) (space : Space) (at width : ℕ) → at < 2 ^ 64 → (IsTrue done ↔ HasRoom space near at width) → OnTrue done ((handed : Handed) → is_ready space handed at width ≡ true)
+pub room_ready : (done near : Bool) (space : Space) (at width : ℕ) → at < 2 ^ 64
+    → (IsTrue done ↔ HasRoom space near at width)
+    → OnTrue done ((handed : Handed) → is_ready space handed at width ≡ true)
 room_ready false near space at width small fits = tt
 room_ready true near space at width small fits = λ handed.
     let page : IsPrivatePage space.areas (at / 4096) = own_page space.areas (at / 4096) (fits.0 refl).1 in

@@ -10,7 +10,8 @@ abbrev pub set_run : List ℕ → (offset : ℕ) → List ℕ → List ℕ
 set_run bytes offset [] = bytes
 set_run bytes offset (b ∷ bs) = set_run (slice_set bytes offset b) (offset + 1) bs
 
-pub set_run_is : (run bytes : List ℕ) (offset : ℕ) → offset + length run ≤ length bytes → set_run bytes offset run ≡ with_run bytes offset run
+pub set_run_is : (run bytes : List ℕ) (offset : ℕ) → offset + length run ≤ length bytes
+    → set_run bytes offset run ≡ with_run bytes offset run
 set_run_is [] bytes offset fits =
     sym
     (ap (λ xs. xs ++ drop (offset + 0) bytes) (append-nil (take offset bytes))
@@ -19,7 +20,9 @@ set_run_is [] bytes offset fits =
 set_run_is (b ∷ bs) bytes offset fits =
     let within : offset < length bytes = omega (arith, fits) in
     set_run_is bs (slice_set bytes offset b) (offset + 1) (omega (arith, fits, length-set bytes offset b))
-    ∙ ap (λ xs. (xs ++ bs) ++ drop (offset + 1 + length bs) (slice_set bytes offset b)) (take_more_set bytes offset b within)
-    ∙ ap (λ xs. ((take offset bytes ++ b ∷ []) ++ bs) ++ xs) (drop-set-lt (offset + 1 + length bs) bytes offset b (omega arith))
+    ∙ ap (λ xs. (xs ++ bs) ++ drop (offset + 1 + length bs) (slice_set bytes offset b))
+    (take_more_set bytes offset b within)
+    ∙ ap (λ xs. ((take offset bytes ++ b ∷ []) ++ bs) ++ xs)
+    (drop-set-lt (offset + 1 + length bs) bytes offset b (omega arith))
     ∙ ap (λ xs. xs ++ drop (offset + 1 + length bs) bytes) (append_assoc (take offset bytes) (b ∷ []) bs)
     ∙ ap (λ n. (take offset bytes ++ b ∷ bs) ++ drop n bytes) (omega arith)

@@ -5,7 +5,8 @@ use Rattle.rv_table.specs.declared.error.Area.{Area}
 use Rattle.rv_table.specs.Bytes.{Byte, Holds, Barred, InArea, behind, or_barred, or_area, value_in, first_barred, first_area}
 use Rattle.mm_space.specs.Runs.{bytes_from}
 
-or_barred_or : (b : Byte) (at : ℕ) (first rest : Option ℕ) → or_barred b at (option_or first rest) ≡ option_or (or_barred b at first) rest
+or_barred_or : (b : Byte) (at : ℕ) (first rest : Option ℕ) → or_barred b at (option_or first rest)
+    ≡ option_or (or_barred b at first) rest
 or_barred_or (Holds value) at first rest = refl
 or_barred_or Barred at first rest = refl
 or_barred_or (InArea area) at first rest = refl
@@ -25,7 +26,8 @@ further : (at m : ℕ) → (behind at + m) % 2 ^ 64 ≡ (at + suc m) % 2 ^ 64
 further at m = omega arith
 
 module _ (byte : ℕ → Byte) where
-  pub barred_split : (at m n : ℕ) → at < 2 ^ 64 → first_barred byte at (m + n) ≡ option_or (first_barred byte at m) (first_barred byte ((at + m) % 2 ^ 64) n)
+  pub barred_split : (at m n : ℕ) → at < 2 ^ 64
+      → first_barred byte at (m + n) ≡ option_or (first_barred byte at m) (first_barred byte ((at + m) % 2 ^ 64) n)
   unfolding first_barred
   barred_split at zero n small = rw zero-add (ap (λ a. first_barred byte a n) (here at small))
   barred_split at (suc m) n small =
@@ -34,7 +36,8 @@ module _ (byte : ℕ → Byte) where
       ∙ or_barred_or (byte at) at (first_barred byte (behind at) m) (first_barred byte ((behind at + m) % 2 ^ 64) n)
       ∙ ap (λ a. option_or (first_barred byte at (suc m)) (first_barred byte a n)) (further at m)
 
-  pub area_split : (at m n : ℕ) → at < 2 ^ 64 → first_area byte at (m + n) ≡ option_or (first_area byte at m) (first_area byte ((at + m) % 2 ^ 64) n)
+  pub area_split : (at m n : ℕ) → at < 2 ^ 64
+      → first_area byte at (m + n) ≡ option_or (first_area byte at m) (first_area byte ((at + m) % 2 ^ 64) n)
   unfolding first_area
   area_split at zero n small = rw zero-add (ap (λ a. first_area byte a n) (here at small))
   area_split at (suc m) n small =
@@ -43,7 +46,8 @@ module _ (byte : ℕ → Byte) where
       ∙ or_area_or (byte at) (first_area byte (behind at) m) (first_area byte ((behind at + m) % 2 ^ 64) n)
       ∙ ap (λ a. option_or (first_area byte at (suc m)) (first_area byte a n)) (further at m)
 
-  pub bytes_split : (at m n : ℕ) → at < 2 ^ 64 → bytes_from byte at (m + n) ≡ bytes_from byte at m ++ bytes_from byte ((at + m) % 2 ^ 64) n
+  pub bytes_split : (at m n : ℕ) → at < 2 ^ 64
+      → bytes_from byte at (m + n) ≡ bytes_from byte at m ++ bytes_from byte ((at + m) % 2 ^ 64) n
   unfolding bytes_from
   bytes_split at zero n small = rw zero-add (ap (λ a. bytes_from byte a n) (here at small))
   bytes_split at (suc m) n small =
@@ -52,9 +56,12 @@ module _ (byte : ℕ → Byte) where
       ∙ ap (λ a. bytes_from byte at (suc m) ++ bytes_from byte a n) (further at m)
 
 -- bytes taken so far, and a piece more
-pub bytes_more : (byte : ℕ → Byte) (at done piece : ℕ) (taken more : List ℕ) → at < 2 ^ 64 → taken ≡ bytes_from byte at done → more ≡ bytes_from byte ((at + done) % 2 ^ 64) piece → taken ++ more ≡ bytes_from byte at (done + piece)
+pub bytes_more : (byte : ℕ → Byte) (at done piece : ℕ) (taken more : List ℕ) → at < 2 ^ 64
+    → taken ≡ bytes_from byte at done → more ≡ bytes_from byte ((at + done) % 2 ^ 64) piece
+    → taken ++ more ≡ bytes_from byte at (done + piece)
 bytes_more byte at done piece taken more small before is =
-    ap (λ bs. bs ++ more) before ∙ ap (λ bs. bytes_from byte at done ++ bs) is ∙ sym (bytes_split byte at done piece small)
+    ap (λ bs. bs ++ more) before ∙ ap (λ bs. bytes_from byte at done ++ bs) is
+    ∙ sym (bytes_split byte at done piece small)
 
 pub bytes_none : (byte : ℕ → Byte) (at : ℕ) → [] ≡ bytes_from byte at 0
 unfolding bytes_from

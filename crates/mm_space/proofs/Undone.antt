@@ -9,17 +9,21 @@ pub without_none : (rs : List Reservation) (task : ℕ) → is_reserving rs task
 without_none [] task is = refl
 without_none (r ∷ rs) task is = by (r.task == task) (without_none rs task) is
   where
-    by : (own : Bool) → (is_reserving rs task ≡ false → without rs task ≡ rs) → (own || is_reserving rs task) ≡ false → cond (not own) (r ∷ without rs task) (without rs task) ≡ r ∷ rs
+    by : (own : Bool) → (is_reserving rs task ≡ false → without rs task ≡ rs) → (own || is_reserving rs task) ≡ false
+        → cond (not own) (r ∷ without rs task) (without rs task) ≡ r ∷ rs
     by true rest some = absurd (cc some)
     by false rest other = ap (λ (xs : List Reservation). r ∷ xs) (rest other)
 
 -- a task's own, put behind others, is the one that goes
-pub without_last : (rs : List Reservation) (r : Reservation) (task : ℕ) → (r.task == task) ≡ true → without (rs ++ r ∷ []) task ≡ without rs task
+pub without_last : (rs : List Reservation) (r : Reservation) (task : ℕ) → (r.task == task) ≡ true
+    → without (rs ++ r ∷ []) task ≡ without rs task
 without_last [] r task own = ap (λ (b : Bool). cond (not b) (r ∷ []) []) own
-without_last (x ∷ xs) r task own = ap (λ (rest : List Reservation). cond (not (x.task == task)) (x ∷ rest) rest) (without_last xs r task own)
+without_last (x ∷ xs) r task own =
+    ap (λ (rest : List Reservation). cond (not (x.task == task)) (x ∷ rest) rest) (without_last xs r task own)
 
 -- so a reservation of a task that had none, taken back, leaves what was
-pub undone : (rs : List Reservation) (task at width : ℕ) → is_reserving rs task ≡ false → without (reserved rs task at width) task ≡ rs
+pub undone : (rs : List Reservation) (task at width : ℕ) → is_reserving rs task ≡ false
+    → without (reserved rs task at width) task ≡ rs
 undone rs task at width is =
     without_last (without rs task) (record { task = task; address = at; width = width }) task (eq-eqb task task refl)
     ∙ ap (λ (xs : List Reservation). without xs task) (without_none rs task is)

@@ -26,9 +26,11 @@ pub record IsPiece (at left piece : ℕ) : Type 0 where
   pub some : 0 < piece
 
 -- where the page of an address may not be accessed, that address is the fault
-pub barred_step : (right : Rights) (r : Reach) (at left : ℕ) → at < 2 ^ 64 → 0 < left → IsSeen right r (at / 4096) sights.Barred → first_barred (byte_at right r) at left ≡ Some at
+pub barred_step : (right : Rights) (r : Reach) (at left : ℕ) → at < 2 ^ 64 → 0 < left
+    → IsSeen right r (at / 4096) sights.Barred → first_barred (byte_at right r) at left ≡ Some at
 barred_step right r at left small some seen =
-    barred_first right r (at / 4096) (omega (arith, small)) at (at % 4096) left seen (omega (arith, small)) (omega arith) some
+    barred_first right r (at / 4096) (omega (arith, small)) at (at % 4096) left seen
+    (omega (arith, small)) (omega arith) some
 
 -- nothing is left at the end
 pub barred_end : (byte : ℕ → Byte) (at left : ℕ) → left ≤ 0 → first_barred byte at left ≡ None
@@ -36,7 +38,8 @@ unfolding first_barred
 barred_end byte at zero end = refl
 barred_end byte at (suc n) end = absurd (omega arith)
 
-pub area_end : (byte : ℕ → Byte) (at left : ℕ) (asked : Option Area) → left ≤ 0 → option_or asked (first_area byte at left) ≡ asked
+pub area_end : (byte : ℕ → Byte) (at left : ℕ) (asked : Option Area) → left ≤ 0
+    → option_or asked (first_area byte at left) ≡ asked
 unfolding first_area
 area_end byte at zero None end = refl
 area_end byte at zero (Some area) end = refl
@@ -53,32 +56,46 @@ module _ (right : Rights) (r : Reach) (at left piece : ℕ) (is : IsPiece at lef
   all = omega (arith, is.within)
 
   -- in another page no byte is barred, so that the fault is that of the rest
-  piece_unbarred : (sight : PageSight) → IsSeen right r (at / 4096) sight → (sight ≡ sights.Barred → ⊥) → first_barred (byte_at right r) at piece ≡ None
+  piece_unbarred : (sight : PageSight) → IsSeen right r (at / 4096) sight → (sight ≡ sights.Barred → ⊥)
+      → first_barred (byte_at right r) at piece ≡ None
   piece_unbarred sights.Barred seen apart = absurd (apart refl)
-  piece_unbarred (sights.InArea area) seen apart = area_unbarred right r (at / 4096) low area at (at % 4096) piece seen begins is.inside
-  piece_unbarred (sights.Bytes bytes) seen apart = bytes_unbarred right r (at / 4096) low bytes at (at % 4096) piece seen begins is.inside
+  piece_unbarred (sights.InArea area) seen apart =
+      area_unbarred right r (at / 4096) low area at (at % 4096) piece seen begins is.inside
+  piece_unbarred (sights.Bytes bytes) seen apart =
+      bytes_unbarred right r (at / 4096) low bytes at (at % 4096) piece seen begins is.inside
 
-  pub unbarred_step : (sight : PageSight) → IsSeen right r (at / 4096) sight → (sight ≡ sights.Barred → ⊥) → first_barred (byte_at right r) at left ≡ first_barred (byte_at right r) ((at + piece) % 2 ^ 64) (left - piece)
+  pub unbarred_step : (sight : PageSight) → IsSeen right r (at / 4096) sight → (sight ≡ sights.Barred → ⊥)
+      → first_barred (byte_at right r) at left ≡ first_barred (byte_at right r) ((at + piece) % 2 ^ 64) (left - piece)
   unbarred_step sight seen apart =
       ap (first_barred (byte_at right r) at) (sym all)
       ∙ barred_split (byte_at right r) at piece (left - piece) is.small
-      ∙ ap (λ (o : Option ℕ). option_or o (first_barred (byte_at right r) ((at + piece) % 2 ^ 64) (left - piece))) (piece_unbarred sight seen apart)
+      ∙ ap (λ (o : Option ℕ). option_or o (first_barred (byte_at right r) ((at + piece) % 2 ^ 64) (left - piece)))
+      (piece_unbarred sight seen apart)
 
   -- and the area the page's, or that of the rest
-  piece_area : (sight : PageSight) → IsSeen right r (at / 4096) sight → (sight ≡ sights.Barred → ⊥) → first_area (byte_at right r) at piece ≡ sight_area sight
+  piece_area : (sight : PageSight) → IsSeen right r (at / 4096) sight → (sight ≡ sights.Barred → ⊥)
+      → first_area (byte_at right r) at piece ≡ sight_area sight
   piece_area sights.Barred seen apart = absurd (apart refl)
-  piece_area (sights.InArea area) seen apart = area_first right r (at / 4096) low area at (at % 4096) piece seen begins (omega (arith, is.inside, is.some)) is.some
-  piece_area (sights.Bytes bytes) seen apart = bytes_apart right r (at / 4096) low bytes at (at % 4096) piece seen begins is.inside
+  piece_area (sights.InArea area) seen apart =
+      area_first right r (at / 4096) low area at (at % 4096) piece seen begins
+      (omega (arith, is.inside, is.some)) is.some
+  piece_area (sights.Bytes bytes) seen apart =
+      bytes_apart right r (at / 4096) low bytes at (at % 4096) piece seen begins is.inside
 
-  pub area_step : (sight : PageSight) → IsSeen right r (at / 4096) sight → (sight ≡ sights.Barred → ⊥) → first_area (byte_at right r) at left ≡ option_or (sight_area sight) (first_area (byte_at right r) ((at + piece) % 2 ^ 64) (left - piece))
+  pub area_step : (sight : PageSight) → IsSeen right r (at / 4096) sight → (sight ≡ sights.Barred → ⊥)
+      → first_area (byte_at right r) at left
+      ≡ option_or (sight_area sight) (first_area (byte_at right r) ((at + piece) % 2 ^ 64) (left - piece))
   area_step sight seen apart =
       ap (first_area (byte_at right r) at) (sym all)
       ∙ area_split (byte_at right r) at piece (left - piece) is.small
-      ∙ ap (λ (o : Option Area). option_or o (first_area (byte_at right r) ((at + piece) % 2 ^ 64) (left - piece))) (piece_area sight seen apart)
+      ∙ ap (λ (o : Option Area). option_or o (first_area (byte_at right r) ((at + piece) % 2 ^ 64) (left - piece)))
+      (piece_area sight seen apart)
 
 -- so many bytes of the page, from the address on, are those of the run
-pub piece_step : (right : Rights) (r : Reach) (at count piece : ℕ) (sight : PageSight) (bytes : List ℕ) → at < 2 ^ 64 → IsSeen right r (at / 4096) sight → at % 4096 + piece ≤ 4096 → count ≡ piece
+pub piece_step : (right : Rights) (r : Reach) (at count piece : ℕ) (sight : PageSight) (bytes : List ℕ) → at < 2 ^ 64
+    → IsSeen right r (at / 4096) sight → at % 4096 + piece ≤ 4096 → count ≡ piece
     → bytes ≡ sight_bytes sight (at % 4096) count → bytes ≡ bytes_from (byte_at right r) at piece
 piece_step right r at count piece sight bytes small seen inside counted are =
     are ∙ ap (sight_bytes sight (at % 4096)) counted
-    ∙ sym (piece_here right r (at / 4096) (omega (arith, small)) sight at (at % 4096) piece seen (omega (arith, small)) inside)
+    ∙ sym (piece_here right r (at / 4096) (omega (arith, small)) sight at (at % 4096) piece seen
+    (omega (arith, small)) inside)

@@ -22,7 +22,8 @@ abbrev pub unmapped_in : AddressSpace → (address length : ℕ) → AddressSpac
 unmapped_in space address length = changed_in space (unmapped_at space.mapping address length) address length
 
 abbrev pub righted_in : AddressSpace → (address length : ℕ) → Rights → AddressSpace
-righted_in space address length rights = changed_in space (protected_in space.mapping address length rights) address length
+righted_in space address length rights =
+    changed_in space (protected_in space.mapping address length rights) address length
 
 -- the break moved, where it may be put there; reservations stay
 -- brk(2); that they stay: profile

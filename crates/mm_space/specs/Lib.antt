@@ -1,3 +1,4 @@
+-- What contracts of this crate say, by subject.
 pub mod Accesses
 pub mod Changes
 pub mod Conditionals

@@ -36,8 +36,8 @@ owned_in name number (h ∷ hs) =
 abbrev pub owns_shared : Handed → Area → ℕ → Bool
 owns_shared handed name number = owned_in name number handed.areas.items
 
--- whether the page at an address has its bytes for itself, so that a store to it takes no memory: the address space's own, or
--- the area's own; of a page that isn't mapped nothing is wanted
+-- whether the page at an address has its bytes for itself, so that a store to it takes no memory: the address space's
+-- own, or the area's own; of a page that isn't mapped nothing is wanted
 -- fork(2), NOTES: copy-on-write pages
 abbrev pub is_ready_held : Space → Handed → (page : ℕ) → Held → Bool
 is_ready_held space handed page (Bytes bytes) = owns space.areas page

@@ -83,8 +83,8 @@ unfoldable pub put_run : (task at : ℕ) → List ℕ → Reach → Reach
 put_run task at [] r = r
 put_run task at (b ∷ bs) r = put_run task (behind at) bs (put_byte task at b r)
 
--- what is reached after a call has put bytes into a buffer for its task: other tasks' reservations of the granules that they
--- meet are lost
+-- what is reached after a call has put bytes into a buffer for its task: other tasks' reservations of the granules that
+-- they meet are lost
 -- read(2); RISC-V Unprivileged ISA 20191213, 8.2: a store to the reservation set
 abbrev pub ended_by_run : (task at count : ℕ) → AddressSpace → AddressSpace
 ended_by_run task at count space =

@@ -32,7 +32,7 @@ abbrev pub is_held_in_area : (task number offset : ℕ) → Option AreaState →
 is_held_in_area task number offset area =
     option_map_or (λ a. is_held_here a.reservations task (area_granule number offset)) area false
 
--- what becomes of the areas in hand where a task reserves a byte of a page, and where it gives up what it had reserved there
+-- what becomes of the areas in hand where a task reserves a byte of a page, and where it gives that up
 -- 8.2
 abbrev pub reserve_held : (task offset : ℕ) → Held → List InHand → List InHand
 reserve_held task offset (Bytes bytes) hand = hand

@@ -1,3 +1,4 @@
+-- What contracts of this crate say, by subject.
 pub mod Keys
 pub mod Values
 pub mod Tables

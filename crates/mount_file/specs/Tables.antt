@@ -11,12 +11,14 @@ use Rattle.mount_file.specs.declared.mounts.Program.{Program}
 -- TOML 1.1, Array
 abbrev pub each_in : {A : Type 0} → (Members → Option A) → Items → Option (List A)
 each_in read no_items = Some []
-each_in read (item value rest) = option_and_then (λ a. option_map (λ more. a ∷ more) (each_in read rest)) (option_and_then read (as_table value))
+each_in read (item value rest) =
+    option_and_then (λ a. option_map (λ more. a ∷ more) (each_in read rest)) (option_and_then read (as_table value))
 
 -- the texts at a key, or these where it is left out
 -- TOML 1.1, Array
 abbrev pub texts_at : List ℕ → List (List ℕ) → Members → Option (List (List ℕ))
-texts_at key missing members = option_map_or (λ value. option_and_then texts_in (as_array value)) (get_member key members) (Some missing)
+texts_at key missing members =
+    option_map_or (λ value. option_and_then texts_in (as_array value)) (get_member key members) (Some missing)
 
 -- whether a mount may be written: not where the key is left out
 -- mount(8), ro and rw; what is left out: profile
@@ -27,7 +29,8 @@ write_at members = option_map_or as_bool (get_member (codes "write") members) (S
 -- profile
 abbrev pub mount_in : Members → Option Mount
 mount_in members =
-    option_and_then (λ at. option_and_then (λ folder. option_map (λ write. record { at = at; folder = folder; write = write })
+    option_and_then (λ at. option_and_then (λ folder. option_map (λ write.
+    record { at = at; folder = folder; write = write })
     (write_at members))
     (option_and_then folder_in (option_and_then as_str (get_member (codes "folder") members))))
     (option_and_then place_in (option_and_then as_str (get_member (codes "at") members)))
@@ -53,7 +56,8 @@ abbrev pub mounts_in : Members → Option Mounts
 mounts_in document =
     option_and_then (λ entries. option_and_then (λ seed. option_and_then (λ mounts. option_map (λ tasks.
     record { entries = entries; seed = seed; mounts = mounts; tasks = tasks })
-    (option_and_then some_tasks (option_and_then (each_in task_in) (option_and_then as_array (get_member (codes "task") document)))))
+    (option_and_then some_tasks
+    (option_and_then (each_in task_in) (option_and_then as_array (get_member (codes "task") document)))))
     (option_and_then (each_in mount_in) (option_and_then as_array (get_member (codes "mount") document))))
     (option_and_then seed_in (option_and_then as_str (get_member (codes "seed") document))))
     (option_and_then entries_in (option_and_then as_integer (get_member (codes "entries") document)))

@@ -25,7 +25,9 @@ hex_value d =
 abbrev pub hex_bytes : List ℕ → Option (List ℕ)
 hex_bytes [] = Some []
 hex_bytes (d ∷ []) = None
-hex_bytes (d ∷ e ∷ ds) = option_and_then (λ high. option_and_then (λ low. option_map (λ bytes. (16 * high + low) ∷ bytes) (hex_bytes ds)) (hex_value e)) (hex_value d)
+hex_bytes (d ∷ e ∷ ds) =
+    option_and_then (λ high. option_and_then (λ low. option_map (λ bytes. (16 * high + low) ∷ bytes)
+    (hex_bytes ds)) (hex_value e)) (hex_value d)
 
 -- a seed: 64 hexadecimal digits
 -- profile
@@ -47,7 +49,9 @@ place_in (slash ∷ name) = if (slash == 47) && is_name name then Some (Some nam
 -- a folder's names, divided by slashes
 -- POSIX.1-2017, Base Definitions, Pathname; that each piece is a name: profile
 abbrev pub names_in : List ℕ → Option (List (List ℕ))
-names_in bytes = if list_all is_name (slice_split (λ byte. nat_eq byte 47) bytes) then Some (slice_split (λ byte. nat_eq byte 47) bytes) else None
+names_in bytes =
+    if list_all is_name (slice_split (λ byte. nat_eq byte 47) bytes)
+    then Some (slice_split (λ byte. nat_eq byte 47) bytes) else None
 
 -- a folder: one or more names divided by slashes, with a slash before them where it lies from the root
 -- POSIX.1-2017, Base Definitions, Absolute Pathname and Relative Pathname
@@ -72,4 +76,5 @@ text_in _ = None
 
 abbrev pub texts_in : Items → Option (List (List ℕ))
 texts_in no_items = Some []
-texts_in (item value rest) = option_and_then (λ text. option_map (λ texts. text ∷ texts) (texts_in rest)) (text_in value)
+texts_in (item value rest) =
+    option_and_then (λ text. option_map (λ texts. text ∷ texts) (texts_in rest)) (text_in value)

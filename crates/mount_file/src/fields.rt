@@ -1,3 +1,5 @@
+//! The value at a key of a table, by its type.
+
 ghost use Rattle.std.specs.Prelude.{◌≡◌, option_copied, option_map, option_and_then};
 ghost use Rattle.toml.specs.Data.{as_array, as_integer, as_str, get_member};
 ghost use Rattle.toml.specs.View.{view, items_view, table_view};

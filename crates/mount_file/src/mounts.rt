@@ -1,3 +1,5 @@
+//! What a mount file says, as records, and why one is refused.
+
 ghost use Rattle.std.specs.Prelude.{◌≡◌};
 ghost use Rattle.mount_file.specs.Read.{fault_of_name};
 ghost use Rattle.mount_file.specs.declared.mounts.MountFault.TheVariants.{Memory as WantOfMemory};

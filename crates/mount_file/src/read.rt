@@ -1,3 +1,5 @@
+//! The reader: a mount file's bytes to what they say, or to their first fault.
+
 ghost use Rattle.std.specs.Prelude.{◌≡◌, ◌⊎◌, Err, IfOk, IfErr};
 ghost use Rattle.mount_file.specs.Form.{HasOneTask};
 ghost use Rattle.mount_file.specs.MountFile.{IsMountFile, IsFaultOf, ruled, document_read};

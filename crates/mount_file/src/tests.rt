@@ -1,3 +1,5 @@
+//! The parts of a good mount file, and the fault of one that is put together of parts.
+
 use super::*;
 use sn_base::List;
 use sn_text::Text;

@@ -1,3 +1,5 @@
+//! The values of a mount file: numbers, seeds, places, folders, paths and texts.
+
 ghost use Rattle.std.specs.Prelude.{◌≡◌, ◌<◌, length, IfOk};
 ghost use Rattle.mount_file.specs.Read.{Gives, hex_byte};
 ghost use Rattle.mount_file.specs.Values.{entries_in, hex_value, hex_bytes, seed_in, place_in, names_in, folder_from};

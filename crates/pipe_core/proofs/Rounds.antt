@@ -13,22 +13,33 @@ within_two_rounds j below = elim (cases_lt j 65536) [
   | inr second ↦ inr (second, mod-eq-sub-mod second ∙ mod-eq_of_lt (omega arith))
 ]
 
-module _ (start count : ℕ) (slots : List ℕ) (begins : start < 65536) (fits : count ≤ 65536) (whole : length slots ≡ 65536) where
+module _ (start count : ℕ) (slots : List ℕ) (begins : start < 65536) (fits : count ≤ 65536)
+    (whole : length slots ≡ 65536) where
   pub length-bytes_from : length (bytes_from start count slots) ≡ count
-  length-bytes_from = length-take-le count _ (simp (length-append, length-drop) (omega (arith, length-take-le start slots (omega arith))))
+  length-bytes_from =
+      length-take-le count _
+      (simp (length-append, length-drop) (omega (arith, length-take-le start slots (omega arith))))
 
   -- byte i lies i slots on
-  pub get_or-bytes_from : (i d : ℕ) → i < count → get_or (bytes_from start count slots) i d ≡ get_or slots ((start + i) % 65536) d
+  pub get_or-bytes_from : (i d : ℕ) → i < count → get_or (bytes_from start count slots) i d
+      ≡ get_or slots ((start + i) % 65536) d
   get_or-bytes_from i d in_range =
       let length_tail = length-drop start slots in
       get_or-take count _ i d in_range ∙ elim (within_two_rounds (start + i) (omega arith)) [
-        | inl first ↦ get_or_append_left _ _ d i (omega arith) ∙ get_or-drop start slots i d ∙ ap (λ j. get_or slots j d) (omega arith)
-        | inr second ↦ get_or-append_right _ _ (65536 - start) i d (omega arith) (omega arith) ∙ get_or-take start slots _ d (omega arith) ∙ ap (λ j. get_or slots j d) (omega arith)
+        | inl first ↦
+            get_or_append_left _ _ d i (omega arith) ∙ get_or-drop start slots i d
+            ∙ ap (λ j. get_or slots j d) (omega arith)
+        | inr second ↦
+            get_or-append_right _ _ (65536 - start) i d (omega arith) (omega arith)
+            ∙ get_or-take start slots _ d (omega arith) ∙ ap (λ j. get_or slots j d) (omega arith)
       ]
 
 -- without its first bytes the ring has the others, from so many slots on
-pub rest_from : (start count gone : ℕ) (slots : List ℕ) → start < 65536 → count ≤ 65536 → length slots ≡ 65536 → gone ≤ count → bytes_from ((start + gone) % 65536) (count - gone) slots ≡ drop gone (bytes_from start count slots)
-rest_from start count gone slots begins fits whole within = same_lists _ _ (omega (arith, length_left, length-drop gone (bytes_from start count slots), length_all)) (λ i d in_range.
+pub rest_from : (start count gone : ℕ) (slots : List ℕ) → start < 65536 → count ≤ 65536 → length slots ≡ 65536
+    → gone ≤ count → bytes_from ((start + gone) % 65536) (count - gone) slots ≡ drop gone (bytes_from start count slots)
+rest_from start count gone slots begins fits whole within =
+    same_lists _ _
+    (omega (arith, length_left, length-drop gone (bytes_from start count slots), length_all)) (λ i d in_range.
     get_or-bytes_from next (count - gone) slots next_begins (omega arith) whole i d (omega (arith, length_left))
     ∙ ap (λ j. get_or slots j d) (omega arith)
     ∙ sym (get_or-bytes_from start count slots begins fits whole (gone + i) d (omega (arith, length_left)))
@@ -47,11 +58,15 @@ rest_from start count gone slots begins fits whole within = same_lists _ _ (omeg
     length_left = length-bytes_from next (count - gone) slots next_begins (omega arith) whole
 
 -- bytes that were put into the slots behind the others stand behind them
-pub put_behind : (start count : ℕ) (slots slots' bytes : List ℕ) → start < 65536 → length slots ≡ 65536 → length slots' ≡ 65536 → count + length bytes ≤ 65536 →
+pub put_behind : (start count : ℕ) (slots slots' bytes : List ℕ) → start < 65536 → length slots ≡ 65536
+    → length slots' ≡ 65536 → count + length bytes ≤ 65536 →
     ((i : ℕ) → i < length bytes → get_or slots' (((start + count) % 65536 + i) % 65536) 0 ≡ get_or bytes i 0) →
-    ((i : ℕ) → length bytes ≤ i → i < 65536 → get_or slots' (((start + count) % 65536 + i) % 65536) 0 ≡ get_or slots (((start + count) % 65536 + i) % 65536) 0) →
+    ((i : ℕ) → length bytes ≤ i → i < 65536 → get_or slots' (((start + count) % 65536 + i) % 65536) 0
+    ≡ get_or slots (((start + count) % 65536 + i) % 65536) 0) →
     bytes_from start (count + length bytes) slots' ≡ bytes_from start count slots ++ bytes
-put_behind start count slots slots' bytes begins whole whole' fits put others = same_number_lists _ _ (omega (arith, length_new, length_old, length-append (bytes_from start count slots) bytes)) (λ i in_range. at i (omega (arith, length_new)))
+put_behind start count slots slots' bytes begins whole whole' fits put others =
+    same_number_lists _ _ (omega (arith, length_new, length_old, length-append (bytes_from start count slots) bytes))
+    (λ i in_range. at i (omega (arith, length_new)))
   where
     length_old : length (bytes_from start count slots) ≡ count
     length_old = length-bytes_from start count slots begins (omega arith) whole
@@ -59,25 +74,30 @@ put_behind start count slots slots' bytes begins whole whole' fits put others = 
     length_new : length (bytes_from start (count + length bytes) slots') ≡ count + length bytes
     length_new = length-bytes_from start (count + length bytes) slots' begins fits whole'
 
-    at : (i : ℕ) → i < count + length bytes → get_or (bytes_from start (count + length bytes) slots') i 0 ≡ get_or (bytes_from start count slots ++ bytes) i 0
-    at i in_range = get_or-bytes_from start (count + length bytes) slots' begins fits whole' i 0 in_range ∙ elim (cases_lt i count) [
-      | inl old ↦
-          ap (λ j. get_or slots' j 0) (omega arith)
-          ∙ others (65536 - count + i) (omega arith) (omega arith)
-          ∙ ap (λ j. get_or slots j 0) (omega arith)
-          ∙ sym (get_or-bytes_from start count slots begins (omega arith) whole i 0 old)
-          ∙ sym (get_or_append_left (bytes_from start count slots) bytes 0 i (omega (arith, length_old)))
-      | inr new ↦
-          ap (λ j. get_or slots' j 0) (omega arith)
-          ∙ put (i - count) (omega arith)
-          ∙ sym (get_or-append_right (bytes_from start count slots) bytes count i 0 length_old new)
-    ]
+    at : (i : ℕ) → i < count + length bytes → get_or (bytes_from start (count + length bytes) slots') i 0
+        ≡ get_or (bytes_from start count slots ++ bytes) i 0
+    at i in_range = get_or-bytes_from start (count + length bytes) slots' begins fits whole' i 0 in_range
+        ∙ elim (cases_lt i count) [
+          | inl old ↦
+              ap (λ j. get_or slots' j 0) (omega arith)
+              ∙ others (65536 - count + i) (omega arith) (omega arith)
+              ∙ ap (λ j. get_or slots j 0) (omega arith)
+              ∙ sym (get_or-bytes_from start count slots begins (omega arith) whole i 0 old)
+              ∙ sym (get_or_append_left (bytes_from start count slots) bytes 0 i (omega (arith, length_old)))
+          | inr new ↦
+              ap (λ j. get_or slots' j 0) (omega arith)
+              ∙ put (i - count) (omega arith)
+              ∙ sym (get_or-append_right (bytes_from start count slots) bytes count i 0 length_old new)
+        ]
 
 -- slots into which bytes were moved from one on, so many of them up to the last slot and the others to the first slots
 abbrev pub moved_in : (start first : ℕ) → (slots bytes : List ℕ) → List ℕ
-moved_in start first slots bytes = drop first bytes ++ drop (length bytes - first) (take start slots ++ (take first bytes ++ drop first (drop start slots)))
+moved_in start first slots bytes =
+    drop first bytes
+    ++ drop (length bytes - first) (take start slots ++ (take first bytes ++ drop first (drop start slots)))
 
-module _ (start first : ℕ) (slots bytes : List ℕ) (begins : start < 65536) (whole : length slots ≡ 65536) (fits : length bytes ≤ 65536) (cut : first ≡ min (length bytes) (65536 - start)) where
+module _ (start first : ℕ) (slots bytes : List ℕ) (begins : start < 65536) (whole : length slots ≡ 65536)
+    (fits : length bytes ≤ 65536) (cut : first ≡ min (length bytes) (65536 - start)) where
   front_long : length (take first bytes) ≡ first
   front_long = length-take-le first bytes (omega arith)
 
@@ -88,13 +108,15 @@ module _ (start first : ℕ) (slots bytes : List ℕ) (begins : start < 65536) (
   before_long = length-take-le start slots (omega arith)
 
   -- past the bytes that went to the first slots there is what the first move left
-  past_back : (j : ℕ) → length bytes - first ≤ j → get_or (moved_in start first slots bytes) j 0 ≡ get_or (take start slots ++ (take first bytes ++ drop first (drop start slots))) j 0
+  past_back : (j : ℕ) → length bytes - first ≤ j → get_or (moved_in start first slots bytes) j 0
+      ≡ get_or (take start slots ++ (take first bytes ++ drop first (drop start slots))) j 0
   past_back j past =
       get_or-append_right (drop first bytes) _ (length bytes - first) j 0 back_long past
       ∙ get_or-drop (length bytes - first) _ (j - (length bytes - first)) 0
       ∙ ap (λ k. get_or (take start slots ++ (take first bytes ++ drop first (drop start slots))) k 0) (omega arith)
 
-  pub moved_put : (i : ℕ) → i < length bytes → get_or (moved_in start first slots bytes) ((start + i) % 65536) 0 ≡ get_or bytes i 0
+  pub moved_put : (i : ℕ) → i < length bytes
+      → get_or (moved_in start first slots bytes) ((start + i) % 65536) 0 ≡ get_or bytes i 0
   moved_put i in_range = elim (cases_lt i first) [
     | inl front ↦
         ap (λ j. get_or (moved_in start first slots bytes) j 0) (omega arith)
@@ -110,9 +132,11 @@ module _ (start first : ℕ) (slots bytes : List ℕ) (begins : start < 65536) (
         ∙ ap (λ j. get_or bytes j 0) (omega arith)
   ]
 
-  pub moved_others : (i : ℕ) → length bytes ≤ i → i < 65536 → get_or (moved_in start first slots bytes) ((start + i) % 65536) 0 ≡ get_or slots ((start + i) % 65536) 0
+  pub moved_others : (i : ℕ) → length bytes ≤ i → i < 65536
+      → get_or (moved_in start first slots bytes) ((start + i) % 65536) 0 ≡ get_or slots ((start + i) % 65536) 0
   moved_others i past in_range = past_back at (omega arith) ∙ elim (cases_lt at start) [
-    | inl before ↦ get_or_append_left (take start slots) _ 0 at (omega (arith, before_long)) ∙ get_or-take start slots at 0 before
+    | inl before ↦
+        get_or_append_left (take start slots) _ 0 at (omega (arith, before_long)) ∙ get_or-take start slots at 0 before
     | inr behind ↦
         get_or-append_right (take start slots) _ start at 0 before_long behind
         ∙ get_or-append_right (take first bytes) _ first (at - start) 0 front_long (omega (arith, behind))

@@ -33,9 +33,14 @@ pub ran_same : (n : ℕ) (g h : Going) → ran n g ≡ Some h → h.acting.task 
 ran_same zero g h is = sym (ap number_of (sym (ran_zero memory_of after_write g) ∙ is))
 ran_same (suc n) g h is = by (λ between. ran_same n g between) (ran n g) refl
   where
-    by : ((between : Going) → ran n g ≡ Some between → between.acting.task ≡ g.acting.task) → (o : Option Going) → ran n g ≡ o → h.acting.task ≡ g.acting.task
-    by rest None at = absurd (none-some h (sym (ran_suc memory_of after_write n g ∙ ap (option_and_then (courses.one_more memory_of after_write)) at) ∙ is))
+    by : ((between : Going) → ran n g ≡ Some between → between.acting.task ≡ g.acting.task) → (o : Option Going)
+        → ran n g ≡ o → h.acting.task ≡ g.acting.task
+    by rest None at =
+        absurd (none-some h
+        (sym (ran_suc memory_of after_write n g ∙ ap (option_and_then (courses.one_more memory_of after_write)) at)
+        ∙ is))
     by rest (Some between) at =
         went (exec (memory_of between.acting) between.registers) between.acting h
-        (sym (ran_suc memory_of after_write n g ∙ ap (option_and_then (courses.one_more memory_of after_write)) at) ∙ is)
+        (sym (ran_suc memory_of after_write n g ∙ ap (option_and_then (courses.one_more memory_of after_write)) at)
+        ∙ is)
         ∙ rest between at

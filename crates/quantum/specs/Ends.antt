@@ -25,7 +25,7 @@ Few most (ends.Trap count signal) = count < most
 Few most (ends.Shared count area) = count < most
 Few most ends.Memory = ⊤
 
--- it is stopped by what the next instruction does: that calls the system, traps, or touches a shared area that is not handed in
+-- it is stopped by what the next instruction does: that calls the system, traps, or touches a shared area not handed in
 -- RISC-V Unprivileged ISA 20191213, 1.6, Exceptions, Traps, and Interrupts
 abbrev pub Stopped : Going → QuantumEnd → Type 0
 Stopped g (ends.Ended count) = ⊤

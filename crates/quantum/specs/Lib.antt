@@ -1,3 +1,4 @@
+-- What contracts of this crate say, by subject.
 pub mod Acting
 pub mod Ends
 pub mod Instructions

@@ -1,3 +1,4 @@
+-- Laws of what a task reaches after it has stored, reserved or given up what it had reserved, by subject.
 pub mod Addresses
 pub mod Bytes
 pub mod Decoded

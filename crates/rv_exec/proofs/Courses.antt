@@ -12,19 +12,24 @@ module _ {State : Type 0} (seen : State → Memory) (write : Write → State →
   unfolding ran
   ran_zero start = refl
 
-  pub ran_suc : (n : ℕ) (start : Going State) → ran seen write (suc n) start ≡ option_and_then (one_more seen write) (ran seen write n start)
+  pub ran_suc : (n : ℕ) (start : Going State)
+      → ran seen write (suc n) start ≡ option_and_then (one_more seen write) (ran seen write n start)
   unfolding ran
   ran_suc n start = refl
 
   -- so many instructions behind others
-  pub ran_add : (n m : ℕ) (start between end : Going State) → ran seen write n start ≡ Some between → ran seen write m between ≡ Some end
+  pub ran_add : (n m : ℕ) (start between end : Going State) → ran seen write n start ≡ Some between
+      → ran seen write m between ≡ Some end
       → ran seen write (n + m) start ≡ Some end
   ran_add n zero start between end first then_ =
       ap (λ k. ran seen write k start) (omega arith) ∙ first ∙ sym (ran_zero between) ∙ then_
-  ran_add n (suc m) start between end first then_ = by (λ g. ran_add n m start between g first) (ran seen write m between) refl
+  ran_add n (suc m) start between end first then_ =
+      by (λ g. ran_add n m start between g first) (ran seen write m between) refl
     where
-      by : ((g : Going State) → ran seen write m between ≡ Some g → ran seen write (n + m) start ≡ Some g) → (o : Option (Going State)) → ran seen write m between ≡ o → ran seen write (n + suc m) start ≡ Some end
-      by rest None is = absurd (none-some end (sym (ran_suc m between ∙ ap (option_and_then (one_more seen write)) is) ∙ then_))
+      by : ((g : Going State) → ran seen write m between ≡ Some g → ran seen write (n + m) start ≡ Some g)
+          → (o : Option (Going State)) → ran seen write m between ≡ o → ran seen write (n + suc m) start ≡ Some end
+      by rest None is =
+          absurd (none-some end (sym (ran_suc m between ∙ ap (option_and_then (one_more seen write)) is) ∙ then_))
       by rest (Some g) is =
           ap (λ k. ran seen write k start) (omega arith)
           ∙ ran_suc (n + m) start
@@ -33,5 +38,8 @@ module _ {State : Type 0} (seen : State → Memory) (write : Write → State →
           ∙ then_
 
   -- none, where the same is told
-  pub ran_still : (n : ℕ) (r : Regs) (old new : State) → n ≡ 0 → new ≡ old → ran seen write n (going old r) ≡ Some (going new r)
-  ran_still n r old new is same = ap (λ k. ran seen write k (going old r)) is ∙ ran_zero (going old r) ∙ ap (λ (s : State). Some (going s r)) (sym same)
+  pub ran_still : (n : ℕ) (r : Regs) (old new : State) → n ≡ 0 → new ≡ old
+      → ran seen write n (going old r) ≡ Some (going new r)
+  ran_still n r old new is same =
+      ap (λ k. ran seen write k (going old r)) is ∙ ran_zero (going old r)
+      ∙ ap (λ (s : State). Some (going s r)) (sym same)

@@ -10,8 +10,10 @@ use Rattle.rv_exec.specs.declared.flow.Flow.TheVariants as flows
 use Rattle.rv_exec.specs.declared.outcome.Step.{Step}
 use Rattle.rv_exec.specs.declared.outcome.Step.TheVariants as steps
 
-pub step_done : {State : Type 0} → (write : Write → State → State) → (why : Step) → (done : Done) → (before after : Regs) → (old new : State) → (flow : Flow)
-    → FlowsAs write true why done before after old new flow → StepsAs write done before after old new (outcome_of flow why)
+pub step_done : {State : Type 0} → (write : Write → State → State) → (why : Step) → (done : Done)
+    → (before after : Regs) → (old new : State) → (flow : Flow)
+    → FlowsAs write true why done before after old new flow
+    → StepsAs write done before after old new (outcome_of flow why)
 step_done write why (Goes r ws) before after old new flows.Next h = h
 step_done write why (Goes r ws) before after old new flows.Call h = elim h [ ]
 step_done write why (Goes r ws) before after old new (flows.Trap told) h = elim h [ ]

@@ -8,7 +8,8 @@ use Rattle.rv_exec.specs.declared.flow.Flow.{Flow}
 use Rattle.rv_exec.specs.declared.flow.Flow.TheVariants as flows
 use Rattle.rv_exec.specs.declared.outcome.Step.{Step}
 
-pub moved : {State : Type 0} → (write : Write → State → State) → (is_exact : Bool) → (why : Step) → (done : Done) → (before after : Regs) → (old new : State) → (flow : Flow) → MovesAs done before after flow → new ≡ old
+pub moved : {State : Type 0} → (write : Write → State → State) → (is_exact : Bool) → (why : Step) → (done : Done)
+    → (before after : Regs) → (old new : State) → (flow : Flow) → MovesAs done before after flow → new ≡ old
     → FlowsAs write is_exact why done before after old new flow
 moved write is_exact why (Goes r []) before after old new flows.Next h same = (h, same)
 moved write is_exact why (Goes r []) before after old new flows.Call h same = elim h [ ]

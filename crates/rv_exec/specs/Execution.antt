@@ -104,8 +104,8 @@ store_conditional m r rd address width value =
     aligned address width
     (allowed (loaded m.room address width) (conditional r rd address width value (m.reserves address width)))
 
--- an access to bytes that needs both the right to read and the right to write: a byte that lacks one of them goes before
--- one in a shared area
+-- an access to bytes that needs both the right to read and the right to write: a byte that lacks one of them goes
+-- before one in a shared area
 -- signal(7), SIGSEGV 11; that it goes first: profile
 abbrev pub both : (data_ room : Accessed) → Accessed
 both (Fault bad) room = Fault bad
@@ -137,12 +137,18 @@ done_by m r (instr.Lui rd imm) = valued r rd (value_of (instr.Lui rd imm) 0 0)
 done_by m r (instr.Auipc rd imm) = valued r rd (value_of (instr.Auipc rd imm) r.pc 0)
 done_by m r (instr.Jal rd imm) = jumped r rd (sum r.pc imm)
 done_by m r (instr.Jalr rd rs1 imm) = jumped r rd (even (sum (reg r rs1) imm))
-done_by m r (instr.Beq rs1 rs2 imm) = branched r (is_taken (instr.Beq rs1 rs2 imm) (reg r rs1) (reg r rs2)) (sum r.pc imm)
-done_by m r (instr.Bne rs1 rs2 imm) = branched r (is_taken (instr.Bne rs1 rs2 imm) (reg r rs1) (reg r rs2)) (sum r.pc imm)
-done_by m r (instr.Blt rs1 rs2 imm) = branched r (is_taken (instr.Blt rs1 rs2 imm) (reg r rs1) (reg r rs2)) (sum r.pc imm)
-done_by m r (instr.Bge rs1 rs2 imm) = branched r (is_taken (instr.Bge rs1 rs2 imm) (reg r rs1) (reg r rs2)) (sum r.pc imm)
-done_by m r (instr.Bltu rs1 rs2 imm) = branched r (is_taken (instr.Bltu rs1 rs2 imm) (reg r rs1) (reg r rs2)) (sum r.pc imm)
-done_by m r (instr.Bgeu rs1 rs2 imm) = branched r (is_taken (instr.Bgeu rs1 rs2 imm) (reg r rs1) (reg r rs2)) (sum r.pc imm)
+done_by m r (instr.Beq rs1 rs2 imm) =
+    branched r (is_taken (instr.Beq rs1 rs2 imm) (reg r rs1) (reg r rs2)) (sum r.pc imm)
+done_by m r (instr.Bne rs1 rs2 imm) =
+    branched r (is_taken (instr.Bne rs1 rs2 imm) (reg r rs1) (reg r rs2)) (sum r.pc imm)
+done_by m r (instr.Blt rs1 rs2 imm) =
+    branched r (is_taken (instr.Blt rs1 rs2 imm) (reg r rs1) (reg r rs2)) (sum r.pc imm)
+done_by m r (instr.Bge rs1 rs2 imm) =
+    branched r (is_taken (instr.Bge rs1 rs2 imm) (reg r rs1) (reg r rs2)) (sum r.pc imm)
+done_by m r (instr.Bltu rs1 rs2 imm) =
+    branched r (is_taken (instr.Bltu rs1 rs2 imm) (reg r rs1) (reg r rs2)) (sum r.pc imm)
+done_by m r (instr.Bgeu rs1 rs2 imm) =
+    branched r (is_taken (instr.Bgeu rs1 rs2 imm) (reg r rs1) (reg r rs2)) (sum r.pc imm)
 done_by m r (instr.Lb rd rs1 imm) = loads m r rd (sum (reg r rs1) imm) 1 (extended 7)
 done_by m r (instr.Lh rd rs1 imm) = loads m r rd (sum (reg r rs1) imm) 2 (extended 15)
 done_by m r (instr.Lw rd rs1 imm) = loads m r rd (sum (reg r rs1) imm) 4 (extended 31)
@@ -201,26 +207,44 @@ done_by m r (instr.Remw rd rs1 rs2) = valued r rd (value_of (instr.Remw rd rs1 r
 done_by m r (instr.Remuw rd rs1 rs2) = valued r rd (value_of (instr.Remuw rd rs1 rs2) (reg r rs1) (reg r rs2))
 done_by m r (instr.LrW rd rs1) = load_reserved m r rd (reg r rs1) 4 (extended 31)
 done_by m r (instr.ScW rd rs1 rs2) = store_conditional m r rd (reg r rs1) 4 (reg r rs2)
-done_by m r (instr.AmoswapW rd rs1 rs2) = operates m r (instr.AmoswapW rd rs1 rs2) rd (reg r rs1) 4 (reg r rs2) (extended 31)
-done_by m r (instr.AmoaddW rd rs1 rs2) = operates m r (instr.AmoaddW rd rs1 rs2) rd (reg r rs1) 4 (reg r rs2) (extended 31)
-done_by m r (instr.AmoxorW rd rs1 rs2) = operates m r (instr.AmoxorW rd rs1 rs2) rd (reg r rs1) 4 (reg r rs2) (extended 31)
-done_by m r (instr.AmoandW rd rs1 rs2) = operates m r (instr.AmoandW rd rs1 rs2) rd (reg r rs1) 4 (reg r rs2) (extended 31)
-done_by m r (instr.AmoorW rd rs1 rs2) = operates m r (instr.AmoorW rd rs1 rs2) rd (reg r rs1) 4 (reg r rs2) (extended 31)
-done_by m r (instr.AmominW rd rs1 rs2) = operates m r (instr.AmominW rd rs1 rs2) rd (reg r rs1) 4 (reg r rs2) (extended 31)
-done_by m r (instr.AmomaxW rd rs1 rs2) = operates m r (instr.AmomaxW rd rs1 rs2) rd (reg r rs1) 4 (reg r rs2) (extended 31)
-done_by m r (instr.AmominuW rd rs1 rs2) = operates m r (instr.AmominuW rd rs1 rs2) rd (reg r rs1) 4 (reg r rs2) (extended 31)
-done_by m r (instr.AmomaxuW rd rs1 rs2) = operates m r (instr.AmomaxuW rd rs1 rs2) rd (reg r rs1) 4 (reg r rs2) (extended 31)
+done_by m r (instr.AmoswapW rd rs1 rs2) =
+    operates m r (instr.AmoswapW rd rs1 rs2) rd (reg r rs1) 4 (reg r rs2) (extended 31)
+done_by m r (instr.AmoaddW rd rs1 rs2) =
+    operates m r (instr.AmoaddW rd rs1 rs2) rd (reg r rs1) 4 (reg r rs2) (extended 31)
+done_by m r (instr.AmoxorW rd rs1 rs2) =
+    operates m r (instr.AmoxorW rd rs1 rs2) rd (reg r rs1) 4 (reg r rs2) (extended 31)
+done_by m r (instr.AmoandW rd rs1 rs2) =
+    operates m r (instr.AmoandW rd rs1 rs2) rd (reg r rs1) 4 (reg r rs2) (extended 31)
+done_by m r (instr.AmoorW rd rs1 rs2) =
+    operates m r (instr.AmoorW rd rs1 rs2) rd (reg r rs1) 4 (reg r rs2) (extended 31)
+done_by m r (instr.AmominW rd rs1 rs2) =
+    operates m r (instr.AmominW rd rs1 rs2) rd (reg r rs1) 4 (reg r rs2) (extended 31)
+done_by m r (instr.AmomaxW rd rs1 rs2) =
+    operates m r (instr.AmomaxW rd rs1 rs2) rd (reg r rs1) 4 (reg r rs2) (extended 31)
+done_by m r (instr.AmominuW rd rs1 rs2) =
+    operates m r (instr.AmominuW rd rs1 rs2) rd (reg r rs1) 4 (reg r rs2) (extended 31)
+done_by m r (instr.AmomaxuW rd rs1 rs2) =
+    operates m r (instr.AmomaxuW rd rs1 rs2) rd (reg r rs1) 4 (reg r rs2) (extended 31)
 done_by m r (instr.LrD rd rs1) = load_reserved m r rd (reg r rs1) 8 (λ value. value)
 done_by m r (instr.ScD rd rs1 rs2) = store_conditional m r rd (reg r rs1) 8 (reg r rs2)
-done_by m r (instr.AmoswapD rd rs1 rs2) = operates m r (instr.AmoswapD rd rs1 rs2) rd (reg r rs1) 8 (reg r rs2) (λ value. value)
-done_by m r (instr.AmoaddD rd rs1 rs2) = operates m r (instr.AmoaddD rd rs1 rs2) rd (reg r rs1) 8 (reg r rs2) (λ value. value)
-done_by m r (instr.AmoxorD rd rs1 rs2) = operates m r (instr.AmoxorD rd rs1 rs2) rd (reg r rs1) 8 (reg r rs2) (λ value. value)
-done_by m r (instr.AmoandD rd rs1 rs2) = operates m r (instr.AmoandD rd rs1 rs2) rd (reg r rs1) 8 (reg r rs2) (λ value. value)
-done_by m r (instr.AmoorD rd rs1 rs2) = operates m r (instr.AmoorD rd rs1 rs2) rd (reg r rs1) 8 (reg r rs2) (λ value. value)
-done_by m r (instr.AmominD rd rs1 rs2) = operates m r (instr.AmominD rd rs1 rs2) rd (reg r rs1) 8 (reg r rs2) (λ value. value)
-done_by m r (instr.AmomaxD rd rs1 rs2) = operates m r (instr.AmomaxD rd rs1 rs2) rd (reg r rs1) 8 (reg r rs2) (λ value. value)
-done_by m r (instr.AmominuD rd rs1 rs2) = operates m r (instr.AmominuD rd rs1 rs2) rd (reg r rs1) 8 (reg r rs2) (λ value. value)
-done_by m r (instr.AmomaxuD rd rs1 rs2) = operates m r (instr.AmomaxuD rd rs1 rs2) rd (reg r rs1) 8 (reg r rs2) (λ value. value)
+done_by m r (instr.AmoswapD rd rs1 rs2) =
+    operates m r (instr.AmoswapD rd rs1 rs2) rd (reg r rs1) 8 (reg r rs2) (λ value. value)
+done_by m r (instr.AmoaddD rd rs1 rs2) =
+    operates m r (instr.AmoaddD rd rs1 rs2) rd (reg r rs1) 8 (reg r rs2) (λ value. value)
+done_by m r (instr.AmoxorD rd rs1 rs2) =
+    operates m r (instr.AmoxorD rd rs1 rs2) rd (reg r rs1) 8 (reg r rs2) (λ value. value)
+done_by m r (instr.AmoandD rd rs1 rs2) =
+    operates m r (instr.AmoandD rd rs1 rs2) rd (reg r rs1) 8 (reg r rs2) (λ value. value)
+done_by m r (instr.AmoorD rd rs1 rs2) =
+    operates m r (instr.AmoorD rd rs1 rs2) rd (reg r rs1) 8 (reg r rs2) (λ value. value)
+done_by m r (instr.AmominD rd rs1 rs2) =
+    operates m r (instr.AmominD rd rs1 rs2) rd (reg r rs1) 8 (reg r rs2) (λ value. value)
+done_by m r (instr.AmomaxD rd rs1 rs2) =
+    operates m r (instr.AmomaxD rd rs1 rs2) rd (reg r rs1) 8 (reg r rs2) (λ value. value)
+done_by m r (instr.AmominuD rd rs1 rs2) =
+    operates m r (instr.AmominuD rd rs1 rs2) rd (reg r rs1) 8 (reg r rs2) (λ value. value)
+done_by m r (instr.AmomaxuD rd rs1 rs2) =
+    operates m r (instr.AmomaxuD rd rs1 rs2) rd (reg r rs1) 8 (reg r rs2) (λ value. value)
 done_by m r instr.Illegal = Traps 4
 
 -- what the bytes at pc do: where they may not be executed it is a segmentation violation

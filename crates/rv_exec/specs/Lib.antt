@@ -1,3 +1,4 @@
+-- What contracts of this crate say, by subject.
 pub mod Courses
 pub mod Execution
 pub mod Flows

@@ -7,17 +7,20 @@ use Rattle.rv_exec.specs.Writes.{stored_byte, with_value}
 use Rattle.rv_table.specs.Bytes.{Byte, behind, first_area, first_barred, number_from, or_area, or_barred, value_in}
 
 -- an access to some bytes: its first, and the others
-pub first_barred_step : (byte : ℕ → Byte) (address count : ℕ) → 0 < count → first_barred byte address count ≡ or_barred (byte address) address (first_barred byte (behind address) (count - 1))
+pub first_barred_step : (byte : ℕ → Byte) (address count : ℕ) → 0 < count → first_barred byte address count
+    ≡ or_barred (byte address) address (first_barred byte (behind address) (count - 1))
 unfolding first_barred
 first_barred_step byte address zero h = absurd (omega arith)
 first_barred_step byte address (suc n) h = rw sub-one refl
 
-pub first_area_step : (byte : ℕ → Byte) (address count : ℕ) → 0 < count → first_area byte address count ≡ or_area (byte address) (first_area byte (behind address) (count - 1))
+pub first_area_step : (byte : ℕ → Byte) (address count : ℕ) → 0 < count
+    → first_area byte address count ≡ or_area (byte address) (first_area byte (behind address) (count - 1))
 unfolding first_area
 first_area_step byte address zero h = absurd (omega arith)
 first_area_step byte address (suc n) h = rw sub-one refl
 
-pub number_from_step : (byte : ℕ → Byte) (address count : ℕ) → 0 < count → number_from byte address count ≡ value_in (byte address) + 256 * number_from byte (behind address) (count - 1)
+pub number_from_step : (byte : ℕ → Byte) (address count : ℕ) → 0 < count
+    → number_from byte address count ≡ value_in (byte address) + 256 * number_from byte (behind address) (count - 1)
 unfolding number_from
 number_from_step byte address zero h = absurd (omega arith)
 number_from_step byte address (suc n) h = rw sub-one refl
@@ -32,8 +35,10 @@ pub power_small : (n : ℕ) → n ≤ 7 → 256 ^ n ≤ 2 ^ 56
 power_small n h = pow-le-pow_right (omega arith) h
 
 -- a byte after a store: the first of the stored bytes, and the others
-pub stored_step : (at width value address : ℕ) (byte : Byte) → 0 < width → stored_byte nat_eq at width value address byte
-    ≡ (if nat_eq at address then with_value byte (value % 256) else stored_byte nat_eq (behind at) (width - 1) (value / 256) address byte)
+pub stored_step : (at width value address : ℕ) (byte : Byte) → 0 < width
+    → stored_byte nat_eq at width value address byte
+    ≡ (if nat_eq at address then with_value byte (value % 256)
+    else stored_byte nat_eq (behind at) (width - 1) (value / 256) address byte)
 unfolding stored_byte
 stored_step at zero value address byte h = absurd (omega arith)
 stored_step at (suc n) value address byte h = rw sub-one refl

@@ -9,28 +9,34 @@ use Rattle.rv_exec_tests.specs.Pages.{are_words, instr_read, instrs_from, instrs
 
 -- ---- a byte of another page
 
-one_apart : (at address value : ℕ) (byte rest : Byte) → (address / 4096 ≡ at / 4096 → ⊥) → (if nat_eq at address then with_value byte value else rest) ≡ rest
+one_apart : (at address value : ℕ) (byte rest : Byte) → (address / 4096 ≡ at / 4096 → ⊥)
+    → (if nat_eq at address then with_value byte value else rest) ≡ rest
 one_apart at address value byte rest apart =
-    ap (λ test. if test then with_value byte value else rest) (ne_eqb at address (λ same. apart (ap (λ a. a / 4096) (sym same))))
+    ap (λ test. if test then with_value byte value else rest)
+    (ne_eqb at address (λ same. apart (ap (λ a. a / 4096) (sym same))))
 
-byte_apart : (at width value address : ℕ) (byte : Byte) → at < 2 ^ 64 → at % 4096 + width ≤ 4096 → (address / 4096 ≡ at / 4096 → ⊥)
+byte_apart : (at width value address : ℕ) (byte : Byte) → at < 2 ^ 64 → at % 4096 + width ≤ 4096
+    → (address / 4096 ≡ at / 4096 → ⊥)
     → stored_byte nat_eq at width value address byte ≡ byte
 unfolding stored_byte
 byte_apart at zero value address byte low inside apart = refl
 byte_apart at (suc zero) value address byte low inside apart = one_apart at address (value % 256) byte byte apart
 byte_apart at (suc (suc n)) value address byte low inside apart =
     one_apart at address (value % 256) byte (stored_byte nat_eq (behind at) (suc n) (value / 256) address byte) apart
-    ∙ byte_apart (behind at) (suc n) (value / 256) address byte (omega arith) (omega arith) (λ same. apart (same ∙ omega arith))
+    ∙ byte_apart (behind at) (suc n) (value / 256) address byte (omega arith) (omega arith)
+    (λ same. apart (same ∙ omega arith))
 
 -- ---- a word of a page, by its bytes
 
 of_four : (a b c d : Byte) (at : ℕ) → Accessed
 of_four a b c d at =
-    by_barred (or_barred a at (or_barred b (behind at) (or_barred c (behind (behind at)) (or_barred d (behind (behind (behind at))) None))))
+    by_barred (or_barred a at
+    (or_barred b (behind at) (or_barred c (behind (behind at)) (or_barred d (behind (behind (behind at))) None))))
     (by_area (or_area a (or_area b (or_area c (or_area d None))))
     (value_in a + 256 * (value_in b + 256 * (value_in c + 256 * (value_in d + 256 * 0)))))
 
-four : (f : ℕ → Byte) (at : ℕ) → loaded f at 4 ≡ of_four (f at) (f (behind at)) (f (behind (behind at))) (f (behind (behind (behind at)))) at
+four : (f : ℕ → Byte) (at : ℕ)
+    → loaded f at 4 ≡ of_four (f at) (f (behind at)) (f (behind (behind at))) (f (behind (behind (behind at)))) at
 unfolding loaded first_barred first_area number_from of_four
 four f at = refl
 
@@ -42,8 +48,10 @@ word_same : (f g : ℕ → Byte) (page : ℕ) → page < 2 ^ 52 → ((a : ℕ) �
 word_same f g page low same k below =
     let at : ℕ = 4096 * page + 4 * k in
     four f at
-    ∙ same_four (f at) (f (behind at)) (f (behind (behind at))) (f (behind (behind (behind at)))) (g at) (g (behind at)) (g (behind (behind at))) (g (behind (behind (behind at)))) at
-    (same at (omega arith)) (same (behind at) (omega arith)) (same (behind (behind at)) (omega arith)) (same (behind (behind (behind at))) (omega arith))
+    ∙ same_four (f at) (f (behind at)) (f (behind (behind at))) (f (behind (behind (behind at)))) (g at) (g (behind at))
+    (g (behind (behind at))) (g (behind (behind (behind at)))) at
+    (same at (omega arith)) (same (behind at) (omega arith)) (same (behind (behind at)) (omega arith))
+    (same (behind (behind (behind at))) (omega arith))
     ∙ sym (four g at)
 
 -- ---- a page
@@ -69,11 +77,13 @@ choice_same false test other x y p q = refl
 
 page_same : (f g : ℕ → Byte) (page : ℕ) → ((a : ℕ) → a / 4096 ≡ page → f a ≡ g a) → instrs_of f page ≡ instrs_of g page
 page_same f g page same =
-    choice_same (nat_lt page (2 ^ 52)) (are_words f (4096 * page) 1024) (are_words g (4096 * page) 1024) (instrs_from f (4096 * page) 1024) (instrs_from g (4096 * page) 1024)
+    choice_same (nat_lt page (2 ^ 52)) (are_words f (4096 * page) 1024) (are_words g (4096 * page) 1024)
+    (instrs_from f (4096 * page) 1024) (instrs_from g (4096 * page) 1024)
     (λ low. words_same f g page (ltb-true page (2 ^ 52) low) same 1024 (omega arith))
     (λ low. instrs_same f g page (ltb-true page (2 ^ 52) low) same 1024 (omega arith))
 
-pub page_apart : (code : ℕ → Byte) (at width value page : ℕ) → at < 2 ^ 64 → at % 4096 + width ≤ 4096 → (page ≡ at / 4096 → ⊥)
+pub page_apart : (code : ℕ → Byte) (at width value page : ℕ) → at < 2 ^ 64 → at % 4096 + width ≤ 4096
+    → (page ≡ at / 4096 → ⊥)
     → instrs_of (λ address. stored_byte nat_eq at width value address (code address)) page ≡ instrs_of code page
 page_apart code at width value page low inside apart =
     page_same (λ address. stored_byte nat_eq at width value address (code address)) code page

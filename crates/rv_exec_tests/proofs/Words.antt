@@ -7,7 +7,8 @@ use Rattle.rv_table.specs.Bytes.{Accessed, Byte, Value, loaded}
 use Rattle.rv_table.specs.Table.{instr_of}
 use Rattle.rv_exec_tests.specs.Pages.{are_words, instr_read, instrs_from, instrs_of, is_value}
 
-words_suc : (code : ℕ → Byte) (at n : ℕ) → are_words code at (suc n) ≡ (are_words code at n && is_value (loaded code (at + 4 * n) 4))
+words_suc : (code : ℕ → Byte) (at n : ℕ)
+    → are_words code at (suc n) ≡ (are_words code at n && is_value (loaded code (at + 4 * n) 4))
 unfolding are_words
 words_suc code at n = refl
 
@@ -27,15 +28,18 @@ no_instrs code at = refl
 pub next_word : (code : ℕ → Byte) (at n word : ℕ) → loaded code (at + 4 * n) 4 ≡ Value word → are_words code at n ≡ true
     → are_words code at (n + 1) ≡ true
 next_word code at n word is before =
-    ap (are_words code at) (add-one n) ∙ words_suc code at n ∙ and_from (are_words code at n) (is_value (loaded code (at + 4 * n) 4)) before (ap is_value is)
+    ap (are_words code at) (add-one n) ∙ words_suc code at n
+    ∙ and_from (are_words code at n) (is_value (loaded code (at + 4 * n) 4)) before (ap is_value is)
 
 pub next_instr : (code : ℕ → Byte) (at n word : ℕ) (row : List Instr) (told : Instr)
-    → loaded code (at + 4 * n) 4 ≡ Value word → told ≡ instr_of word → row ≡ instrs_from code at n → row ++ (told ∷ []) ≡ instrs_from code at (n + 1)
+    → loaded code (at + 4 * n) 4 ≡ Value word → told ≡ instr_of word → row ≡ instrs_from code at n
+    → row ++ (told ∷ []) ≡ instrs_from code at (n + 1)
 next_instr code at n word row told is of_word before =
     let last : instr_read (loaded code (at + 4 * n) 4) ≡ told = ap instr_read is ∙ sym of_word in
     sym (ap (instrs_from code at) (add-one n) ∙ instrs_suc code at n ∙ (λ i. sym before i ++ (last i ∷ [])))
 
-pub whole_page : (code : ℕ → Byte) (page : ℕ) (row : List Instr) → page < 2 ^ 52 → are_words code (4096 * page) 1024 ≡ true
+pub whole_page : (code : ℕ → Byte) (page : ℕ) (row : List Instr) → page < 2 ^ 52
+    → are_words code (4096 * page) 1024 ≡ true
     → row ≡ instrs_from code (4096 * page) 1024 → instrs_of code page ≡ Some row
 whole_page code page row low words is =
     ap (λ test. if test then Some (instrs_from code (4096 * page) 1024) else None)

@@ -75,7 +75,8 @@ of_page code page h = record {
 pub decoded : (code : ℕ → Byte) (page : ℕ) (words : List Instr) → instrs_of code page ≡ Some words
     → AreOfPage code page words
 decoded code page words h =
-    let parts = cond_some (nat_lt page (2 ^ 52) && are_words code (4096 * page) 1024) (instrs_from code (4096 * page) 1024) words h
+    let parts = cond_some (nat_lt page (2 ^ 52) && are_words code (4096 * page) 1024)
+    (instrs_from code (4096 * page) 1024) words h
     in
     subst (AreOfPage code page) parts.1
     (of_page code page (and_parts (nat_lt page (2 ^ 52)) (are_words code (4096 * page) 1024) parts.0).1)

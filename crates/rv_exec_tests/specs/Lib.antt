@@ -1,3 +1,4 @@
+-- What contracts of the tests' own memory say, by subject.
 pub mod Decoded
 pub mod MemoryAfter
 pub mod Pages

@@ -11,7 +11,8 @@ use Rattle.std.specs.BTreeMap as tree
 use Rattle.sn_base.proofs.Maps.{get_entry, one_inserted}
 
 -- a borrow ends alike by two functions of what it shows last that are alike where there is a borrow
-pub read_alike : {D E : Type 0} (r : Option (MutBor E)) (F G : E → D) (v w : D) → (IsSome r → (x : E) → F x ≡ G x) → v ≡ w → read_of (ghost_name_of r) F v ≡ read_of (ghost_name_of r) G w
+pub read_alike : {D E : Type 0} (r : Option (MutBor E)) (F G : E → D) (v w : D) → (IsSome r → (x : E) → F x ≡ G x)
+    → v ≡ w → read_of (ghost_name_of r) F v ≡ read_of (ghost_name_of r) G w
 read_alike None F G v w same rest = ap inr rest
 read_alike (Some r) F G v w same rest = ap (λ H. inl (r.ghost_name, H)) (fun_ext (same refl))
 

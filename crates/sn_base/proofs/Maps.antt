@@ -46,13 +46,15 @@ module _ {V : Type 0} where
   get-insert_same m k v = get-insert nat_cmp_total m k v k ∙ ap (λ b. cond b (Some v) (get m k)) (same_key k)
 
   pub get-insert_other : (m : FinMap nat_cmp V) (k q : ℕ) (v : V) → k ≢ q → get (insert m k v) q ≡ get m q
-  get-insert_other m k q v h = get-insert nat_cmp_total m k v q ∙ ap (λ b. cond b (Some v) (get m q)) (other_key q k (λ e. h (sym e)))
+  get-insert_other m k q v h =
+      get-insert nat_cmp_total m k v q ∙ ap (λ b. cond b (Some v) (get m q)) (other_key q k (λ e. h (sym e)))
 
   pub get-remove_same : (m : FinMap nat_cmp V) (k : ℕ) → get (remove m k) k ≡ None
   get-remove_same m k = get-remove nat_cmp_total m k k ∙ ap (λ b. cond b None (get m k)) (same_key k)
 
   pub get-remove_other : (m : FinMap nat_cmp V) (k q : ℕ) → k ≢ q → get (remove m k) q ≡ get m q
-  get-remove_other m k q h = get-remove nat_cmp_total m k q ∙ ap (λ b. cond b None (get m q)) (other_key q k (λ e. h (sym e)))
+  get-remove_other m k q h =
+      get-remove nat_cmp_total m k q ∙ ap (λ b. cond b None (get m q)) (other_key q k (λ e. h (sym e)))
 
   -- a map's answers decide each question by the two cases, that q is the key, and that it is another
   by_key : (m n : FinMap nat_cmp V) (k : ℕ) → get m k ≡ get n k → ((q : ℕ) → k ≢ q → get m q ≡ get n q) → m ≡ n
@@ -73,17 +75,23 @@ module _ {V : Type 0} where
 
   -- of two values at one key the last stays
   pub insert-insert : (m : FinMap nat_cmp V) (k : ℕ) (v w : V) → insert (insert m k v) k w ≡ insert m k w
-  insert-insert m k v w = by_key _ _ k (get-insert_same _ k w ∙ sym (get-insert_same m k w)) (λ q d. get-insert_other _ k q w d ∙ get-insert_other m k q v d ∙ sym (get-insert_other m k q w d))
+  insert-insert m k v w =
+      by_key _ _ k (get-insert_same _ k w ∙ sym (get-insert_same m k w)) (λ q d. get-insert_other _ k q w d
+      ∙ get-insert_other m k q v d ∙ sym (get-insert_other m k q w d))
 
   -- to remove what is not there changes nothing
   pub remove_absent : (m : FinMap nat_cmp V) (k : ℕ) → get m k ≡ None → remove m k ≡ m
   remove_absent m k e = by_key _ _ k (get-remove_same m k ∙ sym e) (λ q d. get-remove_other m k q d)
 
   pub remove-insert : (m : FinMap nat_cmp V) (k : ℕ) (v : V) → remove (insert m k v) k ≡ remove m k
-  remove-insert m k v = by_key _ _ k (get-remove_same _ k ∙ sym (get-remove_same m k)) (λ q d. get-remove_other _ k q d ∙ get-insert_other m k q v d ∙ sym (get-remove_other m k q d))
+  remove-insert m k v =
+      by_key _ _ k (get-remove_same _ k ∙ sym (get-remove_same m k)) (λ q d. get-remove_other _ k q d
+      ∙ get-insert_other m k q v d ∙ sym (get-remove_other m k q d))
 
   pub insert-remove : (m : FinMap nat_cmp V) (k : ℕ) (v : V) → insert (remove m k) k v ≡ insert m k v
-  insert-remove m k v = by_key _ _ k (get-insert_same _ k v ∙ sym (get-insert_same m k v)) (λ q d. get-insert_other _ k q v d ∙ get-remove_other m k q d ∙ sym (get-insert_other m k q v d))
+  insert-remove m k v =
+      by_key _ _ k (get-insert_same _ k v ∙ sym (get-insert_same m k v)) (λ q d. get-insert_other _ k q v d
+      ∙ get-remove_other m k q d ∙ sym (get-insert_other m k q v d))
 
   -- ---- the map of a list of entries
 
@@ -96,32 +104,42 @@ module _ {V : Type 0} where
   get_entry es q = get-from_entries nat_cmp_total es q ∙ find_key es q
 
   -- entries that have v at k, and are alike elsewhere
-  pub one_inserted : (es fs : List (ℕ × V)) (k : ℕ) (v : V) → ((q : ℕ) → lookup (is_at (nat_cmp q)) fs ≡ cond (is_at (nat_cmp k) q) (Some v) (lookup (is_at (nat_cmp q)) es)) → from_entries {R = nat_cmp} fs ≡ insert (from_entries es) k v
+  pub one_inserted : (es fs : List (ℕ × V)) (k : ℕ) (v : V)
+      → ((q : ℕ) → lookup (is_at (nat_cmp q)) fs ≡ cond (is_at (nat_cmp k) q) (Some v) (lookup (is_at (nat_cmp q)) es))
+      → from_entries {R = nat_cmp} fs ≡ insert (from_entries es) k v
   one_inserted es fs k v h = same_by_get _ _ (λ q.
-      get_entry fs q ∙ h q ∙ ap (λ b. cond b (Some v) (lookup (is_at (nat_cmp q)) es)) ((eq_by_cmp_equiv nat_cmp_total).symm k q)
-      ∙ sym (get-insert nat_cmp_total (from_entries es) k v q ∙ ap (cond (is_at (nat_cmp q) k) (Some v)) (get_entry es q)))
+      get_entry fs q ∙ h q
+      ∙ ap (λ b. cond b (Some v) (lookup (is_at (nat_cmp q)) es)) ((eq_by_cmp_equiv nat_cmp_total).symm k q)
+      ∙ sym (get-insert nat_cmp_total (from_entries es) k v q
+      ∙ ap (cond (is_at (nat_cmp q) k) (Some v)) (get_entry es q)))
 
   -- entries that have nothing at k, and are alike elsewhere
-  pub one_removed : (es fs : List (ℕ × V)) (k : ℕ) → ((q : ℕ) → lookup (is_at (nat_cmp q)) fs ≡ cond (is_at (nat_cmp k) q) None (lookup (is_at (nat_cmp q)) es)) → from_entries {R = nat_cmp} fs ≡ remove (from_entries es) k
+  pub one_removed : (es fs : List (ℕ × V)) (k : ℕ)
+      → ((q : ℕ) → lookup (is_at (nat_cmp q)) fs ≡ cond (is_at (nat_cmp k) q) None (lookup (is_at (nat_cmp q)) es))
+      → from_entries {R = nat_cmp} fs ≡ remove (from_entries es) k
   one_removed es fs k h = same_by_get _ _ (λ q.
-      get_entry fs q ∙ h q ∙ ap (λ b. cond b None (lookup (is_at (nat_cmp q)) es)) ((eq_by_cmp_equiv nat_cmp_total).symm k q)
+      get_entry fs q ∙ h q
+      ∙ ap (λ b. cond b None (lookup (is_at (nat_cmp q)) es)) ((eq_by_cmp_equiv nat_cmp_total).symm k q)
       ∙ sym (get-remove nat_cmp_total (from_entries es) k q ∙ ap (cond (is_at (nat_cmp q) k) None) (get_entry es q)))
 
-  put_first : (k : ℕ) (v : V) (es : List (ℕ × V)) → IsStrictlySortedBy nat_cmp (k ∷ keys_of es) → put nat_cmp k v es ≡ (k, v) ∷ es
+  put_first : (k : ℕ) (v : V) (es : List (ℕ × V)) → IsStrictlySortedBy nat_cmp (k ∷ keys_of es)
+      → put nat_cmp k v es ≡ (k, v) ∷ es
   put_first k v [] h = refl
   put_first k v (e ∷ es) h =
       let below : nat_cmp k e.0 ≡ Less = (sorted_head nat_cmp k (keys_of (e ∷ es)) h).0 in
       rw below refl
 
   -- entries with ascending keys are those of their map
-  pub entries-from_entries : (es : List (ℕ × V)) → IsStrictlySortedBy nat_cmp (keys_of es) → entries (from_entries {R = nat_cmp} es) ≡ es
+  pub entries-from_entries : (es : List (ℕ × V)) → IsStrictlySortedBy nat_cmp (keys_of es)
+      → entries (from_entries {R = nat_cmp} es) ≡ es
   entries-from_entries [] h = nil_from_length _ (sym (len-entries _) ∙ len-empty nat_cmp V)
   entries-from_entries (e ∷ es) h =
       entries-insert nat_cmp_total (from_entries es) e.0 e.1
       ∙ ap (put nat_cmp e.0 e.1) (entries-from_entries es (sorted_tail nat_cmp e.0 (keys_of es) h))
       ∙ put_first e.0 e.1 es h
 
-  pub len-from_entries : (es : List (ℕ × V)) → IsStrictlySortedBy nat_cmp (keys_of es) → len (from_entries {R = nat_cmp} es) ≡ length es
+  pub len-from_entries : (es : List (ℕ × V)) → IsStrictlySortedBy nat_cmp (keys_of es)
+      → len (from_entries {R = nat_cmp} es) ≡ length es
   len-from_entries es h = len-entries _ ∙ ap length (entries-from_entries es h)
 
   -- the map of no entries is the empty one, and of some entries another
@@ -133,4 +151,15 @@ module _ {V : Type 0} where
   )
 
 -- what a map has after each call, for `grind`
-pub ruleset map_laws = (get_of_empty, get-insert_same, get-insert_other, get-remove_same, get-remove_other, insert_same, insert-insert, remove_absent, remove-insert, insert-remove)
+pub ruleset map_laws = (
+  get_of_empty,
+  get-insert_same,
+  get-insert_other,
+  get-remove_same,
+  get-remove_other,
+  insert_same,
+  insert-insert,
+  remove_absent,
+  remove-insert,
+  insert-remove,
+)

@@ -1,3 +1,4 @@
+-- What contracts of this crate say, by subject.
 pub mod Faults
 pub mod MapLends
 pub mod Prefix

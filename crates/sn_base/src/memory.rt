@@ -1,3 +1,5 @@
+//! Want of memory, as an error of its own.
+
 use std::alloc::{AllocError, AllocFailed};
 
 /// An allocation was refused. It is the whole error of a call that can fail in no other way.

@@ -1,3 +1,5 @@
+//! Sums of counts that stop at the greatest one.
+
 ghost use Rattle.std.specs.Prelude.{◌≡◌, ◌+◌};
 ghost use Rattle.sn_base.specs.Sums.{capped};
 

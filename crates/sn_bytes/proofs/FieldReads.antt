@@ -16,7 +16,14 @@ little_number-all (suc n) (y ∷ ys) long =
     ap (λ k. y + 256 * k) (little_from-tail 0 n y ys ∙ little_number-all n ys (omega arith))
 
 -- the number in a field that is inside is what a read of its bytes gives
-pub read_inside : (width at : ℕ) (bytes part : List ℕ) → at + width ≤ length bytes → part ≡ take (at + width - at) (drop at bytes) → little_number width part ≡ field width at bytes
+pub read_inside : (width at : ℕ) (bytes part : List ℕ) → at + width ≤ length bytes
+    → part ≡ take (at + width - at) (drop at bytes) → little_number width part ≡ field width at bytes
 read_inside width at bytes part fits same =
-    let long : length part ≡ width = omega (arith, ap length same, length-take-le (at + width - at) (drop at bytes) (omega (arith, length-drop at bytes)), length-drop at bytes) in
+    let long : length part ≡ width =
+    omega (
+      arith,
+      ap length same,
+      length-take-le (at + width - at) (drop at bytes) (omega (arith, length-drop at bytes)),
+      length-drop at bytes,
+    ) in
     little_number-all width part long ∙ ap little same

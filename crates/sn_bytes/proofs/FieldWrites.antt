@@ -18,7 +18,8 @@ bytes_from : (k width n : ℕ) → bytes_low_first k width n ≡ little_bytes wi
 unfolding little_bytes
 bytes_from k zero n = refl
 bytes_from k (suc width) n =
-    let rest : bytes_low_first (suc k) width n ≡ little_bytes width (n / 256 ^ k / 256) = bytes_from (suc k) width n ∙ ap (little_bytes width) (above k n) in
+    let rest : bytes_low_first (suc k) width n ≡ little_bytes width (n / 256 ^ k / 256) =
+    bytes_from (suc k) width n ∙ ap (little_bytes width) (above k n) in
     λ i. byte_at-pow k n i ∷ rest i
 
 -- the bytes of a number
@@ -39,19 +40,25 @@ little-little_bytes (suc width) n fits =
     omega (arith, rest)
 
 -- a number at the end of some bytes reads as itself
-pub read_back : (width n : ℕ) (old new : List ℕ) → n < 256 ^ width → new ≡ old ++ little_bytes width n → field_at width (length old) new ≡ Some n
+pub read_back : (width n : ℕ) (old new : List ℕ) → n < 256 ^ width → new ≡ old ++ little_bytes width n
+    → field_at width (length old) new ≡ Some n
 read_back width n old new fits added =
     let long = length-little_bytes width n in
-    let room : length old + width ≤ length new = omega (arith, ap length added, length-append old (little_bytes width n)) in
+    let room : length old + width ≤ length new =
+    omega (arith, ap length added, length-append old (little_bytes width n)) in
     let size : length old + width - length old ≡ width = omega arith in
-    let behind : drop (length old) new ≡ little_bytes width n = ap (drop (length old)) added ∙ drop_at old (little_bytes width n) (length old) refl in
-    let whole : take width (little_bytes width n) ≡ little_bytes width n = take_all width (little_bytes width n) (omega arith) in
+    let behind : drop (length old) new ≡ little_bytes width n =
+    ap (drop (length old)) added ∙ drop_at old (little_bytes width n) (length old) refl in
+    let whole : take width (little_bytes width n) ≡ little_bytes width n =
+    take_all width (little_bytes width n) (omega arith) in
     let number : field width (length old) new ≡ n =
-    ap (λ k. little (take k (drop (length old) new))) size ∙ ap (λ bs. little (take width bs)) behind ∙ ap little whole ∙ little-little_bytes width n fits in
+    ap (λ k. little (take k (drop (length old) new))) size ∙ ap (λ bs. little (take width bs)) behind ∙ ap little whole
+    ∙ little-little_bytes width n fits in
     grind (arith, nat_tests)
 
 -- the same of a call that may be refused
-pub reads_back : {A E : Type 0} (r : Result A E) (width n : ℕ) (old new : List ℕ) → n < 256 ^ width → OnOk r (new ≡ old ++ little_bytes width n) →
+pub reads_back : {A E : Type 0} (r : Result A E) (width n : ℕ) (old new : List ℕ) → n < 256 ^ width
+    → OnOk r (new ≡ old ++ little_bytes width n) →
     OnOk r (field_at width (length old) new ≡ Some n)
 reads_back (Ok a) width n old new fits added = read_back width n old new fits added
 reads_back (Err e) width n old new fits added = tt

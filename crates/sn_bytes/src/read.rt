@@ -1,3 +1,5 @@
+//! Little-endian numbers at an offset of bytes.
+
 ghost use Rattle.std.specs.Prelude.{◌≡◌};
 ghost use Rattle.sn_bytes.specs.Fields.{field_at};
 

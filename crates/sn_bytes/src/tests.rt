@@ -1,3 +1,5 @@
+//! Numbers put as bytes and read back, and fields that are not inside.
+
 use crate::{put_u8, put_u16, put_u32, put_u64, u8_at, u16_at, u32_at, u64_at};
 use sn_base::List;
 use std::test::Fail;

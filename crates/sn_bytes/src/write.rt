@@ -1,3 +1,5 @@
+//! Little-endian numbers added at the end of bytes.
+
 ghost use Rattle.std.specs.Prelude.{◌≡◌, ◌++◌, length, OnOk, OnErr};
 ghost use Rattle.sn_bytes.specs.Fields.{field_at, little_bytes};
 

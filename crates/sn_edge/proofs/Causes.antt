@@ -19,5 +19,6 @@ one_le-rise before now (inl less) = grind (arith, nat_tests)
 one_le-rise before now (inr ends) = grind (arith, nat_tests, ends.0, ends.1)
 
 -- a call after others that left the count
-pub HasCause-after : (failed : Bool) (before early now : ℕ) → early ≡ before → HasCause failed early now → HasCause failed before now
+pub HasCause-after : (failed : Bool) (before early now : ℕ) → early ≡ before → HasCause failed early now
+    → HasCause failed before now
 HasCause-after failed before early now same cause = subst (λ (n : ℕ). HasCause failed n now) same cause

@@ -7,14 +7,16 @@ use Rattle.sn_edge.specs.declared.plan.Plan.{Plan}
 use Rattle.sn_edge.specs.Plan.{next_call, fails_next, fails_no_more}
 
 -- what is below m is below n
-all_below-more : (calls : List ℕ) (m n : ℕ) → m ≤ n → list_all (λ call. ltb call m) calls ≡ true → list_all (λ call. ltb call n) calls ≡ true
+all_below-more : (calls : List ℕ) (m n : ℕ) → m ≤ n → list_all (λ call. ltb call m) calls ≡ true
+    → list_all (λ call. ltb call n) calls ≡ true
 all_below-more [] m n le h = refl
 all_below-more (call ∷ calls) m n le h =
     let parts = and_parts (ltb call m) (list_all (λ call. ltb call m) calls) h in
     and_from _ _ (lt-ltb call n (omega (arith, ltb-true call m parts.0))) (all_below-more calls m n le parts.1)
 
 -- what is below n isn't n
-all_below-absent : (calls : List ℕ) (n : ℕ) → list_all (λ call. ltb call n) calls ≡ true → list_any (λ call. eqb call n) calls ≡ false
+all_below-absent : (calls : List ℕ) (n : ℕ) → list_all (λ call. ltb call n) calls ≡ true
+    → list_any (λ call. eqb call n) calls ≡ false
 all_below-absent [] n h = refl
 all_below-absent (call ∷ calls) n h =
     let parts = and_parts (ltb call n) (list_all (λ call. ltb call n) calls) h in
@@ -25,7 +27,8 @@ pub fails_next-fails_no_more : (plan : Plan) → fails_no_more plan ≡ true →
 fails_next-fails_no_more plan h = all_below-absent plan.failing (next_call plan) h
 
 -- and after it none does
-pub fails_no_more-step : (plan : Plan) (faults : ℕ) → fails_no_more plan ≡ true → fails_no_more (record plan { calls = next_call plan; faults = faults }) ≡ true
+pub fails_no_more-step : (plan : Plan) (faults : ℕ) → fails_no_more plan ≡ true
+    → fails_no_more (record plan { calls = next_call plan; faults = faults }) ≡ true
 fails_no_more-step plan faults h =
     all_below-more plan.failing (next_call plan) (capped (next_call plan + 1)) (omega arith) h
 

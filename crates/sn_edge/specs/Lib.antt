@@ -1,3 +1,4 @@
+-- What contracts of this crate say, by subject.
 pub mod Errors
 pub mod Taken
 pub mod Shelf

@@ -19,4 +19,5 @@ abbrev pub ReadsOpened : {F E : Type 0} → (F → Option (List ℕ)) → Option
 ReadsOpened remaining None None result buffer = IfOk result (λ n. n ≡ 0)
 ReadsOpened remaining None (Some file) result buffer = ⊥
 ReadsOpened remaining (Some file) None result buffer = ⊥
-ReadsOpened remaining (Some before) (Some now) result buffer = ReadConsumes (remaining before) (remaining now) result buffer
+ReadsOpened remaining (Some before) (Some now) result buffer =
+    ReadConsumes (remaining before) (remaining now) result buffer

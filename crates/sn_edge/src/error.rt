@@ -1,3 +1,5 @@
+//! Why a call on the outside gives no answer: it failed, or there was no memory.
+
 ghost use Rattle.std.specs.Prelude.{◌≡◌};
 ghost use Rattle.sn_edge.specs.declared.error.EdgeErr.TheVariants.{Memory};
 

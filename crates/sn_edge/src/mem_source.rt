@@ -1,3 +1,5 @@
+//! Files in memory as a source, which fails where it is told to.
+
 ghost use Rattle.std.specs.Prelude.{◌≡◌, ◌<◌, ◌≤◌, ◌++◌, ◌||◌, [], length, take, drop, min, IfOk, OnOk, OnErr, IsTrue, IsFalse, is_err, is_none, MatchOption, Some, None};
 ghost use Rattle.sn_base.specs.Faults.{HasCause};
 ghost use Rattle.sn_edge.specs.Errors.{has_failed};
@@ -34,11 +36,17 @@ impl Model for MemSource {
     ghost Value = { SourceInMemory };
 
     ghost view = { λ a. record {
-      shelf = record { files = a.files; rest = rest_of a.files a.opened a.done; reads = a.reads.count; taken = a.taken.count };
+      shelf = record {
+        files = a.files;
+        rest = rest_of a.files a.opened a.done;
+        reads = a.reads.count;
+        taken = a.taken.count;
+      };
       plan = a.plan;
     } };
 
-    ghost invariant = { λ a. ForSome a.opened (λ place. (place < length a.files) × (a.done ≤ length (content_of a.files place))) };
+    ghost invariant = { λ a. ForSome a.opened (λ place.
+        (place < length a.files) × (a.done ≤ length (content_of a.files place))) };
 }
 
 impl MemSource {
@@ -59,7 +67,8 @@ impl MemSource {
 
     /// Adds a file. Where there is one of that name already, that one counts.
     pub fn put(&mut self, alloc: Global, name: &str, content: &[u8]) -> Result<(), Memory>
-        ensures ok { OnOk result (self.new ≡ record self.old { shelf = with_file self.old.shelf name.now content.now }) }
+        ensures ok { OnOk result
+            (self.new ≡ record self.old { shelf = with_file self.old.shelf name.now content.now }) }
         ensures err { OnErr result (self.new ≡ self.old) }
     {
         self.files.push(NamedFile::new(alloc, name, content)?)
@@ -78,7 +87,8 @@ impl MemSource {
     fn take_front(&mut self, buf: &mut [u8]) -> usize
         ensures count { result ≡ min (length self.old.shelf.rest) (length buf.old) }
         ensures copied { buf.new ≡ take result self.old.shelf.rest ++ drop result buf.old }
-        ensures rest { self.new ≡ record self.old { shelf = record self.old.shelf { rest = drop result self.old.shelf.rest } } }
+        ensures rest { self.new
+            ≡ record self.old { shelf = record self.old.shelf { rest = drop result self.old.shelf.rest } } }
     {
         let Some(place) = self.opened else {
             return 0;
@@ -134,10 +144,12 @@ impl Source for MemSource {
         ensures err { OnErr result (self.new.shelf ≡ self.old.shelf) }
         ensures cause { HasCause (has_failed result) self.old.plan.faults self.new.plan.faults }
         ensures unfailing { IsTrue (fails_no_more self.old.plan) → IsTrue (fails_no_more self.new.plan) }
-        ensures succeeds { IsTrue (fails_no_more self.old.plan) → HasFile (Some self.old.shelf) name.now → IsFalse (has_failed result) }
+        ensures succeeds { IsTrue (fails_no_more self.old.plan) → HasFile (Some self.old.shelf) name.now
+            → IsFalse (has_failed result) }
 
         // It fails where the plan says so or there is no such file, and is never out of memory.
-        ensures failed { has_failed result ≡ (fails_next self.old.plan || is_none (content_at self.old.shelf.files name.now)) }
+        ensures failed { has_failed result
+            ≡ (fails_next self.old.plan || is_none (content_at self.old.shelf.files name.now)) }
         ensures no_other { is_err result ≡ has_failed result }
         ensures plan { self.new.plan ≡ after_call self.old.plan (has_failed result) }
     {

@@ -1,3 +1,5 @@
+//! A file in memory: its name and its content.
+
 ghost use Rattle.std.specs.Prelude.{◌≡◌, IfOk};
 
 use sn_base::{List, Memory};

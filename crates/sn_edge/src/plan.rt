@@ -1,3 +1,5 @@
+//! The calls of a source or a sink in memory that are to fail, and how calls and faults are counted.
+
 ghost use Rattle.std.specs.Prelude.{◌≡◌, ◌<◌, OnOk, OnErr, IsTrue, IsFalse, ◌||◌, Ok, Err, is_err, if◌then◌else◌, ◌==◌};
 ghost use Rattle.std.specs.List.{list_any};
 ghost use Rattle.sn_base.specs.Faults.{HasCause};

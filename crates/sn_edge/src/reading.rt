@@ -1,3 +1,5 @@
+//! A file read to its end, or until it is longer than a limit.
+
 ghost use Rattle.std.specs.Prelude.{◌≡◌, ◌⊎◌, ◌<◌, ◌≤◌, ◌+◌, ℕ, length, IfOk, OnOk, OnErr, IsTrue, IsFalse};
 ghost use Rattle.sn_base.specs.Faults.{HasCause};
 ghost use Rattle.sn_edge.specs.Errors.{has_failed};
@@ -47,11 +49,13 @@ pub fn read_all<S: Source>(
     ensures there { OnOk result (HasFile (S.told source.old) name.now) }
     ensures bound { IfOk result (λ bytes. length bytes ≤ limit + 1) }
     ensures content { IfOk result (λ bytes. IsFrontOfFile (S.told source.old) name.now (limit + 1) bytes) }
-    ensures ok { IfOk result (λ bytes. TakesInFew (after_open (S.told source.old) name.now) (S.told source.new) (length bytes)) }
+    ensures ok { IfOk result (λ bytes.
+        TakesInFew (after_open (S.told source.old) name.now) (S.told source.new) (length bytes)) }
     ensures told { ReadsWithin (S.told source.old) (S.told source.new) (limit + 1) }
     ensures cause { HasCause (has_failed result) (S.count source.old) (S.count source.new) }
     ensures unfailing { IsTrue (S.unfailing source.old) → IsTrue (S.unfailing source.new) }
-    ensures succeeds { IsTrue (S.unfailing source.old) → HasFile (S.told source.old) name.now → IsFalse (has_failed result) }
+    ensures succeeds { IsTrue (S.unfailing source.old) → HasFile (S.told source.old) name.now
+        → IsFalse (has_failed result) }
 {
     source.open(name)?;
     let mut bytes = List::new(alloc);

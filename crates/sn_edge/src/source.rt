@@ -1,3 +1,5 @@
+//! What a source is: files that are opened by name and read from front to end.
+
 ghost use Rattle.std.specs.Prelude.{◌≡◌, ◌<◌, ◌≤◌, ℕ, Bool, false, Option, length, IfOk, OnOk, OnErr, IsTrue, IsFalse};
 ghost use Rattle.sn_base.specs.Faults.{HasCause};
 ghost use Rattle.sn_edge.specs.Errors.{has_failed};
@@ -29,7 +31,8 @@ pub trait Source {
         ensures err { OnErr result (told self.new ≡ told self.old) }
         ensures cause { HasCause (has_failed result) (count self.old) (count self.new) }
         ensures unfailing { IsTrue (unfailing self.old) → IsTrue (unfailing self.new) }
-        ensures succeeds { IsTrue (unfailing self.old) → HasFile (told self.old) name.now → IsFalse (has_failed result) };
+        ensures succeeds { IsTrue (unfailing self.old) → HasFile (told self.old) name.now
+            → IsFalse (has_failed result) };
 
     /// Moves bytes from the front of what is left of the file last opened into the front of the buffer, and
     /// answers how many: 0, for a buffer that isn't empty, where none is left or no file is open. After an

@@ -1,3 +1,5 @@
+//! A writer of the system, such as the standard output, as a sink.
+
 ghost use Rattle.std.specs.Prelude.{◌≡◌, ◌<◌, ◌≤◌, length, take, IfOk};
 ghost use Rattle.std.specs.Io.KnownBytes.{Appends};
 ghost use Rattle.sn_base.specs.Faults.{HasCause};
@@ -60,7 +62,8 @@ impl<W: Write> Sink for StdSink<W> {
         ensures cause { HasCause (has_failed result) self.old.faults self.new.faults }
 
         // The writer got what was taken, as far as it is known what it holds.
-        ensures bytes { IfOk result (λ n. Appends (W.contents self.old.out) (W.contents self.new.out) (take n bytes.now)) }
+        ensures bytes { IfOk result (λ n.
+            Appends (W.contents self.old.out) (W.contents self.new.out) (take n bytes.now)) }
     {
         match write_through(&mut self.out, bytes) {
             Ok(count) => Ok(count),

@@ -1,3 +1,5 @@
+//! Errors of the system: which are want of memory, and which are faults and count.
+
 ghost use Rattle.std.specs.Prelude.{◌≡◌, ◌↔◌};
 ghost use Rattle.std.specs.IoError.{error_kind};
 ghost use Rattle.sn_base.specs.Faults.{HasCause};

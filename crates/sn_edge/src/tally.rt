@@ -1,3 +1,5 @@
+//! Counts that only proofs read, of the reads of a source in memory and of the bytes that they took.
+
 ghost use Rattle.std.specs.Prelude.{◌≡◌, ℕ, ◌+◌};
 ghost use Rattle.std.specs.Borrow.{ftrue};
 

@@ -1,3 +1,5 @@
+//! Sources and sinks, in memory and of the system: what they give and take, and where they fail.
+
 use super::*;
 use std::fs;
 use std::test::Fail;

@@ -44,7 +44,8 @@ found_in (first ∷ rows) h number row e = by (first.0 == number) refl e (found_
     by false other e rest = rest e
 
 -- the row behind a call that a look-up finds
-found : (number : ℕ) (call : CallNo) → call_of number ≡ Some call → (row : Row) × (row_of number ≡ Some row) × (row.1 ≡ call) × Found number row
+found : (number : ℕ) (call : CallNo) → call_of number ≡ Some call → (row : Row) × (row_of number ≡ Some row)
+    × (row.1 ≡ call) × Found number row
 unfolding call_of row_of
 found number call e = by (find (λ row. row.0 == number) calls) refl e
   where
@@ -64,7 +65,8 @@ pub name_beside : (number : ℕ) (call : CallNo) → call_of number ≡ Some cal
 unfolding known_name
 name_beside number call e =
     let f = found number call e in
-    ap (option_map (λ row. row.2)) f.1 ∙ ap (λ o. Some (option_map_or (λ row. row.2) o [])) (sym f.3.is_first) ∙ ap (λ c. Some (name_for c)) f.2
+    ap (option_map (λ row. row.2)) f.1 ∙ ap (λ o. Some (option_map_or (λ row. row.2) o [])) (sym f.3.is_first)
+    ∙ ap (λ c. Some (name_for c)) f.2
 
 -- a call with a name is printed as that name
 pub printed_known : (number : ℕ) (name : List ℕ) → known_name number ≡ Some name → call_name number ≡ name
@@ -77,6 +79,7 @@ unfolding call_of known_name call_name
 printed_unknown number h = by (row_of number) refl h
   where
     by : (o : Option Row) → row_of number ≡ o → option_map (λ row. row.1) o ≡ None
-        → unwrap_or (option_map (λ row. row.2) (row_of number)) (codes "call" ++ decimal number) ≡ codes "call" ++ decimal number
+        → unwrap_or (option_map (λ row. row.2) (row_of number)) (codes "call" ++ decimal number)
+        ≡ codes "call" ++ decimal number
     by None e h = ap (λ o. unwrap_or (option_map (λ row. row.2) o) (codes "call" ++ decimal number)) e
     by (Some row) e h = cc

@@ -1,3 +1,5 @@
+//! The table of system calls: names and numbers.
+
 ghost use Rattle.std.specs.Prelude.{◌≡◌, ℕ};
 ghost use Rattle.sn_errno.specs.Calls.{call_of, known_name};
 
@@ -126,7 +128,9 @@ impl CallNo {
     }
 
     /// The call's number.
-    #[tactic(auto, using(crate::proofs::CallLaws::only_number), unfolding(crate::specs::Calls::call_of, crate::specs::Calls::row_of))]
+    #[rattlefmt::skip]
+    #[tactic(auto, using(crate::proofs::CallLaws::only_number),
+        unfolding(crate::specs::Calls::call_of, crate::specs::Calls::row_of))]
     pub fn number(self) -> u64
         ensures row { call_of result ≡ Some self }
         ensures only { (number : ℕ) → call_of number ≡ Some self → number ≡ result }

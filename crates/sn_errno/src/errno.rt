@@ -1,3 +1,5 @@
+//! The errors of system calls: names and numbers.
+
 ghost use Rattle.std.specs.Prelude.{◌≡◌};
 ghost use Rattle.sn_errno.specs.Errors.{number_of};
 

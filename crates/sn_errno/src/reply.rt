@@ -1,3 +1,5 @@
+//! What a system call leaves in a0.
+
 ghost use Rattle.std.specs.Prelude.{◌≡◌};
 ghost use Rattle.sn_errno.specs.Errors.{reply_of};
 

@@ -6,7 +6,8 @@ use Rattle.sn_text.specs.declared.fault.NameFault.TheVariants.{Empty, Long, Slas
 
 -- want of memory is no fault of the bytes
 five_choices : (a b c d e : Bool) →
-    (if a then Some Empty else if b then Some Long else if c then Some Slash else if d then Some Nul else if e then Some Dot else None) ≡ Some Memory → ⊥
+    (if a then Some Empty else if b then Some Long else if c then Some Slash else if d then Some Nul else if e
+    then Some Dot else None) ≡ Some Memory → ⊥
 five_choices true b c d e h = cc
 five_choices false true c d e h = cc
 five_choices false false true d e h = cc

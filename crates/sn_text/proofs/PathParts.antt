@@ -64,18 +64,23 @@ first_piece [] = record { pieces = []; split = refl; others = refl }
 first_piece (x ∷ path) = one_byte (is_slash x) x _ path refl (first_piece path)
 
 -- what `position` tells of the first place that passes
-found : {X : Type 0} (p : X → Bool) (xs : List X) (i : ℕ) → position p xs ≡ Some i → (i ≡ position_or_len p xs) × (i < length xs)
+found : {X : Type 0} (p : X → Bool) (xs : List X) (i : ℕ) → position p xs ≡ Some i
+    → (i ≡ position_or_len p xs) × (i < length xs)
 found p xs i h = grind (arith, nat_tests)
 
 missing : {X : Type 0} (p : X → Bool) (xs : List X) → position p xs ≡ None → position_or_len p xs ≡ length xs
-missing p xs h = let le : position_or_len p xs ≤ length xs = prefix_len-le-length (λ x. not (p x)) xs in grind (arith, nat_tests)
+missing p xs h = let le : position_or_len p xs ≤ length xs =
+    prefix_len-le-length (λ x. not (p x)) xs in grind (arith, nat_tests)
 
-position-or_length : {X : Type 0} (p : X → Bool) (xs : List X) → unwrap_or (position p xs) (length xs) ≡ position_or_len p xs
-position-or_length p xs = let le : position_or_len p xs ≤ length xs = prefix_len-le-length (λ x. not (p x)) xs in grind (arith, nat_tests)
+position-or_length : {X : Type 0} (p : X → Bool) (xs : List X)
+    → unwrap_or (position p xs) (length xs) ≡ position_or_len p xs
+position-or_length p xs = let le : position_or_len p xs ≤ length xs =
+    prefix_len-le-length (λ x. not (p x)) xs in grind (arith, nat_tests)
 
 -- a path of slashes alone has no parts
 pub no_parts : (path : List ℕ) → position no_slash path ≡ None → parts_of path ≡ []
-no_parts path h = parts_of-drop_slashes path ∙ ap parts_of (ap (λ n. drop n path) (missing no_slash path h) ∙ drop-length path)
+no_parts path h =
+    parts_of-drop_slashes path ∙ ap parts_of (ap (λ n. drop n path) (missing no_slash path h) ∙ drop-length path)
 
 -- a first piece that has a byte is the first part
 kept_first : (m k y : ℕ) (ys : List ℕ) (pieces : List (List ℕ)) → m ≡ suc k →
@@ -87,7 +92,8 @@ begun_part : (y : ℕ) (ys : List ℕ) → is_slash y ≡ false → let end = po
 begun_part y ys e =
     let first = first_piece (y ∷ ys) in
     let long : position_or_len is_slash (y ∷ ys) ≡ suc (position_or_len is_slash ys) = rw (e, one-add) refl in
-    ap (filter is_part) first.split ∙ kept_first _ _ y ys first.pieces long ∙ ap (λ rest. take (position_or_len is_slash (y ∷ ys)) (y ∷ ys) ∷ rest) first.others
+    ap (filter is_part) first.split ∙ kept_first _ _ y ys first.pieces long
+    ∙ ap (λ rest. take (position_or_len is_slash (y ∷ ys)) (y ∷ ys) ∷ rest) first.others
 
 begun_part_at : (path : List ℕ) (y : ℕ) (ys : List ℕ) (end : ℕ) → path ≡ y ∷ ys → is_slash y ≡ false →
     end ≡ position_or_len is_slash path → parts_of path ≡ take end path ∷ parts_of (drop end path)

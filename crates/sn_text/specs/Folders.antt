@@ -1,3 +1,4 @@
+-- Where a folder lies, as a record.
 use Rattle.std.specs.Prelude.{ℕ, List, Bool, refl}
 use Rattle.std.specs.Coded.{Coded, code_by, coded×, coded_bool, coded_list, coded_ℕ}
 
@@ -11,4 +12,5 @@ pub record FolderPath : Type 0 where
 -- of this project's own: profile
 abbrev pub folder_path_code : Coded FolderPath
 folder_path_code =
-    code_by (Bool × List (List ℕ)) (coded× coded_bool (coded_list (coded_list coded_ℕ))) (λ f. (f.rooted, f.names)) (λ p. record { rooted = p.0; names = p.1 }) (λ _. refl)
+    code_by (Bool × List (List ℕ)) (coded× coded_bool (coded_list (coded_list coded_ℕ))) (λ f. (f.rooted, f.names))
+    (λ p. record { rooted = p.0; names = p.1 }) (λ _. refl)

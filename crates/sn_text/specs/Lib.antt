@@ -1,3 +1,4 @@
+-- What contracts of this crate say, by subject.
 pub mod Names
 pub mod Paths
 pub mod Folders

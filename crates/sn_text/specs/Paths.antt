@@ -1,3 +1,4 @@
+-- The parts of a path.
 use Rattle.std.specs.Prelude.{ℕ, nat_eq, List, [], ◌∷◌, Bool, true, false, filter}
 use Rattle.std.specs.List.{slice_split}
 

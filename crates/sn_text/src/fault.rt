@@ -1,3 +1,5 @@
+//! Why bytes are no name, and which of their faults is told.
+
 ghost use Rattle.std.specs.Prelude.{◌≡◌};
 ghost use Rattle.sn_text.specs.Names.{name_fault_of};
 ghost use Rattle.sn_text.specs.declared.fault.NameFault.TheVariants.{Memory as WantOfMemory};

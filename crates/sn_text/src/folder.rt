@@ -1,3 +1,5 @@
+//! Folders: where they lie, from the root or from where one stands.
+
 ghost use Rattle.std.specs.Prelude.{◌≡◌, ◌<◌, length, IfOk};
 
 use crate::route::Route;

@@ -1,3 +1,5 @@
+//! Names: single components of a path.
+
 ghost use Rattle.std.specs.Prelude.{◌≡◌, ◌↔◌, IsTrue, IfOk, IfErr};
 ghost use Rattle.sn_text.specs.Names.{name_fault_of, IsName, IsFaultOf};
 ghost use Rattle.sn_text.specs.declared.fault.NameFault.{NameFault as Fault};

@@ -1,3 +1,5 @@
+//! A path divided at its slashes.
+
 ghost use Rattle.std.specs.Prelude.{◌≡◌, ◌^◌, ◌<◌, length};
 ghost use Rattle.sn_text.specs.Paths.{parts_of};
 

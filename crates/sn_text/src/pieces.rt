@@ -1,3 +1,5 @@
+//! The parts of a path, one after another.
+
 ghost use Rattle.std.specs.Prelude.{◌≡◌, ◌^◌, ◌<◌, length, nat_eq, not, position, [], ◌∷◌, MatchOption};
 ghost use Rattle.std.specs.Iterator.{YieldsFirstBy, item_count};
 ghost use Rattle.sn_text.specs.Paths.{parts_of};
@@ -47,7 +49,8 @@ fn first_slash(path: &[u8]) -> Option<usize>
 // The first part of a path, and what stands behind it.
 #[tactic(auto, using(crate::proofs::PathParts::no_parts, crate::proofs::PathParts::first_part))]
 fn split_part(path: &[u8]) -> Option<(&[u8], &[u8])>
-    ensures { MatchOption result (parts_of path.now ≡ []) (λ split. parts_of path.now ≡ split.0.now ∷ parts_of split.1.now) }
+    ensures { MatchOption result (parts_of path.now ≡ []) (λ split.
+        parts_of path.now ≡ split.0.now ∷ parts_of split.1.now) }
 {
     let start = part_start(path)?;
     let (_, begun) = path.split_at(start);

@@ -1,3 +1,5 @@
+//! Routes: names that lead from a directory down to a file.
+
 ghost use Rattle.std.specs.Prelude.{◌≡◌, ◌<◌, ◌↔◌, [], ◌∷◌, ◌++◌, length, All, IsTrue, IfOk, OnOk, OnErr};
 ghost use Rattle.std.specs.Slice.{IsItemAt};
 ghost use Rattle.sn_text.specs.Names.{IsName};

@@ -1,3 +1,5 @@
+//! Texts: any bytes, as arguments of a program and what symbolic links hold.
+
 ghost use Rattle.std.specs.Prelude.{◌≡◌, ◌<◌, [], ◌++◌, length, IfOk, OnOk, OnErr};
 
 use sn_base::Memory;

@@ -1,3 +1,5 @@
+//! An image made of a program's words, field by field of its headers.
+
 ghost use Rattle.std.specs.Prelude.{◌≡◌, IfOk};
 ghost use Rattle.sn_vectors.specs.Images.{image};
 

@@ -1,3 +1,5 @@
+//! What is made of words is what a linker makes of them, byte by byte.
+
 use crate::image_of;
 use crate::images::GUEST;
 use crate::programs::{ATOMICS, STORES, WRITES_NOTHING};

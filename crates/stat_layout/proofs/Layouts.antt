@@ -62,7 +62,8 @@ cut bytes zeros end past inside =
 pub dirent_laid_out : (ino next : ℕ) (kind : FileKind) (name : List ℕ) → length name ≤ 255 →
     take (dirent_length (length name))
     (placed 19 name (placed 18 (little_bytes 1 (entry_type kind))
-    (placed 16 (little_bytes 2 (dirent_length (length name))) (placed 8 (little_bytes 8 next) (placed 0 (little_bytes 8 ino) (replicate 280 0))))))
+    (placed 16 (little_bytes 2 (dirent_length (length name)))
+    (placed 8 (little_bytes 8 next) (placed 0 (little_bytes 8 ino) (replicate 280 0))))))
     ≡ dirent_record (record { ino = ino; next = next; kind = kind; name = name })
 unfolding head dirent_record
 dirent_laid_out ino next kind name short =

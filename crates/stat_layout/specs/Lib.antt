@@ -1,3 +1,4 @@
+-- What contracts of this crate say, by subject.
 pub mod Kinds
 pub mod Places
 pub mod Stats

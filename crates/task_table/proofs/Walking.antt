@@ -22,11 +22,13 @@ use Rattle.task_table.proofs.Endings.{ended_along_live, ended_twice, live_stays}
 -- ---- walks over numbers
 
 -- the entries of the first i numbers were changed in turn, and those of them that stay stand in the first k places
-pub record WalkedAlong {V : Type 0} (f : ℕ → V → V) (stays : ℕ → Bool) (m : FinMap nat_cmp V) (xs : List ℕ) (now : FinMap nat_cmp V) (ys : List ℕ) (k i : ℕ) : Type 0 where
+pub record WalkedAlong {V : Type 0} (f : ℕ → V → V) (stays : ℕ → Bool) (m : FinMap nat_cmp V) (xs : List ℕ)
+    (now : FinMap nat_cmp V) (ys : List ℕ) (k i : ℕ) : Type 0 where
   pub changed : now ≡ changed_along f m (take i xs)
   pub staying : FiltersInPlace stays xs ys k i
 
-module _ {V : Type 0} {f : ℕ → V → V} {stays : ℕ → Bool} {m : FinMap nat_cmp V} {xs : List ℕ} {now : FinMap nat_cmp V} {ys : List ℕ} {k i : ℕ} where
+module _ {V : Type 0} {f : ℕ → V → V} {stays : ℕ → Bool} {m : FinMap nat_cmp V} {xs : List ℕ} {now : FinMap nat_cmp V}
+    {ys : List ℕ} {k i : ℕ} where
   inside : WalkedAlong f stays m xs now ys k i → i < length ys → i < length xs
   inside w within = omega (arith, w.staying.long)
 
@@ -36,19 +38,24 @@ module _ {V : Type 0} {f : ℕ → V → V} {stays : ℕ → Bool} {m : FinMap n
       is ∙ get_or_default ys i n 0 within
       ∙ ap (λ l. get_or l 0 0) (sym (drop_more ys i 0 within) ∙ w.staying.rest ∙ drop_more xs i 0 (inside w within))
 
-  changed_more : WalkedAlong f stays m xs now ys k i → i < length ys → (n : ℕ) → n ≡ get_or ys i n → changed_at (f n) now n ≡ changed_along f m (take (i + 1) xs)
+  changed_more : WalkedAlong f stays m xs now ys k i → i < length ys → (n : ℕ) → n ≡ get_or ys i n
+      → changed_at (f n) now n ≡ changed_along f m (take (i + 1) xs)
   changed_more w within n is =
       ap (λ old. changed_at (f n) old n) w.changed
       ∙ ap (λ q. changed_at (f q) (changed_along f m (take i xs)) q) (read_at w within n is)
       ∙ sym (changed_along_more f m xs i (inside w within))
 
   -- a number that is dropped
-  pub WalkedAlong-dropped : WalkedAlong f stays m xs now ys k i → i < length ys → (n : ℕ) → n ≡ get_or ys i n → stays n ≡ false → WalkedAlong f stays m xs (changed_at (f n) now n) ys k (i + 1)
-  WalkedAlong-dropped w within n is goes = record { changed = changed_more w within n is; staying = FiltersInPlace-more_no w.staying within goes is }
+  pub WalkedAlong-dropped : WalkedAlong f stays m xs now ys k i → i < length ys → (n : ℕ) → n ≡ get_or ys i n
+      → stays n ≡ false → WalkedAlong f stays m xs (changed_at (f n) now n) ys k (i + 1)
+  WalkedAlong-dropped w within n is goes =
+      record { changed = changed_more w within n is; staying = FiltersInPlace-more_no w.staying within goes is }
 
   -- a number that stays
-  pub WalkedAlong-stays : WalkedAlong f stays m xs now ys k i → i < length ys → (n : ℕ) → n ≡ get_or ys i n → stays n ≡ true → WalkedAlong f stays m xs (changed_at (f n) now n) (set ys k n) (k + 1) (i + 1)
-  WalkedAlong-stays w within n is here = record { changed = changed_more w within n is; staying = FiltersInPlace-more_set w.staying within here is }
+  pub WalkedAlong-stays : WalkedAlong f stays m xs now ys k i → i < length ys → (n : ℕ) → n ≡ get_or ys i n
+      → stays n ≡ true → WalkedAlong f stays m xs (changed_at (f n) now n) (set ys k n) (k + 1) (i + 1)
+  WalkedAlong-stays w within n is here =
+      record { changed = changed_more w within n is; staying = FiltersInPlace-more_set w.staying within here is }
 
 -- ---- the walk over the live tasks
 
@@ -57,7 +64,8 @@ abbrev pub answer : FinMap nat_cmp Task → ℕ → EndedTask
 answer tasks n = record { task = n; clear = clear_of tasks n }
 
 -- of the first i live numbers those that leave have ended and are answered, and the others stand in the first k places
-pub record Walked (which : Leaving) (tasks : FinMap nat_cmp Task) (xs : List ℕ) (now : FinMap nat_cmp Task) (ys : List ℕ) (k : ℕ) (ended : List EndedTask) (i : ℕ) : Type 0 where
+pub record Walked (which : Leaving) (tasks : FinMap nat_cmp Task) (xs : List ℕ) (now : FinMap nat_cmp Task)
+    (ys : List ℕ) (k : ℕ) (ended : List EndedTask) (i : ℕ) : Type 0 where
   pub along : WalkedAlong (ended_if (is_leaving which)) (λ n. not (leaves which tasks n)) tasks xs now ys k i
   pub answered : ended ≡ map (answer tasks) (filter (leaves which tasks) (take i xs))
   pub count : length ended + k ≡ i
@@ -65,7 +73,8 @@ pub record Walked (which : Leaving) (tasks : FinMap nat_cmp Task) (xs : List ℕ
 -- ---- what the walk doesn't change
 
 -- whether a call ends a task doesn't depend on whether it lives
-still_leaving : (which : Leaving) (n : ℕ) (c : Task) → is_leaving which n (ended_if (is_leaving which) n c) ≡ is_leaving which n c
+still_leaving : (which : Leaving) (n : ℕ) (c : Task)
+    → is_leaving which n (ended_if (is_leaving which) n c) ≡ is_leaving which n c
 still_leaving which n c = at which (is_leaving which n c)
   where
     at : (w : Leaving) (b : Bool) → is_leaving w n (cond b (record c { live = false }) c) ≡ is_leaving w n c
@@ -74,16 +83,26 @@ still_leaving which n c = at which (is_leaving which n c)
     at w false = refl
 
 same_clear : (which : Leaving) (n : ℕ) (c : Task) → (ended_if (is_leaving which) n c).clear ≡ c.clear
-same_clear which n c = elim (is_leaving which n c) as (λ b. (cond b (record c { live = false }) c).clear ≡ c.clear) [ true ↦ refl | false ↦ refl ]
+same_clear which n c =
+    elim (is_leaving which n c) as (λ b. (cond b (record c { live = false }) c).clear ≡ c.clear) [
+      | true ↦ refl
+      | false ↦
+          refl
+    ]
 
-leaves_along : (which : Leaving) (tasks : FinMap nat_cmp Task) (ns : List ℕ) (n : ℕ) → leaves which (changed_along (ended_if (is_leaving which)) tasks ns) n ≡ leaves which tasks n
+leaves_along : (which : Leaving) (tasks : FinMap nat_cmp Task) (ns : List ℕ) (n : ℕ)
+    → leaves which (changed_along (ended_if (is_leaving which)) tasks ns) n ≡ leaves which tasks n
 leaves_along which tasks ns n =
-    ap (λ o. option_map_or (is_leaving which n) o false) (get-changed_along (ended_if (is_leaving which)) (ended_twice (is_leaving which)) tasks ns n)
-    ∙ alike (ended_if (is_leaving which) n) (is_leaving which n) false (still_leaving which n) (list_any _ ns) (get tasks n)
+    ap (λ o. option_map_or (is_leaving which n) o false)
+    (get-changed_along (ended_if (is_leaving which)) (ended_twice (is_leaving which)) tasks ns n)
+    ∙ alike (ended_if (is_leaving which) n) (is_leaving which n) false (still_leaving which n)
+    (list_any _ ns) (get tasks n)
 
-clear_along : (which : Leaving) (tasks : FinMap nat_cmp Task) (ns : List ℕ) (n : ℕ) → clear_of (changed_along (ended_if (is_leaving which)) tasks ns) n ≡ clear_of tasks n
+clear_along : (which : Leaving) (tasks : FinMap nat_cmp Task) (ns : List ℕ) (n : ℕ)
+    → clear_of (changed_along (ended_if (is_leaving which)) tasks ns) n ≡ clear_of tasks n
 clear_along which tasks ns n =
-    ap (λ o. option_map_or (λ (c : Task). c.clear) o 0) (get-changed_along (ended_if (is_leaving which)) (ended_twice (is_leaving which)) tasks ns n)
+    ap (λ o. option_map_or (λ (c : Task). c.clear) o 0)
+    (get-changed_along (ended_if (is_leaving which)) (ended_twice (is_leaving which)) tasks ns n)
     ∙ alike (ended_if (is_leaving which) n) (λ (c : Task). c.clear) 0 (same_clear which n) (list_any _ ns) (get tasks n)
 
 -- ---- the walk's steps
@@ -96,18 +115,26 @@ told_none : {A : Type 0} (b : Bool) (x : A) → cond b (Some x) None ≡ None �
 told_none true x e = absurd (cc e)
 told_none false x e = refl
 
-leaving_more : (which : Leaving) (tasks : FinMap nat_cmp Task) (xs : List ℕ) (i n : ℕ) (b : Bool) → i < length xs → n ≡ get_or xs i 0 → leaves which tasks n ≡ b → filter (leaves which tasks) (take (i + 1) xs) ≡ filter (leaves which tasks) (take i xs) ++ cond b (n ∷ []) []
+leaving_more : (which : Leaving) (tasks : FinMap nat_cmp Task) (xs : List ℕ) (i n : ℕ) (b : Bool) → i < length xs
+    → n ≡ get_or xs i 0 → leaves which tasks n ≡ b → filter (leaves which tasks) (take (i + 1) xs)
+    ≡ filter (leaves which tasks) (take i xs) ++ cond b (n ∷ []) []
 leaving_more which tasks xs i n b within is told =
     filter_more (leaves which tasks) xs i 0 within
-    ∙ ap (λ ns. filter (leaves which tasks) (take i xs) ++ ns) (ap (λ q. cond (leaves which tasks q) (q ∷ []) []) (sym is) ∙ ap (λ a. cond a (n ∷ []) []) told)
+    ∙ ap (λ ns. filter (leaves which tasks) (take i xs) ++ ns)
+    (ap (λ q. cond (leaves which tasks q) (q ∷ []) []) (sym is) ∙ ap (λ a. cond a (n ∷ []) []) told)
 
-module _ {which : Leaving} {tasks : FinMap nat_cmp Task} {xs : List ℕ} {now : FinMap nat_cmp Task} {ys : List ℕ} {k : ℕ} {ended : List EndedTask} {i : ℕ} where
+module _ {which : Leaving} {tasks : FinMap nat_cmp Task} {xs : List ℕ} {now : FinMap nat_cmp Task} {ys : List ℕ} {k : ℕ}
+    {ended : List EndedTask} {i : ℕ} where
   -- what it is told of a task is what holds before the walk
-  told_before : Walked which tasks xs now ys k ended i → (n : ℕ) (b : Bool) → leaves which now n ≡ b → leaves which tasks n ≡ b
-  told_before w n b told = sym (leaves_along which tasks (take i xs) n) ∙ ap (λ m. leaves which m n) (sym w.along.changed) ∙ told
+  told_before : Walked which tasks xs now ys k ended i → (n : ℕ) (b : Bool) → leaves which now n ≡ b
+      → leaves which tasks n ≡ b
+  told_before w n b told =
+      sym (leaves_along which tasks (take i xs) n) ∙ ap (λ m. leaves which m n) (sym w.along.changed) ∙ told
 
   -- a task that leaves
-  pub Walked-leaves : Walked which tasks xs now ys k ended i → i < length ys → (n : ℕ) → n ≡ get_or ys i n → (o : Option EndedTask) → o ≡ cond (leaves which now n) (Some (answer now n)) None → (e : EndedTask) → o ≡ Some e → Walked which tasks xs (changed_at (ended_if (is_leaving which) n) now n) ys k (ended ++ e ∷ []) (i + 1)
+  pub Walked-leaves : Walked which tasks xs now ys k ended i → i < length ys → (n : ℕ) → n ≡ get_or ys i n
+      → (o : Option EndedTask) → o ≡ cond (leaves which now n) (Some (answer now n)) None → (e : EndedTask) → o ≡ Some e
+      → Walked which tasks xs (changed_at (ended_if (is_leaving which) n) now n) ys k (ended ++ e ∷ []) (i + 1)
   Walked-leaves w within n is o told e some =
       let before = filter (leaves which tasks) (take i xs) in
       let stood = read_at w.along within n is in
@@ -118,31 +145,38 @@ module _ {which : Leaving} {tasks : FinMap nat_cmp Task} {xs : List ℕ} {now : 
         along = WalkedAlong-dropped w.along within n is (ap not leaving);
         answered = ap (λ es. es ++ e ∷ []) w.answered
             ∙ ap (λ x. map (answer tasks) before ++ x ∷ []) (here.1 ∙ ap (λ a. record { task = n; clear = a }) clear)
-            ∙ sym (ap (map (answer tasks)) (leaving_more which tasks xs i n true (inside w.along within) stood leaving) ∙ map-append (answer tasks) before (n ∷ []));
+            ∙ sym (ap (map (answer tasks)) (leaving_more which tasks xs i n true (inside w.along within) stood leaving)
+            ∙ map-append (answer tasks) before (n ∷ []));
         count = omega (arith, w.count, length_push ended e);
       }
 
   -- a task that stays
-  pub Walked-stays : Walked which tasks xs now ys k ended i → i < length ys → (n : ℕ) → n ≡ get_or ys i n → (o : Option EndedTask) → o ≡ cond (leaves which now n) (Some (answer now n)) None → o ≡ None → Walked which tasks xs (changed_at (ended_if (is_leaving which) n) now n) (set ys k n) (k + 1) ended (i + 1)
+  pub Walked-stays : Walked which tasks xs now ys k ended i → i < length ys → (n : ℕ) → n ≡ get_or ys i n
+      → (o : Option EndedTask) → o ≡ cond (leaves which now n) (Some (answer now n)) None → o ≡ None
+      → Walked which tasks xs (changed_at (ended_if (is_leaving which) n) now n) (set ys k n) (k + 1) ended (i + 1)
   Walked-stays w within n is o told none =
       let before = filter (leaves which tasks) (take i xs) in
       let stood = read_at w.along within n is in
       let here = told_before w n false (told_none (leaves which now n) (answer now n) (sym told ∙ none)) in
       record {
         along = WalkedAlong-stays w.along within n is (ap not here);
-        answered = w.answered ∙ ap (map (answer tasks)) (sym (leaving_more which tasks xs i n false (inside w.along within) stood here ∙ append-nil before));
+        answered = w.answered
+            ∙ ap (map (answer tasks))
+            (sym (leaving_more which tasks xs i n false (inside w.along within) stood here ∙ append-nil before));
         count = omega (arith, w.count);
       }
 
   -- ---- its end
 
-  pub tasks_walked : Walked which tasks xs now ys k ended i → length xs ≤ i → xs ≡ live_numbers tasks → now ≡ ended_where (is_leaving which) tasks
+  pub tasks_walked : Walked which tasks xs now ys k ended i → length xs ≤ i → xs ≡ live_numbers tasks
+      → now ≡ ended_where (is_leaving which) tasks
   tasks_walked w past live =
       w.along.changed
       ∙ ap (changed_along (ended_if (is_leaving which)) tasks) (take_all i xs past ∙ live)
       ∙ ended_along_live (is_leaving which) tasks
 
-  pub live_walked : Walked which tasks xs now ys k ended i → length xs ≤ i → xs ≡ live_numbers tasks → take k ys ≡ live_numbers now
+  pub live_walked : Walked which tasks xs now ys k ended i → length xs ≤ i → xs ≡ live_numbers tasks
+      → take k ys ≡ live_numbers now
   live_walked w past live =
       FiltersInPlace-all w.along.staying past
       ∙ ap (filter (λ n. not (leaves which tasks n))) live

@@ -7,9 +7,12 @@ use task_table::{ReapEnd, Status};
 const FORKS_OF_FORKS: [Row; 5] = [
     Row { call: Call::Open, tasks: &[(1, 1, true)], groups: &[(1, 0, None)] },
     Row { call: Call::Fork(1), tasks: &[(1, 1, true), (2, 2, true)], groups: &[(1, 0, None), (2, 1, None)] },
-    Row { call: Call::Fork(2), tasks: &[(1, 1, true), (2, 2, true), (3, 3, true)], groups: &[(1, 0, None), (2, 1, None), (3, 2, None)] },
-    Row { call: Call::Thread(3), tasks: &[(1, 1, true), (2, 2, true), (3, 3, true), (4, 3, true)], groups: &[(1, 0, None), (2, 1, None), (3, 2, None)] },
-    Row { call: Call::Fork(4), tasks: &[(1, 1, true), (2, 2, true), (3, 3, true), (4, 3, true), (5, 5, true)], groups: &[(2, 1, None), (3, 2, None), (5, 3, None)] },
+    Row { call: Call::Fork(2), tasks: &[(1, 1, true), (2, 2, true), (3, 3, true)],
+        groups: &[(1, 0, None), (2, 1, None), (3, 2, None)] },
+    Row { call: Call::Thread(3), tasks: &[(1, 1, true), (2, 2, true), (3, 3, true), (4, 3, true)],
+        groups: &[(1, 0, None), (2, 1, None), (3, 2, None)] },
+    Row { call: Call::Fork(4), tasks: &[(1, 1, true), (2, 2, true), (3, 3, true), (4, 3, true), (5, 5, true)],
+        groups: &[(2, 1, None), (3, 2, None), (5, 3, None)] },
 ];
 
 #[test]
@@ -24,7 +27,8 @@ const THREADS_AND_LEADER: [Row; 6] = [
     Row { call: Call::Exit(2, 7), tasks: &[(1, 1, true), (2, 1, false)], groups: &[(1, 0, None)] },
     Row { call: Call::Thread(1), tasks: &[(1, 1, true), (2, 1, false), (3, 1, true)], groups: &[(1, 0, None)] },
     Row { call: Call::Exit(1, 3), tasks: &[(1, 1, false), (2, 1, false), (3, 1, true)], groups: &[(1, 0, None)] },
-    Row { call: Call::Exit(3, 5), tasks: &[(1, 1, false), (2, 1, false), (3, 1, false)], groups: &[(1, 0, Some(Status::Exited(5)))] },
+    Row { call: Call::Exit(3, 5), tasks: &[(1, 1, false), (2, 1, false), (3, 1, false)],
+        groups: &[(1, 0, Some(Status::Exited(5)))] },
 ];
 
 #[test]
@@ -36,10 +40,14 @@ fn a_group_ends_with_its_last_thread_whoever_that_is(rt: HostRuntime) -> Result<
 const ORPHAN_OUTLIVES: [Row; 6] = [
     Row { call: Call::Open, tasks: &[(1, 1, true)], groups: &[(1, 0, None)] },
     Row { call: Call::Fork(1), tasks: &[(1, 1, true), (2, 2, true)], groups: &[(2, 1, None)] },
-    Row { call: Call::Fork(2), tasks: &[(1, 1, true), (2, 2, true), (3, 3, true)], groups: &[(2, 1, None), (3, 2, None)] },
-    Row { call: Call::Exit(2, 1), tasks: &[(1, 1, true), (2, 2, false), (3, 3, true)], groups: &[(2, 1, Some(Status::Exited(1))), (3, 0, None)] },
-    Row { call: Call::Exit(3, 2), tasks: &[(1, 1, true), (2, 2, false), (3, 3, false)], groups: &[(2, 1, Some(Status::Exited(1))), (3, 0, Some(Status::Exited(2)))] },
-    Row { call: Call::Reap(1, Some(3), ReapEnd::NoChild), tasks: &[(1, 1, true), (2, 2, false), (3, 3, false)], groups: &[(3, 0, Some(Status::Exited(2)))] },
+    Row { call: Call::Fork(2), tasks: &[(1, 1, true), (2, 2, true), (3, 3, true)],
+        groups: &[(2, 1, None), (3, 2, None)] },
+    Row { call: Call::Exit(2, 1), tasks: &[(1, 1, true), (2, 2, false), (3, 3, true)],
+        groups: &[(2, 1, Some(Status::Exited(1))), (3, 0, None)] },
+    Row { call: Call::Exit(3, 2), tasks: &[(1, 1, true), (2, 2, false), (3, 3, false)],
+        groups: &[(2, 1, Some(Status::Exited(1))), (3, 0, Some(Status::Exited(2)))] },
+    Row { call: Call::Reap(1, Some(3), ReapEnd::NoChild), tasks: &[(1, 1, true), (2, 2, false), (3, 3, false)],
+        groups: &[(3, 0, Some(Status::Exited(2)))] },
 ];
 
 #[test]
@@ -52,10 +60,14 @@ const ENDED_CHILD_OF_AN_ENDED_PARENT: [Row; 7] = [
     Row { call: Call::Open, tasks: &[(1, 1, true)], groups: &[(1, 0, None)] },
     Row { call: Call::Fork(1), tasks: &[(1, 1, true), (2, 2, true)], groups: &[(2, 1, None)] },
     Row { call: Call::Fork(2), tasks: &[(1, 1, true), (2, 2, true), (3, 3, true)], groups: &[(3, 2, None)] },
-    Row { call: Call::EndGroup(3, Status::Killed(11)), tasks: &[(1, 1, true), (2, 2, true), (3, 3, false)], groups: &[(3, 2, Some(Status::Killed(11)))] },
-    Row { call: Call::EndGroup(2, Status::Exited(4)), tasks: &[(1, 1, true), (2, 2, false), (3, 3, false)], groups: &[(2, 1, Some(Status::Exited(4))), (3, 0, Some(Status::Killed(11)))] },
-    Row { call: Call::Reap(1, None, ReapEnd::Reaped { child: 2, status: Status::Exited(4) }), tasks: &[(1, 1, true), (2, 2, false), (3, 3, false)], groups: &[(2, 0, Some(Status::Exited(4)))] },
-    Row { call: Call::Reap(1, None, ReapEnd::NoChild), tasks: &[(1, 1, true), (2, 2, false), (3, 3, false)], groups: &[(2, 0, Some(Status::Exited(4)))] },
+    Row { call: Call::EndGroup(3, Status::Killed(11)), tasks: &[(1, 1, true), (2, 2, true), (3, 3, false)],
+        groups: &[(3, 2, Some(Status::Killed(11)))] },
+    Row { call: Call::EndGroup(2, Status::Exited(4)), tasks: &[(1, 1, true), (2, 2, false), (3, 3, false)],
+        groups: &[(2, 1, Some(Status::Exited(4))), (3, 0, Some(Status::Killed(11)))] },
+    Row { call: Call::Reap(1, None, ReapEnd::Reaped { child: 2, status: Status::Exited(4) }),
+        tasks: &[(1, 1, true), (2, 2, false), (3, 3, false)], groups: &[(2, 0, Some(Status::Exited(4)))] },
+    Row { call: Call::Reap(1, None, ReapEnd::NoChild), tasks: &[(1, 1, true), (2, 2, false), (3, 3, false)],
+        groups: &[(2, 0, Some(Status::Exited(4)))] },
 ];
 
 #[test]
@@ -70,13 +82,24 @@ const CHILDREN_IN_TURNS: [Row; 10] = [
     Row { call: Call::Open, tasks: &[(1, 1, true)], groups: &[(1, 0, None)] },
     Row { call: Call::Fork(1), tasks: &[(1, 1, true), (2, 2, true)], groups: &[(2, 1, None)] },
     Row { call: Call::Fork(2), tasks: &[(1, 1, true), (2, 2, true), (3, 3, true)], groups: &[(3, 2, None)] },
-    Row { call: Call::Fork(1), tasks: &[(1, 1, true), (2, 2, true), (3, 3, true), (4, 4, true)], groups: &[(4, 1, None)] },
-    Row { call: Call::Fork(2), tasks: &[(1, 1, true), (2, 2, true), (3, 3, true), (4, 4, true), (5, 5, true)], groups: &[(5, 2, None)] },
-    Row { call: Call::Exit(4, 6), tasks: &[(1, 1, true), (2, 2, true), (3, 3, true), (4, 4, false), (5, 5, true)], groups: &[(4, 1, Some(Status::Exited(6)))] },
-    Row { call: Call::EndGroup(2, Status::Killed(9)), tasks: &[(1, 1, true), (2, 2, false), (3, 3, true), (4, 4, false), (5, 5, true)], groups: &[(2, 1, Some(Status::Killed(9))), (3, 0, None), (4, 1, Some(Status::Exited(6))), (5, 0, None)] },
-    Row { call: Call::Reap(1, Some(4), ReapEnd::Reaped { child: 4, status: Status::Exited(6) }), tasks: &[(1, 1, true), (2, 2, false), (3, 3, true), (4, 4, false), (5, 5, true)], groups: &[(2, 1, Some(Status::Killed(9))), (4, 0, Some(Status::Exited(6)))] },
-    Row { call: Call::Reap(1, None, ReapEnd::Reaped { child: 2, status: Status::Killed(9) }), tasks: &[(1, 1, true), (2, 2, false), (3, 3, true), (4, 4, false), (5, 5, true)], groups: &[(2, 0, Some(Status::Killed(9))), (4, 0, Some(Status::Exited(6)))] },
-    Row { call: Call::Reap(1, None, ReapEnd::NoChild), tasks: &[(1, 1, true), (2, 2, false), (3, 3, true), (4, 4, false), (5, 5, true)], groups: &[(2, 0, Some(Status::Killed(9))), (4, 0, Some(Status::Exited(6)))] },
+    Row { call: Call::Fork(1), tasks: &[(1, 1, true), (2, 2, true), (3, 3, true), (4, 4, true)],
+        groups: &[(4, 1, None)] },
+    Row { call: Call::Fork(2), tasks: &[(1, 1, true), (2, 2, true), (3, 3, true), (4, 4, true), (5, 5, true)],
+        groups: &[(5, 2, None)] },
+    Row { call: Call::Exit(4, 6), tasks: &[(1, 1, true), (2, 2, true), (3, 3, true), (4, 4, false), (5, 5, true)],
+        groups: &[(4, 1, Some(Status::Exited(6)))] },
+    Row { call: Call::EndGroup(2, Status::Killed(9)),
+        tasks: &[(1, 1, true), (2, 2, false), (3, 3, true), (4, 4, false), (5, 5, true)],
+        groups: &[(2, 1, Some(Status::Killed(9))), (3, 0, None), (4, 1, Some(Status::Exited(6))), (5, 0, None)] },
+    Row { call: Call::Reap(1, Some(4), ReapEnd::Reaped { child: 4, status: Status::Exited(6) }),
+        tasks: &[(1, 1, true), (2, 2, false), (3, 3, true), (4, 4, false), (5, 5, true)],
+        groups: &[(2, 1, Some(Status::Killed(9))), (4, 0, Some(Status::Exited(6)))] },
+    Row { call: Call::Reap(1, None, ReapEnd::Reaped { child: 2, status: Status::Killed(9) }),
+        tasks: &[(1, 1, true), (2, 2, false), (3, 3, true), (4, 4, false), (5, 5, true)],
+        groups: &[(2, 0, Some(Status::Killed(9))), (4, 0, Some(Status::Exited(6)))] },
+    Row { call: Call::Reap(1, None, ReapEnd::NoChild),
+        tasks: &[(1, 1, true), (2, 2, false), (3, 3, true), (4, 4, false), (5, 5, true)],
+        groups: &[(2, 0, Some(Status::Killed(9))), (4, 0, Some(Status::Exited(6)))] },
 ];
 
 #[test]
@@ -90,13 +113,21 @@ const WAITS: [Row; 11] = [
     Row { call: Call::Reap(1, None, ReapEnd::NoChild), tasks: &[(1, 1, true)], groups: &[(1, 0, None)] },
     Row { call: Call::Fork(1), tasks: &[(1, 1, true), (2, 2, true)], groups: &[(2, 1, None)] },
     Row { call: Call::Fork(1), tasks: &[(1, 1, true), (2, 2, true), (3, 3, true)], groups: &[(3, 1, None)] },
-    Row { call: Call::Reap(1, None, ReapEnd::NotYet), tasks: &[(1, 1, true), (2, 2, true), (3, 3, true)], groups: &[(2, 1, None), (3, 1, None)] },
-    Row { call: Call::Exit(3, 9), tasks: &[(1, 1, true), (2, 2, true), (3, 3, false)], groups: &[(3, 1, Some(Status::Exited(9)))] },
-    Row { call: Call::Reap(1, Some(2), ReapEnd::NotYet), tasks: &[(1, 1, true), (2, 2, true), (3, 3, false)], groups: &[(3, 1, Some(Status::Exited(9)))] },
-    Row { call: Call::Reap(2, None, ReapEnd::NoChild), tasks: &[(1, 1, true), (2, 2, true), (3, 3, false)], groups: &[(3, 1, Some(Status::Exited(9)))] },
-    Row { call: Call::Exit(2, 8), tasks: &[(1, 1, true), (2, 2, false), (3, 3, false)], groups: &[(2, 1, Some(Status::Exited(8)))] },
-    Row { call: Call::Reap(1, None, ReapEnd::Reaped { child: 2, status: Status::Exited(8) }), tasks: &[(1, 1, true), (2, 2, false), (3, 3, false)], groups: &[(2, 0, Some(Status::Exited(8))), (3, 1, Some(Status::Exited(9)))] },
-    Row { call: Call::Reap(1, Some(3), ReapEnd::Reaped { child: 3, status: Status::Exited(9) }), tasks: &[(1, 1, true), (2, 2, false), (3, 3, false)], groups: &[(3, 0, Some(Status::Exited(9)))] },
+    Row { call: Call::Reap(1, None, ReapEnd::NotYet), tasks: &[(1, 1, true), (2, 2, true), (3, 3, true)],
+        groups: &[(2, 1, None), (3, 1, None)] },
+    Row { call: Call::Exit(3, 9), tasks: &[(1, 1, true), (2, 2, true), (3, 3, false)],
+        groups: &[(3, 1, Some(Status::Exited(9)))] },
+    Row { call: Call::Reap(1, Some(2), ReapEnd::NotYet), tasks: &[(1, 1, true), (2, 2, true), (3, 3, false)],
+        groups: &[(3, 1, Some(Status::Exited(9)))] },
+    Row { call: Call::Reap(2, None, ReapEnd::NoChild), tasks: &[(1, 1, true), (2, 2, true), (3, 3, false)],
+        groups: &[(3, 1, Some(Status::Exited(9)))] },
+    Row { call: Call::Exit(2, 8), tasks: &[(1, 1, true), (2, 2, false), (3, 3, false)],
+        groups: &[(2, 1, Some(Status::Exited(8)))] },
+    Row { call: Call::Reap(1, None, ReapEnd::Reaped { child: 2, status: Status::Exited(8) }),
+        tasks: &[(1, 1, true), (2, 2, false), (3, 3, false)],
+        groups: &[(2, 0, Some(Status::Exited(8))), (3, 1, Some(Status::Exited(9)))] },
+    Row { call: Call::Reap(1, Some(3), ReapEnd::Reaped { child: 3, status: Status::Exited(9) }),
+        tasks: &[(1, 1, true), (2, 2, false), (3, 3, false)], groups: &[(3, 0, Some(Status::Exited(9)))] },
 ];
 
 #[test]
@@ -110,8 +141,11 @@ const WHOLE_GROUPS: [Row; 6] = [
     Row { call: Call::Fork(1), tasks: &[(1, 1, true), (2, 2, true)], groups: &[(2, 1, None)] },
     Row { call: Call::Thread(2), tasks: &[(1, 1, true), (2, 2, true), (3, 2, true)], groups: &[(2, 1, None)] },
     Row { call: Call::EndOthers(3), tasks: &[(1, 1, true), (2, 2, false), (3, 2, true)], groups: &[(2, 1, None)] },
-    Row { call: Call::Thread(3), tasks: &[(1, 1, true), (2, 2, false), (3, 2, true), (4, 2, true)], groups: &[(2, 1, None)] },
-    Row { call: Call::EndGroup(2, Status::Killed(9)), tasks: &[(1, 1, true), (2, 2, false), (3, 2, false), (4, 2, false)], groups: &[(1, 0, None), (2, 1, Some(Status::Killed(9)))] },
+    Row { call: Call::Thread(3), tasks: &[(1, 1, true), (2, 2, false), (3, 2, true), (4, 2, true)],
+        groups: &[(2, 1, None)] },
+    Row { call: Call::EndGroup(2, Status::Killed(9)),
+        tasks: &[(1, 1, true), (2, 2, false), (3, 2, false), (4, 2, false)],
+        groups: &[(1, 0, None), (2, 1, Some(Status::Killed(9)))] },
 ];
 
 #[test]

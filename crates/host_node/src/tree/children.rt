@@ -1,3 +1,5 @@
+//! What stands under a name of a directory in memory: found, put there, taken out and given back.
+
 ghost use Rattle.std.specs.Prelude.{◌≡◌, None, IsSome, IsTrue, OnOk, OnErr, option_copied};
 ghost use Rattle.host_node.specs.Tree.{is_directory, child_of, with_child, lend_child};
 

@@ -1,3 +1,5 @@
+//! Copies of a tree, in memory of their own.
+
 ghost use Rattle.std.specs.Prelude.{◌≡◌, ◌<◌, length, IfOk, OnErr};
 ghost use Rattle.host_node.specs.Tree.{HoldsSome};
 

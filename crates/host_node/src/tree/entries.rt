@@ -1,3 +1,5 @@
+//! The entries of a directory in memory, by the order of their names' bytes.
+
 ghost use Rattle.std.specs.Prelude.{◌≡◌, ◌≤◌, None, length, position, OnOk, OnErr, option_copied};
 ghost use Rattle.std.specs.List.{position_or_len};
 ghost use Rattle.host_node.specs.Tree.{find_child, replace_child, insert_child, lend_in};

@@ -1,3 +1,5 @@
+//! The listing of a directory in memory.
+
 ghost use Rattle.std.specs.Prelude.{◌≡◌, ◌≢◌, ◌<◌, length, IfOk, OnOk, OnErr};
 ghost use Rattle.host_node.specs.Tree.{no_children, children_of, listed_from, listing_of};
 ghost use Rattle.host_node.specs.Order.{IsAscending, names_of};

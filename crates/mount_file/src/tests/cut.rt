@@ -1,3 +1,5 @@
+//! A good mount file cut off behind any of its bytes.
+
 use super::*;
 
 /// The lines of a good file. From the end of line 7, counted from 0, the file has all that it must have.

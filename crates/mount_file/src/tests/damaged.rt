@@ -1,3 +1,5 @@
+//! Mount files with one fault each, whole and cut off behind any of their bytes.
+
 use super::*;
 use crate::MountFault::{Field, Long, NoRoot, Range, Toml, TooMany, Twice, Utf8};
 

@@ -1,3 +1,5 @@
+//! Keys that are missing, unknown or of another type.
+
 use super::*;
 
 #[test]

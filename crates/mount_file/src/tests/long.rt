@@ -1,3 +1,5 @@
+//! Mount files near the greatest length: many arguments, and many mounts.
+
 use super::*;
 
 #[test]

@@ -1,3 +1,5 @@
+//! Faults of the bytes and of the document, and which of two is told.
+
 use super::*;
 
 /// How a file of bytes is refused.

@@ -1,3 +1,5 @@
+//! Mounts and tasks that each are good and together break a rule.
+
 use super::*;
 
 #[test]

@@ -1,3 +1,5 @@
+//! Values outside their form.
+
 use super::*;
 
 /// 63 zeros.

@@ -1,3 +1,5 @@
+//! Whole mount files, and what is read of them.
+
 use super::*;
 use sn_text::Folder;
 

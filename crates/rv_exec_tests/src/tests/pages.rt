@@ -27,7 +27,9 @@ pub fn page_of(from: u64, first: usize, words: &[u32]) -> Run<4096> {
 }
 
 /// The decoded words of a page, where each may be executed.
-#[tactic(auto, using(crate::proofs::Words::no_words, crate::proofs::Words::no_instrs, crate::proofs::Words::next_word, crate::proofs::Words::next_instr, crate::proofs::Words::whole_page,))]
+#[rattlefmt::skip]
+#[tactic(auto, using(crate::proofs::Words::no_words, crate::proofs::Words::no_instrs, crate::proofs::Words::next_word,
+    crate::proofs::Words::next_instr, crate::proofs::Words::whole_page,))]
 pub fn row_of<const N: usize>(
     alloc: Global,
     code: &Run<N>,

@@ -7,5 +7,6 @@ use Rattle.elf_image.specs.Faults.{is_executed}
 
 pub returns : goal.returns
 returns c =
-    any_from_yields_List (is_executed c.args.address) _ _ _ c.any.ensures.ran (YieldsList-from_first (λ x. x) (λ rest. rest) c.args.headers refl)
+    any_from_yields_List (is_executed c.args.address) _ _ _ c.any.ensures.ran
+    (YieldsList-from_first (λ x. x) (λ rest. rest) c.args.headers refl)
     (λ x b q k. search (rules, tests))

@@ -7,5 +7,6 @@ use Rattle.elf_image.specs.Headers.{is_loaded}
 
 pub returns : goal.returns
 returns c =
-    any_from_yields_List is_loaded _ _ _ c.any.ensures.ran (YieldsList-from_first (λ x. x) (λ rest. rest) c.args.headers refl)
+    any_from_yields_List is_loaded _ _ _ c.any.ensures.ran
+    (YieldsList-from_first (λ x. x) (λ rest. rest) c.args.headers refl)
     (λ x b q k. search (rules, tests))

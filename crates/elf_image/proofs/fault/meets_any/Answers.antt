@@ -9,5 +9,6 @@ use Rattle.elf_image.specs.Faults.{meet}
 
 pub returns : goal.returns
 returns c =
-    any_from_yields_List (λ other. is_load other && meet (c.args.header.now, other)) _ _ _ c.any.ensures.ran (YieldsList-from_first (λ x. x) (λ rest. rest) c.args.others refl)
+    any_from_yields_List (λ other. is_load other && meet (c.args.header.now, other)) _ _ _ c.any.ensures.ran
+    (YieldsList-from_first (λ x. x) (λ rest. rest) c.args.others refl)
     (λ x b q k. search (rules, tests))

@@ -7,5 +7,6 @@ use Rattle.fd_table.proofs.slots.closed_on_exec.Goals as goal
 
 pub returns : goal.returns
 returns c =
-    filter_same _ (is_closed_on_exec (table_of c.args.slots.now)) _ (λ x b f' k. search rules) _ _ c.retain.ensures.filtered
+    filter_same _ (is_closed_on_exec (table_of c.args.slots.now)) _
+    (λ x b f' k. search rules) _ _ c.retain.ensures.filtered
     ∙ ap (filter (is_closed_on_exec (table_of c.args.slots.now))) c.in_ok-numbers.ensures

@@ -4,6 +4,7 @@ use Rattle.futex_core.proofs.waiters.pick.Given as goal
 
 abbrev pub invariant-loop-at : goal.invariant-loop-at
 invariant-loop-at l =
-    Picked (record { sleepers = l.initial.sleepers; woken = l.initial.woken.items }) l.key l.n l.sleepers l.woken.items l.left l.count l.at
+    Picked (record { sleepers = l.initial.sleepers; woken = l.initial.woken.items }) l.key l.n l.sleepers
+    l.woken.items l.left l.count l.at
     × (vec_len l.woken ≡ vec_len l.initial.woken + l.count)
     × (vec_capacity l.woken ≡ vec_capacity l.initial.woken)

@@ -12,11 +12,16 @@ use Rattle.mm_areas.proofs.CountLaws.{end_bound}
 use Rattle.mm_areas.proofs.free.highest_gap.Goals as goal
 
 -- the region at an index, whatever stands for one that isn't there
-region_end : (rs : List Region) (i : ℕ) (r d : Region) → i < length rs → r ≡ get_or rs i r → end_of (get_or rs i d) ≡ end_of r
+region_end : (rs : List Region) (i : ℕ) (r d : Region) → i < length rs → r ≡ get_or rs i r
+    → end_of (get_or rs i d) ≡ end_of r
 region_end rs i r d less is = ap end_of (sym (get_or_default rs i r d less)) ∙ ap end_of (sym is)
 
-gap : (rs : List Region) (i end count : ℕ) → AreFrom 0 rs → i ≤ length rs → count ≤ end → ((k : ℕ) (d : Region) → k < i → end_of (get_or rs k d) + count ≤ end) → ((d : Region) → i < length rs → end ≤ (get_or rs i d).first) → is_free (pages_of rs) (end - count) count ≡ true
-gap rs i end count h le few front back = free_between 0 (end - count) count rs i h le (λ k d less. omega (arith, front k d less)) (λ d less. omega (arith, back d less))
+gap : (rs : List Region) (i end count : ℕ) → AreFrom 0 rs → i ≤ length rs → count ≤ end
+    → ((k : ℕ) (d : Region) → k < i → end_of (get_or rs k d) + count ≤ end)
+    → ((d : Region) → i < length rs → end ≤ (get_or rs i d).first) → is_free (pages_of rs) (end - count) count ≡ true
+gap rs i end count h le few front back =
+    free_between 0 (end - count) count rs i h le (λ k d less. omega (arith, front k d less))
+    (λ d less. omega (arith, back d less))
 
 pub overflow_add-region : goal.overflow_add-region
 overflow_add-region c =
@@ -36,13 +41,20 @@ returns-then-region-len-clause-free c few =
     let i = c.loop-index.index in
     let r = c.index-regions-index.result in
     gap rs i c.loop-index.end c.args.count c.requires.order (omega arith) few
-    (λ k d less. omega (arith, ends_rise 0 rs c.requires.order k (i - 1) d (omega arith) (omega arith), region_end rs (i - 1) r d (omega arith) c.index-regions-index.is, c.if-region-len.true))
+    (λ k d less.
+    omega (
+      arith,
+      ends_rise 0 rs c.requires.order k (i - 1) d (omega arith) (omega arith),
+      region_end rs (i - 1) r d (omega arith) c.index-regions-index.is,
+      c.if-region-len.true,
+    ))
     c.loop-index.invariant.begins
 
 pub returns-clause-free : goal.returns-clause-free
 returns-clause-free c few =
     let none : c.loop-index.index ≡ 0 = omega arith in
-    gap c.args.regions.now c.loop-index.index c.loop-index.end c.args.count c.requires.order (omega arith) few (λ k d less. absurd (omega arith)) c.loop-index.invariant.begins
+    gap c.args.regions.now c.loop-index.index c.loop-index.end c.args.count c.requires.order (omega arith) few
+    (λ k d less. absurd (omega arith)) c.loop-index.invariant.begins
 
 pub loop-index-preserved : goal.loop-index-preserved
 loop-index-preserved c =
@@ -53,11 +65,17 @@ loop-index-preserved c =
     let some = some_pages 0 rs i r c.requires.order less in
     record {
       top = omega arith;
-      begins = λ d within. omega (arith, ap (λ (x : Region). x.first) (get_or_default rs i r d less), ap (λ (x : Region). x.first) c.index-regions-index.is);
+      begins = λ d within.
+          omega (
+            arith,
+            ap (λ (x : Region). x.first) (get_or_default rs i r d less),
+            ap (λ (x : Region). x.first) c.index-regions-index.is,
+          );
       above = λ f low high. elim (cases_lt c.loop-index.end (f + c.args.count)) [
         | inl over ↦ c.loop-index.invariant.above f over high
         | inr under ↦
-            let begins : (get_or rs i r).first < f + c.args.count = omega (arith, ap (λ (x : Region). x.first) c.index-regions-index.is) in
+            let begins : (get_or rs i r).first < f + c.args.count =
+            omega (arith, ap (λ (x : Region). x.first) c.index-regions-index.is) in
             let ends : f < end_of (get_or rs i r) = omega (arith, ap end_of c.index-regions-index.is) in
             reached_into rs i r f c.args.count c.requires.order less some c.requires.some ends begins
       ];

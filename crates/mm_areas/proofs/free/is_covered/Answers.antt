@@ -12,5 +12,6 @@ returns c =
     let law = covered_held pages c.args.first c.args.count in
     elim (cases_Bool (nat_eq c.mapped_within.result c.args.count)) [
       | inl same ↦ let is = eqb-true c.mapped_within.result c.args.count same in same ∙ sym (law.0 (omega arith))
-      | inr other ↦ let is_not = eqb-false c.mapped_within.result c.args.count other in other ∙ sym (law.1 (λ e. is_not (omega arith)))
+      | inr other ↦ let is_not =
+          eqb-false c.mapped_within.result c.args.count other in other ∙ sym (law.1 (λ e. is_not (omega arith)))
     ]

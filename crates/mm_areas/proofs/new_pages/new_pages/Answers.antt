@@ -21,7 +21,10 @@ loop-number-preserved c =
     let page = c.new_page.result in
     let is : c.push.new.self.items ≡ before ++ page ∷ [] = search rules in
     record {
-      pages = one_more c.args.backing c.args.rights c.loop-number.number before c.push.new.self.items page c.loop-number.invariant.pages is c.new_page.ensures.mapped;
-      shared = subst AreShared (sym is) (shared_more before page c.loop-number.invariant.shared c.new_page.ensures.shared);
-      undecoded = subst AreUndecoded (sym is) (undecoded_more before page c.loop-number.invariant.undecoded c.new_page.ensures.undecoded);
+      pages = one_more c.args.backing c.args.rights c.loop-number.number before c.push.new.self.items page
+          c.loop-number.invariant.pages is c.new_page.ensures.mapped;
+      shared = subst AreShared (sym is)
+          (shared_more before page c.loop-number.invariant.shared c.new_page.ensures.shared);
+      undecoded = subst AreUndecoded (sym is)
+          (undecoded_more before page c.loop-number.invariant.undecoded c.new_page.ensures.undecoded);
     }

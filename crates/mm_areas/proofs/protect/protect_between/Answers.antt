@@ -11,7 +11,9 @@ use Rattle.mm_areas.proofs.protect.protect_between.Goals as goal
 
 pub loop-index-init : goal.loop-index-init
 loop-index-init c = record {
-  mapped = sym (protected_from_apart c.args.rights c.args.low (c.args.low - c.args.low) 0 (map mapped_by c.args.pages.now) (λ q from to. elim (cases_lt q c.args.low) [ inl below ↦ inl below | inr behind ↦ inr (omega arith) ]));
+  mapped = sym
+      (protected_from_apart c.args.rights c.args.low (c.args.low - c.args.low) 0 (map mapped_by c.args.pages.now)
+      (λ q from to. elim (cases_lt q c.args.low) [ inl below ↦ inl below | inr behind ↦ inr (omega arith) ]));
   contents = refl;
 }
 
@@ -30,13 +32,17 @@ loop-index-preserved c =
       mapped =
           map-set mapped_by xs i (record { rights = rights; content = (get_or xs i d).content })
           ∙ ap (λ (m : Mapped). set (map mapped_by xs) i (with_rights rights m)) (sym (get_or-map mapped_by xs i d))
-          ∙ ap (λ (ys : List Mapped). set ys i (with_rights rights (get_or ys i (mapped_by d)))) c.loop-index.invariant.mapped
+          ∙ ap (λ (ys : List Mapped). set ys i (with_rights rights (get_or ys i (mapped_by d))))
+          c.loop-index.invariant.mapped
           ∙ protected_from_next rights low (i - low) 0 i ms (mapped_by d) at less
           ∙ ap (λ (n : ℕ). protected_from rights low n 0 ms) next;
-      contents = map-set_same (λ (p : Page). p.content) xs i (record { rights = rights; content = (get_or xs i d).content }) d refl ∙ c.loop-index.invariant.contents;
+      contents = map-set_same (λ (p : Page). p.content) xs i
+          (record { rights = rights; content = (get_or xs i d).content }) d refl ∙ c.loop-index.invariant.contents;
     }
 
 pub returns-clause-mapped : goal.returns-clause-mapped
 returns-clause-mapped c =
     let all : c.loop-index.index ≡ c.args.high = omega arith in
-    c.loop-index.invariant.mapped ∙ ap (λ (n : ℕ). protected_from c.args.rights c.args.low (n - c.args.low) 0 (map mapped_by c.args.pages.now)) all
+    c.loop-index.invariant.mapped
+    ∙ ap (λ (n : ℕ). protected_from c.args.rights c.args.low (n - c.args.low) 0
+    (map mapped_by c.args.pages.now)) all

@@ -13,9 +13,19 @@ returns c =
     let low = c.min-low.result in
     let high = c.min-high.result in
     let old : c.as_mut_slice.result.now ≡ r.pages.items = c.as_mut_slice.ensures.value in
-    let kept : length c.protect_between.new.pages ≡ r.pages.len = omega (arith, c.protect_between.auto.pages, ap length old, r.pages.ok.0) in
-    let is_high : high ≡ min (c.args.end - r.first) (length ms) = omega (arith, c.min-high.ensures, c.saturating_sub.ensures, c.len.ensures, r.pages.ok.0, length-map r.pages.items mapped_by) in
-    let is_low : low ≡ min (c.args.first - r.first) high = omega (arith, c.min-low.ensures, c.saturating_sub-2.ensures) in
+    let kept : length c.protect_between.new.pages ≡ r.pages.len =
+    omega (arith, c.protect_between.auto.pages, ap length old, r.pages.ok.0) in
+    let is_high : high ≡ min (c.args.end - r.first) (length ms) =
+    omega (
+      arith,
+      c.min-high.ensures,
+      c.saturating_sub.ensures,
+      c.len.ensures,
+      r.pages.ok.0,
+      length-map r.pages.items mapped_by,
+    ) in
+    let is_low : low ≡ min (c.args.first - r.first) high =
+    omega (arith, c.min-low.ensures, c.saturating_sub-2.ensures) in
     record {
       place = refl;
       pages =

@@ -15,9 +15,12 @@ halve-requires-clause-high c =
     let old = c.args.regions.now.items in
     let i = c.first_behind-index.result in
     let r = c.index_mut.result.now in
-    let is : i ≡ index_behind c.args.page old = c.first_behind-index.ensures.index ∙ ap (index_behind c.args.page) c.as_slice.ensures.value in
-    let less : i < length old = omega (arith, c.if-index-len.true, c.len.ensures, c.as_slice.ensures.len, ap length c.as_slice.ensures.value) in
-    let at : r ≡ get_or old i r = c.index_mut.ensures.value ∙ ap (λ (rs : List Region). get_or rs i r) c.in_ok-reserve.ensures.items in
+    let is : i ≡ index_behind c.args.page old =
+    c.first_behind-index.ensures.index ∙ ap (index_behind c.args.page) c.as_slice.ensures.value in
+    let less : i < length old =
+    omega (arith, c.if-index-len.true, c.len.ensures, c.as_slice.ensures.len, ap length c.as_slice.ensures.value) in
+    let at : r ≡ get_or old i r =
+    c.index_mut.ensures.value ∙ ap (λ (rs : List Region). get_or rs i r) c.in_ok-reserve.ensures.items in
     omega (arith, index_ends c.args.page old i r is less, ap end_of at)
 
 whole : (c : goal.Else-is_err) → AreCutTo c.args.page 0 c.args.regions.now.items c.insert.new.self.items
@@ -25,10 +28,14 @@ whole c =
     let old = c.args.regions.now.items in
     let i = c.first_behind-index.result in
     let r = c.index_mut.result.now in
-    let less : i < length old = omega (arith, c.if-index-len.true, c.len.ensures, c.as_slice.ensures.len, ap length c.as_slice.ensures.value) in
-    let at : r ≡ get_or old i r = c.index_mut.ensures.value ∙ ap (λ (rs : List Region). get_or rs i r) c.in_ok-reserve.ensures.items in
-    let is : c.insert.new.self.items ≡ insert (set old i c.halve.new.region) (i + 1) c.in_ok-behind.behind = search rules in
-    cut_at c.args.page old c.insert.new.self.items i r c.halve.new.region c.in_ok-behind.behind is c.requires less at c.in_ok-behind.ensures.ok
+    let less : i < length old =
+    omega (arith, c.if-index-len.true, c.len.ensures, c.as_slice.ensures.len, ap length c.as_slice.ensures.value) in
+    let at : r ≡ get_or old i r =
+    c.index_mut.ensures.value ∙ ap (λ (rs : List Region). get_or rs i r) c.in_ok-reserve.ensures.items in
+    let is : c.insert.new.self.items ≡ insert (set old i c.halve.new.region) (i + 1) c.in_ok-behind.behind =
+    search rules in
+    cut_at c.args.page old c.insert.new.self.items i r c.halve.new.region c.in_ok-behind.behind is c.requires less at
+    c.in_ok-behind.ensures.ok
 
 pub returns-else-is_err-clause-order : goal.returns-else-is_err-clause-order
 returns-else-is_err-clause-order c = (whole c).order
@@ -49,9 +56,23 @@ pub returns-else-index-len-clause-ok : goal.returns-else-index-len-clause-ok
 returns-else-index-len-clause-ok c =
     let old = c.args.regions.now.items in
     let i = c.first_behind-index.result in
-    let is : i ≡ index_behind c.args.page old = c.first_behind-index.ensures.index ∙ ap (index_behind c.args.page) c.as_slice.ensures.value in
+    let is : i ≡ index_behind c.args.page old =
+    c.first_behind-index.ensures.index ∙ ap (index_behind c.args.page) c.as_slice.ensures.value in
     cut_already c.args.page 0 old i is c.requires (λ d less. elim c.else-index-len.branch [
       | else-index-len-via-then-index-len+else-index-page w ↦
-          omega (arith, w.if-index-page.false, ap (λ (r : Region). r.first) w.index.ensures, ap (λ (r : Region). r.first) (get_or_default old i w.index.result.now d less))
-      | else-index-len-via-else-index-len w ↦ absurd (omega (arith, less, w.if-index-len.false, c.len.ensures, c.as_slice.ensures.len, ap length c.as_slice.ensures.value))
+          omega (
+            arith,
+            w.if-index-page.false,
+            ap (λ (r : Region). r.first) w.index.ensures,
+            ap (λ (r : Region). r.first) (get_or_default old i w.index.result.now d less),
+          )
+      | else-index-len-via-else-index-len w ↦
+          absurd (omega (
+            arith,
+            less,
+            w.if-index-len.false,
+            c.len.ensures,
+            c.as_slice.ensures.len,
+            ap length c.as_slice.ensures.value,
+          ))
     ])

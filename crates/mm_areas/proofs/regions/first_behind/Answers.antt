@@ -7,5 +7,6 @@ use Rattle.mm_areas.proofs.regions.first_behind.Goals as goal
 pub returns-clause-index : goal.returns-clause-index
 returns-clause-index c =
     let parted = IsPartitionedBy-leb end_of _ c.args.page (ends_rise 0 _ c.requires) in
-    let point = IsPartitionPoint-from_clause (λ r. leb (end_of r) c.args.page) _ _ c.partition_point.ensures.partitioned parted (λ a r q k. search rules) in
+    let point = IsPartitionPoint-from_clause (λ r. leb (end_of r) c.args.page) _ _ c.partition_point.ensures.partitioned
+    parted (λ a r q k. search rules) in
     index_is c.args.page _ _ c.partition_point.ensures.bound point.0 point.1

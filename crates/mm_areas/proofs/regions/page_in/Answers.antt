@@ -27,7 +27,8 @@ returns c =
     let count : length r.pages.items ≡ length at.pages.items = ap (λ (x : Region). length x.pages.items) is in
     let first : r.first ≡ at.first = ap (λ (x : Region). x.first) is in
     let within : c.args.page - r.first < length r.pages.items = omega (arith, bounds.0, bounds.1, count, first) in
-    let found : Some page ≡ slice_get r.pages.items (c.args.page - r.first) = ap Some c.index.ensures ∙ sym (slice_get-get_or r.pages.items (c.args.page - r.first) page within) in
+    let found : Some page ≡ slice_get r.pages.items (c.args.page - r.first) =
+    ap Some c.index.ensures ∙ sym (slice_get-get_or r.pages.items (c.args.page - r.first) page within) in
     sym (ap (option_map mapped_by) found
     ∙ mapped_at r.pages.items (c.args.page - r.first)
     ∙ ap (λ (x : Region). slice_get (mapped_in x) (c.args.page - x.first)) is

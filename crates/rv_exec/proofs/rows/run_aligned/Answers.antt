@@ -18,8 +18,10 @@ loop-count-init g c = record {
 pub loop-count-preserved : goal.loop-count-preserved
 loop-count-preserved g c = record {
   has_run =
-      one_more_ran g.M.Mem.seen g.M.Mem.after outcomes.Next c.loop-count.count (going (g.M.Mem.told c.args.mem.now) c.args.regs.now)
-      c.loop-count.regs c.run_one.new.regs (g.M.Mem.told c.loop-count.mem) (g.M.Mem.told c.run_one.new.mem) c.run_one.result
+      one_more_ran g.M.Mem.seen g.M.Mem.after outcomes.Next c.loop-count.count
+      (going (g.M.Mem.told c.args.mem.now) c.args.regs.now)
+      c.loop-count.regs c.run_one.new.regs (g.M.Mem.told c.loop-count.mem)
+      (g.M.Mem.told c.run_one.new.mem) c.run_one.result
       c.loop-count.invariant.has_run c.run_one.ensures.done c.in-Next.is;
   words =
       ap (g.M.Mem.instrs (g.M.Mem.told c.run_one.new.mem)) (sym (c.run_one.ensures.page ∙ c.loop-count.invariant.near))

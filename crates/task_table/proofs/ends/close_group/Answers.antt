@@ -9,4 +9,5 @@ pub returns-clause-children : goal.returns-clause-children
 returns-clause-children c =
     c.orphan_children.ensures.children
     ∙ sym (ap (numbers_where has_parent) c.note_end.ensures
-    ∙ children_after_change (λ (g : Group). record g { ended = Some c.args.status }) c.orphan_children.new.groups c.args.group (λ _. refl))
+    ∙ children_after_change (λ (g : Group). record g { ended = Some c.args.status }) c.orphan_children.new.groups
+    c.args.group (λ _. refl))

@@ -10,11 +10,14 @@ loop-place-preserved c =
     let number = c.index-number.result.now in
     elim c.match-end_task.branch [
       | in-Some w ↦ rw (w.live-is, w.ended-is, w.kept-is, c.end_task.ensures.tasks) (
-        rw w.push_reserved.ensures.items (Walked-leaves walked (omega arith) number c.index-number.ensures c.end_task.result c.end_task.ensures.ended w.in-Some.task w.in-Some.is),
+        rw w.push_reserved.ensures.items
+            (Walked-leaves walked (omega arith) number c.index-number.ensures c.end_task.result c.end_task.ensures.ended
+            w.in-Some.task w.in-Some.is),
         omega (arith, w.push_reserved.ensures.capacity),
       )
       | in-None w ↦ rw (w.live-is, w.ended-is, w.kept-is, c.end_task.ensures.tasks) (
-        Walked-stays walked (omega arith) number c.index-number.ensures c.end_task.result c.end_task.ensures.ended w.in-None.is,
+        Walked-stays walked (omega arith) number c.index-number.ensures c.end_task.result
+            c.end_task.ensures.ended w.in-None.is,
         room,
       )
     ]

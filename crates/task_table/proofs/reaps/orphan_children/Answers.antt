@@ -8,8 +8,14 @@ loop-place-preserved c =
     let walked = c.loop-place.invariant in
     let number = c.index-number.result.now in
     elim c.if-orphan_of.branch [
-      | then-orphan_of w ↦ rw (w.children-is, w.kept-is) (Orphaned-stays walked (omega arith) number c.index-number.ensures _ c.orphan_of.ensures.groups _ c.orphan_of.ensures.stays w.if-orphan_of.true)
-      | else-orphan_of w ↦ rw (w.children-is, w.kept-is) (Orphaned-lost walked (omega arith) number c.index-number.ensures _ c.orphan_of.ensures.groups _ c.orphan_of.ensures.stays w.if-orphan_of.false)
+      | then-orphan_of w ↦
+          rw (w.children-is, w.kept-is)
+          (Orphaned-stays walked (omega arith) number c.index-number.ensures _ c.orphan_of.ensures.groups _
+          c.orphan_of.ensures.stays w.if-orphan_of.true)
+      | else-orphan_of w ↦
+          rw (w.children-is, w.kept-is)
+          (Orphaned-lost walked (omega arith) number c.index-number.ensures _ c.orphan_of.ensures.groups _
+          c.orphan_of.ensures.stays w.if-orphan_of.false)
     ]
 
 pub returns-clause-groups : goal.returns-clause-groups

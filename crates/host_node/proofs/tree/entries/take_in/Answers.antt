@@ -12,13 +12,17 @@ returns-in_err-index-clause-after c =
 
 pub returns-clause-tree : goal.returns-clause-tree
 returns-clause-tree c =
-    ap Some c.replace.ensures.value ∙ sym (find_here c.args.name.now c.args.entries.now c.in_ok-index.index c.index-entries-index.result (sym c.in_ok-index.ensures))
+    ap Some c.replace.ensures.value
+    ∙ sym (find_here c.args.name.now c.args.entries.now c.in_ok-index.index c.index-entries-index.result
+    (sym c.in_ok-index.ensures))
 
 pub returns-clause-after : goal.returns-clause-after
 returns-clause-after c =
-    let here = lend_here c.args.name.now c.args.entries.now c.in_ok-index.index c.index-entries-index.result (sym c.in_ok-index.ensures) in
+    let here = lend_here c.args.name.now c.args.entries.now c.in_ok-index.index c.index-entries-index.result
+    (sym c.in_ok-index.ensures) in
     rw (c.replace.ensures.after, c.lent-away.ensures, c.kind.ensures) here
 
 pub returns-clause-names : goal.returns-clause-names
 returns-clause-names c =
-    names_here c.args.name.now c.args.entries.now c.in_ok-index.index c.index-entries-index.result _ (sym c.in_ok-index.ensures)
+    names_here c.args.name.now c.args.entries.now c.in_ok-index.index c.index-entries-index.result _
+    (sym c.in_ok-index.ensures)

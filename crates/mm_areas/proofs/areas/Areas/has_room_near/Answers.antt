@@ -9,5 +9,7 @@ returns c =
     let rs = c.args.self.now.regions.items in
     let near = sym c.if-not-is_near.ensures in
     let page = c.index.result.now in
-    let are = put_near rs c.args.hint c.index-region.result.now c.args.page page page c.args.self.now.in_order near c.index-region.ensures c.index.ensures in
-    near_fits c.args.page page page rs _ (is_hint c.args.self.now c.args.hint c.args.page) c.args.right (IsInPage c.args.offset c.args.width) are near c.has_room_allowed.ensures
+    let are = put_near rs c.args.hint c.index-region.result.now c.args.page page page c.args.self.now.in_order near
+    c.index-region.ensures c.index.ensures in
+    near_fits c.args.page page page rs _ (is_hint c.args.self.now c.args.hint c.args.page) c.args.right
+    (IsInPage c.args.offset c.args.width) are near c.has_room_allowed.ensures

@@ -5,4 +5,6 @@ use Rattle.mm_areas.proofs.areas.Areas.hint_from.Goals as goal
 
 pub returns-then-is_near-clause-none : goal.returns-then-is_near-clause-none
 returns-then-is_near-clause-none c = λ absent.
-    absurd (false≢true (sym absent ∙ near_mapped c.args.self.now.regions.items c.args.hint c.args.page c.args.self.now.in_order (sym c.if-is_near.ensures)))
+    absurd (false≢true (sym absent
+    ∙ near_mapped c.args.self.now.regions.items c.args.hint c.args.page c.args.self.now.in_order
+    (sym c.if-is_near.ensures)))

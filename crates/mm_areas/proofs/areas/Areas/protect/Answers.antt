@@ -12,18 +12,23 @@ use Rattle.mm_areas.proofs.ProtectLaws.{as_many_protected, own_same, row_same}
 use Rattle.mm_areas.proofs.areas.Areas.protect.Goals as goal
 use Rattle.mm_areas.proofs.areas.Areas.protect.Goals.{After-protect_pages}
 
-items : (c : After-protect_pages) → (with_items c.args.self.now.regions c.protect_pages.new.regions).items ≡ c.protect_pages.new.regions
+items : (c : After-protect_pages) → (with_items c.args.self.now.regions c.protect_pages.new.regions).items
+    ≡ c.protect_pages.new.regions
 items c =
     let old = c.args.self.now.regions in
-    with_items_is old c.protect_pages.new.regions (omega (arith, c.protect_pages.auto.regions, ap length c.as_mut_slice.ensures.value, old.ok.0))
+    with_items_is old c.protect_pages.new.regions
+    (omega (arith, c.protect_pages.auto.regions, ap length c.as_mut_slice.ensures.value, old.ok.0))
 
 pub invariant_of-self-clause-in_order : goal.invariant_of-self-clause-in_order
-invariant_of-self-clause-in_order c = ap (are_from 0) (items (goal.at.invariant_of-self-clause-in_order c).After-protect_pages) ∙ test_from_order 0 c.protect_pages.new.regions c.protect_pages.ensures.order
+invariant_of-self-clause-in_order c =
+    ap (are_from 0) (items (goal.at.invariant_of-self-clause-in_order c).After-protect_pages)
+    ∙ test_from_order 0 c.protect_pages.new.regions c.protect_pages.ensures.order
 
 pub invariant_of-self-clause-counted : goal.invariant_of-self-clause-counted
 invariant_of-self-clause-counted c =
     c.args.self.now.counted
-    ∙ sym (ap (λ (rs : List Region). len (pages_of rs)) (items (goal.at.invariant_of-self-clause-counted c).After-protect_pages) ∙ ap len c.protect_pages.ensures.pages
+    ∙ sym (ap (λ (rs : List Region). len (pages_of rs))
+    (items (goal.at.invariant_of-self-clause-counted c).After-protect_pages) ∙ ap len c.protect_pages.ensures.pages
     ∙ as_many_protected _ _ _ _
     ∙ ap (λ (rs : List Region). len (pages_of rs)) c.as_mut_slice.ensures.value)
 

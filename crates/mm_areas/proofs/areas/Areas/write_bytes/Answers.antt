@@ -13,42 +13,77 @@ use Rattle.mm_areas.proofs.areas.Areas.write_bytes.Goals.{After-write_bytes}
 pub write_bytes-requires-clause-private : goal.write_bytes-requires-clause-private
 write_bytes-requires-clause-private c =
     let old = c.index_mut.result.now in
-    let are = put_found c.as_slice.result.now c.args.self.now.regions.items c.in-Some.index c.index_mut-region.result.now c.args.page old old c.as_slice.ensures.value c.args.self.now.in_order c.in-Some.ensures.within c.in-Some.ensures.held c.index_mut-region.ensures.value c.index_mut.ensures.value in
+    let are = put_found c.as_slice.result.now c.args.self.now.regions.items c.in-Some.index
+    c.index_mut-region.result.now c.args.page old old c.as_slice.ensures.value c.args.self.now.in_order
+    c.in-Some.ensures.within c.in-Some.ensures.held c.index_mut-region.ensures.value c.index_mut.ensures.value in
     ap (λ (m : Option Mapped). is_some (bytes_mapped m)) (sym are.mapped) ∙ c.requires.private
 
-written : (c : After-write_bytes) → AreWritten c.args.page c.index_mut.result.now c.write_bytes.new.self c.args.self.now.regions.items
-    (set c.args.self.now.regions.items c.in-Some.index (record { first = c.index_mut-region.result.now.first; pages = with_item c.index_mut-region.result.now.pages (c.args.page - c.index_mut-region.result.now.first) c.write_bytes.new.self }))
-written c = put_found c.as_slice.result.now c.args.self.now.regions.items c.in-Some.index c.index_mut-region.result.now c.args.page c.index_mut.result.now c.write_bytes.new.self c.as_slice.ensures.value c.args.self.now.in_order c.in-Some.ensures.within c.in-Some.ensures.held c.index_mut-region.ensures.value c.index_mut.ensures.value
+written : (c : After-write_bytes)
+    → AreWritten c.args.page c.index_mut.result.now c.write_bytes.new.self c.args.self.now.regions.items
+    (set c.args.self.now.regions.items c.in-Some.index
+    (record {
+      first = c.index_mut-region.result.now.first;
+      pages = with_item c.index_mut-region.result.now.pages (c.args.page - c.index_mut-region.result.now.first)
+          c.write_bytes.new.self;
+    }))
+written c = put_found c.as_slice.result.now c.args.self.now.regions.items c.in-Some.index c.index_mut-region.result.now
+    c.args.page c.index_mut.result.now c.write_bytes.new.self c.as_slice.ensures.value c.args.self.now.in_order
+    c.in-Some.ensures.within c.in-Some.ensures.held c.index_mut-region.ensures.value c.index_mut.ensures.value
 
 pub invariant_of-self-clause-in_order : goal.invariant_of-self-clause-in_order
 invariant_of-self-clause-in_order c = (written (goal.at.invariant_of-self-clause-in_order c).After-write_bytes).order
 
 pub invariant_of-self-clause-counted : goal.invariant_of-self-clause-counted
-invariant_of-self-clause-counted c = c.args.self.now.counted ∙ sym (written (goal.at.invariant_of-self-clause-counted c).After-write_bytes).count
+invariant_of-self-clause-counted c =
+    c.args.self.now.counted ∙ sym (written (goal.at.invariant_of-self-clause-counted c).After-write_bytes).count
 
 pub returns-clause-ok : goal.returns-clause-ok
-returns-clause-ok c = write_ok c.write_bytes.result c.args.page c.index_mut.result.now c.write_bytes.new.self c.args.self.now.regions.items _ c.args.self.now.start c.args.self.now.program_break (λ bytes. with_run bytes c.args.offset c.args.run.now) (written (goal.at.returns-clause-ok c).After-write_bytes) c.write_bytes.ensures.ok
+returns-clause-ok c =
+    write_ok c.write_bytes.result c.args.page c.index_mut.result.now c.write_bytes.new.self
+    c.args.self.now.regions.items _ c.args.self.now.start c.args.self.now.program_break
+    (λ bytes. with_run bytes c.args.offset c.args.run.now) (written (goal.at.returns-clause-ok c).After-write_bytes)
+    c.write_bytes.ensures.ok
 
 pub returns-clause-own : goal.returns-clause-own
-returns-clause-own c = write_owns c.write_bytes.result c.args.page c.index_mut.result.now c.write_bytes.new.self c.args.self.now.regions.items _ (written (goal.at.returns-clause-own c).After-write_bytes) c.write_bytes.ensures.own
+returns-clause-own c =
+    write_owns c.write_bytes.result c.args.page c.index_mut.result.now c.write_bytes.new.self
+    c.args.self.now.regions.items _ (written (goal.at.returns-clause-own c).After-write_bytes) c.write_bytes.ensures.own
 
 pub returns-clause-err : goal.returns-clause-err
-returns-clause-err c = write_err c.write_bytes.result c.args.page c.index_mut.result.now c.write_bytes.new.self c.args.self.now.regions.items _ c.args.self.now.start c.args.self.now.program_break (written (goal.at.returns-clause-err c).After-write_bytes) c.write_bytes.ensures.err
+returns-clause-err c =
+    write_err c.write_bytes.result c.args.page c.index_mut.result.now c.write_bytes.new.self
+    c.args.self.now.regions.items _ c.args.self.now.start c.args.self.now.program_break
+    (written (goal.at.returns-clause-err c).After-write_bytes) c.write_bytes.ensures.err
 
 pub returns-clause-lacking : goal.returns-clause-lacking
-returns-clause-lacking c = write_lacks c.write_bytes.result c.args.page c.index_mut.result.now c.write_bytes.new.self c.args.self.now.regions.items _ (written (goal.at.returns-clause-lacking c).After-write_bytes) c.write_bytes.ensures.lacking
+returns-clause-lacking c =
+    write_lacks c.write_bytes.result c.args.page c.index_mut.result.now c.write_bytes.new.self
+    c.args.self.now.regions.items _ (written (goal.at.returns-clause-lacking c).After-write_bytes)
+    c.write_bytes.ensures.lacking
 
 pub returns-clause-kept : goal.returns-clause-kept
-returns-clause-kept c = write_kept c.write_bytes.result c.args.page c.index_mut.result.now c.write_bytes.new.self c.args.self.now.regions.items _ (written (goal.at.returns-clause-kept c).After-write_bytes) c.write_bytes.ensures.err
+returns-clause-kept c =
+    write_kept c.write_bytes.result c.args.page c.index_mut.result.now c.write_bytes.new.self
+    c.args.self.now.regions.items _ (written (goal.at.returns-clause-kept c).After-write_bytes)
+    c.write_bytes.ensures.err
 
 pub returns-clause-others : goal.returns-clause-others
-returns-clause-others c = write_others c.args.page c.index_mut.result.now c.write_bytes.new.self c.args.self.now.regions.items _ (written (goal.at.returns-clause-others c).After-write_bytes)
+returns-clause-others c =
+    write_others c.args.page c.index_mut.result.now c.write_bytes.new.self c.args.self.now.regions.items _
+    (written (goal.at.returns-clause-others c).After-write_bytes)
 
 pub returns-clause-row : goal.returns-clause-row
-returns-clause-row c = write_drops c.write_bytes.result c.args.page c.index_mut.result.now c.write_bytes.new.self c.args.self.now.regions.items _ (written (goal.at.returns-clause-row c).After-write_bytes) c.write_bytes.ensures.row
+returns-clause-row c =
+    write_drops c.write_bytes.result c.args.page c.index_mut.result.now c.write_bytes.new.self
+    c.args.self.now.regions.items _ (written (goal.at.returns-clause-row c).After-write_bytes) c.write_bytes.ensures.row
 
 pub returns-clause-row_kept : goal.returns-clause-row_kept
-returns-clause-row_kept c = write_keeps c.write_bytes.result c.args.page c.index_mut.result.now c.write_bytes.new.self c.args.self.now.regions.items _ (written (goal.at.returns-clause-row_kept c).After-write_bytes) c.write_bytes.ensures.err
+returns-clause-row_kept c =
+    write_keeps c.write_bytes.result c.args.page c.index_mut.result.now c.write_bytes.new.self
+    c.args.self.now.regions.items _ (written (goal.at.returns-clause-row_kept c).After-write_bytes)
+    c.write_bytes.ensures.err
 
 pub returns-clause-rows : goal.returns-clause-rows
-returns-clause-rows c = rows_others c.args.page c.index_mut.result.now c.write_bytes.new.self c.args.self.now.regions.items _ (written (goal.at.returns-clause-rows c).After-write_bytes)
+returns-clause-rows c =
+    rows_others c.args.page c.index_mut.result.now c.write_bytes.new.self c.args.self.now.regions.items _
+    (written (goal.at.returns-clause-rows c).After-write_bytes)

@@ -6,6 +6,7 @@ use Rattle.mm_frames.proofs.frame.Frame.put_number.Goals as goal
 
 pub mend-requires-clause-others : goal.mend-requires-clause-others
 mend-requires-clause-others c =
-    others_number c.args.self.now.row (bytes_of c.args.self.now) (bytes_in c.put_number-done.new.self) c.args.offset c.args.width c.args.value c.from.result c.args.self.now.decoded
+    others_number c.args.self.now.row (bytes_of c.args.self.now) (bytes_in c.put_number-done.new.self) c.args.offset
+    c.args.width c.args.value c.from.result c.args.self.now.decoded
     c.if-done.ensures.bytes
     (omega arith)

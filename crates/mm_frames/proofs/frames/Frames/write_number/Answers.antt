@@ -4,10 +4,17 @@ use Rattle.mm_frames.proofs.Pages.{page_changed, page_owned, page_shared}
 use Rattle.mm_frames.proofs.frames.Frames.write_number.Goals as goal
 
 pub returns-clause-ok : goal.returns-clause-ok
-returns-clause-ok c = page_changed c.write_number.result c.args.self.now.frames.items c.args.page c.index_mut.result.now c.write_number.new.self (λ bytes. with_number bytes c.args.offset c.args.width c.args.value) c.requires.page c.index_mut.ensures.value c.write_number.ensures.ok
+returns-clause-ok c =
+    page_changed c.write_number.result c.args.self.now.frames.items c.args.page c.index_mut.result.now
+    c.write_number.new.self (λ bytes. with_number bytes c.args.offset c.args.width c.args.value) c.requires.page
+    c.index_mut.ensures.value c.write_number.ensures.ok
 
 pub returns-clause-owned : goal.returns-clause-owned
-returns-clause-owned c = page_owned c.write_number.result c.args.self.now.frames.items c.args.page c.write_number.new.self true c.write_number.ensures.own
+returns-clause-owned c =
+    page_owned c.write_number.result c.args.self.now.frames.items c.args.page c.write_number.new.self true
+    c.write_number.ensures.own
 
 pub returns-clause-shared : goal.returns-clause-shared
-returns-clause-shared c = page_shared c.write_number.result c.args.self.now.frames.items c.args.page c.index_mut.result.now c.requires.page c.index_mut.ensures.value c.write_number.ensures.shared
+returns-clause-shared c =
+    page_shared c.write_number.result c.args.self.now.frames.items c.args.page c.index_mut.result.now c.requires.page
+    c.index_mut.ensures.value c.write_number.ensures.shared

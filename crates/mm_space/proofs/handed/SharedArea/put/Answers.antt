@@ -12,8 +12,19 @@ pub returns-clause-put : goal.returns-clause-put
 returns-clause-put c =
     let frames = c.args.self.now.frames in
     let news = pages_of c.put_number.new.self in
-    ap (λ (pages : List (List ℕ)). (let s : AreaState = record { pages = pages; reservations = c.stored.new.self } in s))
-    (put_done c.put_number.result (pages_of frames) news (owned_of frames) c.args.number c.args.offset c.args.value c.from.result c.from.ensures c.ranges.value.fits c.requires.offset
-    (length-map frames.frames.items is_own ∙ sym (length-map frames.frames.items bytes_of)) c.requires.own c.put_number.ensures.fits c.put_number.ensures.bytes c.put_number.ensures.unchanged)
-    ∙ ap (λ (rs : List AreaReservation). (let s : AreaState = record { pages = with_change (pages_of frames) c.args.number (λ bytes. slice_set bytes c.args.offset c.args.value); reservations = rs } in s))
-    (c.stored.ensures ∙ ap (λ at. after_store_here c.args.self.now.reservations c.args.task at 1) (place_is c.args.number c.args.offset))
+    ap (λ (pages : List (List ℕ)).
+    (let s : AreaState = record { pages = pages; reservations = c.stored.new.self } in s))
+    (put_done c.put_number.result (pages_of frames) news (owned_of frames) c.args.number c.args.offset c.args.value
+    c.from.result c.from.ensures c.ranges.value.fits c.requires.offset
+    (length-map frames.frames.items is_own ∙ sym (length-map frames.frames.items bytes_of)) c.requires.own
+    c.put_number.ensures.fits c.put_number.ensures.bytes c.put_number.ensures.unchanged)
+    ∙ ap (λ (rs : List AreaReservation).
+    (let s : AreaState =
+    record {
+      pages = with_change (pages_of frames) c.args.number
+          (λ bytes. slice_set bytes c.args.offset c.args.value);
+      reservations = rs;
+    } in s))
+    (c.stored.ensures
+    ∙ ap (λ at. after_store_here c.args.self.now.reservations c.args.task at 1)
+    (place_is c.args.number c.args.offset))

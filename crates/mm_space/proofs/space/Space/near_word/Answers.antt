@@ -11,6 +11,9 @@ use Rattle.mm_space.proofs.space.Space.near_word.Goals as goal
 pub returns-in-Private : goal.returns-in-Private
 returns-in-Private c =
     let page = c.in_ok-page.page.now in
-    near_answer executable page.rights (space_of c.args.self.now) (bytes_of c.in-Private.frame) c.args.at 4 _ c.word.result c.ranges.at.fits
-    (sym c.in_ok-page.ensures ∙ ap (λ (content : Content). let m : Mapped = record { rights = page.rights; held = held_in content } in Some m) c.in-Private.is)
+    near_answer executable page.rights (space_of c.args.self.now) (bytes_of c.in-Private.frame) c.args.at 4 _
+    c.word.result c.ranges.at.fits
+    (sym c.in_ok-page.ensures
+    ∙ ap (λ (content : Content). let m : Mapped = record { rights = page.rights; held = held_in content } in
+    Some m) c.in-Private.is)
     (sym c.allows.ensures ∙ c.if-not-allows.false) c.in-Private.frame.whole (λ fits. fits) c.word.ensures

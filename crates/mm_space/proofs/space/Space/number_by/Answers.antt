@@ -6,5 +6,7 @@ use Rattle.mm_space.proofs.space.Space.number_by.Goals as goal
 
 pub returns : goal.returns
 returns c = record {
-  near = load_done c.args.self.now.areas c.args.self.now.reservations readable (is_hint c.args.self.now.areas c.args.hint (c.args.at / 4096)) c.args.at c.args.width c.number_near.result c.ranges.at.fits c.number_near.ensures;
+  near = load_done c.args.self.now.areas c.args.self.now.reservations readable
+      (is_hint c.args.self.now.areas c.args.hint (c.args.at / 4096)) c.args.at c.args.width c.number_near.result
+      c.ranges.at.fits c.number_near.ensures;
 }

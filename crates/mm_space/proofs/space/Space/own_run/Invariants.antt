@@ -8,7 +8,8 @@ invariant-loop-done l = record {
   within : l.done ≤ l.count;
   same : reach l.self l.handed ≡ reach l.initial.self l.initial.handed;
   ready : is_ready l.self l.handed l.at l.done ≡ true;
-  still : (other : ℕ) → is_ready_at l.initial.self l.initial.handed other ≡ true → is_ready_at l.self l.handed other ≡ true;
+  still : (other : ℕ) → is_ready_at l.initial.self l.initial.handed other ≡ true
+      → is_ready_at l.self l.handed other ≡ true;
 }
 
 abbrev pub decreases-loop-done : goal.decreases-loop-done

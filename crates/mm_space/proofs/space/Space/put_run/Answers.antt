@@ -9,10 +9,17 @@ use Rattle.mm_space.proofs.Readied.{ready_same}
 use Rattle.mm_space.proofs.space.Space.put_run.Goals as goal
 
 pub loop-done-init : goal.loop-done-init
-loop-done-init c = record { within = omega arith; put = sym (put_none c.args.task c.args.at (reach c.args.self.now c.args.handed.now)); ready = c.requires }
+loop-done-init c =
+    record {
+      within = omega arith;
+      put = sym (put_none c.args.task c.args.at (reach c.args.self.now c.args.handed.now));
+      ready = c.requires;
+    }
 
 pub put_piece-requires-clause-ready : goal.put_piece-requires-clause-ready
-put_piece-requires-clause-ready c = byte_ready c.loop-done.self c.loop-done.handed c.args.at _ c.loop-done.done c.ranges.at.fits c.loop-done-test.true c.loop-done.invariant.ready
+put_piece-requires-clause-ready c =
+    byte_ready c.loop-done.self c.loop-done.handed c.args.at _ c.loop-done.done c.ranges.at.fits c.loop-done-test.true
+    c.loop-done.invariant.ready
 
 pub loop-done-preserved : goal.loop-done-preserved
 loop-done-preserved c =
@@ -21,7 +28,8 @@ loop-done-preserved c =
     let r = reach c.args.self.now c.args.handed.now in
     let first = take c.loop-done.done bytes in
     let piece = take (c.loop-done.done + c.in_page-piece.result - c.loop-done.done) (drop c.loop-done.done bytes) in
-    let counted : length first ≡ c.loop-done.done = length-take-le c.loop-done.done bytes c.loop-done.invariant.within in
+    let counted : length first ≡ c.loop-done.done =
+    length-take-le c.loop-done.done bytes c.loop-done.invariant.within in
     let parts : take (c.loop-done.done + c.in_page-piece.result) bytes ≡ first ++ piece =
     take-add c.loop-done.done c.in_page-piece.result bytes
     ∙ ap (λ n. first ++ take n (drop c.loop-done.done bytes)) (omega arith) in
@@ -30,8 +38,10 @@ loop-done-preserved c =
       put =
           c.put_piece.ensures.put
           ∙ ap (put_run c.args.task at piece) c.loop-done.invariant.put
-          ∙ ap (λ n. put_run c.args.task ((c.args.at + n) % 2 ^ 64) piece (put_run c.args.task c.args.at first r)) (sym counted)
+          ∙ ap (λ n. put_run c.args.task ((c.args.at + n) % 2 ^ 64) piece (put_run c.args.task c.args.at first r))
+          (sym counted)
           ∙ sym (put_split c.args.task c.args.at first piece r c.ranges.at.fits)
           ∙ ap (λ bs. put_run c.args.task c.args.at bs r) (sym parts);
-      ready = ready_same c.loop-done.self c.put_piece.new.self c.loop-done.handed c.put_piece.new.handed c.put_piece.ensures.ready c.args.at _ ∙ c.loop-done.invariant.ready;
+      ready = ready_same c.loop-done.self c.put_piece.new.self c.loop-done.handed c.put_piece.new.handed
+          c.put_piece.ensures.ready c.args.at _ ∙ c.loop-done.invariant.ready;
     }

@@ -9,8 +9,21 @@ use Rattle.mm_space.proofs.space.Space.reserve_shared.Goals as goal
 
 pub returns-in-Err-clause-err : goal.returns-in-Err-clause-err
 returns-in-Err-clause-err c =
-    ap (λ (rs : List Reservation). (let r : Reach = record { space = record { mapping = mapping c.args.self.now.areas; reservations = rs }; hand = hand_of c.reserve-3.new.self } in r))
+    ap (λ (rs : List Reservation).
+    (let r : Reach = record {
+      space = record { mapping = mapping c.args.self.now.areas; reservations = rs };
+      hand = hand_of c.reserve-3.new.self;
+    } in r))
     (c.take.ensures.ended
     ∙ ap (λ (rs : List Reservation). without rs c.args.task) c.in_ok-reserve-2.ensures.ok
-    ∙ undone c.args.self.now.reservations c.args.task c.args.at c.args.width (sym c.is_reserving.ensures ∙ c.if-is_reserving.false))
-    ∙ ap (λ (hand : List InHand). (let r : Reach = record { space = record { mapping = mapping c.args.self.now.areas; reservations = c.args.self.now.reservations }; hand = hand } in r)) c.in-Err.ensures.err
+    ∙ undone c.args.self.now.reservations c.args.task c.args.at c.args.width (sym c.is_reserving.ensures
+    ∙ c.if-is_reserving.false))
+    ∙ ap (λ (hand : List InHand).
+    (let r : Reach =
+    record {
+      space = record {
+        mapping = mapping c.args.self.now.areas;
+        reservations = c.args.self.now.reservations;
+      };
+      hand = hand;
+    } in r)) c.in-Err.ensures.err

@@ -4,5 +4,12 @@ use Rattle.pipe_core.proofs.ring.Ring.take_into.Goals as goal
 
 pub returns-clause-rest : goal.returns-clause-rest
 returns-clause-rest c =
-    let within : length c.args.to.now ≤ c.self.inside.len = omega (arith, c.requires, ap length c.self.view_is, length-bytes_from _ _ c.self.inside.slots.items c.self.invariant.1 c.self.invariant.2 c.self.invariant.0) in
-    rw c.copy_out.auto.to (rest_from _ _ _ _ c.self.invariant.1 c.self.invariant.2 c.self.invariant.0 within ∙ ap (drop (length c.args.to.now)) c.self.view_is)
+    let within : length c.args.to.now ≤ c.self.inside.len =
+    omega (
+      arith,
+      c.requires,
+      ap length c.self.view_is,
+      length-bytes_from _ _ c.self.inside.slots.items c.self.invariant.1 c.self.invariant.2 c.self.invariant.0,
+    ) in
+    rw c.copy_out.auto.to (rest_from _ _ _ _ c.self.invariant.1 c.self.invariant.2 c.self.invariant.0 within
+    ∙ ap (drop (length c.args.to.now)) c.self.view_is)

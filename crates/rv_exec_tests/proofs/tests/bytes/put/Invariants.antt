@@ -6,6 +6,8 @@ use Rattle.rv_exec_tests.proofs.tests.bytes.put.Given as goal
 
 abbrev pub invariant-loop-place : goal.invariant-loop-place
 invariant-loop-place l = record {
-  stored : (k : ℕ) → k < l.place → Holds (get_or l.bytes k 0) ≡ stored_byte nat_eq l.at l.width l.value ((l.from + k) % 2 ^ 64) (Holds (get_or l.initial.bytes k 0));
+  stored : (k : ℕ) → k < l.place
+      → Holds (get_or l.bytes k 0) ≡ stored_byte nat_eq l.at l.width l.value ((l.from + k) % 2 ^ 64)
+      (Holds (get_or l.initial.bytes k 0));
   others : (k : ℕ) → l.place ≤ k → get_or l.bytes k 0 ≡ get_or l.initial.bytes k 0;
 }

@@ -5,4 +5,7 @@ use Rattle.sn_base.proofs.Maps.{get_entry}
 use Rattle.sn_base.proofs.map.Map.contains.Goals as goal
 
 pub returns : goal.returns
-returns g c = c.contains_key.ensures ∙ ap is_some (sym (get_entry c.self.inside.entries.entries c.args.key) ∙ ap (λ m. map.get m c.args.key) c.self.view_is)
+returns g c =
+    c.contains_key.ensures
+    ∙ ap is_some (sym (get_entry c.self.inside.entries.entries c.args.key)
+    ∙ ap (λ m. map.get m c.args.key) c.self.view_is)

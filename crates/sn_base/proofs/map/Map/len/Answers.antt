@@ -4,4 +4,5 @@ use Rattle.sn_base.proofs.Maps.{len-from_entries}
 use Rattle.sn_base.proofs.map.Map.len.Goals as goal
 
 pub returns : goal.returns
-returns g c = c.len.ensures.len ∙ sym (len-from_entries c.self.inside.entries.entries c.len.ensures.ordered) ∙ ap map.len c.self.view_is
+returns g c = c.len.ensures.len ∙ sym (len-from_entries c.self.inside.entries.entries c.len.ensures.ordered)
+    ∙ ap map.len c.self.view_is

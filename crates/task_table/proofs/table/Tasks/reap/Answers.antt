@@ -6,6 +6,8 @@ use Rattle.task_table.proofs.table.Tasks.reap.Goals as goal
 
 pub invariant_of-self : goal.invariant_of-self
 invariant_of-self c =
-    let old : TaskTable = record { tasks = c.self.inside.tasks; groups = c.self.inside.groups; last = c.self.inside.last } in
-    sound_of (record old { groups = changed_at (λ g. record g { parent = 0 }) old.groups c.in-Reaped.child }) _ _ _ _ refl c.release.ensures.groups c.self.invariant.live_is c.release.ensures.children
+    let old : TaskTable =
+    record { tasks = c.self.inside.tasks; groups = c.self.inside.groups; last = c.self.inside.last } in
+    sound_of (record old { groups = changed_at (λ g. record g { parent = 0 }) old.groups c.in-Reaped.child }) _ _ _ _
+    refl c.release.ensures.groups c.self.invariant.live_is c.release.ensures.children
     (kept_group_changed old (λ g. record g { parent = 0 }) c.in-Reaped.child (λ _. refl) c.self.invariant.kept)

@@ -8,13 +8,16 @@ use Rattle.task_table.proofs.table.Tasks.thread.Goals as goal
 
 pub invariant_of-self-2 : goal.invariant_of-self-2
 invariant_of-self-2 c =
-    let old : TaskTable = record { tasks = c.self.inside.tasks; groups = c.self.inside.groups; last = c.self.inside.last } in
+    let old : TaskTable =
+    record { tasks = c.self.inside.tasks; groups = c.self.inside.groups; last = c.self.inside.last } in
     let next = c.self.inside.last + 1 in
     let few : length c.self.inside.live.items < 256 = omega arith in
     sound_same (threaded old c.args.task c.args.clear) _ _ _ _ _ _ _
     (c.in_ok-insert.ensures.ok
-    ∙ ap (λ n. insert c.self.inside.tasks n (record { group = c.group_of.result; clear = c.args.clear; live = true })) c.from.ensures
-    ∙ ap (λ g. insert c.self.inside.tasks next (record { group = g; clear = c.args.clear; live = true })) c.group_of.ensures)
+    ∙ ap (λ n. insert c.self.inside.tasks n (record { group = c.group_of.result; clear = c.args.clear; live = true }))
+    c.from.ensures
+    ∙ ap (λ g. insert c.self.inside.tasks next (record { group = g; clear = c.args.clear; live = true }))
+    c.group_of.ensures)
     refl refl
     (c.push_reserved.ensures.items ∙ ap (λ xs. xs ++ next ∷ []) c.in_ok-reserve.ensures.items)
     refl

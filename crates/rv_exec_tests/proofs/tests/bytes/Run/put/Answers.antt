@@ -5,4 +5,5 @@ use Rattle.rv_exec_tests.proofs.tests.bytes.Run.put.Goals as goal
 pub returns : goal.returns
 returns g c =
     let long : length c.args.self.now.bytes ≡ g.row.N = search rules in
-    stored_run c.args.self.now.from g.row.N c.args.self.now.area c.args.self.now.bytes c.put.new.bytes c.args.at c.args.width c.args.value long c.put.ensures
+    stored_run c.args.self.now.from g.row.N c.args.self.now.area c.args.self.now.bytes c.put.new.bytes c.args.at
+    c.args.width c.args.value long c.put.ensures

@@ -13,7 +13,8 @@ code_of count memory = in_run memory.code.from count memory.code.area memory.cod
 pub returns-in-Ok-clause-rows : goal.returns-in-Ok-clause-rows
 returns-in-Ok-clause-rows g c = λ inside page apart.
     let same : code_of g.row.C c.else-not-self.self ≡ code_of g.row.C c.args.self.now = elim c.else-not-self.branch [
-      | else-not-self-via-then-not-self+else-is_wanting w ↦ ap (code_of g.row.C) w.self-is ∙ ap (λ (m : Memory). m.code) w.is_wanting.ensures
+      | else-not-self-via-then-not-self+else-is_wanting w ↦
+          ap (code_of g.row.C) w.self-is ∙ ap (λ (m : Memory). m.code) w.is_wanting.ensures
       | else-not-self-via-else-not-self w ↦ ap (code_of g.row.C) w.self-is
     ] in
     ap (λ (m : Memory). instrs_of m.code page) c.put.ensures
