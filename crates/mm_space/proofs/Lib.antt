@@ -2,6 +2,7 @@ pub mod Accessed
 pub mod AreaPuts
 pub mod AreaRuns
 pub mod Near
+pub mod NearConditionals
 pub mod NearPuts
 pub mod NumberBounds
 pub mod OtherPages

@@ -31,7 +31,8 @@ impl SharedArea {
     fn own(&mut self, alloc: Global, number: usize) -> Result<(), Memory>
         ensures same { area_state self.new ≡ area_state self.old }
         ensures ok { OnOk result (page_owned self.new.frames number ≡ true) }
-        ensures still { (other : ℕ) → page_owned self.old.frames other ≡ true → page_owned self.new.frames other ≡ true }
+        ensures still { (other : ℕ) →
+            page_owned self.old.frames other ≡ true → page_owned self.new.frames other ≡ true }
         ensures lacking { OnErr result (page_owned self.old.frames number ≡ false) }
     {
         if number < self.frames.len() {
@@ -130,8 +131,8 @@ impl Handed {
         None
     }
 
-    /// Makes the bytes of a page of a shared area the area's own, where that is handed in and has the page. Nothing that
-    /// an access sees changes.
+    /// Makes the bytes of a page of a shared area the area's own, where that is handed in and has the page. Nothing
+    /// that an access sees changes.
     pub(crate) fn own(&mut self, alloc: Global, page: &SharedPage) -> Result<(), Memory>
         ensures same { hand_of self.new ≡ hand_of self.old }
         ensures ok { OnOk result (owns_shared self.new page.now.area page.now.number ≡ true) }

@@ -82,8 +82,8 @@ impl Space {
     }
 
     /// Stores so many of a number's bytes at an address for a task, where they lie in one page that may be written and
-    /// has its bytes for itself, as `store` does, whichever areas are handed in; and answers whether it has. Elsewhere it
-    /// does nothing. It takes no memory.
+    /// has its bytes for itself, as `store` does, whichever areas are handed in; and answers whether it has. Elsewhere
+    /// it does nothing. It takes no memory.
     #[inline(always)]
     pub fn store_near(
         &mut self,
@@ -95,8 +95,8 @@ impl Space {
     ) -> bool
         requires { IsWidth width }
         ensures done { OnTrue result (StoresNear (space_of self.old) (space_of self.new) task at width value) }
-        ensures apart { OnTrue result ((page : ℕ) → (page ≡ at / 4096 → ⊥) → map_of.get (space_of self.new).mapping.pages page
-            ≡ map_of.get (space_of self.old).mapping.pages page) }
+        ensures apart { OnTrue result ((page : ℕ) → (page ≡ at / 4096 → ⊥) →
+            map_of.get (space_of self.new).mapping.pages page ≡ map_of.get (space_of self.old).mapping.pages page) }
         ensures unchanged { OnFalse result (space_of self.new ≡ space_of self.old) }
     {
         let page = at / 4096;
@@ -113,8 +113,8 @@ impl Space {
     fn store_anew(&mut self, hints: &mut Hints, task: u32, at: u64, width: u8, value: u64) -> bool
         requires { IsWidth width }
         ensures done { OnTrue result (StoresNear (space_of self.old) (space_of self.new) task at width value) }
-        ensures apart { OnTrue result ((page : ℕ) → (page ≡ at / 4096 → ⊥) → map_of.get (space_of self.new).mapping.pages page
-            ≡ map_of.get (space_of self.old).mapping.pages page) }
+        ensures apart { OnTrue result ((page : ℕ) → (page ≡ at / 4096 → ⊥) →
+            map_of.get (space_of self.new).mapping.pages page ≡ map_of.get (space_of self.old).mapping.pages page) }
         ensures unchanged { OnFalse result (space_of self.new ≡ space_of self.old) }
     {
         let page = at / 4096;
@@ -135,8 +135,8 @@ impl Space {
     ) -> bool
         requires { IsWidth width }
         ensures done { OnTrue result (StoresNear (space_of self.old) (space_of self.new) task at width value) }
-        ensures apart { OnTrue result ((page : ℕ) → (page ≡ at / 4096 → ⊥) → map_of.get (space_of self.new).mapping.pages page
-            ≡ map_of.get (space_of self.old).mapping.pages page) }
+        ensures apart { OnTrue result ((page : ℕ) → (page ≡ at / 4096 → ⊥) →
+            map_of.get (space_of self.new).mapping.pages page ≡ map_of.get (space_of self.old).mapping.pages page) }
         ensures unchanged { OnFalse result (space_of self.new ≡ space_of self.old) }
         ensures fits { IsTrue result ↔ HasRoomBy self.old hint at width }
         ensures ready { OnFalse result ((handed : Handed) → AreAsReady self.old self.new handed handed) }

@@ -10,8 +10,8 @@ use rv_atomic::Reservations;
 use sn_base::Memory;
 use std::alloc::Global;
 
-/// What is mapped in an address space, its break, and what its tasks have reserved; which pages have their words decoded,
-/// and guesses at where pages lie.
+/// What is mapped in an address space, its break, and what its tasks have reserved; which pages have their words
+/// decoded, and guesses at where pages lie.
 #[derive(Drop)]
 pub struct Space {
     pub(crate) areas: Areas,
@@ -54,8 +54,8 @@ impl Space {
         Ok(Space::of(alloc, areas))
     }
 
-    /// The same address space once more, with its reservations: private pages have the same bytes, which both share until
-    /// one of them writes. An `Err` leaves this one as it was.
+    /// The same address space once more, with its reservations: private pages have the same bytes, which both share
+    /// until one of them writes. An `Err` leaves this one as it was.
     pub fn copy(&mut self, alloc: Global) -> Result<Space, Memory>
         ensures copied { IfOk result (λ other. space_of other ≡ space_of self.old) }
         ensures kept { space_of self.new ≡ space_of self.old }

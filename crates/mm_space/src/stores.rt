@@ -75,8 +75,8 @@ impl Space {
         }
     }
 
-    /// Stores so many of a number's bytes, the lowest first, at an address, each of which may be written, for a task. It
-    /// ends other tasks' reservations of the granules that it meets. It needs no alignment. A refusal is one of
+    /// Stores so many of a number's bytes, the lowest first, at an address, each of which may be written, for a task.
+    /// It ends other tasks' reservations of the granules that it meets. It needs no alignment. A refusal is one of
     /// `writable`, and changes nothing; where the pages have their bytes for themselves, no memory is taken.
     pub fn store(
         &mut self,

@@ -60,7 +60,8 @@ pub(crate) trait Access {
     /// where that was of just that address and so many bytes; and answers whether it was. A refusal leaves it.
     fn conditional<M: Mem>(&mut self, mem: &mut M, at: u64, width: u8, value: u64) -> Option<bool>
         requires { IsWidth width }
-        ensures room { LetsAs is_exact (why self.new) (loaded (M.seen (M.told mem.old)).room at width) (is_some result) }
+        ensures room { LetsAs is_exact (why self.new)
+            (loaded (M.seen (M.told mem.old)).room at width) (is_some result) }
         ensures lean { M.takes_memory ≡ false → why self.old ≢ Step.Memory → why self.new ≢ Step.Memory }
         ensures held { IfSome result (λ held. held ≡ (M.seen (M.told mem.old)).reserves at width) }
         ensures done { IfSome result (λ held.

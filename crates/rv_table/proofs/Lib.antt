@@ -1,1 +1,2 @@
--- No lemma stands here: the checker computes what is proved of the table.
+-- Of the table no lemma stands here: the checker computes what is proved of it.
+mod Masks

@@ -1,6 +1,6 @@
 //! The registers of a task.
 
-ghost use Rattle.std.specs.Prelude.{◌≡◌};
+ghost use Rattle.std.specs.Prelude.{◌≡◌, ◌<◌, ◌==◌, if◌then◌else◌};
 ghost use Rattle.rv_table.specs.Registers.{reg, with_reg, at_pc, gone_on};
 
 use crate::Reg;
@@ -14,13 +14,32 @@ pub struct Regs {
     pub x: [u64; 32],
 }
 
+/// All bits of a register.
+const ALL: u64 = u64::MAX;
+
+/// The bits that a read gives of a register, by its number: none of x0.
+#[rattlefmt::skip]
+const MASKS: [u64; 32] = [
+    0, ALL, ALL, ALL, ALL, ALL, ALL, ALL, ALL, ALL, ALL, ALL, ALL, ALL, ALL, ALL,
+    ALL, ALL, ALL, ALL, ALL, ALL, ALL, ALL, ALL, ALL, ALL, ALL, ALL, ALL, ALL, ALL,
+];
+
+/// What is read of a register that holds so much, by its number.
+#[inline(always)]
+fn masked(value: u64, number: usize) -> u64
+    requires { number < 32 }
+    ensures { result ≡ if number == 0 then 0 else value }
+{
+    value & MASKS[number]
+}
+
 impl Regs {
     /// What a register holds. x0 holds 0. There is no branch, since each instruction reads registers.
     pub fn read(&self, register: Reg) -> u64
         ensures { result ≡ reg self.now register }
     {
         let number = register.number();
-        self.x[number].wrapping_mul(u64::from(number != 0))
+        masked(self.x[number], number)
     }
 
     /// Puts a value into a register. A write to x0 does nothing.
