@@ -1,33 +1,16 @@
 -- A store-conditional by hints, as the memory's contract tells it.
 use Rattle.std.proofs.Common.{◌≡◌, ℕ, Bool, true, false, List, Option, Some, None, refl, ap, ◌∙◌}
-use Rattle.std.specs.Prelude.{IfSome, Ok}
-use Rattle.rv_table.specs.Bytes.{AllowsAs, loaded}
+use Rattle.std.specs.Prelude.{IfSome}
 use Rattle.rv_exec.specs.Writes.{all_after, conditional_writes}
-use Rattle.mm_space.specs.Accesses.{byte_at, writable}
 use Rattle.mm_space.specs.Conditionals.{ConditionalNear, after_conditional}
 use Rattle.mm_space.specs.Handing.{InHand}
-use Rattle.mm_space.specs.Reserves.{is_held_at}
 use Rattle.mm_space.specs.Spaces.{AddressSpace, Reach}
-use Rattle.quantum.specs.Acting.{Acting, acting_on, after_write}
+use Rattle.quantum.specs.Acting.{acting_on, after_write}
 
 abbrev with_hand : AddressSpace → List InHand → Reach
 with_hand space hand = record { space = space; hand = hand }
 
--- its bytes may be written
-pub near_room : (answer : Option Bool) (old new : AddressSpace) (hand : List InHand) (task at width value : ℕ)
-    → IfSome answer (ConditionalNear old new task at width value)
-    → IfSome answer (λ held. AllowsAs (loaded (byte_at writable (with_hand old hand)) at width) (Ok tt))
-near_room None old new hand task at width value near = tt
-near_room (Some held) old new hand task at width value near = near.room hand
-
--- it answers whether the address was reserved
-pub near_held : (answer : Option Bool) (old new : AddressSpace) (hand : List InHand) (task at width value : ℕ)
-    → IfSome answer (ConditionalNear old new task at width value)
-    → IfSome answer (λ held. held ≡ is_held_at task at width (with_hand old hand))
-near_held None old new hand task at width value near = tt
-near_held (Some held) old new hand task at width value near = near.reserved hand
-
--- and what is reached is as after its writes
+-- what is reached is as after its writes
 written : (held : Bool) (r : Reach) (task at width value : ℕ)
     → acting_on task (after_conditional held task at width value r)
     ≡ all_after after_write (conditional_writes held at width value) (acting_on task r)
