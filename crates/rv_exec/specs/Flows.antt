@@ -31,17 +31,6 @@ LetsAs is_exact why (Value value) true = ⊤
 LetsAs is_exact why accessed false = is_exact ≡ true → RefusesAs accessed why
 LetsAs _ _ _ _ = ⊥
 
--- an atomic memory operation gives what memory held, extended, and leaves what it makes of that in its place; where it
--- is refused, nothing has changed, and where it is exact, for that cause
--- RISC-V Unprivileged ISA 20191213, 8.4, Atomic Memory Operations
-abbrev pub ReplacesAs : {State : Type 0} → (Write → State → State) → (is_exact : Bool) → (why : Step) → Accessed
-    → (extend : ℕ → ℕ) → (made : ℕ → Write) → (old new : State) → Option ℕ → Type 0
-ReplacesAs write is_exact why (Value value) extend made old new (Some told) =
-    (told ≡ extend value) × (new ≡ write (made (extend value)) old)
-ReplacesAs write is_exact why accessed extend made old new None =
-    (new ≡ old) × (is_exact ≡ true → RefusesAs accessed why)
-ReplacesAs _ _ _ _ _ _ _ _ _ = ⊥
-
 -- why an instruction is refused: it traps, or touches a shared area, or memory is wanting
 -- profile
 abbrev pub IsCause : Done → Step → Type 0
