@@ -72,6 +72,19 @@ impl Frame {
     pub fn number(&self, offset: usize, width: u8) -> Option<u64>
         ensures { SomeIff result (IsInPage offset width) (number_in (bytes_of self.now) offset width) }
     {
+        match &self.bytes {
+            Bytes::Own(own) => number_at(own, offset, width),
+            Bytes::Zero => self.other_number(offset, width),
+            Bytes::Shared(_) => self.other_number(offset, width),
+        }
+    }
+
+    /// The same, in a function of its own: most frames that are read often are own, and a run of instructions has this
+    /// in its loop.
+    #[inline(never)]
+    fn other_number(&self, offset: usize, width: u8) -> Option<u64>
+        ensures { SomeIff result (IsInPage offset width) (number_in (bytes_of self.now) offset width) }
+    {
         number_at(self.bytes.array(), offset, width)
     }
 
