@@ -54,6 +54,7 @@ pub fn run_quantum(
 }
 
 /// Runs a task's instructions as `run_quantum` does, at most so many.
+#[inline(never)]
 pub fn run_at_most(
     alloc: Global,
     regs: &mut Regs,
