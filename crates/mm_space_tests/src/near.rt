@@ -123,3 +123,63 @@ fn a_store_by_a_hint_ends_the_reservations_of_other_tasks(rt: HostRuntime) -> Re
     }
     Ok(())
 }
+
+#[test]
+fn a_store_conditional_by_a_hint_is_the_exact_one_or_none(rt: HostRuntime) -> Result<(), Fail> {
+    let mut space = space(rt.alloc())?;
+    let mut none = Handed::none(rt.alloc());
+    let mut hints = Hints::new();
+    let both = Rights::READ | Rights::WRITE;
+    space.map(rt.alloc(), Some(0x1_9000), 4096, both, Backing::Zeros)?;
+    // Who asks, where, of how many bytes, and what it is told once task 1 has reserved the four bytes at 0x1_1008:
+    // whether it stored, or nothing where a page can't be written at once.
+    let cases: [(u32, u64, u8, Option<bool>); 7] = [
+        (1, 0x1_1008, 4, Some(true)),
+        (1, 0x1_100c, 4, Some(false)),
+        (1, 0x1_1008, 8, Some(false)),
+        (2, 0x1_1008, 4, Some(false)),
+        (1, 0x1_0000, 4, None),
+        (1, 0x1_9000, 4, None),
+        (1, 0x2_0000, 4, None),
+    ];
+    for (task, at, width, told) in cases {
+        assert!(rt; space.store_near(&mut hints, 1, 0x1_1008, 8, 0x0102_0304_0506_0708));
+        space.reserve(&mut none, 1, 0x1_1008, 4)?;
+        assert_eq!(rt;
+            space.conditional_near(&mut hints, task, at, width, 0x5555_5555_5555_55c7),
+            told,
+            "{task} at {at:x}, {width}"
+        );
+        let is = if told == Some(true) {
+            0x0102_0304_5555_55c7
+        } else {
+            0x0102_0304_0506_0708
+        };
+        assert_eq!(rt; space.load(&none, 0x1_1008, 8), Ok(is));
+        // The caller's reservation is ended, and where nothing was done, it stays.
+        let stays = told.is_none() || task == 2;
+        assert_eq!(rt; space.take(&mut none, 1, 0x1_1008, 4), stays);
+    }
+    Ok(())
+}
+
+#[test]
+fn a_store_conditional_by_a_hint_ends_the_reservations_of_other_tasks(
+    rt: HostRuntime,
+) -> Result<(), Fail> {
+    let mut space = space(rt.alloc())?;
+    let mut none = Handed::none(rt.alloc());
+    let mut hints = Hints::new();
+    // where the second task has reserved, and whether that stays once the first has stored the four bytes at 0x1_1008
+    let cases: [(u64, bool); 3] = [(0x1_1008, false), (0x1_100c, false), (0x1_1010, true)];
+    for (at, stays) in cases {
+        space.reserve(&mut none, 1, 0x1_1008, 4)?;
+        space.reserve(&mut none, 2, at, 4)?;
+        assert_eq!(rt;
+            space.conditional_near(&mut hints, 1, 0x1_1008, 4, 7),
+            Some(true)
+        );
+        assert_eq!(rt; space.take(&mut none, 2, at, 4), stays, "{at:x}");
+    }
+    Ok(())
+}

@@ -279,7 +279,7 @@ fn a_run_ends_at_an_access_without_its_right_or_in_an_area(rt: HostRuntime) -> R
 
 #[test]
 fn a_run_ends_at_an_access_that_is_not_at_hand(rt: HostRuntime) -> Result<(), Fail> {
-    for words in [&LOADS[..], &STORES[..]] {
+    for words in [&LOADS[..], &STORES[..], &[CONDITIONAL]] {
         for &word in words {
             let mut task = task_of(&[NOP, word, ECALL]);
             ran(&rt, rt.alloc(), &task, 1000, 2, Flow::Call)?;
