@@ -27,6 +27,7 @@ mod looks;
 mod node;
 mod paths;
 mod reading;
+mod seen;
 mod world;
 
 pub use node::FolderNode;
