@@ -4,3 +4,4 @@ pub mod Kinds
 pub mod Failures
 pub mod Access
 pub mod Offsets
+pub mod Entries

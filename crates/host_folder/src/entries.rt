@@ -1,20 +1,18 @@
 //! What a directory of the machine lists.
 
 ghost use Rattle.std.specs.Prelude.{◌≡◌, ◌↔◌, ◌∷◌, ◌++◌, []};
-ghost use Rattle.std.specs.Prelude.{All, IfOk, IfErr, IfSome, OnOk, IsOkUnless, IsTrue, IsErrAnd, IsPermutation};
-ghost use Rattle.std.specs.Prelude.{option_map};
+ghost use Rattle.std.specs.Prelude.{All, IfOk, IfErr, IfSome, OnOk, IsOkUnless, IsTrue, IsPermutation};
 ghost use Rattle.host_node.specs.Order.{IsAscending, names_of};
 ghost use Rattle.sn_text.specs.Names.{IsName};
-ghost use Rattle.host_folder.specs.Failures.{IsRefusalOf};
-ghost use Rattle.host_folder.specs.Kinds.{IsKindOf};
+ghost use Rattle.host_folder.specs.Entries.{entries_of, listed_as};
 
-use crate::attributes::kind_of;
 use crate::failures::refusal;
+use crate::seen::{Seen, see_all};
 use host_node::{HostErr, Listed, Listing};
 use sn_text::{Name, NameFault, name_of};
 use std::alloc::Global;
-use std::fs::{Files, Metadata};
-use std::{fs, io};
+use std::fs;
+use std::fs::Files;
 
 /// The entries of a directory that are directories, files or links, by the order of their names' bytes.
 pub(crate) fn list<R: Files + AllocGlobal + Clone + Drop>(
@@ -24,40 +22,58 @@ pub(crate) fn list<R: Files + AllocGlobal + Clone + Drop>(
     ensures ordered { IfOk result (λ listing. IsAscending (names_of listing)) }
     ensures names { IfOk result (All (λ entry. IsName entry.name)) }
 {
-    let entries = read_entries(files, path)?;
-    listing_of(files.alloc(), entries)
+    let told = fs::read_dir(files, path).map_err(refusal)?;
+    let told = told.collect(files.alloc())?;
+    let seen = see_all(files.alloc(), told)?;
+    listing_of(files.alloc(), seen.as_slice())
 }
 
-/// The entries of a directory for us, in the order in which the system gives them.
-fn read_entries<R: Files + AllocGlobal + Clone + Drop>(
-    files: &R,
-    path: &str,
-) -> Result<Vec<Listed>, HostErr>
-    ensures { IfOk result (λ entries. All (λ entry. IsName entry.name) entries.items) }
+/// The listing of all entries that were seen and aren't hidden.
+fn listing_of(alloc: Global, seen: &[Seen]) -> Result<Listing, HostErr>
+    ensures entries { IfOk result (λ listing. IsPermutation (entries_of seen.now) listing) }
+    ensures ordered { IfOk result (λ listing. IsAscending (names_of listing)) }
+    ensures names { IfOk result (All (λ entry. IsName entry.name)) }
 {
-    let mut entries = Vec::new(files.alloc());
-    for entry in fs::read_dir(files, path).map_err(refusal)? {
-        let entry = entry.map_err(refusal)?;
-        if let Some(listed) = listed(files.alloc(), entry.file_name(), entry.metadata())? {
-            entries.push(listed)?;
-        }
+    let entries = entries_from(alloc, seen)?;
+    in_order(alloc, entries)
+}
+
+/// The entries that were seen and aren't hidden, in the order in which they were seen.
+fn entries_from(alloc: Global, seen: &[Seen]) -> Result<Vec<Listed>, HostErr>
+    ensures entries { IfOk result (λ entries. entries.items ≡ entries_of seen.now) }
+    ensures names { IfOk result (λ entries. All (λ entry. IsName entry.name) entries.items) }
+{
+    let mut entries = Vec::new(alloc);
+    for one in seen {
+        push_entry(alloc, &mut entries, one)?;
     }
     Ok(entries)
 }
 
-/// An entry as it is listed, from its name and what a look at it tells: `None` where it isn't for us.
-fn listed(alloc: Global, text: &str, found: io::Result<Metadata>) -> Result<Option<Listed>, HostErr>
-    ensures name { IfOk result (λ listed. IfSome listed (λ entry. entry.name ≡ text.now)) }
-    ensures is_name { IfOk result (λ listed. IfSome listed (λ entry. IsName entry.name)) }
-    ensures kind { IfOk found (λ metadata. IfOk result (λ listed.
-        IsKindOf metadata (option_map (λ entry. entry.kind) listed))) }
-    ensures refused { IfErr found (λ error. IsErrAnd result (IsRefusalOf error)) }
+/// Adds an entry that was seen at the end, where it isn't hidden.
+fn push_entry(alloc: Global, entries: &mut Vec<Listed>, seen: &Seen) -> Result<(), HostErr>
+    ensures entry { OnOk result (entries.new.items ≡ entries.old.items ++ entries_of (seen.now ∷ [])) }
+    ensures names { All (λ entry. IsName entry.name) entries.old.items →
+        OnOk result (All (λ entry. IsName entry.name) entries.new.items) }
+    ensures memory { IfSome (listed_as seen.now) (λ entry. IsName entry.name) → IsOkUnless result HostErr.Memory }
 {
-    let metadata = found.map_err(refusal)?;
-    let Some(kind) = kind_of(&metadata) else {
+    if let Some(entry) = entry_from(alloc, seen)? {
+        entries.push(entry)?;
+    }
+    Ok(())
+}
+
+/// An entry as it is listed: `None` where it is hidden.
+fn entry_from(alloc: Global, seen: &Seen) -> Result<Option<Listed>, HostErr>
+    ensures entry { IfOk result (λ entry. entry ≡ listed_as seen.now) }
+    ensures name { IfOk result (λ entry. IfSome entry (λ e. IsName e.name)) }
+    ensures memory { IfSome (listed_as seen.now) (λ entry. IsName entry.name) → IsOkUnless result HostErr.Memory }
+    ensures failed { IfSome (listed_as seen.now) (λ entry. ¬ (IsName entry.name) → result ≡ Err HostErr.Failed) }
+{
+    let Some(kind) = seen.kind else {
         return Ok(None);
     };
-    let name = name_from(alloc, text)?;
+    let name = name_from(alloc, seen.text.as_str())?;
     Ok(Some(Listed { name, kind }))
 }
 
@@ -74,7 +90,7 @@ fn name_from(alloc: Global, text: &str) -> Result<Name, HostErr>
 }
 
 /// A listing of entries, by the order of their names' bytes. Two of one name are a failure.
-fn listing_of(alloc: Global, mut entries: Vec<Listed>) -> Result<Listing, HostErr>
+fn in_order(alloc: Global, mut entries: Vec<Listed>) -> Result<Listing, HostErr>
     ensures entries { IfOk result (λ listing. IsPermutation entries.items listing) }
     ensures ordered { IfOk result (λ listing. IsAscending (names_of listing)) }
 {

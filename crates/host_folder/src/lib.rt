@@ -5,11 +5,15 @@
 //!
 //! Proved: a call answers `Failed` just where its count rose, and the count rises in no other (`faults`). What is
 //! granted is a directory (`directory`), and neither it nor what is lent is open or has failed yet (`shut`, `fresh`).
-//! Permission bits are those of a node's kind (`attr`, `mode`), which stays (`kind`); no link is opened, and no
-//! directory for writing (`can_open`); entries are listed in the order of their names, each once (`ordered`). A path
-//! is that of the folder with the route's names, each behind a slash (`folder`, `below`, and `slashed` of
-//! specs/Paths.antt), so that nothing outside the granted folder is named; a name that isn't UTF-8 is refused
-//! (`text`). A read begins at its offset and ends with the file or the buffer, as far as the file tells (`bytes`).
+//! Permission bits are those of a node's kind (`attr`, `mode`), which stays (`kind`); no link is opened, no directory
+//! for writing (`can_open`), and a file just as it is (`options`). What a look tells decides what a stat tells
+//! (`attr_from`), whether a node is lent and of which kind (`child_from`), and whether a grant goes on
+//! (`is_directory`).
+//! Each entry that the system tells is listed once, but for hidden ones, in the order of their names, or the listing
+//! fails (`see_all`, `listing_of`, `ordered`). A path is that of the folder with the route's names, each behind a slash
+//! (`folder`, `below`, and `slashed` of specs/Paths.antt), so that nothing outside the granted folder is named; a name
+//! that isn't UTF-8 is refused (`text`). A read begins at its offset and ends with the file or the buffer, as far as
+//! the file tells (`bytes`).
 //!
 //! Not said: what the system's files hold, and that it does what it is asked. No link is followed: each part of a
 //! folder's path, and each node that is opened or listed, is looked at first, and must be a directory or a file. That
@@ -27,6 +31,7 @@ mod looks;
 mod node;
 mod paths;
 mod reading;
+mod seen;
 mod world;
 
 pub use node::FolderNode;

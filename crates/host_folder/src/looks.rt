@@ -1,14 +1,14 @@
 //! What looks at paths tell.
 
-ghost use Rattle.std.specs.Prelude.{◌≡◌, ◌≢◌, ◌↔◌, false, IsTrue, IfOk, IfErr, IsOkAnd, IsErrAnd};
-ghost use Rattle.std.specs.Fs.{file_type, IsDir};
+ghost use Rattle.std.specs.Prelude.{◌≡◌, ◌≢◌, ◌↔◌, ◌≤◌, false, IsTrue, IsOk, IfOk, IfErr, IsOkAnd, IsErrAnd};
+ghost use Rattle.std.specs.Fs.{file_type, metadata_len, IsDir};
 ghost use Rattle.std.specs.IoError.{error_kind};
 ghost use Rattle.host_folder.specs.Failures.{IsAbsence, IsRefusalOf};
-ghost use Rattle.host_folder.specs.Kinds.{IsOfKind, IsKindOf};
+ghost use Rattle.host_folder.specs.Kinds.{IsOfKind, IsKindOf, attr_by};
 
-use crate::attributes::kind_of;
+use crate::attributes::{attributes, kind_of};
 use crate::failures::refusal;
-use host_node::{HostErr, Kind};
+use host_node::{Attr, HostErr, Kind};
 use std::fs::Metadata;
 use std::io;
 use std::io::ErrorKind;
@@ -26,6 +26,19 @@ pub(crate) fn same_kind(found: io::Result<Metadata>, kind: Kind) -> Result<Metad
     } else {
         Err(HostErr::Failed)
     }
+}
+
+/// What a look at a node's own path tells of the node (lstat(2)).
+pub(crate) fn attr_from(found: io::Result<Metadata>, kind: Kind) -> Result<Attr, HostErr>
+    ensures attr { IfOk result (λ attr. IsOkAnd found (λ metadata. attr ≡ attr_by kind (metadata_len metadata))) }
+    ensures same { IfOk found (λ metadata. IsOfKind kind metadata → IsOk result) }
+    ensures changed { IfOk found (λ metadata. ¬ (IsOfKind kind metadata) → result ≡ Err HostErr.Failed) }
+    ensures refused { IfErr found (λ error. IsErrAnd result (IsRefusalOf error)) }
+    ensures mode { IfOk result (λ attr. attr.mode ≤ 511) }
+    ensures kind { IfOk result (λ attr. attr ≡ attr_by kind attr.size) }
+{
+    let metadata = same_kind(found, kind)?;
+    Ok(attributes(kind, &metadata))
 }
 
 /// What a look at a name of a directory tells: the kind of what stands there, or `None` where nothing does

@@ -1,28 +1,33 @@
 //! Directories, files and links of a granted folder, and their calls.
 
 ghost use Rattle.std.specs.Prelude.{◌≡◌, ◌≢◌, ◌≤◌, ◌∷◌, ◌++◌, [], length, string_bytes};
-ghost use Rattle.std.specs.Prelude.{All, IfOk, IfSome, OnOk, OnErr, IsNone, IsOkUnless, IsUtf8};
+ghost use Rattle.std.specs.Prelude.{All, IfOk, IfErr, IfSome, OnOk, OnErr, IsOk, IsNone, IsOkUnless, IsErrAnd, IsUtf8};
+ghost use Rattle.std.specs.Prelude.{option_map, true};
+ghost use Rattle.std.specs.Fs.{new_options, with_read, with_write};
+ghost use Rattle.std.specs.IoError.{error_kind};
 ghost use Rattle.sn_base.specs.Faults.{HasCause};
 ghost use Rattle.host_node.specs.Faults.{has_failed};
 ghost use Rattle.host_node.specs.Order.{IsAscending, names_of};
 ghost use Rattle.host_node.specs.Told.{after_open, opened_for};
 ghost use Rattle.sn_text.specs.Names.{IsName};
 ghost use Rattle.host_folder.specs.Access.{file_of, opened_by};
-ghost use Rattle.host_folder.specs.Kinds.{CanOpenKind, IsOfKind, attr_by};
+ghost use Rattle.host_folder.specs.Failures.{IsRefusalOf};
+ghost use Rattle.host_folder.specs.Kinds.{CanOpenKind, IsKindOf, IsOfKind, attr_by};
 ghost use Rattle.host_folder.specs.Offsets.{ReadsOpened};
 ghost use Rattle.host_folder.specs.Paths.{slashed};
 
 use crate::access::Access;
-use crate::attributes::attributes;
 use crate::entries::list;
 use crate::failures::{counted, refusal};
-use crate::looks::{child_kind, same_kind};
+use crate::looks::{attr_from, child_kind, same_kind};
 use crate::paths::{path_of, push_name};
 use crate::reading::read_from;
 use host_node::{Attr, HostErr, HostNode, Kind, Listing};
+use sn_base::Memory;
 use sn_text::{Name, Route};
-use std::fs;
 use std::fs::{Files, Metadata, OpenOptions};
+use std::io::ErrorKind;
+use std::{fs, io};
 
 /// A directory, a file or a link in a granted folder of the machine. It tells nothing.
 ///
@@ -104,8 +109,7 @@ impl<R: Files + AllocGlobal + Clone + Drop> FolderNode<R> {
         ensures text { OnOk result (All IsUtf8 route.now) }
     {
         let path = self.path(route)?;
-        let metadata = self.look(path.as_str())?;
-        Ok(attributes(self.kind, &metadata))
+        attr_from(fs::symlink_metadata(&self.files, path.as_str()), self.kind)
     }
 
     /// What the system lists in the directory (readdir(3)).
@@ -129,13 +133,38 @@ impl<R: Files + AllocGlobal + Clone + Drop> FolderNode<R> {
         ensures directory { self.now.kind ≢ Kind.Dir → result ≡ Err HostErr.Failed }
         ensures text { OnOk result (All IsUtf8 (route.now ++ name.now ∷ [])) }
     {
-        let alloc = self.files.alloc();
         let path = self.child_path(route, name)?;
-        let Some(kind) = child_kind(fs::symlink_metadata(&self.files, path.as_str()))? else {
-            return Ok(None);
-        };
-        let folder = String::from_str(alloc, self.folder.as_str())?;
-        Ok(Some(FolderNode::new(self.files.clone()?, folder, kind)))
+        self.child_from(fs::symlink_metadata(&self.files, path.as_str()))
+    }
+
+    /// What is lent of the directory, from what a look at the child tells.
+    fn child_from(&self, found: io::Result<Metadata>) -> Result<Option<Self>, HostErr>
+        ensures kind { IfOk found (λ metadata. IfOk result (λ lent.
+            IsKindOf metadata (option_map (λ node. node.kind) lent))) }
+        ensures memory { IsOk found → IsOkUnless result HostErr.Memory }
+        ensures absent { IfErr found (λ error. error_kind error ≡ ErrorKind.NotFound → result ≡ Ok None) }
+        ensures refused { IfErr found (λ error.
+            error_kind error ≢ ErrorKind.NotFound → IsErrAnd result (IsRefusalOf error)) }
+        ensures access { IfOk result (λ lent. IfSome lent (λ node. node.access ≡ Access.Shut)) }
+        ensures folder { IfOk result (λ lent. IfSome lent (λ node.
+            string_bytes node.folder ≡ string_bytes self.now.folder)) }
+        ensures fresh { IfOk result (λ lent. IfSome lent (λ node. node.faults ≡ 0)) }
+    {
+        match child_kind(found)? {
+            Some(kind) => Ok(Some(self.sibling(kind)?)),
+            None => Ok(None),
+        }
+    }
+
+    /// A node of a kind in the same folder. It is refused for want of memory alone.
+    fn sibling(&self, kind: Kind) -> Result<Self, Memory>
+        ensures kind { IfOk result (λ node. node.kind ≡ kind) }
+        ensures access { IfOk result (λ node. node.access ≡ Access.Shut) }
+        ensures folder { IfOk result (λ node. string_bytes node.folder ≡ string_bytes self.now.folder) }
+        ensures fresh { IfOk result (λ node. node.faults ≡ 0) }
+    {
+        let folder = String::from_str(self.files.alloc(), self.folder.as_str())?;
+        Ok(FolderNode::new(self.files.clone()?, folder, kind))
     }
 
     /// How the node stands to its file once it is opened (open(2)). A link is not to be opened, and a directory
@@ -173,15 +202,20 @@ impl<R: Files + AllocGlobal + Clone + Drop> FolderNode<R> {
     }
 }
 
+/// How a file is opened: for reading, or for reading and writing. It is never made, cut off or appended to.
+fn options(write: bool) -> OpenOptions
+    ensures { result ≡ with_write (with_read new_options true) write }
+{
+    let mut options = OpenOptions::new();
+    options.read(true).write(write);
+    options
+}
+
 /// Opens a file for reading, or for reading and writing.
 fn open_file<R: Files>(files: &R, path: &str, write: bool) -> Result<Access<R::File>, HostErr>
     ensures { IfOk result (λ access. opened_by access ≡ opened_for write) }
 {
-    let file = OpenOptions::new()
-        .read(true)
-        .write(write)
-        .open(files, path)
-        .map_err(refusal)?;
+    let file = options(write).open(files, path).map_err(refusal)?;
     if write {
         Ok(Access::Writable(file))
     } else {

@@ -23,7 +23,7 @@ impl Faulty {
     }
 }
 
-fn refused<T>() -> io::Result<T>
+pub(crate) fn refused<T>() -> io::Result<T>
     ensures { IsErr result }
 {
     Err(io::Error::from(ErrorKind::PermissionDenied))
@@ -43,7 +43,7 @@ impl Files for Faulty {
     type Dir = Cursor<Vec<u8>>;
 
     fn open_file(&self, _how: &OpenOptions, _path: &str) -> io::Result<OneByte> {
-        Ok(OneByte { is_read: false })
+        Ok(OneByte::new())
     }
 
     fn open_dir(&self, path: &str) -> io::Result<Cursor<Vec<u8>>> {
@@ -109,6 +109,12 @@ impl Files for Faulty {
 #[derive(Drop)]
 pub(crate) struct OneByte {
     is_read: bool,
+}
+
+impl OneByte {
+    pub(crate) fn new() -> OneByte {
+        OneByte { is_read: false }
+    }
 }
 
 impl Read for OneByte {

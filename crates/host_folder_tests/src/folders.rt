@@ -152,3 +152,26 @@ fn a_folder_is_settled_or_its_node_buried(rt: HostRuntime) -> Result<(), Fail> {
     assert_eq!(rt; world.faults(), 0);
     Ok(())
 }
+
+#[test]
+fn names_keep_the_spaces_at_their_ends(rt: HostRuntime) -> Result<(), Fail> {
+    let _ = fs::remove_dir_all(&rt, " folder spaces ");
+    fs::create_dir(&rt, " folder spaces ")?;
+    fs::write(&rt, " folder spaces / f", "one")?;
+    fs::write(&rt, " folder spaces /f ", "three")?;
+    let mut world = Folders::new(rt);
+    let mut root = granted(&mut world, rt.alloc(), " folder spaces ")?;
+    let mut out = Listing::new(rt.alloc());
+    root.list(&Route::new(rt.alloc()), &mut out)?;
+    let mut behind = lent(&mut root, rt.alloc(), "f ")?;
+    let size = behind.stat(&route(rt.alloc(), "f ")?)?.size;
+    let bare = root.lend(&Route::new(rt.alloc()), &name(rt.alloc(), "f")?)?;
+    fs::remove_dir_all(&rt, " folder spaces ")?;
+    assert_eq!(rt; out.len(), 2);
+    for (wanted, entry) in [" f", "f "].iter().zip(out.entries()) {
+        assert!(rt; entry.name.is(wanted.as_bytes()), "{wanted}");
+    }
+    assert_eq!(rt; size, 5);
+    assert!(rt; bare.is_none());
+    Ok(())
+}

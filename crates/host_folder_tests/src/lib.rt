@@ -1,12 +1,15 @@
 //! Tests of folders of the machine: what their contracts leave to a trial.
 //!
 //! The contracts of `host_folder` say nothing of what the system's files hold. Here folders are made in the working
-//! directory, with a file, a directory and links, and are granted, listed, opened and read; and over a system of which
-//! some calls fail, each failure is answered and counted, and want of memory is not counted.
+//! directory, with a file, a directory and links, and are granted, listed, opened and read. Over a system of which some
+//! calls fail, each failure is answered and counted, and want of memory is not counted; over one that knows which calls
+//! it is to be asked for, each call looks at its own path, follows no link, and opens a file as it is.
 //!
 //! Expected values are worked out by hand from the manual pages of lstat(2), open(2), pread(2) and readdir(3).
 #![tactic(auto)]
 
+#[cfg(test)]
+mod asked;
 #[cfg(test)]
 mod failures;
 #[cfg(test)]
@@ -15,3 +18,5 @@ mod faulty;
 mod folders;
 #[cfg(test)]
 mod grants;
+#[cfg(test)]
+mod scripted;

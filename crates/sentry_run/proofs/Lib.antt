@@ -15,3 +15,4 @@ pub mod Ways
 pub mod Clauses
 pub mod TraceClauses
 pub mod ExactClauses
+pub mod ErrorLines

@@ -7,6 +7,7 @@ pub mod Played
 pub mod PlayedMachine
 pub mod Granted
 pub mod Status
+pub mod ErrorLine
 pub mod Outcome
 pub mod Concluded
 pub mod Ran

@@ -31,7 +31,7 @@ mod text;
 mod walk;
 mod words;
 
-pub use error_line::report;
+pub use error_line::{report, write_line};
 pub use outcome::{Fault, Outcome};
 pub use run::run_sentry;
 pub use text::printed_text;

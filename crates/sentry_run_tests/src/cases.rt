@@ -167,7 +167,7 @@ pub fn planned(alloc: Global, case: Case, names: &[&str], op: Op, k: u64) -> Res
 }
 
 /// The words, each in memory of its own.
-fn words_of(alloc: Global, words: &[&str]) -> Result<Vec<String>, Fail> {
+pub fn words_of(alloc: Global, words: &[&str]) -> Result<Vec<String>, Fail> {
     let mut list = Vec::new(alloc);
     for word in words {
         list.push(String::from_str(alloc, word)?)?;

@@ -3,7 +3,8 @@
 //! The contract of `run_sentry` says what a run comes to; here guests are run to their end, with their text and their
 //! trace, and programs, mount files and folders that can't be run are refused with the status of their cause. Each call
 //! of the host, the source and the sink fails in turn, and a sink takes a piece at a time. Words are read as a command,
-//! and the text of a state and a trace is printed. Guests are those of `sn_vectors`.
+//! the text of a state and a trace is printed, and each cause has its status and its line. Guests are those of
+//! `sn_vectors`.
 //!
 //! Expected values are from outside: the RISC-V and ELF-64 manuals, the Linux manual pages by hand, and for random
 //! bytes another implementation of ChaCha20.
@@ -15,6 +16,8 @@ mod cases;
 mod guests;
 #[cfg(test)]
 mod hosts;
+#[cfg(test)]
+mod lines;
 #[cfg(test)]
 mod mounts;
 #[cfg(test)]

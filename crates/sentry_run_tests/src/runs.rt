@@ -23,7 +23,8 @@ use sn_vectors::words::*;
 use std::test::Fail;
 
 /// The text of the guest that writes nothing and exits, with its trace.
-const TEXT: &[u8] = b"group 1 exit 0\n2 1 write 1 0 0 0 0 0 = 0\n4 1 exit_group 0 0 0 0 0 0 = ?\n";
+pub const TEXT: &[u8] =
+    b"group 1 exit 0\n2 1 write 1 0 0 0 0 0 = 0\n4 1 exit_group 0 0 0 0 0 0 = ?\n";
 
 /// The words of a run that prints its trace.
 pub const TRACED: [&str; 3] = ["run", "m", "--trace"];

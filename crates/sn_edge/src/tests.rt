@@ -1,8 +1,9 @@
 //! Sources and sinks, in memory and of the system: what they give and take, and where they fail.
 
 use super::*;
-use std::fs;
+use std::io::{ErrorKind, Write};
 use std::test::Fail;
+use std::{fs, io};
 
 #[test]
 fn a_file_is_read_up_to_one_byte_past_the_limit(rt: HostRuntime) -> Result<(), Fail> {
@@ -63,5 +64,55 @@ fn a_writer_that_takes_nothing_is_a_fault(rt: HostRuntime) -> Result<(), Fail> {
     assert!(rt; write_all(&mut sink, b"six").is_err());
     assert_eq!(rt; sink.faults(), 1);
     assert_eq!(rt; room.as_slice(), b"tens".as_slice());
+    Ok(())
+}
+
+#[test]
+fn a_name_of_the_system_keeps_the_spaces_at_its_ends(rt: HostRuntime) -> Result<(), Fail> {
+    fs::write(&rt, " sn edge test ", "three")?;
+    let mut source = FileSource::new(&rt);
+    let bytes = read_all(rt.alloc(), &mut source, " sn edge test ", 100);
+    let bare = source.open("sn edge test");
+    fs::remove_file(&rt, " sn edge test ")?;
+    assert_eq!(rt; bytes?.as_slice(), b"three".as_slice());
+    assert!(rt; bare.is_err());
+    assert_eq!(rt; source.faults(), 1);
+    Ok(())
+}
+
+/// A writer that takes all bytes, and whose flush fails so.
+#[derive(Drop)]
+struct Unflushed {
+    kind: ErrorKind,
+}
+
+impl Write for Unflushed {
+    fn write(&mut self, bytes: &[u8]) -> io::Result<usize> {
+        Ok(bytes.len())
+    }
+
+    fn flush(&mut self) -> io::Result<()> {
+        Err(io::Error::from(self.kind))
+    }
+}
+
+#[test]
+fn a_flush_that_fails_is_a_fault(rt: HostRuntime) -> Result<(), Fail> {
+    let mut sink = StdSink::new(Unflushed {
+        kind: ErrorKind::StorageFull,
+    });
+    assert_eq!(rt; sink.write(b"one"), Err(EdgeErr::Failed));
+    assert_eq!(rt; write_all(&mut sink, b"two"), Err(EdgeErr::Failed));
+    assert_eq!(rt; sink.faults(), 2);
+    Ok(())
+}
+
+#[test]
+fn a_flush_without_memory_is_no_fault(rt: HostRuntime) -> Result<(), Fail> {
+    let mut sink = StdSink::new(Unflushed {
+        kind: ErrorKind::OutOfMemory,
+    });
+    assert_eq!(rt; sink.write(b"one"), Err(EdgeErr::Memory));
+    assert_eq!(rt; sink.faults(), 0);
     Ok(())
 }

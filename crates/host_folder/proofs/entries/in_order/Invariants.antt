@@ -1,7 +1,7 @@
 -- The entries so far are listed, in order.
 use Rattle.std.proofs.Common.{◌≡◌}
 use Rattle.host_node.specs.Order.{IsAscending, names_of}
-use Rattle.host_folder.proofs.entries.listing_of.Given as goal
+use Rattle.host_folder.proofs.entries.in_order.Given as goal
 
 abbrev pub invariant-loop-entry : goal.invariant-loop-entry
 invariant-loop-entry l =

@@ -1,0 +1,141 @@
+//! A system that knows which calls it is to be asked for, in order.
+
+use crate::faulty::{OneByte, refused};
+use std::alloc::{Allocator, Global};
+use std::fs::{Files, Metadata, OpenOptions};
+use std::io;
+use std::io::{Cursor, ErrorKind};
+use std::sync::atomic::{AtomicU64, Ordering};
+
+/// A call of the system. A look follows no link.
+#[derive(Clone, Copy, PartialEq, Eq)]
+pub(crate) enum Call {
+    /// A look, which finds a directory.
+    Directory,
+    /// A look, which finds a file of twelve bytes.
+    File,
+    /// A look, which finds a link of eleven bytes.
+    Link,
+    /// A look, which finds a device.
+    Device,
+    /// A look, which finds nothing.
+    Nothing,
+    /// A file is opened for reading alone.
+    Read,
+    /// A file is opened for reading and writing.
+    Write,
+    /// A directory is opened, which has `b`, `c` and `a`.
+    List,
+}
+
+/// A call, and the path that it is for.
+pub(crate) type Line = (Call, &'static str);
+
+/// The number of calls met once a call came that isn't the next line's.
+const ASTRAY: u64 = 1_000_000;
+
+/// Files that answer the calls of a script, in its order. Any other call is refused, as is each one after it.
+#[derive(Clone, Copy)]
+pub(crate) struct Scripted<'a> {
+    pub(crate) rt: HostRuntime,
+    pub(crate) script: &'a [Line],
+    /// How many lines were met so far, or from `ASTRAY` on.
+    pub(crate) met: &'a AtomicU64,
+}
+
+impl Scripted<'_> {
+    /// The call of the next line, where that is for this path.
+    fn next(&self, path: &str) -> Option<Call> {
+        let met = self.met.fetch_add(1, Ordering::SeqCst);
+        let (call, wanted) = self.script.get(usize::try_from(met).ok()?)?;
+        if path == *wanted { Some(*call) } else { None }
+    }
+
+    /// Refuses a call that isn't the next line's.
+    fn astray<T>(&self) -> io::Result<T> {
+        self.met.store(ASTRAY, Ordering::SeqCst);
+        refused()
+    }
+}
+
+/// Whether a file that is there is opened for reading, or for reading and writing, and left as it is.
+fn leaves_it(how: &OpenOptions) -> bool {
+    how.asks_read()
+        && !how.asks_append()
+        && !how.asks_truncate()
+        && !how.asks_create()
+        && !how.asks_create_new()
+}
+
+impl Alloc for Scripted<'_> {
+    type A = Global;
+
+    fn alloc(&self) -> Global {
+        self.rt.alloc()
+    }
+}
+
+impl Files for Scripted<'_> {
+    type File = OneByte;
+
+    type Dir = Cursor<Vec<u8>>;
+
+    fn open_file(&self, how: &OpenOptions, path: &str) -> io::Result<OneByte> {
+        let wanted = if how.asks_write() {
+            Call::Write
+        } else {
+            Call::Read
+        };
+        if self.next(path) == Some(wanted) && leaves_it(how) {
+            Ok(OneByte::new())
+        } else {
+            self.astray()
+        }
+    }
+
+    fn open_dir(&self, path: &str) -> io::Result<Cursor<Vec<u8>>> {
+        if self.next(path) != Some(Call::List) {
+            return self.astray();
+        }
+        Ok(Cursor::new(Vec::from_slice(self.alloc(), b"b\0.\0c\0..\0a\0")?))
+    }
+
+    fn symlink_metadata(&self, path: &str) -> io::Result<Metadata> {
+        match self.next(path) {
+            Some(Call::Directory) => Ok(Metadata::of_dir()),
+            Some(Call::File) => Ok(Metadata::of_file(12)),
+            Some(Call::Link) => Ok(Metadata::of_symlink(11)),
+            Some(Call::Device) => self.rt.symlink_metadata("/dev/null"),
+            Some(Call::Nothing) => Err(io::Error::from(ErrorKind::NotFound)),
+            _ => self.astray(),
+        }
+    }
+
+    fn metadata(&self, _path: &str) -> io::Result<Metadata> {
+        self.astray()
+    }
+
+    fn copy(&self, _from: &str, _to: &str) -> io::Result<u64> {
+        self.astray()
+    }
+
+    fn rename(&self, _from: &str, _to: &str) -> io::Result<()> {
+        self.astray()
+    }
+
+    fn remove_file(&self, _path: &str) -> io::Result<()> {
+        self.astray()
+    }
+
+    fn create_dir(&self, _path: &str) -> io::Result<()> {
+        self.astray()
+    }
+
+    fn remove_dir(&self, _path: &str) -> io::Result<()> {
+        self.astray()
+    }
+
+    fn remove_dir_all<B: Allocator>(&self, _alloc: B, _path: &str) -> io::Result<()> {
+        self.astray()
+    }
+}
