@@ -3,8 +3,8 @@ use Rattle.std.specs.Prelude.{◌≡◌, ℕ, ◌==◌, List, [], ◌∷◌, Boo
 use Rattle.std.specs.Prelude.{length, not}
 use Rattle.std.specs.FinMap as map
 use Rattle.host_node.specs.Tree.{Shape, child_of}
-use Rattle.kernel_model.specs.declared.calls.Outcome.{Outcome}
-use Rattle.kernel_model.specs.declared.calls.Outcome.TheVariants.{Returns, Exits, Writes}
+use Rattle.kernel_model.specs.declared.outcome.Outcome.{Outcome}
+use Rattle.kernel_model.specs.declared.outcome.Outcome.TheVariants.{Returns, Exits, Writes}
 use Rattle.kernel_model.specs.declared.entry.Args.{Args}
 use Rattle.kernel_model.specs.declared.kernel.Kernel.{Kernel}
 use Rattle.kernel_model.specs.declared.kernel.Node.{Node}

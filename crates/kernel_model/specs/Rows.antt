@@ -3,8 +3,8 @@ use Rattle.std.specs.Prelude.{ℕ, ◌+◌, ◌%◌, ◌^◌, ◌==◌, ◌||◌
 use Rattle.std.specs.Prelude.{if◌then◌else◌}
 use Rattle.sn_errno.specs.declared.errno.Errno.TheVariants.{EBADF, EFAULT, ENOSPC, ENOSYS}
 use Rattle.sn_errno.specs.Errors.{reply_of}
-use Rattle.kernel_model.specs.declared.calls.Outcome.{Outcome}
-use Rattle.kernel_model.specs.declared.calls.Outcome.TheVariants.{Returns, Exits, Writes}
+use Rattle.kernel_model.specs.declared.outcome.Outcome.{Outcome}
+use Rattle.kernel_model.specs.declared.outcome.Outcome.TheVariants.{Returns, Exits, Writes}
 use Rattle.kernel_model.specs.declared.entry.Args.{Args}
 use Rattle.kernel_model.specs.declared.kernel.Part.TheVariants.{OfConsole}
 use Rattle.mm_space.specs.Spaces.{AddressSpace}

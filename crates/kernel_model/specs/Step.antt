@@ -23,8 +23,8 @@ use Rattle.kernel_model.specs.Registers.{args_of, call_of, replied}
 use Rattle.kernel_model.specs.Spaces.{acting_in, going_in}
 use Rattle.quantum.specs.Instructions.{Going, ran}
 use Rattle.kernel_model.specs.Instructions.{next_of}
-use Rattle.kernel_model.specs.declared.calls.Outcome.{Outcome}
-use Rattle.kernel_model.specs.declared.calls.Outcome.TheVariants.{Returns, Exits, Writes}
+use Rattle.kernel_model.specs.declared.outcome.Outcome.{Outcome}
+use Rattle.kernel_model.specs.declared.outcome.Outcome.TheVariants.{Returns, Exits, Writes}
 use Rattle.kernel_model.specs.Rows.{call_row}
 use Rattle.kernel_model.specs.Faulted.{has_any, is_in_order, faulted}
 use Rattle.kernel_model.specs.Parts.{parts, Prog, done, look, run, uses, ◌>>=◌, Change, changed, parts_of}

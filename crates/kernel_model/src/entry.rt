@@ -1,5 +1,8 @@
 //! The atomic steps of the kernel, as the commit log has them.
 
+ghost use Rattle.std.specs.Prelude.{◌≡◌};
+ghost use Rattle.kernel_model.specs.Step.{task_of};
+
 use crate::Given;
 use sn_base::List;
 
@@ -40,6 +43,20 @@ pub enum Entry {
         task: u32,
         signal: u8,
     },
+}
+
+impl Entry {
+    /// The number of the entry's task.
+    pub fn task(&self) -> u32
+        ensures { result ≡ task_of self.now }
+    {
+        match self {
+            Entry::Run { task, .. } => *task,
+            Entry::Call { task, .. } => *task,
+            Entry::Sleep { task } => *task,
+            Entry::End { task, .. } => *task,
+        }
+    }
 }
 
 /// The entries of a run in order. An entry's place is its index plus 1.

@@ -1,4 +1,4 @@
-//! The one-thread kernel that the Sentry is held against: its definitions, and a plain kernel that obeys them.
+//! The one-thread kernel that the Sentry is held against: its definitions, and the types that they name.
 //!
 //! A caller sees plain data: an `Opening`, a `Trace` of `Entry`s, and a `Kernel`, the state. `specs/` says what each of
 //! them means: `Image` (the image that a file is), `Spaces` (an address space of mm_space, with no shared area in
@@ -7,51 +7,30 @@
 //! entry does), `History` (a list of entries each of whose steps is defined), `Opening`, `Printed` (the text of a run)
 //! and `Words` (the command line).
 //!
-//! Proved: `Plain::opening` and `Plain::step` are the definitions (`ok`, `refused`, `fits`), a refused step or one out
-//! of memory changes nothing (`ok`, `err`), and an entry reads the parts that it uses and changes those that it
-//! touches, by nothing but what it reads (`locality`: `same`, `rest`, `touched`). `run` is so many instructions one
-//! after another (`steps`), up to its limit or to one that traps or calls (`within`, `stopped`), and want of memory
-//! leaves what fewer of them leave (`memory`). `Running::opened` is the definition of what an opening task begins with
-//! (`task`, `space`), and `opening_random` of its random bytes.
+//! Proved: an entry reads the parts that it uses and changes those that it touches, by nothing but what it reads
+//! (`locality`: `same`, `rest`, `touched`). A guest's buffer is read whole or not at all (`GuestSpace::read`: `bytes`,
+//! `len`), and a copy of its address space is the same (`copy`: `copied`, `kept`).
 //!
-//! Not said: time, waiting, or what a host is.
+//! Not said: time, waiting, or what a host is. No call and no step stands here: `kernel_calls` has the calls, and
+//! `plain_kernel` a kernel that obeys the definitions.
 //!
 //! Standards: RISC-V Unprivileged ISA 20191213, ELF-64 Object File Format, Linux man-pages sections 2, 3 and 7.
 #![tactic(auto)]
 
-mod arguments;
-mod beginning;
-mod calls;
 mod entry;
-mod executable;
-mod faults;
 mod guest_space;
-mod instructions;
 mod kernel;
-mod nodes;
-mod numbering;
-mod opened;
+mod laws;
 mod opening;
-mod plain;
-mod random;
-mod registers;
-mod rows;
+mod outcome;
 mod running;
-mod step;
 mod traps;
-mod walking;
 
-pub use arguments::is_too_long;
-pub use calls::{Outcome, call};
 pub use entry::{Args, Entry, Trace};
-pub use executable::read_executable;
 pub use guest_space::GuestSpace;
-pub use instructions::{Ran, next, run};
 pub use kernel::{Kernel, Life, Node, Numbered, Part, Task};
+pub use laws::locality;
 pub use opening::{Fresh, Given, Left, LeftRise, Opened, Opening, Rise};
-pub use plain::{OpeningErr, Plain};
-pub use random::opening_random;
-pub use registers::{args_of, call_of, reply};
+pub use outcome::Outcome;
 pub use running::Running;
-pub use step::locality;
 pub use traps::Next;

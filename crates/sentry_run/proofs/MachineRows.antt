@@ -20,17 +20,17 @@ use Rattle.rv_table.specs.declared.regs.Regs.{Regs}
 use Rattle.quantum.specs.Instructions.{Going, ran}
 use Rattle.kernel_model.specs.Spaces.{acting_in, going_in}
 use Rattle.kernel_model.specs.Instructions.{StopsAt, goes_on, next_of}
-use Rattle.kernel_model.proofs.Runs.{nothing_ran, ran_none, row_ran}
-use Rattle.kernel_model.specs.declared.instructions.Ran.{Ran}
+use Rattle.kernel_calls.proofs.Runs.{nothing_ran, ran_none, row_ran}
+use Rattle.kernel_calls.specs.declared.instructions.Ran.{Ran}
 use Rattle.sentry_run.specs.declared.machine.Machine.{Machine}
 use Rattle.sentry_run.specs.MachineKernel.{HasRunPart}
 use Rattle.kernel_model.specs.FileTree.{Nodes}
 use Rattle.kernel_model.specs.History.{has_next, is_whole}
 use Rattle.kernel_model.proofs.OneRoot.{run_bind}
 use Rattle.sentry_run.specs.Machine.{kernel_with, Changes, IsWholeRun}
-use Rattle.kernel_model.specs.declared.calls.Outcome.{Outcome}
+use Rattle.kernel_model.specs.declared.outcome.Outcome.{Outcome}
 use Rattle.kernel_model.specs.declared.kernel.Part.TheVariants.{OfConsole, OfSpace}
-use Rattle.kernel_model.proofs.StepLemmas.{call_quiet}
+use Rattle.kernel_model.proofs.CallLemmas.{call_quiet}
 use Rattle.kernel_model.specs.declared.opening.Fresh.{Fresh}
 use Rattle.kernel_model.specs.declared.opening.Rise.{Rise}
 use Rattle.kernel_model.specs.Parts.{Parts, parts, run, done, ◌>>=◌}

@@ -21,10 +21,8 @@ ghost use Rattle.kernel_model.specs.Numbers.{numbers_in};
 ghost use Rattle.sentry_run.specs.Machine.{Changes, IsWholeRun};
 
 use elf_image::Image;
-use kernel_model::{
-    Entry, Given, GuestSpace, Kernel, Life, Next, Outcome, Ran, Running, Task, args_of, call_of,
-    reply, run,
-};
+use kernel_calls::{Ran, args_of, call_of, opened, reply, run};
+use kernel_model::{Entry, Given, GuestSpace, Kernel, Life, Next, Outcome, Running, Task};
 use mount_file::Program;
 use sn_base::{List, Map, Memory};
 use std::alloc::Global;
@@ -119,7 +117,7 @@ fn call_entry(
 {
     let no = call_of(&task.registers);
     let args = args_of(&task.registers);
-    let outcome = kernel_model::call(alloc, no, &args, space, console.len())?;
+    let outcome = kernel_calls::call(alloc, no, &args, space, console.len())?;
     let reply = apply(task, console, outcome)?;
     Ok(Entry::Call {
         task: TASK,
@@ -163,7 +161,7 @@ impl Machine {
         ensures space { IfOk result (λ m. m.space ≡ space_opened seed.now 1 program.now image.now) }
         ensures console { IfOk result (λ m. m.console ≡ []) }
     {
-        let Running { task, space } = Running::opened(alloc, seed, TASK, program, image)?;
+        let Running { task, space } = opened(alloc, seed, TASK, program, image)?;
         Ok(Machine {
             task,
             space,

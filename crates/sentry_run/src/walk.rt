@@ -12,7 +12,8 @@ ghost use Rattle.kernel_model.specs.Arguments.{is_too_long};
 
 use elf_image::Image;
 use host_node::{Attr, HostErr, HostNode, Kind};
-use kernel_model::{Fresh, Given, Rise, is_too_long, read_executable};
+use kernel_calls::{is_too_long, read_executable};
+use kernel_model::{Fresh, Given, Rise};
 use mount_file::Program;
 use sn_base::{List, Memory};
 use sn_errno::Errno;

@@ -1,0 +1,79 @@
+//! Runs of a task's instructions over its address space, and what the next one does.
+
+ghost use Rattle.std.specs.Prelude.{◌≡◌, ℕ, ◌<◌, ◌≤◌, false, Some, IfOk, OnErr};
+ghost use Rattle.quantum.specs.Instructions.{ran};
+ghost use Rattle.kernel_model.specs.Instructions.{StopsAt, goes_on, next_of};
+ghost use Rattle.kernel_model.specs.Spaces.{acting_in, going_in};
+
+use kernel_model::{GuestSpace, Next};
+use mm_space::Handed;
+use quantum::{QuantumEnd, run_at_most};
+use rv_table::Regs;
+use sn_base::Memory;
+use std::alloc::Global;
+
+/// A run of instructions: how many they are, and what the next one does, which is `Goes` where all that were asked for
+/// ran.
+#[derive(Clone, Copy, Debug, PartialEq, Eq)]
+pub struct Ran {
+    pub count: u32,
+    pub next: Next,
+}
+
+/// Runs the instructions of a task, until as many have run, or the next one traps or calls. Want of memory leaves what
+/// some of them, fewer than asked for, have left.
+#[tactic(auto, using(crate::proofs::Runs::run_in_space, crate::proofs::Runs::next_in_space))]
+pub fn run(
+    alloc: Global,
+    task: u32,
+    registers: &mut Regs,
+    space: &mut GuestSpace,
+    most: u32,
+) -> Result<Ran, Memory>
+    ensures steps { IfOk result (λ r.
+        ran r.count (going_in task space.old registers.old) ≡ Some (going_in task space.new registers.new)) }
+    ensures within { IfOk result (λ r. r.count ≤ most) }
+    ensures stopped { IfOk result (λ r.
+        StopsAt most r.count r.next (next_of (acting_in task space.new) registers.new)) }
+    ensures memory { OnErr result ((n : ℕ) × (n < most)
+        × (ran n (going_in task space.old registers.old) ≡ Some (going_in task space.new registers.new))) }
+{
+    let mut shared = Handed::none(alloc);
+    match run_at_most(alloc, registers, &mut space.space, task, &mut shared, most) {
+        QuantumEnd::Ended(count) => Ok(Ran {
+            count,
+            next: Next::Goes,
+        }),
+        QuantumEnd::Call(count) => Ok(Ran {
+            count,
+            next: Next::Calls,
+        }),
+        QuantumEnd::Trap { count, signal } => Ok(Ran {
+            count,
+            next: Next::Traps(signal),
+        }),
+        // No shared area is in hand so far.
+        QuantumEnd::Shared { count, .. } => Ok(Ran {
+            count,
+            next: Next::Traps(11),
+        }),
+        QuantumEnd::Memory => Err(Memory),
+    }
+}
+
+/// What the next instruction of a task does. Where it goes on, the address space is as it is behind it, so that this is
+/// for a copy.
+#[tactic(auto, using(crate::proofs::Runs::next_told, crate::proofs::Runs::next_kept))]
+pub fn next(
+    alloc: Global,
+    task: u32,
+    registers: &Regs,
+    space: &mut GuestSpace,
+) -> Result<Next, Memory>
+    ensures next { IfOk result (λ next. next ≡ next_of (acting_in task space.old) registers.now) }
+    ensures kept { IfOk result (λ next. goes_on next ≡ false → space.new ≡ space.old) }
+{
+    let mut after = *registers;
+    let ran = run(alloc, task, &mut after, space, 1)?;
+    Ok(ran.next)
+}

@@ -1,0 +1,53 @@
+//! What an opening task begins with.
+
+ghost use Rattle.std.specs.Prelude.{◌≡◌, false, IfOk};
+ghost use Rattle.kernel_model.specs.Arguments.{is_too_long};
+ghost use Rattle.kernel_model.specs.Opening.{space_opened, task_opened};
+ghost use Rattle.kernel_model.specs.Beginnings.{HasRoom};
+
+use crate::opening_random;
+use elf_image::Image;
+use image_load::{LoadErr, load};
+use kernel_model::{GuestSpace, Life, Running, Task};
+use mount_file::Program;
+use sn_base::Memory;
+use std::alloc::Global;
+
+/// What the opening task of that number begins with, which is a group of its own: the memory and the registers of
+/// its image, with its strings and with sixteen random bytes by the mount file's seed.
+///
+/// execve(2).
+pub fn opened(
+    alloc: Global,
+    seed: &[u8],
+    number: u32,
+    program: &Program,
+    image: &Image,
+) -> Result<Running, Memory>
+    requires short { is_too_long program.now.args program.now.env ≡ false }
+    requires pages { HasRoom image.now }
+    ensures task { IfOk result (λ r. r.task ≡ task_opened seed.now number program.now image.now) }
+    ensures space { IfOk result (λ r. r.space ≡ space_opened seed.now number program.now image.now) }
+{
+    let program = image_load::Program {
+        args: program.args.as_slice(),
+        env: program.env.as_slice(),
+        random: opening_random(seed, number),
+    };
+    match load(alloc, image, &program) {
+        Ok(loaded) => Ok(Running {
+            task: Task {
+                group: number,
+                space: u64::from(number),
+                registers: loaded.registers,
+                life: Life::Live,
+            },
+            space: GuestSpace {
+                space: loaded.space,
+            },
+        }),
+        Err(LoadErr::Memory) => Err(Memory),
+        Err(LoadErr::TooBig) => unreachable!(),
+        Err(LoadErr::Limit) => unreachable!(),
+    }
+}

@@ -1,6 +1,0 @@
--- Each rise is met once.
-use Rattle.std.proofs.Common.{length}
-use Rattle.kernel_model.proofs.faults.+raise.Given as goal
-
-abbrev pub decreases-raise : goal.decreases-raise
-decreases-raise l = length l.rises.now

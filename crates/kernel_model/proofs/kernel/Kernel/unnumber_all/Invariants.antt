@@ -1,9 +1,0 @@
--- The fresh numbers that are left stand as over the kernel before them.
-use Rattle.std.proofs.Common.{◌≡◌, Some, take}
-use Rattle.kernel_model.specs.declared.kernel.Kernel.{Kernel}
-use Rattle.kernel_model.specs.InPlace.{numbered}
-use Rattle.kernel_model.proofs.kernel.Kernel.unnumber_all.Given as goal
-
-abbrev pub invariant-loop-index : goal.invariant-loop-index
-invariant-loop-index l =
-    (before : Kernel) → numbered l.fresh before ≡ Some l.fn.self → numbered (take l.index l.fresh) before ≡ Some l.self

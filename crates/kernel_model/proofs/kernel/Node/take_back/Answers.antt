@@ -1,8 +1,0 @@
--- A directory without its last number is as it was before that.
-use Rattle.kernel_model.proofs.NodeLemmas.{taken_back}
-use Rattle.kernel_model.proofs.kernel.Node.take_back.Goals as goal
-
-pub returns : goal.returns
-returns c = λ dir ino was there.
-    taken_back dir c.args.name.now ino c.args.tree c.args.self.now c.pop-number.new.self c.pop-number.result
-    c.give.new.self there was c.pop-number.ensures.items c.pop-number.ensures.variant c.give.ensures

@@ -1,0 +1,12 @@
+-- What an entry does depends on the parts that it uses, and is to those that it touches.
+use Rattle.kernel_model.proofs.LocalityLaws.{same_reads, rest_stays, touched_alike}
+use Rattle.kernel_model.proofs.laws.locality.Goals as goal
+
+pub returns-clause-same : goal.returns-clause-same
+returns-clause-same c = same_reads
+
+pub returns-clause-rest : goal.returns-clause-rest
+returns-clause-rest c = rest_stays
+
+pub returns-clause-touched : goal.returns-clause-touched
+returns-clause-touched c = touched_alike

@@ -1,6 +1,0 @@
--- Each opening task is looked at once.
-use Rattle.std.proofs.Common.{length}
-use Rattle.kernel_model.proofs.opened.+begin_words.Given as goal
-
-abbrev pub decreases-begin_words : goal.decreases-begin_words
-decreases-begin_words l = length l.tasks.now

@@ -1,6 +1,0 @@
--- Each pair of mounts is compared once.
-use Rattle.std.proofs.Common.{length}
-use Rattle.kernel_model.proofs.opened.+same_mounts.Given as goal
-
-abbrev pub decreases-same_mounts : goal.decreases-same_mounts
-decreases-same_mounts l = length l.a.now

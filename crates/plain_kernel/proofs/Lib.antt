@@ -1,0 +1,10 @@
+-- Lemmas of the plain kernel, by subject.
+pub mod BeginLemmas
+pub mod CountLemmas
+pub mod FaultLemmas
+pub mod NodeLemmas
+pub mod Numberings
+pub mod NumberRuns
+pub mod OptionLemmas
+pub mod StepLemmas
+pub mod WalkLemmas

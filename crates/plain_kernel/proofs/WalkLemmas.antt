@@ -1,0 +1,174 @@
+-- An opening execve, piece by piece.
+use Rattle.std.proofs.Common.{◌≡◌, ℕ, Bool, true, false, cond, List, [], Option, Some, None, Result, refl, ap, sym, ◌∙◌}
+use Rattle.std.proofs.Common.{subst, option_map}
+use Rattle.std.specs.Prelude.{Ok, Err, not, IfOk}
+use Rattle.sn_base.specs.declared.memory.Memory.{Memory}
+use Rattle.std.specs.List.{list_any}
+use Rattle.sn_errno.specs.declared.errno.Errno.{Errno}
+use Rattle.sn_errno.specs.declared.errno.Errno.TheVariants.{EIO, ENFILE}
+use Rattle.elf_image.specs.declared.image.Image.{Image}
+use Rattle.kernel_model.specs.declared.kernel.Kernel.{Kernel}
+use Rattle.kernel_model.specs.declared.opening.Given.{Given}
+use Rattle.kernel_model.specs.Faulted.{Nodes_so_far, has_any, is_in_order, number_all, node_changes, faulted}
+use Rattle.kernel_model.specs.Opening.{Walked, walk_of, by_walk, draws_just, above_last, Executed, Fails, Unfit}
+use Rattle.kernel_model.specs.Opening.{failed_by, by_image, by_numbers, execve, execve_of, unwalked, name_in_path}
+use Rattle.kernel_model.specs.Arguments.{is_too_long}
+use Rattle.mount_file.specs.declared.mounts.Program.{Program}
+use Rattle.kernel_model.specs.Parts.{parts, done, run, ◌>>=◌, Change, changed}
+use Rattle.kernel_model.specs.InPlace.{with_nodes, numbered, changed_by}
+use Rattle.plain_kernel.specs.declared.walking.Execved.{Execved}
+use Rattle.plain_kernel.specs.declared.walking.Execved.TheVariants as answers
+use Rattle.kernel_model.specs.Beginnings.{fits}
+use Rattle.plain_kernel.specs.Beginnings.{Executes, IsByImage, IsFrom, MayStart}
+use Rattle.kernel_model.proofs.OneRoot.{run_bind}
+
+-- an execve that is not refused before it walks does as its walk comes out
+pub execve_is : (k : Kernel) (program : Program) (given : Given) (draws : Bool) (image : Result Image Errno)
+    → is_too_long program.args program.env ≡ false
+    → run (parts k) (walk_of (name_in_path program.path)) ≡ record { draws = draws; image = image }
+    → run (parts k) (execve_of program given)
+    ≡ run (parts k) (by_walk (name_in_path program.path) given (record { draws = draws; image = image }))
+execve_is k program given draws image short walks =
+    ap (λ b. run (parts k) (cond b (by_walk (name_in_path program.path) given unwalked)
+    (execve (name_in_path program.path) given))) short
+    ∙ run_bind (parts k) (walk_of (name_in_path program.path)) (by_walk (name_in_path program.path) given)
+    ∙ ap (λ w. run (parts k) (by_walk (name_in_path program.path) given w)) walks
+
+-- one that is refused before does as if it had walked to nothing
+pub execve_long : (k : Kernel) (program : Program) (given : Given) → is_too_long program.args program.env ≡ true
+    → run (parts k) (execve_of program given) ≡ run (parts k) (by_walk (name_in_path program.path) given unwalked)
+execve_long k program given long =
+    ap (λ b. run (parts k) (cond b (by_walk (name_in_path program.path) given unwalked)
+    (execve (name_in_path program.path) given))) long
+
+module _ (k : Kernel) (name : List ℕ) (given : Given) (draws : Bool) (image : Result Image Errno) where
+  -- ---- with a rise
+
+  module _ (met : has_any given.rises ≡ true) (order : is_in_order given ≡ true) where
+    by_failing : run (parts k) (by_walk name given (record { draws = draws; image = image }))
+        ≡ failed_by (run (parts k) (faulted given))
+    by_failing =
+        ap (λ b. run (parts k)
+        (cond b (cond (is_in_order given) (faulted given >>= λ changes. done (failed_by changes)) (done Unfit))
+        (cond (not (draws_just draws name given.fresh)) (done Unfit)
+        (cond (list_any above_last given.fresh) (done (Fails ENFILE [])) (number_all given.fresh []
+        >>= λ nodes. done (by_numbers image nodes)))))) met
+        ∙ ap (λ b. run (parts k) (cond b (faulted given >>= λ changes. done (failed_by changes)) (done Unfit))) order
+        ∙ run_bind (parts k) (faulted given) (λ changes. done (failed_by changes))
+
+    pub rises_unfit : run (parts k) (faulted given) ≡ None
+        → run (parts k) (by_walk name given (record { draws = draws; image = image })) ≡ Unfit
+    rises_unfit none = by_failing ∙ ap failed_by none
+
+    pub rises_fail : (m : Kernel) → changed_by (run (parts k) (faulted given)) k ≡ Some m
+        → (changes : List Change) × (run (parts k) (by_walk name given (record { draws = draws; image = image }))
+        ≡ Fails EIO changes) × (m ≡ changed changes k)
+    rises_fail m some = by (run (parts k) (faulted given)) some by_failing
+      where
+        by : (o : Option (List Change)) → changed_by o k ≡ Some m
+            → run (parts k) (by_walk name given (record { draws = draws; image = image })) ≡ failed_by o
+            → (changes : List Change) × (run (parts k) (by_walk name given (record { draws = draws; image = image }))
+            ≡ Fails EIO changes) × (m ≡ changed changes k)
+        by None e is = absurd (cc e)
+        by (Some cs) e is = (cs, is, cc e)
+
+  -- ---- without a rise
+
+  module _ (met : has_any given.rises ≡ false) (just : draws_just draws name given.fresh ≡ true)
+      (small : list_any above_last given.fresh ≡ false) where
+    by_drawing : run (parts k) (by_walk name given (record { draws = draws; image = image }))
+        ≡ by_numbers image (run (parts k) (number_all given.fresh []))
+    by_drawing =
+        ap (λ b. run (parts k)
+        (cond b (cond (is_in_order given) (faulted given >>= λ changes. done (failed_by changes)) (done Unfit))
+        (cond (not (draws_just draws name given.fresh)) (done Unfit)
+        (cond (list_any above_last given.fresh) (done (Fails ENFILE [])) (number_all given.fresh []
+        >>= λ nodes. done (by_numbers image nodes)))))) met
+        ∙ ap
+        (λ b. run (parts k)
+        (cond (not b) (done Unfit) (cond (list_any above_last given.fresh) (done (Fails ENFILE []))
+        (number_all given.fresh [] >>= λ nodes. done (by_numbers image nodes))))) just
+        ∙ ap (λ b. run (parts k) (cond b (done (Fails ENFILE [])) (number_all given.fresh []
+        >>= λ nodes. done (by_numbers image nodes)))) small
+        ∙ run_bind (parts k) (number_all given.fresh []) (λ nodes. done (by_numbers image nodes))
+
+    pub numbers_unfit : numbered given.fresh k ≡ None
+        → run (parts k) (by_walk name given (record { draws = draws; image = image })) ≡ Unfit
+    unfolding numbered
+    numbers_unfit none = by_drawing ∙ by (run (parts k) (number_all given.fresh [])) none
+      where
+        by : (o : Option Nodes_so_far) → option_map (λ ns. with_nodes ns k) o ≡ None → by_numbers image o ≡ Unfit
+        by None e = refl
+        by (Some ns) e = absurd (cc e)
+
+    pub numbers_fit : (m : Kernel) → numbered given.fresh k ≡ Some m
+        → (changes : List Change) × (run (parts k) (by_walk name given (record { draws = draws; image = image }))
+        ≡ by_image image changes) × (m ≡ changed changes k)
+    unfolding numbered
+    numbers_fit m some = by (run (parts k) (number_all given.fresh [])) some by_drawing
+      where
+        by : (o : Option Nodes_so_far) → option_map (λ ns. with_nodes ns k) o ≡ Some m
+            → run (parts k) (by_walk name given (record { draws = draws; image = image })) ≡ by_numbers image o
+            → (changes : List Change) × (run (parts k) (by_walk name given (record { draws = draws; image = image }))
+            ≡ by_image image changes) × (m ≡ changed changes k)
+        by None e is = absurd (cc e)
+        by (Some ns) e is = (node_changes ns, is, cc e)
+
+-- what an execve in place answers by its image is what it does
+pub executes_by : (does : Executed) (before after : Kernel) (image : Result Image Errno) (answer : Execved)
+    → IsByImage image answer → (changes : List Change) × (does ≡ by_image image changes)
+    × (after ≡ changed changes before) → Executes does before after answer
+executes_by does before after image (answers.Starts elf) is (changes, e, a) =
+    (changes, e ∙ ap (λ i. by_image i changes) is, a)
+executes_by does before after image (answers.Fails errno) is (changes, e, a) =
+    (changes, e ∙ ap (λ i. by_image i changes) is, a)
+executes_by does before after image answers.Unfit is c = absurd is
+
+-- what an execve starts where its strings are too long: nothing
+pub none_starts : (program : Program) (errno : Errno) (image : Result Image Errno) (r : Result Execved Memory)
+    → image ≡ Err errno
+    → IfOk r (IsFrom image) → IfOk r (MayStart program)
+none_starts program errno image (Err e) refused from = tt
+none_starts program errno image (Ok (answers.Starts elf)) refused from = absurd (cc (refused, from))
+none_starts program errno image (Ok (answers.Fails e)) refused from = tt
+none_starts program errno image (Ok answers.Unfit) refused from = tt
+
+-- and where they are not: an image that may be mapped
+pub fitting_starts : (program : Program) (image : Result Image Errno) (r : Result Execved Memory)
+    → is_too_long program.args program.env ≡ false → fits image ≡ true → IfOk r (IsFrom image)
+    → IfOk r (MayStart program)
+fitting_starts program image (Err e) short room from = tt
+fitting_starts program image (Ok (answers.Starts elf)) short room from = (short, sym (ap fits from) ∙ room)
+fitting_starts program image (Ok (answers.Fails e)) short room from = tt
+fitting_starts program image (Ok answers.Unfit) short room from = tt
+
+-- what an execve in place does where its strings are too long
+pub as_refused : (k after : Kernel) (program : Program) (name : List ℕ) (given : Given) (draws : Bool)
+    (image : Result Image Errno) (r : Result Execved Memory) → is_too_long program.args program.env ≡ true
+    → name ≡ name_in_path program.path
+    → record { draws = draws; image = image } ≡ unwalked
+    → IfOk r (Executes (run (parts k) (by_walk name given (record { draws = draws; image = image }))) k after)
+    → IfOk r (Executes (run (parts k) (execve_of program given)) k after)
+as_refused k after program name given draws image r long named walk does =
+    subst (λ (d : Executed). IfOk r (Executes d k after)) (sym (execve_long k program given long))
+    (subst (λ (w : Walked). IfOk r (Executes (run (parts k) (by_walk (name_in_path program.path) given w)) k after))
+    walk
+    (subst
+    (λ (n : List ℕ). IfOk r (Executes (run (parts k) (by_walk n given (record { draws = draws; image = image })))
+    k after)) named does))
+
+-- and where they are not
+pub as_walked : (k after : Kernel) (program : Program) (name : List ℕ) (given : Given) (draws : Bool)
+    (image : Result Image Errno) (r : Result Execved Memory) → is_too_long program.args program.env ≡ false
+    → name ≡ name_in_path program.path
+    → run (parts k) (walk_of name) ≡ record { draws = draws; image = image }
+    → IfOk r (Executes (run (parts k) (by_walk name given (record { draws = draws; image = image }))) k after)
+    → IfOk r (Executes (run (parts k) (execve_of program given)) k after)
+as_walked k after program name given draws image r short named walks does =
+    subst (λ (d : Executed). IfOk r (Executes d k after))
+    (sym
+    (execve_is k program given draws image short (subst (λ (n : List ℕ). run (parts k) (walk_of n)
+    ≡ record { draws = draws; image = image }) named walks)))
+    (subst
+    (λ (n : List ℕ). IfOk r (Executes (run (parts k) (by_walk n given (record { draws = draws; image = image })))
+    k after)) named does)

@@ -1,0 +1,139 @@
+//! What a call leaves in which a host call failed: fresh numbers, and rises of nodes' counts of faults.
+
+ghost use Rattle.std.specs.Prelude.{◌≡◌, [], nat_lt, is_some, unwrap_or, IsTrue, IfOk, OnOk, OnErr, if◌then◌else◌};
+ghost use Rattle.std.specs.FinMap as map;
+ghost use Rattle.std.specs.List.{list_all};
+ghost use Rattle.kernel_model.specs.Faulted.{ascend_from, numbers_of, nodes_of, is_in_order, all_known, risen, faulted};
+ghost use Rattle.kernel_model.specs.Parts.{parts, run as outcome, set_at};
+ghost use Rattle.kernel_model.specs.InPlace.{changed_by, is_quiet};
+
+use crate::numbering::{number_all, unnumber_all};
+use kernel_model::{Fresh, Given, Kernel, Rise};
+use sn_base::{Map, Memory, capped_add};
+use std::alloc::Global;
+
+/// Whether a call drew nothing and met nothing.
+pub(crate) fn is_quiet(given: &Given) -> bool
+    ensures { result ≡ is_quiet given.now }
+{
+    given.rises.is_empty() && given.fresh.is_empty()
+}
+
+/// Whether fresh numbers ascend, rises ascend by node, and each rise is of at least 1.
+pub(crate) fn is_in_order(given: &Given) -> bool
+    ensures { result ≡ is_in_order given.now }
+{
+    let rises = given.rises.as_slice();
+    numbers_ascend(given.fresh.as_slice()) && nodes_ascend(rises) && are_rises(rises)
+}
+
+fn numbers_ascend(fresh: &[Fresh]) -> bool
+    ensures { result ≡ ascend_from 0 (numbers_of fresh.now) }
+{
+    let mut last = 0;
+    for one in fresh {
+        if one.ino <= last {
+            return false;
+        }
+        last = one.ino;
+    }
+    true
+}
+
+fn nodes_ascend(rises: &[Rise]) -> bool
+    ensures { result ≡ ascend_from 0 (nodes_of rises.now) }
+{
+    let mut last = 0;
+    for rise in rises {
+        if rise.ino <= last {
+            return false;
+        }
+        last = rise.ino;
+    }
+    true
+}
+
+fn are_rises(rises: &[Rise]) -> bool
+    ensures { result ≡ list_all (λ r. nat_lt 0 r.count) rises.now }
+{
+    rises.iter().all(|rise| 0 < rise.count)
+}
+
+/// Adds each rise to its node's count. An `Err` leaves the counts as they were. There is at most one rise for each
+/// node, so that calls are no deeper than there are nodes.
+fn raise(failed: &mut Map<u64>, rises: &[Rise]) -> Result<(), Memory>
+    ensures ok { OnOk result (failed.new ≡ risen rises.now failed.old) }
+    ensures err { OnErr result (failed.new ≡ failed.old) }
+{
+    let [first, rest @ ..] = rises else {
+        return Ok(());
+    };
+    let before = failed.get(first.ino).copied();
+    let count = capped_add(before.unwrap_or(0), first.count);
+    failed.insert(first.ino, count)?;
+    match raise(failed, rest) {
+        Ok(()) => Ok(()),
+        Err(error) => {
+            restore(failed, first.ino, before);
+            Err(error)
+        }
+    }
+}
+
+/// Sets a count back that has a value.
+fn restore(failed: &mut Map<u64>, ino: u64, before: Option<u64>)
+    requires { IsTrue (map.contains_key failed.old ino) }
+    ensures { failed.new ≡ set_at ino before failed.old }
+{
+    match before {
+        Some(count) => failed.replace(ino, count),
+        None => {
+            let _ = failed.remove(ino);
+        }
+    }
+}
+
+/// Does what a call leaves in which a host call failed, and answers whether what it drew and met fits. A refusal or
+/// want of memory leaves the kernel as it was.
+pub(crate) fn faulted(alloc: Global, kernel: &mut Kernel, given: &Given) -> Result<bool, Memory>
+    ensures fits { IfOk result (λ b. b ≡ is_some (outcome (parts kernel.old) (faulted given.now))) }
+    ensures ok { OnOk result
+        (kernel.new ≡ unwrap_or (changed_by (outcome (parts kernel.old) (faulted given.now)) kernel.old) kernel.old) }
+    ensures err { OnErr result (kernel.new ≡ kernel.old) }
+{
+    let fresh = given.fresh.as_slice();
+    if !number_all(alloc, kernel, fresh)? {
+        return Ok(false);
+    }
+    match raise_known(kernel, given.rises.as_slice()) {
+        Ok(true) => Ok(true),
+        Ok(false) => {
+            unnumber_all(kernel, fresh);
+            Ok(false)
+        }
+        Err(error) => {
+            unnumber_all(kernel, fresh);
+            Err(error)
+        }
+    }
+}
+
+/// Adds each rise to its node's count, where each of the nodes has a number.
+fn raise_known(kernel: &mut Kernel, rises: &[Rise]) -> Result<bool, Memory>
+    ensures fits { IfOk result (λ b. b ≡ outcome (parts kernel.old) (all_known rises.now [])) }
+    ensures ok { IfOk result (λ b.
+        kernel.new ≡ (if b then record kernel.old { failed = risen rises.now kernel.old.failed } else kernel.old)) }
+    ensures err { OnErr result (kernel.new ≡ kernel.old) }
+{
+    if !all_known(kernel, rises) {
+        return Ok(false);
+    }
+    raise(&mut kernel.failed, rises)?;
+    Ok(true)
+}
+
+fn all_known(kernel: &Kernel, rises: &[Rise]) -> bool
+    ensures { result ≡ outcome (parts kernel.now) (all_known rises.now []) }
+{
+    rises.iter().all(|rise| kernel.nodes.contains(rise.ino))
+}

@@ -1,0 +1,85 @@
+//! The plain kernel.
+
+ghost use Rattle.std.specs.Prelude.{◌≡◌, ◌<◌, ◌≤◌, ◌^◌, length, is_some, unwrap_or, IfOk, IfErr, OnOk, OnErr};
+ghost use Rattle.kernel_model.specs.Opening.{opening_of, Opens};
+ghost use Rattle.plain_kernel.specs.Beginnings.{IsRefusedBy};
+ghost use Rattle.kernel_model.specs.Step.{step};
+
+use crate::beginning::{bare, begin_tasks};
+use crate::opened::is_of;
+use crate::step::change;
+use host_node::Tree;
+use kernel_model::{Entry, Kernel, Opening};
+use mount_file::Mounts;
+use sn_base::{List, Memory};
+use sn_errno::Errno;
+use std::alloc::Global;
+
+/// A kernel of one thread, which does each entry as the definitions say.
+#[derive(Drop)]
+pub struct Plain {
+    pub kernel: Kernel,
+}
+
+/// Why an opening is refused.
+///
+/// - `Image`: the execve of that task failed, with that error.
+/// - `Misfit`: the record is of another mount file (task 0), or does not fit that task.
+/// - `Memory`: want of memory.
+#[derive(Clone, Copy, Debug, PartialEq, Eq)]
+pub enum OpeningErr {
+    Image { task: u32, errno: Errno },
+    Misfit { task: u32 },
+    Memory,
+}
+
+impl From<Memory> for OpeningErr {
+    ghost use Rattle.plain_kernel.specs.declared.plain.OpeningErr.TheVariants.{Memory as WantOfMemory};
+
+    ghost from_gives = { λ _ e. e ≡ WantOfMemory };
+
+    fn from(_e: Memory) -> OpeningErr {
+        OpeningErr::Memory
+    }
+}
+
+impl Plain {
+    /// The kernel that an opening leaves, over a tree for each mount in order.
+    pub fn opening(
+        alloc: Global,
+        mounts: &Mounts,
+        trees: &List<Tree>,
+        opened: &Opening,
+    ) -> Result<Plain, OpeningErr>
+        requires { length mounts.now.tasks ≤ 2 ^ 31 }
+        ensures ok { IfOk result (λ p. opening_of mounts.now trees.now opened.now ≡ Opens p.kernel) }
+        ensures refused { IfErr result (IsRefusedBy (opening_of mounts.now trees.now opened.now)) }
+    {
+        if !is_of(opened, mounts) {
+            return Err(OpeningErr::Misfit { task: 0 });
+        }
+        let mut kernel = bare(alloc, trees.as_slice())?;
+        begin_tasks(
+            alloc,
+            &mut kernel,
+            mounts.seed.as_slice(),
+            mounts.tasks.as_slice(),
+            opened.tasks.as_slice(),
+        )?;
+        Ok(Plain { kernel })
+    }
+
+    /// Does an entry, and answers whether it fits. A refusal or want of memory leaves the kernel as it was.
+    pub fn step(&mut self, alloc: Global, entry: &Entry) -> Result<bool, Memory>
+        requires { self.old.kernel.entries < 1048576 }
+        ensures fits { IfOk result (λ b. b ≡ is_some (step self.old.kernel entry.now)) }
+        ensures ok { OnOk result (self.new.kernel ≡ unwrap_or (step self.old.kernel entry.now) self.old.kernel) }
+        ensures err { OnErr result (self.new.kernel ≡ self.old.kernel) }
+    {
+        let fits = change(alloc, &mut self.kernel, entry)?;
+        if fits {
+            self.kernel.entries += 1;
+        }
+        Ok(fits)
+    }
+}

@@ -1,0 +1,15 @@
+//! Tests of the plain kernel, over its public calls, with ample memory.
+//!
+//! The contracts of `plain_kernel` say what each of them does; here a plain kernel opens and runs guests by entries
+//! that fit and others that don't. Guests are those of `sn_vectors`.
+//!
+//! Expected values are from outside: the RISC-V and ELF-64 manuals, the Linux manual pages by hand, and for random
+//! bytes another implementation of ChaCha20.
+#![tactic(auto)]
+
+#[cfg(test)]
+mod guests;
+#[cfg(test)]
+mod openings;
+#[cfg(test)]
+mod plain;
