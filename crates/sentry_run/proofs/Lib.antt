@@ -6,6 +6,7 @@ pub mod Closed
 pub mod Groups
 pub mod Lines
 pub mod RunsOfMachines
+pub mod Counts
 pub mod Endings
 pub mod GivenBack
 pub mod ReadAs
@@ -15,3 +16,4 @@ pub mod Ways
 pub mod Clauses
 pub mod TraceClauses
 pub mod ExactClauses
+pub mod CauseClauses

@@ -7,6 +7,9 @@ pub mod Played
 pub mod PlayedMachine
 pub mod Granted
 pub mod Status
+pub mod Causes
+pub mod Counts
+pub mod LeftTasks
 pub mod Outcome
 pub mod Concluded
 pub mod Ran

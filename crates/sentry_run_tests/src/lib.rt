@@ -12,6 +12,8 @@
 #[cfg(test)]
 mod cases;
 #[cfg(test)]
+mod failures;
+#[cfg(test)]
 mod guests;
 #[cfg(test)]
 mod hosts;
