@@ -91,7 +91,7 @@ returns-in-Err-clause-ended c = λ t small fits.
 pub returns-in-Memory-clause-ended : goal.returns-in-Memory-clause-ended
 returns-in-Memory-clause-ended c = λ t small fits.
     inl (
-      c.new.ensures,
+      c.new-in-Memory.ensures,
       risen_back (first_is_too_long c.args.mounts.now.tasks) t c.args.name.now c.args.loaded.met c.args.loaded.answer
           small fits,
     )
