@@ -12,6 +12,7 @@ use Rattle.kernel_model.specs.declared.entry.Entry.{Entry}
 use Rattle.kernel_model.specs.declared.kernel.Kernel.{Kernel}
 use Rattle.mount_file.specs.declared.mounts.Mounts.{Mounts}
 use Rattle.mount_file.specs.declared.mounts.MountFault.{MountFault}
+use Rattle.mount_file.specs.declared.mounts.MountFault.TheVariants as mount_faults
 use Rattle.kernel_model.specs.declared.opening.Opening.{Opening}
 use Rattle.kernel_model.specs.Opening.{Refuses}
 use Rattle.kernel_model.specs.Words.{Command}
@@ -110,6 +111,14 @@ pub host_fault : (s : Sides) (r : Outcome) → Way s r → r.fault ≡ faults.Ho
 host_fault s r (Misused e n) h = let f = usage_is faults.HostFault r n.refused.fault h in cc
 host_fault s r (Unread command e w u) h = absurd (fails_as s command r faults.HostFault u.fails h)
 host_fault s r (Over_file command e w m d o) h = (any_as s command m r faults.HostFault o h).0
+
+pub never_mounts_memory : (s : Sides) (r : Outcome) → Way s r → r.fault ≢ faults.Mounts mount_faults.Memory
+never_mounts_memory s r (Misused e n) = λ h.
+    let f = usage_is (faults.Mounts mount_faults.Memory) r n.refused.fault h in
+    cc
+never_mounts_memory s r (Unread command e w u) = u.never_memory
+never_mounts_memory s r (Over_file command e w m d o) = λ h.
+    absurd (any_as s command m r (faults.Mounts mount_faults.Memory) o h)
 
 -- ---- the mount file
 

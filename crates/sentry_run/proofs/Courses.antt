@@ -1,5 +1,5 @@
 -- How a run over one granted folder goes, in the words of the clauses of a run.
-use Rattle.std.proofs.Common.{◌≡◌, ◌⊎◌, inl, inr, ℕ, Bool, true, false, List, [], ◌∷◌, ◌++◌, length, refl, ap, sym, ◌∙◌}
+use Rattle.std.proofs.Common.{◌≡◌, ◌⊎◌, inl, inr, ℕ, ◌<◌, Bool, true, false, List, [], ◌∷◌, ◌++◌, length, refl, ap, sym, ◌∙◌}
 use Rattle.std.proofs.Common.{subst}
 use Rattle.std.specs.Prelude.{Option, Some, None, take, if◌then◌else◌, nat_eq, option_and_then}
 use Rattle.std.proofs.lemmas.Bool.{eqb-true, and_parts}
@@ -7,7 +7,7 @@ use Rattle.std.specs.FinMap as map
 use Rattle.host_node.specs.Tree.{Shape, lent}
 use Rattle.host_node.specs.declared.kind.Kind.TheVariants.{Dir}
 use Rattle.host_node.specs.Routes.{directory_at, put_subtree}
-use Rattle.host_node.proofs.RouteLemmas.{put-put_subtree}
+use Rattle.host_node.proofs.RouteLemmas.{put-put_subtree, subtree-directory_at}
 use Rattle.sn_edge.specs.Taken.{with_taken}
 use Rattle.sn_errno.specs.declared.errno.Errno.{Errno}
 use Rattle.kernel_model.specs.declared.entry.Entry.{Entry}
@@ -27,6 +27,8 @@ use Rattle.sentry_run.specs.declared.play.End.TheVariants as ends
 use Rattle.sentry_run.specs.Played.{no_left, SameText, Runs, Failed, nothing_opened}
 use Rattle.sentry_run.specs.Granted.{Plays, first_names}
 use Rattle.sentry_run.specs.Concluded.{Writes, Concludes}
+use Rattle.sentry_run.specs.Counts.{HasRisen}
+use Rattle.sentry_run.proofs.Counts.{risen_subtree}
 use Rattle.sentry_run.specs.Outcome.{granted, begun, begun_over, started_kernel, state_after, world_after}
 
 -- ---- the roots' numbers
@@ -166,7 +168,11 @@ writes_same state kernel trace flag whole sink after count now fault same (inr (
     inr (inl (
       w.0,
       w.1,
-      (w.2.0, w.2.1 ∙ ap (λ t. with_taken sink (take w.2.0 t)) (printed_same state kernel trace flag same)),
+      (
+        w.2.0,
+        subst (λ (t : List ℕ). w.2.0 < length t) (printed_same state kernel trace flag same) w.2.1,
+        w.2.2 ∙ ap (λ t. with_taken sink (take w.2.0 t)) (printed_same state kernel trace flag same),
+      ),
     ))
 writes_same state kernel trace flag whole sink after count now fault same (inr (inr w)) =
     inr (inr (
@@ -188,8 +194,8 @@ pub data Course (mounts : Mounts) (world : Shape) (after : Option Shape) (openin
       → sink' ≡ sink → Course mounts world after opening trace flag sink sink' sinks sinks' fault
   Starved : (state : Kernel) → Began mounts world after opening trace state → fault ≡ faults.Memory → sink' ≡ sink
       → Course mounts world after opening trace flag sink sink' sinks sinks' fault
-  Emptied : (tree : Shape) → after ≡ Some (put_subtree (first_names mounts.mounts) tree world) → trace ≡ []
-      → fault ≡ faults.Memory → sink' ≡ sink
+  Emptied : (tree : Shape) → after ≡ Some (put_subtree (first_names mounts.mounts) tree world)
+      → HasRisen world (put_subtree (first_names mounts.mounts) tree world) → trace ≡ [] → fault ≡ faults.Memory → sink' ≡ sink
       → Course mounts world after opening trace flag sink sink' sinks sinks' fault
   Untaken : after ≡ Some world → opening ≡ nothing_opened → trace ≡ [] → fault ≡ faults.Memory → sink' ≡ sink
       → Course mounts world after opening trace flag sink sink' sinks sinks' fault
@@ -217,7 +223,10 @@ course m world after o trace flag sink sink' sinks sinks' fault ends.Grant e p c
 course m world after o trace flag sink sink' sinks sinks' fault ends.Memory e (inl p) c = Untaken p.0 p.1 p.2 c.0 c.1
 course m world after o trace flag sink sink' sinks sinks' fault ends.Memory e (inr p) c = by p.4
   where
-    by : ((trace ≡ []) ⊎ ((state : Kernel) × Runs m p.0 p.2 o trace state))
+    by : (((trace ≡ []) × HasRisen p.0 p.2) ⊎ ((state : Kernel) × Runs m p.0 p.2 o trace state))
         → Course m world after o trace flag sink sink' sinks sinks' fault
-    by (inl h) = Emptied p.2 p.3 h c.0 c.1
+    by (inl h) =
+        Emptied p.2 p.3
+        (risen_subtree (first_names m.mounts) world p.0 p.2
+        (subtree-directory_at (first_names m.mounts) p.0 world p.1) h.1) h.0 c.0 c.1
     by (inr h) = Starved h.0 (began m world p.0 p.2 after o trace h.0 e p.1 p.3 h.1) c.0 c.1

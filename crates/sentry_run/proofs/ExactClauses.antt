@@ -1,6 +1,6 @@
 -- The clauses of a run that go from a cause to the answer, each from the way that it went.
 use Rattle.std.proofs.Common.{◌≡◌, ℕ, Bool, false, List, [], ◌∷◌, length, refl, ap, sym, ◌∙◌, subst}
-use Rattle.std.specs.Prelude.{Option, Some, None, IsSome, if◌then◌else◌, ◌&&◌, nat_eq, map}
+use Rattle.std.specs.Prelude.{Option, Some, None, IsSome, IsSomeAnd, if◌then◌else◌, ◌&&◌, nat_eq, map}
 use Rattle.std.specs.Str.{bytes_eq}
 use Rattle.std.proofs.lemmas.Option.{same_Some}
 use Rattle.host_node.specs.Tree.{Shape}
@@ -25,6 +25,7 @@ use Rattle.sentry_run.specs.declared.outcome.Fault.TheVariants as faults
 use Rattle.sentry_run.specs.declared.outcome.Outcome.{Outcome}
 use Rattle.sentry_run.specs.Played.{nothing_opened}
 use Rattle.sentry_run.specs.Ran.{ReadsAs, FailsToRead}
+use Rattle.sentry_run.specs.Outcome.{NamesMountFile, NamesFaulty}
 use Rattle.sentry_run.specs.Outcome.{WhereTold, bytes_read, MeetsFault, MayFailToRead, granted, begun, begun_over}
 use Rattle.sentry_run.specs.Outcome.{WhereRead, MayFailToGrant, MayFailToStart, IsAccepted, HasEnded}
 use Rattle.sentry_run.proofs.RunFacts.{ToldFacts}
@@ -56,7 +57,7 @@ nothing_unlike m e =
     ap (λ b. b && same_list nat_eq [] (count_up 1 (length m.mounts)) && begins (same_list bytes_eq) []
     (map (λ (p : Program). p.args) m.tasks)) (no_mounts m.mounts e)
 
-nothing_begun : (m : Mounts) (trees : Option (List Shape)) → length m.mounts ≡ 1
+pub nothing_begun : (m : Mounts) (trees : Option (List Shape)) → length m.mounts ≡ 1
     → begun_over m nothing_opened trees ≡ Misfits 0
 unfolding opening_of
 nothing_begun m None e = refl
@@ -135,19 +136,38 @@ image_exact s r (Over_file command e w m d o) =
 
 -- ---- from the bytes of a mount file to the answer
 
-told_file : (shelf : Option Shelf) (files : Shelf) (F : Shelf → Type 0) → shelf ≡ Some files → WhereTold shelf F
+pub told_file : (shelf : Option Shelf) (files : Shelf) (F : Shelf → Type 0) → shelf ≡ Some files → WhereTold shelf F
     → F files
 told_file shelf files F e h = of (subst (λ (o : Option Shelf). WhereTold o F) e h)
   where
     of : WhereTold (Some files) F → F files
     of h = h
 
+both_there : {A R : Type 0} (o : Option A) (P Q : A → Type 0) → ((x : A) → P x → Q x → R) → IsSomeAnd o P
+    → IsSomeAnd o Q → R
+both_there None P Q f p q = absurd p
+both_there (Some x) P Q f p q = f x p q
+
+faulty_same : (command : Command) (shelf : Shelf) (f g : MountFault) → NamesFaulty command shelf f
+    → NamesFaulty command shelf g → f ≡ g
+faulty_same command shelf f g p q =
+    both_there (bytes_read command shelf) (λ b. IsFaultOf b f) (λ b. IsFaultOf b g) (λ b. fault_same b f g) p q
+
+named_same : (command : Command) (shelf : Shelf) (m n : Mounts) → NamesMountFile command shelf m
+    → NamesMountFile command shelf n → m ≡ n
+named_same command shelf m n p q =
+    both_there (bytes_read command shelf) (λ b. IsMountFile b m) (λ b. IsMountFile b n) (λ b. mounts_same b m n) p q
+
+never_both : (command : Command) (shelf : Shelf) (m : Mounts) (f : MountFault) → NamesMountFile command shelf m
+    → NamesFaulty command shelf f → ⊥
+never_both command shelf m f p q =
+    both_there (bytes_read command shelf) (λ b. IsMountFile b m) (λ b. IsFaultOf b f) (λ b. no_fault b m f) p q
+
 read_by : (s : Sides) (command : Command) (shelf : Shelf) (fault : MountFault) (f : Fault) → s.shelf ≡ Some shelf
-    → IsFaultOf (bytes_read command shelf) fault → FailsToRead command s.shelf s.count s.now f → MayFailToRead fault f
+    → NamesFaulty command shelf fault → FailsToRead command s.shelf s.count s.now f → MayFailToRead fault f
 read_by s command shelf fault faults.SourceFault e is h = tt
 read_by s command shelf fault (faults.Mounts f) e is h =
-    fault_same (bytes_read command shelf) f fault
-    (told_file s.shelf shelf (λ x. IsFaultOf (bytes_read command x) f) e h) is
+    faulty_same command shelf f fault (told_file s.shelf shelf (λ x. NamesFaulty command x f) e h) is
 read_by s command shelf fault faults.Memory e is h = tt
 read_by s command shelf fault faults.Done e is h = absurd h
 read_by s command shelf fault faults.Full e is h = absurd h
@@ -164,7 +184,7 @@ pub record Met (s : Sides) (fault : MountFault) : Type 0 where
   pub shelf : Shelf
   pub words_are : s.words ≡ Some command
   pub shelf_is : s.shelf ≡ Some shelf
-  pub fault_is : IsFaultOf (bytes_read command shelf) fault
+  pub fault_is : NamesFaulty command shelf fault
 
 met_by : (s : Sides) (fault : MountFault) (words : Option Command) (shelf : Option Shelf) → s.words ≡ words
     → s.shelf ≡ shelf → MeetsFault words shelf fault → Met s fault
@@ -182,12 +202,12 @@ mounts_exact s r way fault meets = by way (met_by s fault s.words s.shelf refl r
     by (Unread command e w u) m =
         let same : m.command ≡ command = same_Some _ _ (sym m.words_are ∙ e) in
         read_by s command m.shelf fault r.fault m.shelf_is
-        (subst (λ (c : Command). IsFaultOf (bytes_read c m.shelf) fault) same m.fault_is) u.fails
+        (subst (λ (c : Command). NamesFaulty c m.shelf fault) same m.fault_is) u.fails
     by (Over_file command e w mounts d o) m =
         let same : m.command ≡ command = same_Some _ _ (sym m.words_are ∙ e) in
-        absurd (no_fault (bytes_read command m.shelf) mounts fault
-        (told_file s.shelf m.shelf (λ x. IsMountFile (bytes_read command x) mounts) m.shelf_is d)
-        (subst (λ (c : Command). IsFaultOf (bytes_read c m.shelf) fault) same m.fault_is))
+        absurd (never_both command m.shelf mounts fault
+        (told_file s.shelf m.shelf (λ x. NamesMountFile command x mounts) m.shelf_is d)
+        (subst (λ (c : Command). NamesFaulty c m.shelf fault) same m.fault_is))
 
 -- ---- a run of what is accepted comes to its end
 
@@ -197,9 +217,9 @@ unread_end : (s : Sides) (command : Command) (o : Opening) (f : Fault) → s.wor
 unread_end s command o faults.SourceFault e a no_rise h = absurd (no_rise h)
 unread_end s command o (faults.Mounts f) e a no_rise h =
     let same : a.command ≡ command = same_Some _ _ (sym a.words_are ∙ e) in
-    no_fault (bytes_read command a.files) a.mounts f
-    (subst (λ (c : Command). IsMountFile (bytes_read c a.files) a.mounts) same a.file)
-    (told_file s.shelf a.files (λ x. IsFaultOf (bytes_read command x) f) a.files_are h)
+    never_both command a.files a.mounts f
+    (subst (λ (c : Command). NamesMountFile c a.files a.mounts) same a.file)
+    (told_file s.shelf a.files (λ x. NamesFaulty command x f) a.files_are h)
 unread_end s command o faults.Memory e a no_rise h = tt
 unread_end s command o faults.Done e a no_rise h = tt
 unread_end s command o faults.Full e a no_rise h = tt
@@ -219,9 +239,9 @@ file_is : (s : Sides) (command : Command) (m : Mounts) (r : Outcome) → s.words
     → ReadsAs command s.shelf m → (a : IsAccepted s.words s.shelf s.world r.opening) → a.mounts ≡ m
 file_is s command m r e d a =
     let same : a.command ≡ command = same_Some _ _ (sym a.words_are ∙ e) in
-    mounts_same (bytes_read command a.files) a.mounts m
-    (subst (λ (c : Command). IsMountFile (bytes_read c a.files) a.mounts) same a.file)
-    (told_file s.shelf a.files (λ x. IsMountFile (bytes_read command x) m) a.files_are d)
+    named_same command a.files a.mounts m
+    (subst (λ (c : Command). NamesMountFile c a.files a.mounts) same a.file)
+    (told_file s.shelf a.files (λ x. NamesMountFile command x m) a.files_are d)
 
 over_end : (s : Sides) (command : Command) (m : Mounts) (r : Outcome) (f : Fault) → s.words ≡ Some command
     → ReadsAs command s.shelf m → Over s command m r → r.fault ≡ f → IsAccepted s.words s.shelf s.world r.opening

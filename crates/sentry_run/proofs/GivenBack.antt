@@ -29,6 +29,8 @@ use Rattle.sentry_run.specs.declared.play.End.TheVariants as ends
 use Rattle.sentry_run.specs.Walk.{faulted_by, Loads, LendsFrom, WalksTo, Unwalked, Execves}
 use Rattle.sentry_run.specs.Played.{Fits, FitsFor, given_back, Ended}
 use Rattle.sentry_run.specs.PlayedMachine.{IsInner}
+use Rattle.sn_base.specs.Faults.{HasCause}
+use Rattle.sentry_run.specs.Causes.{is_grant_failed}
 use Rattle.sentry_run.specs.Granted.{PlaysRoot, IsUngranted, first_names, Plays, PlaysIn, PlaysOver}
 
 -- ---- what was answered fits the walk
@@ -49,15 +51,15 @@ loads_fit : (t : Shape) (name : List ℕ) (s : Shape) (child : Option Shape) (me
 loads_fit t name s child Drawn (Starts image) x e l h = (s, x, e, h.0, l)
 loads_fit t name s child Drawn (Refuses errno) x e l h = (s, x, e, h.0, l)
 loads_fit t name s child Drawn Memory x e l h = tt
-loads_fit t name s child (ChildFailed d) (Refuses errno) x e l h = (s, e, h.0, h.1)
+loads_fit t name s child (ChildFailed d) (Refuses errno) x e l h = (s, e, h.0, h.1, l)
 loads_fit t name s child (ChildFailed d) (Starts image) x e l h = absurd h
-loads_fit t name s child (ChildFailed d) Memory x e l h = tt
+loads_fit t name s child (ChildFailed d) Memory x e l h = absurd h
 loads_fit t name s child Nothing (Starts image) x e l h = absurd h
 loads_fit t name s child Nothing (Refuses errno) x e l h = absurd h
-loads_fit t name s child Nothing Memory x e l h = tt
+loads_fit t name s child Nothing Memory x e l h = absurd h
 loads_fit t name s child (RootFailed d) (Starts image) x e l h = absurd h
 loads_fit t name s child (RootFailed d) (Refuses errno) x e l h = absurd h
-loads_fit t name s child (RootFailed d) Memory x e l h = tt
+loads_fit t name s child (RootFailed d) Memory x e l h = absurd h
 
 lends_fit : (t : Shape) (name : List ℕ) (root : Option Shape) (child : Option (Option Shape)) (met : Met)
     (answer : Answer) → owner_executes t ≡ true → LendsFrom t name root child met answer → Fits t name met answer
@@ -69,13 +71,13 @@ lends_fit t name root None Nothing Memory x h = tt
 lends_fit t name root None Nothing (Starts image) x h = absurd h
 lends_fit t name root None (RootFailed d) (Refuses errno) x h = (h.0, h.1)
 lends_fit t name root None (RootFailed d) (Starts image) x h = absurd h
-lends_fit t name root None (RootFailed d) Memory x h = tt
+lends_fit t name root None (RootFailed d) Memory x h = absurd h
 lends_fit t name root None Drawn (Refuses errno) x h = absurd h
 lends_fit t name root None Drawn (Starts image) x h = absurd h
-lends_fit t name root None Drawn Memory x h = tt
+lends_fit t name root None Drawn Memory x h = absurd h
 lends_fit t name root None (ChildFailed d) (Refuses errno) x h = absurd h
 lends_fit t name root None (ChildFailed d) (Starts image) x h = absurd h
-lends_fit t name root None (ChildFailed d) Memory x h = tt
+lends_fit t name root None (ChildFailed d) Memory x h = absurd h
 
 pub walked_fits : (t : Shape) (name : List ℕ) (root : Option Shape) (child : Option (Option Shape)) (met : Met)
     (answer : Answer) → WalksTo t name root child met answer → Fits t name met answer
@@ -83,7 +85,8 @@ walked_fits t name root child met answer (inl h) = lends_fit t name root child m
 walked_fits t name root child met answer (inr (inl h)) =
     subst (λ (m : Met). Fits t name m answer) (sym h.3)
     (subst (λ (a : Answer). Fits t name Nothing a) (sym h.4) (refused_walk t name h.0))
-walked_fits t name root child met answer (inr (inr (inl h))) = subst (λ (a : Answer). Fits t name met a) (sym h.3) tt
+walked_fits t name root child met answer (inr (inr (inl h))) =
+    subst (λ (m : Met). Fits t name m answer) (sym h.2) (subst (λ (a : Answer). Fits t name Nothing a) (sym h.3) tt)
 walked_fits t name root child met answer (inr (inr (inr h))) =
     subst (λ (m : Met). Fits t name m answer) (sym h.4)
     (subst (λ (a : Answer). Fits t name (RootFailed h.0) a) (sym h.5) (refl, h.1))
@@ -315,3 +318,18 @@ plays_in mounts names (Some w) world1 world2 root root1 count what opening trace
 
 pub inner_fault : (end : End) → IsInner end → end ≡ ends.HostFault → ⊥
 inner_fault end i e = subst (λ (x : End). IsInner x) e i
+
+-- an end after a grant that was made
+pub inner_cause : (end : End) (before granted after : ℕ) → IsInner end → HasCause false before granted → after ≡ granted
+    → HasCause (is_grant_failed end) before after
+inner_cause end before granted after i h e =
+    subst (λ (n : ℕ). HasCause (is_grant_failed end) before n) (sym e)
+    (subst (λ (b : Bool). HasCause b before granted) (not_failed end i) h)
+  where
+    not_failed : (end : End) → IsInner end → false ≡ is_grant_failed end
+    not_failed (ends.Done k) i = refl
+    not_failed (ends.Full k) i = refl
+    not_failed (ends.Image errno) i = refl
+    not_failed ends.Memory i = refl
+    not_failed ends.HostFault i = absurd i
+    not_failed ends.Grant i = absurd i

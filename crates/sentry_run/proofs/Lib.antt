@@ -6,6 +6,7 @@ pub mod Closed
 pub mod Groups
 pub mod Lines
 pub mod RunsOfMachines
+pub mod Counts
 pub mod Endings
 pub mod GivenBack
 pub mod ReadAs
@@ -16,3 +17,4 @@ pub mod Clauses
 pub mod TraceClauses
 pub mod ExactClauses
 pub mod ErrorLines
+pub mod CauseClauses

@@ -16,10 +16,12 @@ use Rattle.sentry_run.specs.declared.outcome.Fault.{Fault}
 use Rattle.sentry_run.specs.declared.outcome.Fault.TheVariants as faults
 use Rattle.sentry_run.specs.declared.play.End.{End}
 use Rattle.sentry_run.specs.declared.play.End.TheVariants as ends
-use Rattle.sentry_run.specs.Played.{nothing_opened, TraceOf}
+use Rattle.sentry_run.specs.Played.{nothing_opened, no_left, TraceOf}
+use Rattle.sentry_run.proofs.Counts.{risen_same}
 use Rattle.sentry_run.specs.Granted.{first_names}
-use Rattle.sentry_run.specs.Concluded.{Writes, Fronts, Concludes}
-use Rattle.sentry_run.specs.Outcome.{granted, state_after, IsHistory, IsOver, text_of, KeepsOutside}
+use Rattle.sentry_run.specs.Causes.{is_host_fault, is_grant_failed}
+use Rattle.sentry_run.specs.Concluded.{Writes, Fronts, StopsShort, Concludes}
+use Rattle.sentry_run.specs.Outcome.{granted, state_after, IsHistory, IsOver, text_of, KeepsOutside, LeavesInside}
 use Rattle.sentry_run.proofs.Courses.{Began, Refused, Course, Finished, Filled, Stopped, Starved, Emptied, Untaken}
 use Rattle.sentry_run.proofs.Courses.{Failing, Missing, state_of, outside_one}
 
@@ -81,12 +83,32 @@ any_facts entries trace flag sink sink' sinks sinks' hosts hosts' fault ends.Gra
 any_facts entries trace flag sink sink' sinks sinks' hosts hosts' fault ends.Memory t h c =
     subst (AnyFacts entries trace sink sink' sinks sinks' hosts hosts') (sym c.0) tt
 
+-- an answer tells of a host fault exactly where the grant failed
+written_host : (kernel : Kernel) (trace : List Entry) (flag : Bool) (whole : Fault) (sink sink' : Option (List ℕ))
+    (sinks sinks' : ℕ) (fault : Fault) → is_host_fault whole ≡ false
+    → Writes kernel trace flag whole sink sink' sinks sinks' fault → false ≡ is_host_fault fault
+written_host kernel trace flag whole sink sink' sinks sinks' fault e (inl w) = sym (ap is_host_fault w.0 ∙ e)
+written_host kernel trace flag whole sink sink' sinks sinks' fault e (inr (inl w)) = sym (ap is_host_fault w.0)
+written_host kernel trace flag whole sink sink' sinks sinks' fault e (inr (inr w)) = sym (ap is_host_fault w.0)
+
+pub grant_told : (trace : List Entry) (flag : Bool) (sink sink' : Option (List ℕ)) (sinks sinks' : ℕ) (fault : Fault)
+    (end : End) → Concludes end trace flag sink sink' sinks sinks' fault → is_grant_failed end ≡ is_host_fault fault
+grant_told trace flag sink sink' sinks sinks' fault (ends.Done kernel) c =
+    written_host kernel trace flag faults.Done sink sink' sinks sinks' fault refl c
+grant_told trace flag sink sink' sinks sinks' fault (ends.Full kernel) c =
+    written_host kernel trace flag faults.Full sink sink' sinks sinks' fault refl c
+grant_told trace flag sink sink' sinks sinks' fault (ends.Image errno) c = sym (ap is_host_fault c.0)
+grant_told trace flag sink sink' sinks sinks' fault ends.HostFault c = sym (ap is_host_fault c.0)
+grant_told trace flag sink sink' sinks sinks' fault ends.Grant c = sym (ap is_host_fault c.0)
+grant_told trace flag sink sink' sinks sinks' fault ends.Memory c = sym (ap is_host_fault c.0)
+
 -- ---- where the host tells
 
 -- want of memory came: what is outside the grants stands, and what there is of the trace is a history
 pub record Short (mounts : Mounts) (world : Shape) (after : Option Shape) (opening : Opening) (trace : List Entry)
     (flag : Bool) (sink sink' : Option (List ℕ)) : Type 0 where
   pub kept : KeepsOutside mounts world after
+  pub inside : LeavesInside mounts world opening trace no_left after
   pub history : (trace ≡ []) ⊎ IsHistory mounts world opening trace
   pub front : Fronts sink sink' (text_of (state_after mounts world opening trace) trace flag)
 
@@ -104,7 +126,7 @@ ToldFacts mounts world after opening trace flag sink sink' faults.Full =
     × (sink' ≡ with_taken sink (printed state trace flag))
 ToldFacts mounts world after opening trace flag sink sink' faults.SinkFault =
     (state : Kernel) × Began mounts world after opening trace state × IsOver mounts trace state
-    × Fronts sink sink' (printed state trace flag)
+    × StopsShort sink sink' (printed state trace flag)
 ToldFacts mounts world after opening trace flag sink sink' faults.Memory =
     Short mounts world after opening trace flag sink sink'
 ToldFacts mounts world after opening trace flag sink sink' (faults.Image task errno) =
@@ -149,6 +171,7 @@ short_began : (m : Mounts) (world : Shape) (after : Option Shape) (o : Opening) 
     → Short m world after o trace flag sink sink'
 short_began m world after o trace flag state sink sink' e b f = record {
   kept = kept_of m world after b.tree e b.put;
+  inside = inr (state, state_of m world after o trace state b, b.settles);
   history = inr (history_of m world after o trace state b);
   front = front_of m world after o trace flag state sink sink' b f;
 }
@@ -193,12 +216,22 @@ told_facts m world after o trace flag sink sink' sinks sinks' fault e (Stopped e
 told_facts m world after o trace flag sink sink' sinks sinks' fault e (Starved state b f same) =
     subst (ToldFacts m world after o trace flag sink sink') (sym f)
     (short_began m world after o trace flag state sink sink' e b (no_front sink sink' _ same))
-told_facts m world after o trace flag sink sink' sinks sinks' fault e (Emptied tree put empty f same) =
+told_facts m world after o trace flag sink sink' sinks sinks' fault e (Emptied tree put risen empty f same) =
     subst (ToldFacts m world after o trace flag sink sink') (sym f)
-    (record { kept = kept_of m world after tree e put; history = inl empty; front = no_front sink sink' _ same })
+    (record {
+      kept = kept_of m world after tree e put;
+      inside = inl (empty, put_subtree (first_names m.mounts) tree world, put, risen);
+      history = inl empty;
+      front = no_front sink sink' _ same;
+    })
 told_facts m world after o trace flag sink sink' sinks sinks' fault e (Untaken stands opened empty f same) =
     subst (ToldFacts m world after o trace flag sink sink') (sym f)
-    (record { kept = (world, stands, refl); history = inl empty; front = no_front sink sink' _ same })
+    (record {
+      kept = (world, stands, refl);
+      inside = inl (empty, world, stands, risen_same world);
+      history = inl empty;
+      front = no_front sink sink' _ same;
+    })
 told_facts m world after o trace flag sink sink' sinks sinks' fault e (Failing stands opened empty f same) =
     subst (ToldFacts m world after o trace flag sink sink') (sym f) (record { same = stands; opened = opened })
 told_facts m world after o trace flag sink sink' sinks sinks' fault e (Missing stands opened empty no_folder f same) =

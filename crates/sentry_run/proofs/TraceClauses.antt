@@ -1,7 +1,7 @@
 -- The clauses of a run on its trace, its text, its numbers and the world, each from the way that it went.
 use Rattle.std.proofs.Common.{◌≡◌, ◌⊎◌, ℕ, ◌+◌, ◌-◌, zero, suc, ◌<◌, ◌≤◌, Bool, true, false, List, [], ◌++◌, length}
 use Rattle.std.proofs.Common.{refl, ap, sym, ◌∙◌, subst, arith}
-use Rattle.std.specs.Prelude.{Option, Some, None, IfSome, slice_index_or}
+use Rattle.std.specs.Prelude.{Option, Some, None, IfSome, All, slice_index_or}
 use Rattle.std.specs.List.{flat_map}
 use Rattle.std.proofs.lemmas.List.{append-nil}
 use Rattle.host_node.specs.Tree.{Shape}
@@ -24,7 +24,8 @@ use Rattle.sentry_run.specs.Played.{no_left, nothing_opened}
 use Rattle.sentry_run.specs.Concluded.{Fronts}
 use Rattle.sentry_run.specs.Outcome.{state_after, world_after, WhereRead, WhereState, IsHistory, HasRun, HasNotBegun}
 use Rattle.sentry_run.specs.Outcome.{HasNoTrace, IsOver, asks_trace, HasText, HasFront, text_of, KeepsOutside}
-use Rattle.sentry_run.specs.Outcome.{IsLeftOver}
+use Rattle.sentry_run.specs.Outcome.{IsLeftOver, AreLeft, LeavesInside, begun, started_kernel}
+use Rattle.sentry_run.specs.LeftTasks.{MayBeLeft}
 use Rattle.sentry_run.proofs.Courses.{Began, state_of}
 use Rattle.sentry_run.proofs.RunFacts.{AnyFacts, ToldFacts, history_of}
 use Rattle.sentry_run.proofs.Ways.{Sides, Way, Misused, Unread, Over_file}
@@ -180,7 +181,7 @@ text_front_state : (m : Mounts) (w : Shape) (after : Option Shape) (o : Opening)
     → Fronts sink sink' (text_of (state_after m w o trace) trace flag)
 text_front_state m w after o trace flag sink sink' faults.SinkFault h t =
     subst (λ (k : Option Kernel). Fronts sink sink' (text_of k trace flag)) (sym (state_of m w after o trace t.0 t.1))
-    t.3
+    (t.3.0, t.3.2)
 text_front_state m w after o trace flag sink sink' faults.Memory h t = t.front
 text_front_state m w after o trace flag sink sink' faults.Done h t = absurd h
 text_front_state m w after o trace flag sink sink' faults.Full h t = absurd h
@@ -254,6 +255,15 @@ outside s r (Over_file command e w m d o) h =
     where_read r.mounts s.world (λ m w. KeepsOutside m w s.world') m o.read
     (λ v told. (told_as s command m r faults.Memory o h v told).kept)
 
+pub inside : (s : Sides) (r : Outcome) → Way s r → r.fault ≡ faults.Memory
+    → WhereRead r.mounts s.world (λ m w. LeavesInside m w r.opening r.trace r.left s.world')
+inside s r (Misused e n) h = where_none r.mounts s.world _ n.refused.mounts
+inside s r (Unread command e w u) h = where_none r.mounts s.world _ u.refused.mounts
+inside s r (Over_file command e w m d o) h =
+    where_read r.mounts s.world (λ m w. LeavesInside m w r.opening r.trace r.left s.world') m o.read
+    (λ v told. subst (λ (l : Left). LeavesInside m v r.opening r.trace l s.world') (sym o.left)
+    (told_as s command m r faults.Memory o h v told).inside)
+
 -- ---- the numbers
 
 nothing_gapless : IsGapless (numbers_opened nothing_opened)
@@ -267,7 +277,7 @@ gapless s r (Unread command e w u) =
     subst (λ (o : Opening). IsGapless (numbers_opened o)) (sym u.refused.opening) nothing_gapless
 gapless s r (Over_file command e w m d o) = o.numbers
 
-pub nothing_left : (s : Sides) (r : Outcome) → Way s r → r.left ≡ no_left
+nothing_left : (s : Sides) (r : Outcome) → Way s r → r.left ≡ no_left
 nothing_left s r (Misused e n) = n.refused.left
 nothing_left s r (Unread command e w u) = u.refused.left
 nothing_left s r (Over_file command e w m d o) = o.left
@@ -294,6 +304,34 @@ left_over s r way = each r.mounts s.world (nothing_left s r way)
         of : (k : Option Kernel) → IfSome k (λ k. IsLeftOver r.left k)
         of None = tt
         of (Some k) = over_nothing k r.left e
+
+pub left_none : (s : Sides) (r : Outcome) → Way s r → HasNoTrace r.fault → r.left ≡ no_left
+left_none s r way h = nothing_left s r way
+
+pub left_tasks : (s : Sides) (r : Outcome) → Way s r
+    → WhereState r.mounts s.world r.opening r.trace (λ m w k. AreLeft m w r.opening r.trace r.left k)
+left_tasks s r way = each r.mounts s.world
+  where
+    none_there : (m : Mounts) (k start : Kernel) (left : Left) → left ≡ no_left
+        → All (λ x. MayBeLeft m.entries start r.trace k x.task) left.rises
+    none_there m k start left e =
+        subst (λ (l : Left). All (λ x. MayBeLeft m.entries start r.trace k x.task) l.rises) (sym e)
+        (λ i d below. absurd (omega (arith, below)))
+
+    from : (m : Mounts) (k : Kernel) (o : Option Kernel)
+        → IfSome o (λ start. All (λ x. MayBeLeft m.entries start r.trace k x.task) r.left.rises)
+    from m k None = tt
+    from m k (Some start) = none_there m k start r.left (nothing_left s r way)
+
+    each : (mounts : Option Mounts) (tree : Option Shape)
+        → WhereState mounts tree r.opening r.trace (λ m w k. AreLeft m w r.opening r.trace r.left k)
+    each None world = tt
+    each (Some m) None = tt
+    each (Some m) (Some w) = of (state_after m w r.opening r.trace)
+      where
+        of : (k : Option Kernel) → IfSome k (λ k. AreLeft m w r.opening r.trace r.left k)
+        of None = tt
+        of (Some k) = from m k (started_kernel (begun m w r.opening))
 
 -- the k-th number counted up
 counted : (first n k : ℕ) (d : ℕ) → k < n → slice_index_or (count_up first n) k d ≡ first + k

@@ -1,5 +1,5 @@
 -- The three ways of a run: no command, no mount file, or a run over an accepted one.
-use Rattle.std.proofs.Common.{◌≡◌, ◌⊎◌, inl, inr, ℕ, ◌≤◌, List, [], length, refl, ap, subst}
+use Rattle.std.proofs.Common.{◌≡◌, ◌⊎◌, inl, inr, ℕ, ◌≤◌, Bool, List, [], length, refl, ap, subst}
 use Rattle.std.specs.Prelude.{Option, Some, None}
 use Rattle.std.specs.List.{flat_map}
 use Rattle.host_node.specs.Tree.{Shape}
@@ -14,7 +14,9 @@ use Rattle.sentry_run.specs.Granted.{PlaysIn}
 use Rattle.sentry_run.specs.Status.{status_of}
 use Rattle.sentry_run.specs.Ran.{ReadsAs, NoCommand, NotRead, Read, RanOver, RanCommand, RanWords}
 use Rattle.sentry_run.proofs.Courses.{course}
-use Rattle.sentry_run.proofs.RunFacts.{AnyFacts, any_facts, ToldFacts, told_facts}
+use Rattle.sn_base.specs.Faults.{HasCause}
+use Rattle.sentry_run.specs.Causes.{is_host_fault, is_sink_fault}
+use Rattle.sentry_run.proofs.RunFacts.{AnyFacts, any_facts, grant_told, ToldFacts, told_facts}
 
 -- what stands beside a run: its words, and what source, host and sink tell and have counted before and after
 pub record Sides : Type 0 where
@@ -41,21 +43,28 @@ pub record Over (s : Sides) (command : Command) (m : Mounts) (r : Outcome) : Typ
   pub drawn : flat_map numbers_in r.trace ≡ []
   pub numbers : IsGapless (numbers_opened r.opening)
   pub bound : length r.trace ≤ m.entries
+  pub same_count : s.now ≡ s.count
+  pub host_cause : HasCause (is_host_fault r.fault) s.hosts s.hosts'
+  pub sink_cause : HasCause (is_sink_fault r.fault) s.sinks s.sinks'
   pub any : AnyFacts m.entries r.trace s.sink s.sink' s.sinks s.sinks' s.hosts s.hosts' r.fault
   pub told : (w : Shape) → s.world ≡ Some w
       → ToldFacts m w s.world' r.opening r.trace command.trace s.sink s.sink' r.fault
   pub untold : s.world ≡ None → s.world' ≡ None
 
 pub data Way (s : Sides) (r : Outcome) : Type 0 where
-  Misused : s.words ≡ None → NoCommand s.shelf s.shelf' s.world s.world' s.sink s.sink' r → Way s r
+  Misused : s.words ≡ None
+      → NoCommand s.shelf s.shelf' s.count s.now s.world s.world' s.hosts s.hosts' s.sink s.sink' s.sinks s.sinks' r
+      → Way s r
   Unread : (command : Command) → s.words ≡ Some command → ReadsWithin s.shelf s.shelf' 65537
-      → NotRead command s.shelf s.count s.now s.world s.world' s.sink s.sink' r → Way s r
+      → NotRead command s.shelf s.count s.now s.world s.world' s.hosts s.hosts' s.sink s.sink' s.sinks s.sinks' r
+      → Way s r
   Over_file : (command : Command) → s.words ≡ Some command → ReadsWithin s.shelf s.shelf' 65537 → (m : Mounts)
       → ReadsAs command s.shelf m → Over s command m r → Way s r
 
 over_of : (s : Sides) (command : Command) (m : Mounts) (r : Outcome)
+    → s.now ≡ s.count
     → RanOver m command.trace s.world s.world' s.hosts s.hosts' s.sink s.sink' s.sinks s.sinks' r → Over s command m r
-over_of s command m r ran = record {
+over_of s command m r same ran = record {
   status = ran.status;
   read = ran.read;
   left = ran.left;
@@ -63,6 +72,11 @@ over_of s command m r ran = record {
   drawn = ran.drawn;
   numbers = ran.numbers;
   bound = ran.bound;
+  same_count = same;
+  host_cause =
+      subst (λ (b : Bool). HasCause b s.hosts s.hosts')
+      (grant_told r.trace command.trace s.sink s.sink' s.sinks s.sinks' r.fault ran.end ran.concludes) ran.host_cause;
+  sink_cause = ran.sink_cause;
   any =
       any_facts m.entries r.trace command.trace s.sink s.sink' s.sinks s.sinks' s.hosts s.hosts' r.fault
       ran.end ran.trace ran.host ran.concludes;
@@ -81,10 +95,11 @@ way_by : (s : Sides) (r : Outcome) (words : Option Command) → s.words ≡ word
 way_by s r None e ran = Misused e ran
 way_by s r (Some command) e ran = by ran.1
   where
-    by : (NotRead command s.shelf s.count s.now s.world s.world' s.sink s.sink' r
-        ⊎ Read command s.shelf s.world s.world' s.hosts s.hosts' s.sink s.sink' s.sinks s.sinks' r) → Way s r
+    by : (NotRead command s.shelf s.count s.now s.world s.world' s.hosts s.hosts' s.sink s.sink' s.sinks s.sinks' r
+        ⊎ Read command s.shelf s.count s.now s.world s.world' s.hosts s.hosts' s.sink s.sink' s.sinks s.sinks' r)
+        → Way s r
     by (inl u) = Unread command e ran.0 u
-    by (inr d) = Over_file command e ran.0 d.mounts d.reads (over_of s command d.mounts r d.ran)
+    by (inr d) = Over_file command e ran.0 d.mounts d.reads (over_of s command d.mounts r d.same_count d.ran)
 
 pub way_of : (s : Sides) (r : Outcome)
     → RanWords s.words s.shelf s.shelf' s.count s.now s.world s.world' s.hosts s.hosts' s.sink s.sink'

@@ -8,6 +8,9 @@ pub mod PlayedMachine
 pub mod Granted
 pub mod Status
 pub mod ErrorLine
+pub mod Causes
+pub mod Counts
+pub mod LeftTasks
 pub mod Outcome
 pub mod Concluded
 pub mod Ran

@@ -1,6 +1,6 @@
 -- What the clauses of a run speak of: the state that its trace leaves, and the world then.
 use Rattle.std.specs.Prelude.{◌≡◌, ◌⊎◌, ℕ, List, [], ◌∷◌, length, take, Bool, true, false, All, AllPairs, Option, Some}
-use Rattle.std.specs.Prelude.{None, IsSome, IfSome, ⊤, unwrap_or, option_and_then, option_map}
+use Rattle.std.specs.Prelude.{None, IsSome, IfSome, IsSomeAnd, ⊤, option_and_then, option_map}
 use Rattle.host_node.specs.Tree.{Shape}
 use Rattle.host_node.specs.Routes.{directory_at}
 use Rattle.sn_edge.specs.Shelf.{Shelf, content_at}
@@ -23,6 +23,9 @@ use Rattle.kernel_model.specs.declared.opening.Fresh.{Fresh}
 use Rattle.kernel_model.specs.FileTree.{Child, Missing, child_at}
 use Rattle.kernel_model.specs.Numbers.{IsUnnumbered, left_fresh}
 use Rattle.kernel_model.specs.Settled.{tree_now, settled, outside}
+use Rattle.sentry_run.specs.Concluded.{StopsShort}
+use Rattle.sentry_run.specs.Counts.{HasRisen}
+use Rattle.sentry_run.specs.LeftTasks.{MayBeLeft}
 use Rattle.sentry_run.specs.declared.outcome.Fault.{Fault}
 use Rattle.sentry_run.specs.declared.outcome.Fault.TheVariants.{Done, Usage, Mounts as MountsRefused, Image}
 use Rattle.sentry_run.specs.declared.outcome.Fault.TheVariants.{SourceFault, SinkFault, Full, Memory, HostFault, Grant}
@@ -35,28 +38,51 @@ WhereTold (Some a) fact = fact a
 
 -- ---- the mount file
 
--- the bytes that are read of the file that a command names: all, or the first 65,537
+-- the bytes that are read of the file that a command names, where it is there: all, or the first 65,537
+-- open(2), ENOENT; the number: profile
+abbrev pub bytes_read : Command → Shelf → Option (List ℕ)
+bytes_read command shelf = option_map (take 65537) (content_at shelf.files command.mounts)
+
+-- the file that a command names is there, and what is read of it is a mount file that says this
 -- profile
-abbrev pub bytes_read : Command → Shelf → List ℕ
-bytes_read command shelf = take 65537 (unwrap_or (content_at shelf.files command.mounts) [])
+abbrev pub NamesMountFile : Command → Shelf → Mounts → Type 0
+NamesMountFile command shelf mounts = IsSomeAnd (bytes_read command shelf) (λ bytes. IsMountFile bytes mounts)
+
+-- it is there, and this is the first fault of what is read of it
+-- profile
+abbrev pub NamesFaulty : Command → Shelf → MountFault → Type 0
+NamesFaulty command shelf fault = IsSomeAnd (bytes_read command shelf) (λ bytes. IsFaultOf bytes fault)
 
 -- what was read is what the file says
 -- profile
 abbrev pub ReadsMounts : Option Command → Option Shelf → Option Mounts → Type 0
 ReadsMounts None shelf mounts = mounts ≡ None
-ReadsMounts (Some command) shelf mounts = WhereTold shelf (λ s. IfSome mounts (IsMountFile (bytes_read command s)))
+ReadsMounts (Some command) shelf mounts = WhereTold shelf (λ s. IfSome mounts (NamesMountFile command s))
 
 -- this is the first fault of what was read of the file that a command names
 -- profile
 abbrev pub HasMountFault : Option Command → Option Shelf → MountFault → Type 0
 HasMountFault None shelf fault = ⊥
-HasMountFault (Some command) shelf fault = WhereTold shelf (λ s. IsFaultOf (bytes_read command s) fault)
+HasMountFault (Some command) shelf fault = WhereTold shelf (λ s. NamesFaulty command s fault)
 
 -- a command names a file whose bytes are told, and this is their first fault
 -- profile
 abbrev pub MeetsFault : Option Command → Option Shelf → MountFault → Type 0
-MeetsFault (Some command) (Some shelf) fault = IsFaultOf (bytes_read command shelf) fault
+MeetsFault (Some command) (Some shelf) fault = NamesFaulty command shelf fault
 MeetsFault _ _ fault = ⊥
+
+-- a command names a file that a source which tells its files hasn't got
+-- open(2), ENOENT
+abbrev pub LacksFile : Option Command → Option Shelf → Type 0
+LacksFile (Some command) (Some shelf) = content_at shelf.files command.mounts ≡ None
+LacksFile _ _ = ⊥
+
+-- an answer of a run whose mount file isn't there
+-- profile
+abbrev pub MayFailToOpen : Fault → Type 0
+MayFailToOpen SourceFault = ⊤
+MayFailToOpen Memory = ⊤
+MayFailToOpen _ = ⊥
 
 -- an answer of a run whose mount file has that fault
 -- profile
@@ -211,6 +237,13 @@ HasFront SinkFault = ⊤
 HasFront Memory = ⊤
 HasFront _ = ⊥
 
+-- an answer of a run that is over: it came out so, or the sink failed before the text's end, or memory ran out
+-- profile
+abbrev pub ComesTo : (whole : Fault) → (sink after : Option (List ℕ)) → (text : List ℕ) → Fault → Type 0
+ComesTo whole sink after text SinkFault = StopsShort sink after text
+ComesTo whole sink after text Memory = ⊤
+ComesTo whole sink after text fault = fault ≡ whole
+
 -- the text of a state, or nothing where there is none
 -- profile
 abbrev pub text_of : Option Kernel → List Entry → Bool → List ℕ
@@ -239,6 +272,13 @@ pub record IsLeftOver (left : Left) (k : Kernel) : Type 0 where
   pub unnumbered : All (λ f. IsUnnumbered (child_named k f)) (left_fresh left)
   pub apart : AllPairs AreApart (left_fresh left)
 
+-- each task whose rises no entry has is one whose rises may be left beside this trace
+-- profile
+abbrev pub AreLeft : Mounts → Shape → Opening → List Entry → Left → Kernel → Type 0
+AreLeft mounts world opening trace left state =
+    IfSome (started_kernel (begun mounts world opening))
+    (λ start. All (λ r. MayBeLeft mounts.entries start trace state r.task) left.rises)
+
 -- ---- when a run comes to its end
 
 -- the words, the file, the folder and the image are accepted
@@ -250,7 +290,7 @@ pub record IsAccepted (words : Option Command) (shelf : Option Shelf) (world : O
   pub files : Shelf
   pub files_are : shelf ≡ Some files
   pub mounts : Mounts
-  pub file : IsMountFile (bytes_read command files) mounts
+  pub file : NamesMountFile command files mounts
   pub tree : Shape
   pub tree_is : world ≡ Some tree
   pub folders : IsSome (granted mounts.mounts tree)
@@ -277,3 +317,12 @@ world_after mounts opening left state world = settled mounts.mounts opening.root
 abbrev pub KeepsOutside : Mounts → Shape → Option Shape → Type 0
 KeepsOutside mounts world after =
     (w : Shape) × (after ≡ Some w) × (outside mounts.mounts w ≡ outside mounts.mounts world)
+
+-- no entry was made, and counts of failed calls rose at most; or the world has each grant as the state of the trace has
+-- it
+-- profile
+abbrev pub LeavesInside : Mounts → Shape → Opening → List Entry → Left → (after : Option Shape) → Type 0
+LeavesInside mounts world opening trace left after =
+    ((trace ≡ []) × (w : Shape) × (after ≡ Some w) × HasRisen world w)
+    ⊎ ((k : Kernel) × (state_after mounts world opening trace ≡ Some k)
+    × (after ≡ Some (world_after mounts opening left k world)))

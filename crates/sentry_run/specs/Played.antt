@@ -24,6 +24,7 @@ use Rattle.sentry_run.specs.declared.walk.Answer.{Answer}
 use Rattle.sentry_run.specs.declared.walk.Answer.TheVariants as answers
 use Rattle.sentry_run.specs.declared.play.End.{End}
 use Rattle.sentry_run.specs.declared.play.End.TheVariants as ends
+use Rattle.sentry_run.specs.Counts.{HasRisen}
 use Rattle.sentry_run.specs.Machine.{Leaves}
 use Rattle.sentry_run.specs.Walk.{faulted_by}
 
@@ -55,13 +56,15 @@ record_of m p given =
 -- what was met and answered is what the walk over this tree comes to
 -- execve(2)
 abbrev pub Fits : Shape → List ℕ → Met → Answer → Type 0
-Fits t name met answers.Memory = Unit {0}
+Fits t name Nothing answers.Memory = Unit {0}
+Fits t name Drawn answers.Memory = Unit {0}
 Fits t name Nothing (answers.Refuses errno) = walked_in t name ≡ record { draws = false; image = Err errno }
 Fits t name (RootFailed d) (answers.Refuses errno) = (errno ≡ EIO) × (0 < d)
 Fits t name Drawn (answers.Refuses errno) =
     (s : Shape) × (owner_executes t ≡ true) × (child_of name t ≡ Some s) × (executed s ≡ Err errno)
     × (faults_of s < 2 ^ 64)
-Fits t name (ChildFailed d) (answers.Refuses errno) = (s : Shape) × (child_of name t ≡ Some s) × (errno ≡ EIO) × (0 < d)
+Fits t name (ChildFailed d) (answers.Refuses errno) =
+    (s : Shape) × (child_of name t ≡ Some s) × (errno ≡ EIO) × (0 < d) × (faults_of s < 2 ^ 64)
 Fits t name Drawn (answers.Starts image) =
     (s : Shape) × (owner_executes t ≡ true) × (child_of name t ≡ Some s) × (executed s ≡ Ok image)
     × (faults_of s < 2 ^ 64)
@@ -116,7 +119,7 @@ Ended mounts tree after opening trace (ends.Full kernel) =
     × (length trace ≡ mounts.entries)
 Ended mounts tree after opening trace (ends.Image errno) = Failed mounts tree after opening errno × (trace ≡ [])
 Ended mounts tree after opening trace ends.Memory =
-    (trace ≡ []) ⊎ ((state : Kernel) × Runs mounts tree after opening trace state)
+    ((trace ≡ []) × HasRisen tree after) ⊎ ((state : Kernel) × Runs mounts tree after opening trace state)
 Ended mounts tree after opening trace ends.HostFault = ⊥
 Ended mounts tree after opening trace ends.Grant = ⊥
 

@@ -1,20 +1,18 @@
 //! How a run comes out, and the text that it leaves in the sink.
 
-ghost use Rattle.std.specs.Prelude.{◌≡◌, Some, OnOk, OnErr};
+ghost use Rattle.std.specs.Prelude.{◌≡◌, false, Some};
 ghost use Rattle.sn_base.specs.Faults.{HasCause};
-ghost use Rattle.sn_edge.specs.Errors.{has_failed};
-ghost use Rattle.sn_edge.specs.Taken.{with_taken};
-ghost use Rattle.kernel_model.specs.Printed.{printed};
 ghost use Rattle.sentry_run.specs.Status.{status_of};
 ghost use Rattle.sentry_run.specs.Played.{no_left};
-ghost use Rattle.sentry_run.specs.Concluded.{Fronts, Writes, Concludes};
+ghost use Rattle.sentry_run.specs.Causes.{is_sink_fault};
+ghost use Rattle.sentry_run.specs.Concluded.{Writes, Concludes};
 
 use crate::outcome::{Fault, Outcome};
 use crate::play::{End, Played};
 use crate::text::printed_text;
 use kernel_model::{Kernel, Left, Opening, Trace};
 use mount_file::Mounts;
-use sn_base::List;
+use sn_base::{List, Memory};
 use sn_edge::{EdgeErr, Sink, write_all};
 use std::alloc::Global;
 
@@ -28,24 +26,6 @@ fn nothing_left(alloc: Global) -> Left
     }
 }
 
-/// Writes the text of a run.
-fn write_text<K: Sink>(
-    alloc: Global,
-    kernel: &Kernel,
-    trace: &Trace,
-    flag: bool,
-    out: &mut K,
-) -> Result<(), EdgeErr>
-    ensures ok { OnOk result (K.told out.new ≡ with_taken (K.told out.old) (printed kernel.now trace.now flag)) }
-    ensures err { OnErr result (Fronts (K.told out.old) (K.told out.new) (printed kernel.now trace.now flag)) }
-    ensures cause { HasCause (has_failed result) (K.count out.old) (K.count out.new) }
-{
-    match printed_text(alloc, kernel, trace, flag) {
-        Ok(text) => write_all(out, text.as_slice()),
-        Err(_) => Err(EdgeErr::Memory),
-    }
-}
-
 /// Writes the text of a run that comes out so where all of it is taken.
 fn written<K: Sink>(
     alloc: Global,
@@ -55,10 +35,16 @@ fn written<K: Sink>(
     out: &mut K,
     whole: Fault,
 ) -> Fault
-    ensures { Writes kernel.now trace.now flag whole (K.told out.old) (K.told out.new)
+    ensures writes { Writes kernel.now trace.now flag whole (K.told out.old) (K.told out.new)
         (K.count out.old) (K.count out.new) result }
+    ensures cause { is_sink_fault whole ≡ false →
+        HasCause (is_sink_fault result) (K.count out.old) (K.count out.new) }
 {
-    match write_text(alloc, kernel, trace, flag, out) {
+    let text = match printed_text(alloc, kernel, trace, flag) {
+        Ok(text) => text,
+        Err(Memory) => return Fault::Memory,
+    };
+    match write_all(out, text.as_slice()) {
         Ok(()) => whole,
         Err(EdgeErr::Failed) => Fault::SinkFault,
         Err(EdgeErr::Memory) => Fault::Memory,
@@ -67,8 +53,9 @@ fn written<K: Sink>(
 
 /// How a run comes out, once its text is written where it has one.
 fn concluded<K: Sink>(alloc: Global, end: End, trace: &Trace, flag: bool, out: &mut K) -> Fault
-    ensures { Concludes end trace.now flag (K.told out.old) (K.told out.new)
+    ensures concludes { Concludes end trace.now flag (K.told out.old) (K.told out.new)
         (K.count out.old) (K.count out.new) result }
+    ensures cause { HasCause (is_sink_fault result) (K.count out.old) (K.count out.new) }
 {
     match end {
         End::Done(kernel) => written(alloc, &kernel, trace, flag, out, Fault::Done),
@@ -115,6 +102,7 @@ pub fn conclude<K: Sink>(
 ) -> Outcome
     ensures concludes { Concludes played.end played.trace flag (K.told out.old) (K.told out.new)
         (K.count out.old) (K.count out.new) result.fault }
+    ensures cause { HasCause (is_sink_fault result.fault) (K.count out.old) (K.count out.new) }
     ensures status { result.status ≡ status_of result.fault }
     ensures opening { result.opening ≡ played.opening }
     ensures trace { result.trace ≡ played.trace }

@@ -2,10 +2,11 @@
 
 ghost use Rattle.std.specs.Prelude.{◌≡◌, ◌≤◌, length, [], IfOk};
 ghost use Rattle.std.specs.List.{flat_map};
-ghost use Rattle.sn_base.specs.Faults.{Rose};
+ghost use Rattle.sn_base.specs.Faults.{Rose, HasCause};
 ghost use Rattle.host_node.specs.Told.{CanLend};
 ghost use Rattle.kernel_model.specs.Numbers.{IsGapless, numbers_opened, numbers_in};
 ghost use Rattle.mount_file.specs.Form.{HasOneTask};
+ghost use Rattle.sentry_run.specs.Causes.{is_grant_failed};
 ghost use Rattle.sentry_run.specs.Played.{NamesTask, TraceOf};
 ghost use Rattle.sentry_run.specs.PlayedMachine.{IsInner};
 ghost use Rattle.sentry_run.specs.Granted.{PlaysRoot, IsUngranted, PlaysIn};
@@ -55,6 +56,7 @@ pub fn play<W: HostWorld>(alloc: Global, mounts: &Mounts, host: &mut W) -> Playe
     requires ungranted { IsUngranted (W.told host.old) }
     ensures plays { PlaysIn mounts.now (W.told host.old) (W.told host.new) result.opening result.trace result.end }
     ensures fault { result.end ≡ End.HostFault → Rose (W.count host.old) (W.count host.new) }
+    ensures cause { HasCause (is_grant_failed result.end) (W.count host.old) (W.count host.new) }
     ensures drawn { flat_map numbers_in result.trace ≡ [] }
     ensures trace { TraceOf mounts.now.entries result.end result.trace }
     ensures numbers { IsGapless (numbers_opened result.opening) }

@@ -1,8 +1,8 @@
 //! A run of the Sentry, from its words to the text of its state.
 
-ghost use Rattle.std.specs.Prelude.{◌≡◌, ◌≢◌, ◌⊎◌, ◌≤◌, ℕ, true, false, [], length, map, string_bytes, Some, None};
+ghost use Rattle.std.specs.Prelude.{◌≡◌, ◌≢◌, ◌⊎◌, ◌<◌, ◌≤◌, ℕ, true, false, [], length, map, string_bytes, Some, None};
 ghost use Rattle.std.specs.Prelude.{IfSome, IfOk, IfErr};
-ghost use Rattle.sn_base.specs.Faults.{Rose};
+ghost use Rattle.sn_base.specs.Faults.{Rose, HasCause};
 ghost use Rattle.sn_edge.specs.Reading.{ReadsWithin};
 ghost use Rattle.sn_edge.specs.Taken.{with_taken};
 ghost use Rattle.kernel_model.specs.History.{any_live};
@@ -11,13 +11,15 @@ ghost use Rattle.kernel_model.specs.Opening.{Refuses};
 ghost use Rattle.kernel_model.specs.Printed.{printed};
 ghost use Rattle.kernel_model.specs.Words.{accepted};
 ghost use Rattle.sentry_run.specs.Command.{command_of};
-ghost use Rattle.sentry_run.specs.Concluded.{Fronts};
+ghost use Rattle.sentry_run.specs.Causes.{is_unreadable};
+ghost use Rattle.sentry_run.specs.Concluded.{Fronts, StopsShort};
 ghost use Rattle.sentry_run.specs.Granted.{IsUngranted};
 ghost use Rattle.mount_file.specs.Form.{HasOneTask};
 ghost use Rattle.sentry_run.specs.Outcome.{ReadsMounts, HasMountFault, MeetsFault, MayFailToRead, granted, begun};
 ghost use Rattle.sentry_run.specs.Outcome.{state_after, WhereRead, WhereState, IsHistory, RefusesAs, refused_kernel};
 ghost use Rattle.sentry_run.specs.Outcome.{IsUnread, HasRun, HasNotBegun, HasNoTrace, IsOver, MayFailToGrant};
 ghost use Rattle.sentry_run.specs.Outcome.{MayFailToStart, asks_trace, HasText, HasFront, text_of};
+ghost use Rattle.sentry_run.specs.Outcome.{LacksFile, MayFailToOpen, ComesTo, AreLeft, LeavesInside};
 ghost use Rattle.sentry_run.specs.Outcome.{IsLeftOver, IsAccepted, HasEnded, world_after, KeepsOutside};
 ghost use Rattle.sentry_run.specs.Played.{no_left};
 ghost use Rattle.sentry_run.specs.Ran.{IsRefused, ReadsAs, FailsToRead, RanOver, RanBy, RanWords};
@@ -57,6 +59,8 @@ fn load_mounts<S: Source>(
     ensures form { IfOk result HasOneTask }
     ensures err { IfErr result (FailsToRead (command_of command.now) (S.told files.old)
         (S.count files.old) (S.count files.new)) }
+    ensures cause { HasCause (is_unreadable result) (S.count files.old) (S.count files.new) }
+    ensures memory { IfErr result (λ fault. fault ≢ Fault.Mounts MountFault.Memory) }
 {
     let bytes = match read_all(alloc, files, command.mounts, LONGEST_MOUNT_FILE) {
         Ok(bytes) => bytes,
@@ -148,16 +152,24 @@ pub fn run_sentry<S: Source, W: HostWorld, K: Sink>(
     ensures usage { result.fault ≡ Fault.Usage → accepted (map string_bytes words.now) ≡ None }
     ensures usage_exact { accepted (map string_bytes words.now) ≡ None → result.fault ≡ Fault.Usage }
     ensures source_fault { result.fault ≡ Fault.SourceFault → Rose (S.count files.old) (S.count files.new) }
+    ensures source_exact { S.count files.old < S.count files.new → result.fault ≡ Fault.SourceFault }
+    // A file that isn't there is no empty one.
+    ensures source_lacking { LacksFile (accepted (map string_bytes words.now)) (S.told files.old) →
+        MayFailToOpen result.fault }
     // The source is read at most to its 65,537th byte, and each read takes a byte or is the last.
     ensures source_read { ReadsWithin (S.told files.old) (S.told files.new) 65537 }
     ensures mounts { (fault : MountFault) → result.fault ≡ Fault.Mounts fault →
         HasMountFault (accepted (map string_bytes words.now)) (S.told files.old) fault }
     ensures mounts_exact { (fault : MountFault) →
         MeetsFault (accepted (map string_bytes words.now)) (S.told files.old) fault → MayFailToRead fault result.fault }
+    // Want of memory is told as such, whatever the source tells.
+    ensures never_mounts_memory { result.fault ≢ Fault.Mounts MountFault.Memory }
     // The mount file that the outcome holds is what the bytes say.
     ensures read { ReadsMounts (accepted (map string_bytes words.now)) (S.told files.old) result.mounts }
     ensures unread { result.mounts ≡ None → IsUnread result.fault }
     ensures host_fault { result.fault ≡ Fault.HostFault → Rose (W.count host.old) (W.count host.new) }
+    // A settle leaves the count: it rises in a grant alone.
+    ensures host_exact { W.count host.old < W.count host.new → result.fault ≡ Fault.HostFault }
     ensures grant { (mount : ℕ) → result.fault ≡ Fault.Grant mount →
         WhereRead result.mounts (W.told host.old) (λ m w. granted m.mounts w ≡ None) }
     ensures grant_number { (mount : ℕ) → result.fault ≡ Fault.Grant mount → mount ≡ 1 }
@@ -168,13 +180,24 @@ pub fn run_sentry<S: Source, W: HostWorld, K: Sink>(
     ensures image_exact { WhereRead result.mounts (W.told host.old) (λ m w. (k : Kernel) (task : ℕ) (errno : Errno) →
         begun m w result.opening ≡ Refuses k task errno → MayFailToStart task errno result.fault) }
     ensures sink_fault { result.fault ≡ Fault.SinkFault → Rose (K.count out.old) (K.count out.new) }
+    ensures sink_exact { K.count out.old < K.count out.new → result.fault ≡ Fault.SinkFault }
+    // A sink that failed has not taken all of the text.
+    ensures sink_short { result.fault ≡ Fault.SinkFault → WhereRead result.mounts (W.told host.old) (λ m w.
+        StopsShort (K.told out.old) (K.told out.new) (text_of (state_after m w result.opening result.trace)
+        result.trace (asks_trace (accepted (map string_bytes words.now))))) }
     ensures sink_over { result.fault ≡ Fault.SinkFault →
         WhereState result.mounts (W.told host.old) result.opening result.trace (λ m w k. IsOver m result.trace k) }
     ensures done { result.fault ≡ Fault.Done →
         WhereState result.mounts (W.told host.old) result.opening result.trace (λ m w k. any_live k ≡ false) }
+    ensures done_exact { WhereState result.mounts (W.told host.old) result.opening result.trace (λ m w k.
+        any_live k ≡ false → ComesTo Fault.Done (K.told out.old) (K.told out.new)
+        (printed k result.trace (asks_trace (accepted (map string_bytes words.now)))) result.fault) }
     ensures full { result.fault ≡ Fault.Full →
         WhereState result.mounts (W.told host.old) result.opening result.trace (λ m w k. any_live k ≡ true) }
     ensures full_length { result.fault ≡ Fault.Full → IfSome result.mounts (λ m. length result.trace ≡ m.entries) }
+    ensures full_exact { WhereState result.mounts (W.told host.old) result.opening result.trace (λ m w k.
+        any_live k ≡ true → ComesTo Fault.Full (K.told out.old) (K.told out.new)
+        (printed k result.trace (asks_trace (accepted (map string_bytes words.now)))) result.fault) }
     // ---- the trace
     ensures history { HasRun result.fault →
         WhereRead result.mounts (W.told host.old) (λ m w. IsHistory m w result.opening result.trace) }
@@ -188,8 +211,9 @@ pub fn run_sentry<S: Source, W: HostWorld, K: Sink>(
     ensures below { HasAllBelow (numbers_drawn result.opening result.trace result.left) }
     ensures left_over { WhereState result.mounts (W.told host.old) result.opening result.trace (λ m w k.
         IsLeftOver result.left k) }
-    // So far nothing is left beside the trace.
-    ensures nothing_left { result.left ≡ no_left }
+    ensures left_tasks { WhereState result.mounts (W.told host.old) result.opening result.trace (λ m w k.
+        AreLeft m w result.opening result.trace result.left k) }
+    ensures left_none { HasNoTrace result.fault → result.left ≡ no_left }
     // ---- the text
     ensures text { HasText result.fault →
         WhereState result.mounts (W.told host.old) result.opening result.trace (λ m w k.
@@ -212,6 +236,9 @@ pub fn run_sentry<S: Source, W: HostWorld, K: Sink>(
     ensures unread_world { result.mounts ≡ None → W.told host.new ≡ W.told host.old }
     ensures outside { result.fault ≡ Fault.Memory →
         WhereRead result.mounts (W.told host.old) (λ m w. KeepsOutside m w (W.told host.new)) }
+    // Also where memory runs out, all nodes are given back and the folder is settled.
+    ensures inside { result.fault ≡ Fault.Memory → WhereRead result.mounts (W.told host.old) (λ m w.
+        LeavesInside m w result.opening result.trace result.left (W.told host.new)) }
     // ---- what is accepted comes to its end
     ensures complete { IsAccepted (accepted (map string_bytes words.now)) (S.told files.old)
         (W.told host.old) result.opening →

@@ -13,6 +13,8 @@
 #[cfg(test)]
 mod cases;
 #[cfg(test)]
+mod failures;
+#[cfg(test)]
 mod guests;
 #[cfg(test)]
 mod hosts;

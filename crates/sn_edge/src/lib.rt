@@ -8,9 +8,9 @@
 //!
 //! Proved: `read_all` gives the front of the file of that name, up to a byte more than its limit
 //! (`content`), with no read but the last that takes nothing, and leaves the files (`told`); `write_all`
-//! has all bytes taken, or a front of them (`ok`, `err`). Where a call answers `Failed` the count of faults
-//! has risen, and where it answers otherwise the count has stayed (`cause`). A source or sink no call of
-//! which is to fail doesn't answer `Failed` (`unfailing`, `succeeds`).
+//! has all bytes taken, or a front of them and not all (`ok`, `err`). Where a call answers `Failed` the
+//! count of faults has risen, and where it answers otherwise the count has stayed (`cause`). A source or
+//! sink no call of which is to fail doesn't answer `Failed` (`unfailing`, `succeeds`).
 //!
 //! Not said: what a file of the system holds, what becomes of the bytes that a writer took, and when
 //! memory runs out.

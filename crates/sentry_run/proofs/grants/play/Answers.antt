@@ -1,5 +1,6 @@
 -- The granted folder can be lent and settled, and the world then has the run's tree in its place.
 use Rattle.sentry_run.proofs.GivenBack.{can_grant, can_lend, can_settle, first_names_of, plays_in, inner_fault}
+use Rattle.sentry_run.proofs.GivenBack.{inner_cause}
 use Rattle.sentry_run.proofs.grants.play.Goals as goal
 
 pub grant-requires : goal.grant-requires
@@ -34,6 +35,12 @@ returns-in-Ok-Some-clause-plays g c =
     p.result.opening p.result.trace p.result.end
     (first_names_of c.args.mounts.now.mounts c.at.result.now c.at.ensures) node tells p.ensures.plays p.ensures.inner
     c.settle.ensures.tells
+
+pub returns-in-Ok-Some-clause-cause : goal.returns-in-Ok-Some-clause-cause
+returns-in-Ok-Some-clause-cause g c =
+    inner_cause c.play_root-played.result.end (g.W.HostWorld.count c.args.host.now) (g.W.HostWorld.count c.grant.new.self)
+    (g.W.HostWorld.count c.settle.new.self) c.play_root-played.ensures.inner c.in-Ok-Some.ensures.faults
+    c.settle.ensures.faults
 
 pub returns-in-Ok-Some-clause-fault : goal.returns-in-Ok-Some-clause-fault
 returns-in-Ok-Some-clause-fault g c =

@@ -1,5 +1,5 @@
 -- A program that was loaded ends as its image or its error has it, and its numbers have no gap.
-use Rattle.std.proofs.Common.{◌≡◌, Bool, true, false, sym, ◌∙◌, subst, refl}
+use Rattle.std.proofs.Common.{◌≡◌, inl, Bool, true, false, sym, ◌∙◌, subst, refl}
 use Rattle.sentry_run.specs.declared.walk.Answer.{Answer}
 use Rattle.sentry_run.specs.declared.walk.Answer.TheVariants as answers
 use Rattle.elf_image.specs.declared.image.Image.{Image}
@@ -10,6 +10,9 @@ use Rattle.sentry_run.specs.Machine.{kernel_opened}
 use Rattle.sentry_run.specs.Played.{FitsFor, RanFrom, first_is_too_long}
 use Rattle.sentry_run.proofs.Endings.{starts_for, refuses_for, gapless, gapless_nothing, first_program, first_task}
 use Rattle.sentry_run.proofs.Endings.{first_long}
+use Rattle.sentry_run.specs.declared.play.End.{End}
+use Rattle.sentry_run.specs.Played.{Ended, given_back}
+use Rattle.sentry_run.proofs.Counts.{risen_back}
 use Rattle.sentry_run.proofs.play.play_loaded.Goals as goal
 
 pub returns-in-Err-clause-numbers : goal.returns-in-Err-clause-numbers
@@ -74,6 +77,24 @@ returns-in-Refuses-clause-numbers c =
     (first_task c.args.mounts.now c.args.name.now c.at-program.result.now
     (given_by c.args.name.now c.args.loaded.met) c.in-Ok.opening c.requires.named c.at-program.ensures
     c.in-Ok.ensures)
+
+pub returns-in-Err-clause-ended : goal.returns-in-Err-clause-ended
+returns-in-Err-clause-ended c = λ t small fits.
+    subst (λ (e : End). Ended c.args.mounts.now t (given_back t c.args.name.now c.args.loaded.met)
+    c.stopped.result.opening c.stopped.result.trace e) (sym c.stopped.ensures.end)
+    (inl (
+      c.stopped.ensures.trace,
+      risen_back (first_is_too_long c.args.mounts.now.tasks) t c.args.name.now c.args.loaded.met c.args.loaded.answer
+          small fits,
+    ))
+
+pub returns-in-Memory-clause-ended : goal.returns-in-Memory-clause-ended
+returns-in-Memory-clause-ended c = λ t small fits.
+    inl (
+      c.new-in-Memory.ensures,
+      risen_back (first_is_too_long c.args.mounts.now.tasks) t c.args.name.now c.args.loaded.met c.args.loaded.answer
+          small fits,
+    )
 
 pub returns-in-Memory-clause-numbers : goal.returns-in-Memory-clause-numbers
 returns-in-Memory-clause-numbers c =

@@ -3,6 +3,7 @@ use Rattle.sentry_run.proofs.Ways.{sides_of, way_from}
 use Rattle.sentry_run.proofs.Clauses as clauses
 use Rattle.sentry_run.proofs.TraceClauses as traces
 use Rattle.sentry_run.proofs.ExactClauses as exact
+use Rattle.sentry_run.proofs.CauseClauses as causes
 use Rattle.sentry_run.proofs.run.run_sentry.Goals as goal
 
 pub returns-clause-status : goal.returns-clause-status
@@ -115,9 +116,17 @@ pub returns-clause-left_over : goal.returns-clause-left_over
 returns-clause-left_over g c =
     traces.left_over (sides_of c.run_words.ensures) c.run_words.result (way_from c.run_words.ensures)
 
-pub returns-clause-nothing_left : goal.returns-clause-nothing_left
-returns-clause-nothing_left g c =
-    traces.nothing_left (sides_of c.run_words.ensures) c.run_words.result (way_from c.run_words.ensures)
+pub returns-clause-left_tasks : goal.returns-clause-left_tasks
+returns-clause-left_tasks g c =
+    traces.left_tasks (sides_of c.run_words.ensures) c.run_words.result (way_from c.run_words.ensures)
+
+pub returns-clause-left_none : goal.returns-clause-left_none
+returns-clause-left_none g c =
+    traces.left_none (sides_of c.run_words.ensures) c.run_words.result (way_from c.run_words.ensures)
+
+pub returns-clause-inside : goal.returns-clause-inside
+returns-clause-inside g c =
+    traces.inside (sides_of c.run_words.ensures) c.run_words.result (way_from c.run_words.ensures)
 
 pub returns-clause-text : goal.returns-clause-text
 returns-clause-text g c = traces.text (sides_of c.run_words.ensures) c.run_words.result (way_from c.run_words.ensures)
@@ -156,3 +165,35 @@ returns-clause-outside g c =
 pub returns-clause-complete : goal.returns-clause-complete
 returns-clause-complete g c =
     exact.complete (sides_of c.run_words.ensures) c.run_words.result (way_from c.run_words.ensures)
+
+pub returns-clause-source_exact : goal.returns-clause-source_exact
+returns-clause-source_exact g c =
+    causes.source_exact (sides_of c.run_words.ensures) c.run_words.result (way_from c.run_words.ensures)
+
+pub returns-clause-source_lacking : goal.returns-clause-source_lacking
+returns-clause-source_lacking g c =
+    causes.source_lacking (sides_of c.run_words.ensures) c.run_words.result (way_from c.run_words.ensures)
+
+pub returns-clause-never_mounts_memory : goal.returns-clause-never_mounts_memory
+returns-clause-never_mounts_memory g c =
+    clauses.never_mounts_memory (sides_of c.run_words.ensures) c.run_words.result (way_from c.run_words.ensures)
+
+pub returns-clause-host_exact : goal.returns-clause-host_exact
+returns-clause-host_exact g c =
+    causes.host_exact (sides_of c.run_words.ensures) c.run_words.result (way_from c.run_words.ensures)
+
+pub returns-clause-sink_exact : goal.returns-clause-sink_exact
+returns-clause-sink_exact g c =
+    causes.sink_exact (sides_of c.run_words.ensures) c.run_words.result (way_from c.run_words.ensures)
+
+pub returns-clause-sink_short : goal.returns-clause-sink_short
+returns-clause-sink_short g c =
+    causes.sink_short (sides_of c.run_words.ensures) c.run_words.result (way_from c.run_words.ensures)
+
+pub returns-clause-done_exact : goal.returns-clause-done_exact
+returns-clause-done_exact g c =
+    causes.done_exact (sides_of c.run_words.ensures) c.run_words.result (way_from c.run_words.ensures)
+
+pub returns-clause-full_exact : goal.returns-clause-full_exact
+returns-clause-full_exact g c =
+    causes.full_exact (sides_of c.run_words.ensures) c.run_words.result (way_from c.run_words.ensures)
