@@ -22,3 +22,5 @@ mod openings;
 mod plain;
 #[cfg(test)]
 mod random;
+#[cfg(test)]
+mod records;

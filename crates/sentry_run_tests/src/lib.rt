@@ -10,18 +10,30 @@
 #![tactic(auto)]
 
 #[cfg(test)]
-mod cases;
-#[cfg(test)]
 mod guests;
 #[cfg(test)]
 mod hosts;
+#[cfg(test)]
+mod mount_files;
 #[cfg(test)]
 mod mounts;
 #[cfg(test)]
 mod narrow;
 #[cfg(test)]
+mod prints;
+#[cfg(test)]
+mod refusals;
+#[cfg(test)]
+mod running;
+#[cfg(test)]
 mod runs;
 #[cfg(test)]
 mod text;
 #[cfg(test)]
+mod told;
+#[cfg(test)]
+mod traps;
+#[cfg(test)]
 mod words;
+#[cfg(test)]
+mod worlds;
