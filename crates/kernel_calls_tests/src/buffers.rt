@@ -1,9 +1,12 @@
 //! What a call takes from a guest's buffer, and what it comes to.
 
-use crate::guests::opened;
+use crate::guests::{expect_bytes, expect_unreadable, opened, read};
 use kernel_calls::call;
-use kernel_model::{Args, Outcome};
+use kernel_model::{Args, GuestSpace, Outcome};
+use sn_base::Memory;
 use sn_vectors::images::GUEST;
+use std::alloc::Global;
+use std::process::Abort;
 use std::test::Fail;
 
 /// The first address behind the stack.
@@ -23,6 +26,9 @@ const REPLIES: [(u64, [u64; 3], i64); 9] = [
     (65, [1, 65_536, 1], -38),
 ];
 
+/// The four letters with which an image begins.
+const LETTERS: [u8; 4] = [0x7f, 0x45, 0x4c, 0x46];
+
 fn args(some: [u64; 3]) -> Args {
     Args {
         a0: some[0],
@@ -34,33 +40,103 @@ fn args(some: [u64; 3]) -> Args {
     }
 }
 
+/// That no bytes are there even where nothing is mapped.
+fn expect_nothing(rt: &impl Abort, alloc: Global, space: &GuestSpace) -> Result<(), Fail> {
+    let nothing = read(alloc, space, 0, 0)?.ok_or("no bytes are refused")?;
+    assert!(rt; nothing.is_empty());
+    Ok(())
+}
+
+/// The image's letters, the last byte of the page, and what isn't mapped behind it, before it and behind the stack.
+fn expect_buffers(rt: &impl Abort, alloc: Global, space: &GuestSpace) -> Result<(), Fail> {
+    expect_bytes(rt, alloc, space, 65_536, &LETTERS)?;
+    expect_nothing(rt, alloc, space)?;
+    expect_bytes(rt, alloc, space, 69_631, &[0])?;
+    expect_unreadable(rt, alloc, space, 69_631, 2)?;
+    expect_unreadable(rt, alloc, space, 65_535, 2)?;
+    expect_unreadable(rt, alloc, space, TOP - 1, 2)
+}
+
 #[test]
 fn a_buffer_is_read_whole_or_not_at_all(rt: HostRuntime) -> Result<(), Fail> {
     let guest = opened(rt.alloc(), 1, &GUEST)?;
-    let space = &guest.space;
-    let head = space.read(rt.alloc(), 65_536, 4)?.ok_or("not readable")?;
-    assert_eq!(rt; head.as_slice(), [0x7f, 0x45, 0x4c, 0x46].as_slice());
-    let nothing = space.read(rt.alloc(), 0, 0)?.ok_or("no bytes are refused")?;
-    assert!(rt; nothing.is_empty());
-    // The last byte of the page, and one behind it, which isn't mapped.
-    let last = space.read(rt.alloc(), 69_631, 1)?.ok_or("not readable")?;
-    assert_eq!(rt; last.as_slice(), [0].as_slice());
-    assert!(rt; space.read(rt.alloc(), 69_631, 2)?.is_none());
-    assert!(rt; space.read(rt.alloc(), 65_535, 2)?.is_none());
-    assert!(rt; space.read(rt.alloc(), TOP - 1, 2)?.is_none());
+    expect_buffers(&rt, rt.alloc(), &guest.space)
+}
+
+/// What a call comes to, over a console of so many bytes.
+fn outcome(
+    alloc: Global,
+    no: u64,
+    some: [u64; 3],
+    space: &GuestSpace,
+    console: usize,
+) -> Result<Outcome, Memory> {
+    call(alloc, no, &args(some), space, console)
+}
+
+/// That a call returns that.
+fn expect_returns(
+    rt: &impl Abort,
+    alloc: Global,
+    (no, some, reply): (u64, [u64; 3], i64),
+    space: &GuestSpace,
+    console: usize,
+) -> Result<(), Fail> {
+    match outcome(alloc, no, some, space, console)? {
+        Outcome::Returns(value) => assert_eq!(rt; value, reply, "call {no}"),
+        _ => panic!(rt; "call {no} does not return"),
+    }
+    Ok(())
+}
+
+/// That each call of the list returns its reply.
+fn expect_replies(rt: &impl Abort, alloc: Global, space: &GuestSpace) -> Result<(), Fail> {
+    for row in REPLIES {
+        expect_returns(rt, alloc, row, space, 0)?;
+    }
     Ok(())
 }
 
 #[test]
 fn calls_reply_as_their_manual_pages_say(rt: HostRuntime) -> Result<(), Fail> {
     let guest = opened(rt.alloc(), 1, &GUEST)?;
-    for (no, some, reply) in REPLIES {
-        match call(rt.alloc(), no, &args(some), &guest.space, 0)? {
-            Outcome::Returns(value) => assert_eq!(rt; value, reply, "call {no}"),
-            _ => panic!(rt; "call {no} does not return"),
-        }
+    expect_replies(&rt, rt.alloc(), &guest.space)
+}
+
+/// That the image's letters are written to a console of so many bytes.
+fn expect_written(
+    rt: &impl Abort,
+    alloc: Global,
+    space: &GuestSpace,
+    console: usize,
+) -> Result<(), Fail> {
+    match outcome(alloc, 64, [1, 65_536, 4], space, console)? {
+        Outcome::Writes(bytes) => assert_eq!(rt; bytes.as_slice(), LETTERS.as_slice()),
+        _ => panic!(rt; "nothing is written"),
     }
     Ok(())
+}
+
+/// That a group exits with that code.
+fn expect_exit(
+    rt: &impl Abort,
+    alloc: Global,
+    space: &GuestSpace,
+    status: u64,
+    wanted: u8,
+) -> Result<(), Fail> {
+    match outcome(alloc, 94, [status, 0, 0], space, 0)? {
+        Outcome::Exits(code) => assert_eq!(rt; code, wanted),
+        _ => panic!(rt; "the group does not exit"),
+    }
+    Ok(())
+}
+
+/// ELF's four letters, of which a console of 1,048,572 bytes takes all, and one of a byte more none: ENOSPC 28.
+fn expect_room(rt: &impl Abort, alloc: Global, space: &GuestSpace) -> Result<(), Fail> {
+    expect_written(rt, alloc, space, 1_048_572)?;
+    expect_returns(rt, alloc, (64, [1, 65_536, 4], -28), space, 1_048_573)?;
+    expect_exit(rt, alloc, space, 0x1_0203, 3)
 }
 
 #[test]
@@ -68,21 +144,5 @@ fn what_is_written_is_the_buffers_bytes_where_the_console_has_room(
     rt: HostRuntime,
 ) -> Result<(), Fail> {
     let guest = opened(rt.alloc(), 1, &GUEST)?;
-    // ELF's four letters, of which a console of 1,048,572 bytes takes all, and one of a byte more none: ENOSPC 28.
-    let write = args([1, 65_536, 4]);
-    match call(rt.alloc(), 64, &write, &guest.space, 1_048_572)? {
-        Outcome::Writes(bytes) => {
-            assert_eq!(rt; bytes.as_slice(), [0x7f, 0x45, 0x4c, 0x46].as_slice());
-        }
-        _ => panic!(rt; "nothing is written"),
-    }
-    match call(rt.alloc(), 64, &write, &guest.space, 1_048_573)? {
-        Outcome::Returns(value) => assert_eq!(rt; value, -28),
-        _ => panic!(rt; "the console is full"),
-    }
-    match call(rt.alloc(), 94, &args([0x1_0203, 0, 0]), &guest.space, 0)? {
-        Outcome::Exits(code) => assert_eq!(rt; code, 3),
-        _ => panic!(rt; "the group does not exit"),
-    }
-    Ok(())
+    expect_room(&rt, rt.alloc(), &guest.space)
 }

@@ -1,15 +1,21 @@
-//! Guests that the tests begin: the image of a file, with one argument.
+//! Guests that the tests begin: the image of a file, with one argument; and what is expected of their memory. What
+//! comes out says nothing of how it came to be, so that no test's proof has the contract of an opening before it; and
+//! each expectation is a call there, and not the many steps of an assertion.
 
-ghost use Rattle.std.specs.Prelude.{◌≡◌, IfOk};
+ghost use Rattle.std.specs.Prelude.{◌≡◌, false, IfOk};
+ghost use Rattle.kernel_model.specs.Arguments.{is_too_long};
 ghost use Rattle.kernel_model.specs.Beginnings.{HasRoom};
 
 use elf_image::Image;
 use kernel_calls::{is_too_long, opened as open_task, read_executable};
-use kernel_model::Running;
+use kernel_model::{GuestSpace, Running};
+use mm_areas::Rights;
 use mount_file::Program;
-use sn_base::List;
+use rv_table::{Reg, Regs};
+use sn_base::{List, Memory};
 use sn_text::Text;
 use std::alloc::Global;
+use std::process::Abort;
 use std::test::Fail;
 
 /// The image of a file.
@@ -22,10 +28,16 @@ pub fn image_in(alloc: Global, file: &[u8]) -> Result<Image, Fail>
     }
 }
 
+/// Strings of which there is one.
+fn one_of(alloc: Global, string: &[u8]) -> Result<List<Text>, Fail> {
+    let mut strings = List::new(alloc);
+    strings.push(Text::from_slice(alloc, string)?)?;
+    Ok(strings)
+}
+
 /// A program of that path, with one argument.
 pub fn program(alloc: Global, path: &[u8], argument: &[u8]) -> Result<Program, Fail> {
-    let mut args = List::new(alloc);
-    args.push(Text::from_slice(alloc, argument)?)?;
+    let args = one_of(alloc, argument)?;
     Ok(Program {
         path: Text::from_slice(alloc, path)?,
         args,
@@ -33,12 +45,111 @@ pub fn program(alloc: Global, path: &[u8], argument: &[u8]) -> Result<Program, F
     })
 }
 
+/// The opening task of that number, with that seed.
+fn running(
+    alloc: Global,
+    seed: &[u8],
+    number: u32,
+    program: &Program,
+    image: &Image,
+) -> Result<Running, Memory>
+    requires short { is_too_long program.now.args program.now.env ≡ false }
+    requires pages { HasRoom image.now }
+{
+    open_task(alloc, seed, number, program, image)
+}
+
+/// The same, where its strings aren't too long.
+fn running_short(
+    alloc: Global,
+    seed: &[u8],
+    number: u32,
+    program: &Program,
+    image: &Image,
+) -> Result<Running, Fail>
+    requires { HasRoom image.now }
+{
+    if is_too_long(program) {
+        return Err(Fail::new("too long"));
+    }
+    Ok(running(alloc, seed, number, program, image)?)
+}
+
+/// The opening task of that number, of an image with the argument `a`, and with the seed of 32 zeros.
+fn opened_of(alloc: Global, number: u32, image: &Image) -> Result<Running, Fail>
+    requires { HasRoom image.now }
+{
+    let program = program(alloc, b"/init", b"a")?;
+    running_short(alloc, &[0; 32], number, &program, image)
+}
+
 /// The opening task of that number, of a file with the argument `a`, and with the seed of 32 zeros.
 pub fn opened(alloc: Global, number: u32, file: &[u8]) -> Result<Running, Fail> {
     let image = image_in(alloc, file)?;
-    let program = program(alloc, b"/init", b"a")?;
-    if is_too_long(&program) {
-        return Err(Fail::new("too long"));
-    }
-    Ok(open_task(alloc, &[0; 32], number, &program, &image)?)
+    opened_of(alloc, number, &image)
+}
+
+/// So many bytes of a guest at an address, or `None` where they can't be read.
+pub fn read(
+    alloc: Global,
+    space: &GuestSpace,
+    at: u64,
+    count: u64,
+) -> Result<Option<List<u8>>, Memory> {
+    space.read(alloc, at, count)
+}
+
+/// That these bytes can be read at an address.
+pub fn expect_bytes(
+    rt: &impl Abort,
+    alloc: Global,
+    space: &GuestSpace,
+    at: u64,
+    bytes: &[u8],
+) -> Result<(), Fail> {
+    let found = read(alloc, space, at, bytes.len() as u64)?.ok_or("not readable")?;
+    assert_eq!(rt; found.as_slice(), bytes, "at {at:x}");
+    Ok(())
+}
+
+/// That so many bytes can't be read at an address.
+pub fn expect_unreadable(
+    rt: &impl Abort,
+    alloc: Global,
+    space: &GuestSpace,
+    at: u64,
+    count: u64,
+) -> Result<(), Fail> {
+    assert!(rt;
+        read(alloc, space, at, count)?.is_none(),
+        "{count} bytes at {at:x}"
+    );
+    Ok(())
+}
+
+/// That so many pages are mapped.
+pub fn expect_pages(rt: &impl Abort, space: &GuestSpace, count: u64) {
+    assert_eq!(rt; space.space.areas().len(), count);
+}
+
+/// That the page of that number is mapped with these rights.
+pub fn expect_rights(rt: &impl Abort, space: &GuestSpace, page: u64, rights: Rights) {
+    assert!(rt;
+        space
+            .space
+            .areas()
+            .page(page)
+            .is_some_and(|page| page.rights == rights),
+        "page {page}"
+    );
+}
+
+/// That it isn't mapped.
+pub fn expect_unmapped(rt: &impl Abort, space: &GuestSpace, page: u64) {
+    assert!(rt; space.space.areas().page(page).is_none(), "page {page}");
+}
+
+/// That a register holds that.
+pub fn expect_register(rt: &impl Abort, registers: &Regs, number: Reg, value: u64) {
+    assert_eq!(rt; registers.read(number), value, "x{}", number.number());
 }

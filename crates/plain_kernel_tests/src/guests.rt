@@ -1,18 +1,55 @@
-//! Guests that the tests begin, with one argument.
+//! Guests that the tests begin, with one argument; and what is expected of their memory and registers.
 
+use kernel_model::GuestSpace;
 use mount_file::Program;
-use sn_base::List;
+use rv_table::{Reg, Regs};
+use sn_base::{List, Memory};
 use sn_text::Text;
 use std::alloc::Global;
+use std::process::Abort;
 use std::test::Fail;
+
+/// Strings of which there is one.
+fn one_of(alloc: Global, string: &[u8]) -> Result<List<Text>, Fail> {
+    let mut strings = List::new(alloc);
+    strings.push(Text::from_slice(alloc, string)?)?;
+    Ok(strings)
+}
 
 /// A program of that path, with one argument.
 pub fn program(alloc: Global, path: &[u8], argument: &[u8]) -> Result<Program, Fail> {
-    let mut args = List::new(alloc);
-    args.push(Text::from_slice(alloc, argument)?)?;
+    let args = one_of(alloc, argument)?;
     Ok(Program {
         path: Text::from_slice(alloc, path)?,
         args,
         env: List::new(alloc),
     })
+}
+
+/// So many bytes of a guest at an address, or `None` where they can't be read.
+fn read(
+    alloc: Global,
+    space: &GuestSpace,
+    at: u64,
+    count: u64,
+) -> Result<Option<List<u8>>, Memory> {
+    space.read(alloc, at, count)
+}
+
+/// That these bytes can be read at an address.
+pub fn expect_bytes(
+    rt: &impl Abort,
+    alloc: Global,
+    space: &GuestSpace,
+    at: u64,
+    bytes: &[u8],
+) -> Result<(), Fail> {
+    let found = read(alloc, space, at, bytes.len() as u64)?.ok_or("not readable")?;
+    assert_eq!(rt; found.as_slice(), bytes, "at {at:x}");
+    Ok(())
+}
+
+/// That a register holds that.
+pub fn expect_register(rt: &impl Abort, registers: &Regs, number: Reg, value: u64) {
+    assert_eq!(rt; registers.read(number), value, "x{}", number.number());
 }

@@ -13,3 +13,5 @@ mod guests;
 mod openings;
 #[cfg(test)]
 mod plain;
+#[cfg(test)]
+mod records;

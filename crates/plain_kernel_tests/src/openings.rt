@@ -1,96 +1,144 @@
 //! The opening of two tasks of one image.
 
-ghost use Rattle.std.specs.Prelude.{◌≡◌, length, IfOk};
+ghost use Rattle.std.specs.Prelude.{◌≡◌, ◌≤◌, ◌^◌, length, IfOk};
 
-use crate::guests::program;
-use crate::plain::{guest, mount_list, root_of};
-use kernel_model::{Fresh, Given, Life, Opened, Opening};
-use mount_file::Mounts;
+use crate::guests::{expect_bytes, expect_register, program};
+use crate::records::{drawn, guest, mounts_of, open_at, opened_task, record_of, root_of};
+use host_node::Tree;
+use kernel_model::{Given, GuestSpace, Life, Opened, Opening, Task};
+use mount_file::{Mounts, Program};
 use plain_kernel::Plain;
 use rv_table::Reg;
 use sn_base::List;
-use sn_text::{Text, name_of};
 use std::alloc::Global;
+use std::process::Abort;
 use std::test::Fail;
 
-/// Two tasks of `/init`, whose arguments are `a` and `second one`, and a seed of 32 zeros.
-fn two_tasks(alloc: Global) -> Result<Mounts, Fail>
-    ensures { IfOk result (λ m. length m.tasks ≡ 2) }
+/// Two programs `/init`, whose arguments are `a` and `second one`.
+fn programs(alloc: Global) -> Result<List<Program>, Fail>
+    ensures { IfOk result (λ tasks. length tasks ≡ 2) }
 {
     let mut tasks = List::new(alloc);
     tasks.push(program(alloc, b"/init", b"a")?)?;
     tasks.push(program(alloc, b"/init", b"second one")?)?;
-    Ok(Mounts {
-        entries: 100,
-        seed: List::from_slice(alloc, &[0; 32])?,
-        mounts: mount_list(alloc)?,
-        tasks,
-    })
+    Ok(tasks)
 }
 
-/// The record of an opening task: its argument, and whether it draws the number 2 for `init`.
-fn opened(alloc: Global, argument: &[u8], draws: bool) -> Result<Opened, Fail> {
-    let mut words = List::new(alloc);
-    words.push(Text::from_slice(alloc, argument)?)?;
-    let mut fresh = List::new(alloc);
-    if draws {
-        fresh.push(Fresh {
-            dir: 1,
-            name: name_of(alloc, b"init")?,
-            ino: 2,
-        })?;
-    }
-    let rises = List::new(alloc);
-    Ok(Opened {
-        words,
-        given: Given { fresh, rises },
-    })
+/// Two tasks of them, and a seed of 32 zeros.
+fn two_tasks(alloc: Global) -> Result<Mounts, Fail>
+    ensures { IfOk result (λ m. length m.tasks ≡ 2) }
+{
+    let tasks = programs(alloc)?;
+    mounts_of(alloc, List::from_slice(alloc, &[0; 32])?, tasks)
 }
 
+/// The record of the task that draws the number 2 for `init`.
+fn first(alloc: Global) -> Result<Opened, Fail> {
+    let given = Given {
+        fresh: drawn(alloc, b"init", 2)?,
+        rises: List::new(alloc),
+    };
+    opened_task(alloc, b"a", given)
+}
+
+/// The record of the other, which draws none.
+fn second(alloc: Global) -> Result<Opened, Fail> {
+    let given = Given {
+        fresh: List::new(alloc),
+        rises: List::new(alloc),
+    };
+    opened_task(alloc, b"second one", given)
+}
+
+/// The record of both.
 fn record(alloc: Global) -> Result<Opening, Fail> {
-    let mut roots = List::new(alloc);
-    roots.push(1)?;
     let mut tasks = List::new(alloc);
-    tasks.push(opened(alloc, b"a", true)?)?;
-    tasks.push(opened(alloc, b"second one", false)?)?;
-    Ok(Opening {
-        mounts: mount_list(alloc)?,
-        roots,
-        tasks,
-    })
+    tasks.push(first(alloc)?)?;
+    tasks.push(second(alloc)?)?;
+    record_of(alloc, 1, tasks)
+}
+
+/// The opening of these mounts over these trees.
+fn open_over(alloc: Global, mounts: &Mounts, trees: &List<Tree>) -> Result<Plain, Fail>
+    requires { length mounts.now.tasks ≤ 2 ^ 31 }
+{
+    let record = record(alloc)?;
+    Ok(open_at(alloc, mounts, trees, &record)?)
+}
+
+/// The opening of these mounts.
+fn open_under(alloc: Global, mounts: &Mounts) -> Result<Plain, Fail>
+    requires { length mounts.now.tasks ≤ 2 ^ 31 }
+{
+    let trees = root_of(alloc, guest(alloc)?)?;
+    open_over(alloc, mounts, &trees)
+}
+
+/// The opening of both tasks.
+fn opened(alloc: Global) -> Result<Plain, Fail> {
+    let mounts = two_tasks(alloc)?;
+    open_under(alloc, &mounts)
+}
+
+/// What a task's stack has.
+#[derive(Clone, Copy)]
+struct Stack {
+    number: u32,
+    sp: u64,
+    at: u64,
+    argument: &'static [u8],
+    first: u8,
 }
 
 /// What the two tasks' stacks have by hand from the RISC-V ELF psABI: the stack pointer, the argument's address, and
 /// the argument; and at the stack's end the random bytes by another implementation of ChaCha20, of which the first.
 #[rattlefmt::skip]
-const STACKS: [(u64, u64, u64, &[u8], u8); 2] = [
-    (1, 0x3f_ffff_ff50, 0x3f_ffff_ffee, b"a\0", 0x80),
-    (2, 0x3f_ffff_ff50, 0x3f_ffff_ffe5, b"second one\0", 0xb2),
+const STACKS: [Stack; 2] = [
+    Stack { number: 1, sp: 0x3f_ffff_ff50, at: 0x3f_ffff_ffee, argument: b"a\0", first: 0x80 },
+    Stack { number: 2, sp: 0x3f_ffff_ff50, at: 0x3f_ffff_ffe5, argument: b"second one\0", first: 0xb2 },
 ];
+
+/// That a task lives, and has its own address space and stack pointer.
+fn expect_task(rt: &impl Abort, task: &Task, stack: &Stack) {
+    assert_eq!(rt; task.space, u64::from(stack.number));
+    assert_eq!(rt; task.life, Life::Live);
+    expect_register(rt, &task.registers, Reg::new(2), stack.sp);
+}
+
+/// That its stack has that: one argument, its pointer, the argument, and a random byte at the end.
+fn expect_stack(
+    rt: &impl Abort,
+    alloc: Global,
+    space: &GuestSpace,
+    stack: &Stack,
+) -> Result<(), Fail> {
+    expect_bytes(rt, alloc, space, stack.sp, &[1, 0, 0, 0, 0, 0, 0, 0])?;
+    let pointer = stack.at.to_le_bytes();
+    expect_bytes(rt, alloc, space, stack.sp.wrapping_add(8), &pointer)?;
+    expect_bytes(rt, alloc, space, stack.at, stack.argument)?;
+    expect_bytes(rt, alloc, space, 0x3f_ffff_fff0, &[stack.first])
+}
+
+/// That the task of the stack's number has both.
+fn expect_opened(rt: &impl Abort, alloc: Global, plain: &Plain, stack: &Stack) -> Result<(), Fail> {
+    let number = u64::from(stack.number);
+    let task = plain.kernel.tasks.get(number).ok_or("no task")?;
+    expect_task(rt, task, stack);
+    let space = plain.kernel.spaces.get(number).ok_or("no space")?;
+    expect_stack(rt, alloc, space, stack)
+}
+
+/// That there are two tasks, and each has both.
+fn expect_two(rt: &impl Abort, alloc: Global, plain: &Plain) -> Result<(), Fail> {
+    assert_eq!(rt; plain.kernel.tasks.len(), 2);
+    for stack in &STACKS {
+        expect_opened(rt, alloc, plain, stack)?;
+    }
+    Ok(())
+}
 
 #[test]
 fn each_opening_task_has_its_own_strings_and_random_bytes(rt: HostRuntime) -> Result<(), Fail> {
-    let alloc = rt.alloc();
-    let mounts = two_tasks(alloc)?;
-    let trees = root_of(alloc, guest(alloc)?)?;
-    let plain = Plain::opening(alloc, &mounts, &trees, &record(alloc)?)?;
-    assert_eq!(rt; plain.kernel.tasks.len(), 2);
-    for (number, sp, at, argument, first) in STACKS {
-        let task = plain.kernel.tasks.get(number).ok_or("no task")?;
-        assert_eq!(rt; task.space, number);
-        assert_eq!(rt; task.life, Life::Live);
-        assert_eq!(rt; task.registers.read(Reg::new(2)), sp);
-        let space = plain.kernel.spaces.get(number).ok_or("no space")?;
-        let argc = space.read(alloc, sp, 8)?.ok_or("no stack")?;
-        assert_eq!(rt; argc.as_slice(), [1, 0, 0, 0, 0, 0, 0, 0].as_slice());
-        let argv = space.read(alloc, sp + 8, 8)?.ok_or("no pointer")?;
-        assert_eq!(rt; argv.as_slice(), at.to_le_bytes().as_slice());
-        let string = space
-            .read(alloc, at, argument.len() as u64)?
-            .ok_or("no string")?;
-        assert_eq!(rt; string.as_slice(), argument);
-        let random = space.read(alloc, 0x3f_ffff_fff0, 1)?.ok_or("no end")?;
-        assert_eq!(rt; random.as_slice(), [first].as_slice());
-    }
-    Ok(())
+    let plain = opened(rt.alloc())?;
+    expect_two(&rt, rt.alloc(), &plain)
 }

@@ -1,16 +1,20 @@
 //! A plain kernel, by entries that fit and others that do not.
 
-ghost use Rattle.std.specs.Prelude.{◌≡◌, length, IfOk};
+ghost use Rattle.std.specs.Prelude.{◌≡◌, ◌≤◌, ◌^◌, length, IfOk};
 
+use crate::records::{
+    drawn, guest, mounts_of, open_at, opened_task, record_of, risen, root_of, words_of,
+};
 use host_node::Tree;
-use kernel_model::{Args, Entry, Fresh, Given, Life, Opened, Opening, Rise, locality};
-use mount_file::{Mount, Mounts, Program};
+use kernel_model::{Args, Entry, Fresh, Given, Life, Opening, locality};
+use mount_file::{Mounts, Program};
 use plain_kernel::{OpeningErr, Plain};
-use sn_base::{List, Memory};
+use sn_base::List;
 use sn_errno::Errno;
-use sn_text::{Folder, Route, Text, name_of};
+use sn_text::Text;
 use sn_vectors::images::GUEST;
 use std::alloc::Global;
+use std::process::Abort;
 use std::test::Fail;
 
 /// What an opening record has beside the mounts and the task's words.
@@ -30,101 +34,116 @@ const DRAWN: Drawn = Drawn {
     rise: 0,
 };
 
-pub fn mount_list(alloc: Global) -> Result<List<Mount>, Fail> {
-    let mut names = Route::new(alloc);
-    names.push(name_of(alloc, b"srv")?)?;
-    let mut mounts = List::new(alloc);
-    mounts.push(Mount {
-        at: None,
-        folder: Folder::new(false, names),
-        write: false,
-    })?;
-    Ok(mounts)
+/// The same with nothing drawn.
+const NOTHING_DRAWN: Drawn = Drawn { name: b"", ..DRAWN };
+
+/// The program `/init`, with these strings in its environment.
+fn init(alloc: Global, env: List<Text>) -> Result<Program, Fail> {
+    let args = words_of(alloc, b"/init")?;
+    Ok(Program {
+        path: Text::from_slice(alloc, b"/init")?,
+        args,
+        env,
+    })
 }
 
-fn words(alloc: Global) -> Result<List<Text>, Memory> {
-    let mut words = List::new(alloc);
-    words.push(Text::from_slice(alloc, b"/init")?)?;
-    Ok(words)
-}
-
-/// A mount at `/`, and one task of `/init`.
-fn mounts(alloc: Global) -> Result<Mounts, Fail>
+/// A mount at `/`, and one task of that program.
+fn mounts_with(alloc: Global, env: List<Text>) -> Result<Mounts, Fail>
     ensures { IfOk result (λ m. length m.tasks ≡ 1) }
 {
     let mut tasks = List::new(alloc);
-    tasks.push(Program {
-        path: Text::from_slice(alloc, b"/init")?,
-        args: words(alloc)?,
-        env: List::new(alloc),
-    })?;
-    Ok(Mounts {
-        entries: 100,
-        seed: List::new(alloc),
-        mounts: mount_list(alloc)?,
-        tasks,
+    tasks.push(init(alloc, env)?)?;
+    mounts_of(alloc, List::new(alloc), tasks)
+}
+
+/// The number that was drawn, if any.
+fn fresh(alloc: Global, record: Drawn) -> Result<List<Fresh>, Fail> {
+    if record.name.is_empty() {
+        Ok(List::new(alloc))
+    } else {
+        drawn(alloc, record.name, record.ino)
+    }
+}
+
+fn given(alloc: Global, record: Drawn) -> Result<Given, Fail> {
+    let rises = risen(alloc, record.rise)?;
+    Ok(Given {
+        fresh: fresh(alloc, record)?,
+        rises,
     })
 }
 
-fn given(alloc: Global, drawn: Drawn) -> Result<Given, Fail> {
-    let mut fresh = List::new(alloc);
-    if !drawn.name.is_empty() {
-        fresh.push(Fresh {
-            dir: 1,
-            name: name_of(alloc, drawn.name)?,
-            ino: drawn.ino,
-        })?;
-    }
-    let mut rises = List::new(alloc);
-    if drawn.rise > 0 {
-        rises.push(Rise {
-            ino: 1,
-            count: drawn.rise,
-        })?;
-    }
-    Ok(Given { fresh, rises })
-}
-
-fn record(alloc: Global, drawn: Drawn) -> Result<Opening, Fail> {
-    let mut roots = List::new(alloc);
-    for n in 0..drawn.roots {
-        roots.push(n + 1)?;
-    }
+fn record(alloc: Global, record: Drawn) -> Result<Opening, Fail> {
     let mut tasks = List::new(alloc);
-    tasks.push(Opened {
-        words: words(alloc)?,
-        given: given(alloc, drawn)?,
-    })?;
-    Ok(Opening {
-        mounts: mount_list(alloc)?,
-        roots,
-        tasks,
-    })
+    tasks.push(opened_task(alloc, b"/init", given(alloc, record)?)?)?;
+    record_of(alloc, record.roots, tasks)
 }
 
-/// A root that may be searched, with a node under `init`.
-pub fn root_of(alloc: Global, child: Option<Tree>) -> Result<List<Tree>, Fail> {
-    let mut root = Tree::directory(alloc, 0o755);
-    if let Some(tree) = child {
-        root.put(name_of(alloc, b"init")?, tree)?;
-    }
-    let mut trees = List::new(alloc);
-    trees.push(root)?;
-    Ok(trees)
-}
-
-pub fn guest(alloc: Global) -> Result<Option<Tree>, Fail> {
-    Ok(Some(Tree::file(0o755, List::from_slice(alloc, &GUEST)?)))
-}
-
-fn open(
+/// An opening of these mounts, over these trees, by that record.
+fn open_over(
     alloc: Global,
+    mounts: &Mounts,
+    trees: &List<Tree>,
+    drawn: Drawn,
+) -> Result<Result<Plain, OpeningErr>, Fail>
+    requires { length mounts.now.tasks ≤ 2 ^ 31 }
+{
+    let record = record(alloc, drawn)?;
+    Ok(open_at(alloc, mounts, trees, &record))
+}
+
+/// An opening of these mounts, with that node as `/init`.
+fn open_under(
+    alloc: Global,
+    mounts: &Mounts,
+    child: Option<Tree>,
+    drawn: Drawn,
+) -> Result<Result<Plain, OpeningErr>, Fail>
+    requires { length mounts.now.tasks ≤ 2 ^ 31 }
+{
+    let trees = root_of(alloc, child)?;
+    open_over(alloc, mounts, &trees, drawn)
+}
+
+/// An opening of a program with these strings in its environment.
+fn open_with(
+    alloc: Global,
+    env: List<Text>,
     child: Option<Tree>,
     drawn: Drawn,
 ) -> Result<Result<Plain, OpeningErr>, Fail> {
-    let mounts = mounts(alloc)?;
-    let trees = root_of(alloc, child)?;
-    Ok(Plain::opening(alloc, &mounts, &trees, &record(alloc, drawn)?))
+    let mounts = mounts_with(alloc, env)?;
+    open_under(alloc, &mounts, child, drawn)
+}
+
+/// The opening of the guest.
+fn opened(alloc: Global) -> Result<Plain, Fail> {
+    Ok(open_with(alloc, List::new(alloc), guest(alloc)?, DRAWN)??)
+}
+
+/// What refuses an opening, if anything.
+fn refusal(
+    alloc: Global,
+    env: List<Text>,
+    child: Option<Tree>,
+    drawn: Drawn,
+) -> Result<Option<OpeningErr>, Fail> {
+    Ok(open_with(alloc, env, child, drawn)?.err())
+}
+
+/// That an opening is refused so.
+fn expect_refusal(
+    rt: &impl Abort,
+    alloc: Global,
+    child: Option<Tree>,
+    drawn: Drawn,
+    wanted: OpeningErr,
+) -> Result<(), Fail> {
+    assert_eq!(rt;
+        refusal(alloc, List::new(alloc), child, drawn)?,
+        Some(wanted)
+    );
+    Ok(())
 }
 
 /// An entry in short: a run of a task, a call of task 1, or its end by a signal.
@@ -180,160 +199,176 @@ fn entry_of(alloc: Global, step: Move) -> Result<Entry, Fail> {
     }
 }
 
+/// Arguments of which the first is that.
+fn args(a0: u64) -> Args {
+    Args {
+        a0,
+        a1: 0,
+        a2: 0,
+        a3: 0,
+        a4: 0,
+        a5: 0,
+    }
+}
+
 fn call(alloc: Global, no: u64, a0: u64, reply: i64, rise: u64) -> Result<Entry, Fail> {
     let drawn = Drawn {
-        name: b"",
         rise,
-        ..DRAWN
+        ..NOTHING_DRAWN
     };
     Ok(Entry::Call {
         task: 1,
         no,
-        args: Args {
-            a0,
-            a1: 0,
-            a2: 0,
-            a3: 0,
-            a4: 0,
-            a5: 0,
-        },
+        args: args(a0),
         given: given(alloc, drawn)?,
         reply,
     })
 }
 
-fn step(alloc: Global, plain: &mut Plain, step: Move) -> Result<bool, Fail> {
+/// Does an entry, and answers whether it fits.
+fn done(alloc: Global, plain: &mut Plain, entry: &Entry) -> Result<bool, Fail> {
     if plain.kernel.entries >= 100 {
         return Err(Fail::new("too many entries"));
     }
-    let entry = entry_of(alloc, step)?;
-    Ok(plain.step(alloc, &entry)?)
+    Ok(plain.step(alloc, entry)?)
 }
 
-#[test]
-fn a_guest_runs_by_its_entries_and_no_others(rt: HostRuntime) -> Result<(), Fail> {
-    locality();
-    let alloc = rt.alloc();
-    let mut plain = open(alloc, guest(alloc)?, DRAWN)??;
-    for (index, (entry, fits)) in MOVES.iter().enumerate() {
-        assert_eq!(rt; step(alloc, &mut plain, *entry)?, *fits, "at {index}");
+fn step(alloc: Global, plain: &mut Plain, step: Move) -> Result<bool, Fail> {
+    let entry = entry_of(alloc, step)?;
+    done(alloc, plain, &entry)
+}
+
+/// That an entry fits, or not.
+fn expect_step(
+    rt: &impl Abort,
+    alloc: Global,
+    plain: &mut Plain,
+    (entry, fits): (Move, bool),
+    index: usize,
+) -> Result<(), Fail> {
+    assert_eq!(rt; step(alloc, plain, entry)?, fits, "at {index}");
+    Ok(())
+}
+
+/// That of the list's entries those fit that do.
+fn expect_moves(rt: &impl Abort, alloc: Global, plain: &mut Plain) -> Result<(), Fail> {
+    for (index, row) in MOVES.iter().enumerate() {
+        expect_step(rt, alloc, plain, *row, index)?;
     }
+    Ok(())
+}
+
+/// That the kernel has done four entries, and that the task has exited with 0.
+fn expect_exited(rt: &impl Abort, plain: &Plain) -> Result<(), Fail> {
     assert_eq!(rt; plain.kernel.entries, 4);
     let task = plain.kernel.tasks.get(1).ok_or("no task")?;
     assert_eq!(rt; task.life, Life::Exited(0));
     Ok(())
 }
 
+/// The law of locality does nothing.
+fn local() {
+    locality();
+}
+
 #[test]
-fn a_call_that_met_a_fault_answers_eio(rt: HostRuntime) -> Result<(), Fail> {
-    let alloc = rt.alloc();
-    let mut plain = open(alloc, guest(alloc)?, DRAWN)??;
-    assert!(rt; step(alloc, &mut plain, Move::Run { task: 1, n: 4 })?);
-    let failed = Move::Call {
-        no: 64,
-        a0: 1,
-        reply: -5,
-        rise: 1,
-    };
-    assert!(rt; step(alloc, &mut plain, failed)?);
+fn a_guest_runs_by_its_entries_and_no_others(rt: HostRuntime) -> Result<(), Fail> {
+    local();
+    let mut plain = opened(rt.alloc())?;
+    expect_moves(&rt, rt.alloc(), &mut plain)?;
+    expect_exited(&rt, &plain)
+}
+
+/// A call that met a fault.
+const FAILED: Move = Move::Call {
+    no: 64,
+    a0: 1,
+    reply: -5,
+    rise: 1,
+};
+
+/// That one call of the root has failed, after a run and that call.
+fn expect_failed(rt: &impl Abort, alloc: Global, plain: &mut Plain) -> Result<(), Fail> {
+    expect_step(rt, alloc, plain, (Move::Run { task: 1, n: 4 }, true), 0)?;
+    expect_step(rt, alloc, plain, (FAILED, true), 1)?;
     assert_eq!(rt; plain.kernel.failed.get(1).copied(), Some(1));
     Ok(())
 }
 
 #[test]
+fn a_call_that_met_a_fault_answers_eio(rt: HostRuntime) -> Result<(), Fail> {
+    let mut plain = opened(rt.alloc())?;
+    expect_failed(&rt, rt.alloc(), &mut plain)
+}
+
+/// The refusal of the program of the first task.
+fn refused(errno: Errno) -> OpeningErr {
+    OpeningErr::Image { task: 1, errno }
+}
+
+/// Records of the guest's opening, each with its misfit.
+#[rattlefmt::skip]
+const MISFITS: [(Drawn, OpeningErr); 5] = [
+    (Drawn { roots: 2, ..DRAWN }, OpeningErr::Misfit { task: 0 }),
+    (Drawn { ino: 0, ..DRAWN }, OpeningErr::Misfit { task: 1 }),
+    (Drawn { name: b"exit", ..DRAWN }, OpeningErr::Misfit { task: 1 }),
+    (NOTHING_DRAWN, OpeningErr::Misfit { task: 1 }),
+    (Drawn { rise: 3, ..NOTHING_DRAWN }, OpeningErr::Image { task: 1, errno: Errno::EIO }),
+];
+
+#[test]
 fn an_opening_is_refused_by_its_first_misfit(rt: HostRuntime) -> Result<(), Fail> {
-    let alloc = rt.alloc();
-    let eio = OpeningErr::Image {
-        task: 1,
-        errno: Errno::EIO,
-    };
-    let cases = [
-        (Drawn { roots: 2, ..DRAWN }, OpeningErr::Misfit { task: 0 }),
-        (Drawn { ino: 0, ..DRAWN }, OpeningErr::Misfit { task: 1 }),
-        (
-            Drawn {
-                name: b"exit",
-                ..DRAWN
-            },
-            OpeningErr::Misfit { task: 1 },
-        ),
-        (Drawn { name: b"", ..DRAWN }, OpeningErr::Misfit { task: 1 }),
-        (
-            Drawn {
-                name: b"",
-                rise: 3,
-                ..DRAWN
-            },
-            eio,
-        ),
-    ];
-    for (drawn, want) in cases {
-        assert_eq!(rt; open(alloc, guest(alloc)?, drawn)?.err(), Some(want));
+    for (drawn, wanted) in MISFITS {
+        expect_refusal(&rt, rt.alloc(), guest(rt.alloc())?, drawn, wanted)?;
     }
     Ok(())
 }
 
-/// The opening of a program with an environment string of that many bytes, which draws nothing.
-fn open_with(alloc: Global, length: usize) -> Result<Option<OpeningErr>, Fail> {
+/// A string of so many letters.
+fn letters(alloc: Global, length: usize) -> Result<List<Text>, Fail> {
     let mut letters = Vec::new(alloc);
     letters.resize(length, b'a')?;
-    let mut env = List::new(alloc);
-    env.push(Text::from_slice(alloc, letters.as_slice())?)?;
-    let mut tasks = List::new(alloc);
-    tasks.push(Program {
-        path: Text::from_slice(alloc, b"/init")?,
-        args: words(alloc)?,
-        env,
-    })?;
-    let mounts = Mounts {
-        entries: 100,
-        seed: List::new(alloc),
-        mounts: mount_list(alloc)?,
-        tasks,
-    };
-    let trees = root_of(alloc, guest(alloc)?)?;
-    let drawn = Drawn { name: b"", ..DRAWN };
-    Ok(Plain::opening(alloc, &mounts, &trees, &record(alloc, drawn)?).err())
+    Ok(words_of(alloc, letters.as_slice())?)
 }
 
-#[test]
-fn strings_that_are_too_long_are_refused_before_the_walk(rt: HostRuntime) -> Result<(), Fail> {
-    let alloc = rt.alloc();
-    let too_long = OpeningErr::Image {
-        task: 1,
-        errno: Errno::E2BIG,
-    };
-    // `/init` takes 14 bytes. A walk would draw a number.
-    assert_eq!(rt; open_with(alloc, 65_514)?, Some(too_long));
+/// That the opening of a program with an environment string of that many bytes, which draws nothing, is refused so.
+fn expect_long(
+    rt: &impl Abort,
+    alloc: Global,
+    length: usize,
+    wanted: OpeningErr,
+) -> Result<(), Fail> {
+    let env = letters(alloc, length)?;
     assert_eq!(rt;
-        open_with(alloc, 65_513)?,
-        Some(OpeningErr::Misfit { task: 1 })
+        refusal(alloc, env, guest(alloc)?, NOTHING_DRAWN)?,
+        Some(wanted)
     );
     Ok(())
 }
 
 #[test]
+fn strings_that_are_too_long_are_refused_before_the_walk(rt: HostRuntime) -> Result<(), Fail> {
+    // `/init` takes 14 bytes. A walk would draw a number.
+    expect_long(&rt, rt.alloc(), 65_514, refused(Errno::E2BIG))?;
+    expect_long(&rt, rt.alloc(), 65_513, OpeningErr::Misfit { task: 1 })
+}
+
+/// A link.
+fn link(alloc: Global) -> Result<Option<Tree>, Fail> {
+    Ok(Some(Tree::link(Text::from_slice(alloc, b"exit")?)))
+}
+
+/// The guest's file, which may not be executed.
+fn shut(alloc: Global) -> Result<Option<Tree>, Fail> {
+    Ok(Some(Tree::file(0o644, List::from_slice(alloc, &GUEST)?)))
+}
+
+#[test]
 fn an_image_is_refused_with_its_errno(rt: HostRuntime) -> Result<(), Fail> {
     let alloc = rt.alloc();
-    let bytes = List::from_slice(alloc, &GUEST)?;
-    let nothing = Drawn { name: b"", ..DRAWN };
-    let cases = [
-        (
-            Some(Tree::link(Text::from_slice(alloc, b"exit")?)),
-            DRAWN,
-            Errno::ELOOP,
-        ),
-        (Some(Tree::file(0o644, bytes)), DRAWN, Errno::EACCES),
-        (
-            Some(Tree::file(0o755, List::new(alloc))),
-            DRAWN,
-            Errno::ENOEXEC,
-        ),
-        (None, nothing, Errno::ENOENT),
-    ];
-    for (child, drawn, errno) in cases {
-        let want = OpeningErr::Image { task: 1, errno };
-        assert_eq!(rt; open(alloc, child, drawn)?.err(), Some(want));
-    }
-    Ok(())
+    expect_refusal(&rt, alloc, link(alloc)?, DRAWN, refused(Errno::ELOOP))?;
+    expect_refusal(&rt, alloc, shut(alloc)?, DRAWN, refused(Errno::EACCES))?;
+    let empty = Some(Tree::file(0o755, List::new(alloc)));
+    expect_refusal(&rt, alloc, empty, DRAWN, refused(Errno::ENOEXEC))?;
+    expect_refusal(&rt, alloc, None, NOTHING_DRAWN, refused(Errno::ENOENT))
 }

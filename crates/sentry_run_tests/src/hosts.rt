@@ -1,42 +1,49 @@
 //! Runs over a host some of whose calls are to fail.
 
-use crate::cases::{Ended, MOUNTS, empty_case, faults_at, grants, planned, run_case};
-use crate::runs::{TRACED, quiet_case};
+use crate::mount_files::MOUNTS;
+use crate::running::{TRACED, quiet_world, run_world};
+use crate::told::{Told, refused};
+use crate::worlds::{INIT, ROOT, call_fails, grant_fails, nothing};
 use host_memory::Op;
-use host_node::HostWorld;
-use kernel_model::Rise;
-use sentry_run::{Fault, Outcome};
+use sentry_run::Fault;
 use sn_errno::Errno;
+use std::alloc::Global;
+use std::process::Abort;
 use std::test::Fail;
+
+/// A run whose k-th grant is to fail.
+pub fn run_failing_grant(alloc: Global, k: u64) -> Result<Told, Fail> {
+    run_world(alloc, MOUNTS, grant_fails(quiet_world(alloc)?, k)?, TRACED)
+}
 
 #[test]
 fn a_grant_that_fails_is_a_host_fault(rt: HostRuntime) -> Result<(), Fail> {
-    let case = grants(quiet_case(rt)?, 1)?;
-    let Ended { outcome, world, .. } = run_case(rt, case, &TRACED)?;
-    assert_eq!(rt; outcome.status, 10);
-    assert!(rt; outcome.opening.tasks.is_empty() && outcome.trace.is_empty());
-    assert_eq!(rt; world.faults(), 1);
+    let told = run_failing_grant(rt.alloc(), 1)?;
+    told.expect_status(&rt, 10);
+    told.expect_no_task(&rt);
+    told.expect_entries(&rt, 0);
+    told.expect_host_faults(&rt, 1);
     Ok(())
 }
 
 #[test]
 fn a_grant_that_is_not_made_fails_nothing(rt: HostRuntime) -> Result<(), Fail> {
-    let case = grants(quiet_case(rt)?, 2)?;
-    let Ended { outcome, world, .. } = run_case(rt, case, &TRACED)?;
-    assert_eq!(rt; outcome.status, 0);
-    assert_eq!(rt; world.faults(), 0);
+    let told = run_failing_grant(rt.alloc(), 2)?;
+    told.expect_status(&rt, 0);
+    told.expect_host_faults(&rt, 0);
     Ok(())
 }
 
 #[test]
 fn a_folder_that_is_not_there_is_named_by_its_number(rt: HostRuntime) -> Result<(), Fail> {
-    let Ended { outcome, .. } = run_case(rt, empty_case(rt, MOUNTS)?, &TRACED)?;
-    assert_eq!(rt; outcome.fault, Fault::Grant { mount: 1 });
-    assert_eq!(rt; outcome.status, 11);
+    let told = run_world(rt.alloc(), MOUNTS, nothing(rt.alloc()), TRACED)?;
+    told.expect_fault(&rt, Fault::Grant { mount: 1 });
+    told.expect_status(&rt, 11);
     Ok(())
 }
 
 /// A method of a node, and the node's inode number.
+#[derive(Clone, Copy)]
 struct HostCall {
     names: &'static [&'static str],
     op: Op,
@@ -46,60 +53,52 @@ struct HostCall {
 /// The calls on nodes that a run without faults makes, each once.
 #[rattlefmt::skip]
 const CALLS: [HostCall; 5] = [
-    HostCall { names: &["root"], op: Op::Stat, ino: 1 },
-    HostCall { names: &["root"], op: Op::Lend, ino: 1 },
-    HostCall { names: &["root", "init"], op: Op::Stat, ino: 2 },
-    HostCall { names: &["root", "init"], op: Op::Open, ino: 2 },
-    HostCall { names: &["root", "init"], op: Op::ReadAt, ino: 2 },
+    HostCall { names: ROOT, op: Op::Stat, ino: 1 },
+    HostCall { names: ROOT, op: Op::Lend, ino: 1 },
+    HostCall { names: INIT, op: Op::Stat, ino: 2 },
+    HostCall { names: INIT, op: Op::Open, ino: 2 },
+    HostCall { names: INIT, op: Op::ReadAt, ino: 2 },
 ];
 
-/// A run in which the k-th call of a method of a node is to fail: how it came out, and the counts of the root and of
-/// the program's node then.
-fn run_failing(
-    rt: HostRuntime,
-    call: &HostCall,
-    k: u64,
-) -> Result<(Outcome, Option<u64>, Option<u64>), Fail> {
-    let case = planned(rt.alloc(), quiet_case(rt)?, call.names, call.op, k)?;
-    let Ended { outcome, world, .. } = run_case(rt, case, &TRACED)?;
-    let root = faults_at(rt.alloc(), &world, &["root"])?;
-    let program = faults_at(rt.alloc(), &world, &["root", "init"])?;
-    Ok((outcome, root, program))
+/// A run in which the k-th call of a method of a node is to fail.
+fn run_failing(alloc: Global, call: &HostCall, k: u64) -> Result<Told, Fail> {
+    let world = call_fails(alloc, quiet_world(alloc)?, call.names, call.op, k)?;
+    run_world(alloc, MOUNTS, world, TRACED)
 }
 
-/// Whether the one task's record has one rise, by 1, of the node of that number.
-fn has_rise(outcome: &Outcome, ino: u64) -> bool {
-    match outcome.opening.tasks.get(0) {
-        Some(opened) => opened.given.rises.as_slice() == [Rise { ino, count: 1 }].as_slice(),
-        None => false,
-    }
+/// That the first call of a method of a node is an error of the opening, with the rise of that node alone.
+fn expect_rise_of(rt: &impl Abort, alloc: Global, call: &HostCall) -> Result<(), Fail> {
+    let told = run_failing(alloc, call, 1)?;
+    told.expect_fault(rt, refused(Errno::EIO));
+    told.expect_rise(rt, call.ino);
+    told.expect_root_faults(rt, if call.ino == 1 { 1 } else { 0 });
+    told.expect_init_faults(rt, if call.ino == 2 { 1 } else { 0 });
+    Ok(())
 }
 
 #[test]
 fn a_host_call_that_fails_is_an_error_of_the_opening_with_its_rise(
     rt: HostRuntime,
 ) -> Result<(), Fail> {
-    let eio = Fault::Image {
-        task: 1,
-        errno: Errno::EIO,
-    };
     for call in &CALLS {
-        let (outcome, root, program) = run_failing(rt, call, 1)?;
-        assert_eq!(rt; outcome.fault, eio);
-        assert!(rt; has_rise(&outcome, call.ino));
-        assert_eq!(rt; root, Some(if call.ino == 1 { 1 } else { 0 }));
-        assert_eq!(rt; program, Some(if call.ino == 2 { 1 } else { 0 }));
+        expect_rise_of(&rt, rt.alloc(), call)?;
     }
+    Ok(())
+}
+
+/// That a second call of a method of a node isn't made.
+fn expect_no_second(rt: &impl Abort, alloc: Global, call: &HostCall) -> Result<(), Fail> {
+    let told = run_failing(alloc, call, 2)?;
+    told.expect_fault(rt, Fault::Done);
+    told.expect_root_faults(rt, 0);
+    told.expect_init_faults(rt, 0);
     Ok(())
 }
 
 #[test]
 fn each_host_call_of_the_opening_is_made_once(rt: HostRuntime) -> Result<(), Fail> {
     for call in &CALLS {
-        let (outcome, root, program) = run_failing(rt, call, 2)?;
-        assert_eq!(rt; outcome.fault, Fault::Done);
-        assert_eq!(rt; root, Some(0));
-        assert_eq!(rt; program, Some(0));
+        expect_no_second(&rt, rt.alloc(), call)?;
     }
     Ok(())
 }

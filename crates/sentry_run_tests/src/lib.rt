@@ -11,8 +11,6 @@
 #![tactic(auto)]
 
 #[cfg(test)]
-mod cases;
-#[cfg(test)]
 mod failures;
 #[cfg(test)]
 mod guests;
@@ -21,12 +19,26 @@ mod hosts;
 #[cfg(test)]
 mod lines;
 #[cfg(test)]
+mod mount_files;
+#[cfg(test)]
 mod mounts;
 #[cfg(test)]
 mod narrow;
+#[cfg(test)]
+mod prints;
+#[cfg(test)]
+mod refusals;
+#[cfg(test)]
+mod running;
 #[cfg(test)]
 mod runs;
 #[cfg(test)]
 mod text;
 #[cfg(test)]
+mod told;
+#[cfg(test)]
+mod traps;
+#[cfg(test)]
 mod words;
+#[cfg(test)]
+mod worlds;
