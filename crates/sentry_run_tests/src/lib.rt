@@ -25,6 +25,8 @@ mod mounts;
 #[cfg(test)]
 mod narrow;
 #[cfg(test)]
+mod placed;
+#[cfg(test)]
 mod prints;
 #[cfg(test)]
 mod refusals;

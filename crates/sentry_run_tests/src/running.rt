@@ -25,7 +25,7 @@ pub const TRACED: &[&str] = &["run", "m", "--trace"];
 pub const UNTRACED: &[&str] = &["run", "m"];
 
 /// The words, each in memory of its own.
-fn words_of(alloc: Global, words: &[&str]) -> Result<Vec<String>, Fail> {
+pub fn words_of(alloc: Global, words: &[&str]) -> Result<Vec<String>, Fail> {
     let mut list = Vec::new(alloc);
     for word in words {
         list.push(String::from_str(alloc, word)?)?;
@@ -34,7 +34,7 @@ fn words_of(alloc: Global, words: &[&str]) -> Result<Vec<String>, Fail> {
 }
 
 /// A source with these bytes as its file `m`.
-fn source_of(alloc: Global, mounts: &[u8]) -> Result<MemSource, Fail> {
+pub fn source_of(alloc: Global, mounts: &[u8]) -> Result<MemSource, Fail> {
     let mut files = MemSource::new(alloc);
     files.put(alloc, "m", mounts)?;
     Ok(files)

@@ -8,7 +8,8 @@ use std::process::Abort;
 use std::test::Fail;
 
 /// The text of the guest that writes nothing and exits, with its trace.
-const TEXT: &[u8] = b"group 1 exit 0\n2 1 write 1 0 0 0 0 0 = 0\n4 1 exit_group 0 0 0 0 0 0 = ?\n";
+pub const TEXT: &[u8] =
+    b"group 1 exit 0\n2 1 write 1 0 0 0 0 0 = 0\n4 1 exit_group 0 0 0 0 0 0 = ?\n";
 
 #[test]
 fn a_guest_that_writes_nothing_and_exits_has_its_two_calls_in_the_trace(

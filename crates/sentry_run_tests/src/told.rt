@@ -24,8 +24,8 @@ struct Around {
 }
 
 /// What a run came to: its status and answer, whether its mount file was read, its tasks as they were opened, its
-/// trace, what it left beside that, the text, and how many calls failed of the source, of the host, of the folder's node
-/// and of the program's.
+/// trace, what it left beside that, the text, and how many calls failed of the source, of the host, of the folder's
+/// node and of the program's.
 #[derive(Drop)]
 pub struct Told {
     pub status: u8,
