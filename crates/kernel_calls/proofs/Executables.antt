@@ -8,7 +8,7 @@ use Rattle.elf_image.specs.declared.fault.ImageFault.TheVariants.{Interp, Range,
 use Rattle.elf_image.specs.declared.image.Image.{Image}
 use Rattle.elf_image.specs.Faults.{image_fault, IsFaultOf}
 use Rattle.elf_image.specs.Images.{image_in}
-use Rattle.kernel_model.specs.Image.{image_of}
+use Rattle.kernel_model.specs.machine.Image.{image_of}
 
 -- a test of the pages, the other way round
 pub room_test : (pages : ℕ) → nat_le pages 16384 ≡ not (nat_lt 16384 pages)

@@ -3,7 +3,7 @@ use Rattle.std.proofs.Common.{◌≡◌, ℕ, ◌+◌, ◌*◌, ◌<◌, ◌^◌
 use Rattle.std.specs.Prelude.{slice_index}
 use Rattle.rand_core.specs.Steps.{u32_at}
 use Rattle.rand_chacha.specs.ChaCha.{key_of}
-use Rattle.kernel_model.specs.Random.{random_bytes}
+use Rattle.kernel_model.specs.machine.Random.{random_bytes}
 
 -- the same 32 bytes
 abbrev pub SameBytes : (seed other : List ℕ) → Type 0

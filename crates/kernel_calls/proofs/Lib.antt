@@ -1,4 +1,5 @@
 -- Lemmas of system calls and of what an execve reads, by subject.
+pub mod Effects
 pub mod Executables
 pub mod Keys
 pub mod Runs

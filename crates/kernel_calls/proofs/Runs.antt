@@ -22,14 +22,14 @@ use Rattle.quantum.specs.Acting.{Acting, acting_on, memory_of, after_write}
 use Rattle.rv_exec.specs.Courses as courses
 use Rattle.rv_exec.specs.Courses.{ran as ran_over}
 use Rattle.quantum.specs.Instructions.{Going, ran}
-use Rattle.kernel_model.specs.declared.kernel.Task.{Task}
-use Rattle.kernel_model.specs.declared.running.Running.{Running}
+use Rattle.kernel_model.specs.declared.caller.Caller.{Caller}
+use Rattle.kernel_model.specs.declared.kernel.Part.TheVariants.{OfSpace}
 use Rattle.kernel_model.specs.declared.traps.Next.{Next}
 use Rattle.kernel_model.specs.declared.traps.Next.TheVariants.{Goes, Calls, Traps}
-use Rattle.kernel_model.specs.Instructions.{StopsAt, next_by, next_of, goes_on}
-use Rattle.kernel_model.specs.Spaces.{acting_in, going_in, reach_of}
-use Rattle.kernel_model.specs.Parts.{Change}
-use Rattle.kernel_model.specs.Step.{after_run, run_changes, run_row, with_registers}
+use Rattle.kernel_model.specs.machine.Instructions.{StopsAt, next_by, next_of, goes_on}
+use Rattle.kernel_model.specs.machine.Spaces.{acting_in, going_in, reach_of}
+use Rattle.kernel_model.specs.entries.Parts.{Parts, outcome_in, Change}
+use Rattle.kernel_model.specs.entries.Steps.{run_changes, run_row, task_change}
 
 -- ---- one behind another
 
@@ -217,39 +217,34 @@ next_kept task space after r r' count (Traps signal) ran_is stop stopped =
 
 -- ---- the row of a run
 
-module _ (number n : ℕ) (running : Running) (after : AddressSpace) (r : Regs) where
+module _ (n : ℕ) (c : Caller) (after : AddressSpace) (r : Regs) where
   -- of so many instructions
-  pub row_ran : (task : Task) → ran n (going_in number running.space running.task.registers)
-      ≡ Some (going_in number after r)
-      → 1 ≤ n → n ≤ 10000 → task ≡ with_registers running.task r
-      → run_row number n running ≡ Some (run_changes number (record { task = task; space = after }))
-  row_ran task told low high is =
-      ap (λ b. cond (b && nat_le n 10000) (option_map (λ g. run_changes number (after_run running.task g)) (ran n g))
-      None) (le-leb 1 n low)
-      ∙ ap (λ b. cond b (option_map (λ g. run_changes number (after_run running.task g)) (ran n g)) None)
-      (le-leb n 10000 high)
-      ∙ ap (option_map (λ g. run_changes number (after_run running.task g))) told
-      ∙ ap (λ (t : Task). Some (run_changes number (record { task = t; space = after }))) (sym is)
+  pub row_ran : (s : Parts) → ran n (going_in c.task c.space c.registers) ≡ Some (going_in c.task after r)
+      → 1 ≤ n → n ≤ 10000
+      → outcome_in s (run_row n c) ≡ Some ((OfSpace c.memory, Some after) ∷ task_change c.task r ∷ [])
+  row_ran s told low high =
+      ap (λ b. cond (b && nat_le n 10000) (option_map (run_changes c) (ran n g)) None) (le-leb 1 n low)
+      ∙ ap (λ b. cond b (option_map (run_changes c) (ran n g)) None) (le-leb n 10000 high)
+      ∙ ap (option_map (run_changes c)) told
     where
       g : Going
-      g = going_in number running.space running.task.registers
+      g = going_in c.task c.space c.registers
 
   -- and of one that stopped before, which does not fit
-  pub row_short : (count : ℕ) (told : Next) → ran count (going_in number running.space running.task.registers)
-      ≡ Some (going_in number after r)
-      → StopsAt n count told (next_of (acting_in number after) r) → count ≢ n → run_row number n running ≡ None
-  row_short count told ran_is stop apart =
-      ap (λ o. cond (nat_le 1 n && nat_le n 10000) (option_map (λ g. run_changes number (after_run running.task g)) o)
-      None) (none told stop)
+  pub row_short : (s : Parts) (count : ℕ) (told : Next) → ran count (going_in c.task c.space c.registers)
+      ≡ Some (going_in c.task after r)
+      → StopsAt n count told (next_of (acting_in c.task after) r) → count ≢ n → outcome_in s (run_row n c) ≡ None
+  row_short s count told ran_is stop apart =
+      ap (λ o. cond (nat_le 1 n && nat_le n 10000) (option_map (run_changes c) o) None) (none told stop)
       ∙ by (nat_le 1 n && nat_le n 10000)
     where
       g : Going
-      g = going_in number running.space running.task.registers
+      g = going_in c.task c.space c.registers
 
-      none : (told : Next) → StopsAt n count told (next_of (acting_in number after) r) → ran n g ≡ None
+      none : (told : Next) → StopsAt n count told (next_of (acting_in c.task after) r) → ran n g ≡ None
       none Goes stop = absurd (apart stop)
-      none Calls stop = ran_short count n g (going_in number after r) ran_is stop.0 (ap goes_on stop.1)
-      none (Traps signal) stop = ran_short count n g (going_in number after r) ran_is stop.0 (ap goes_on stop.1)
+      none Calls stop = ran_short count n g (going_in c.task after r) ran_is stop.0 (ap goes_on stop.1)
+      none (Traps signal) stop = ran_short count n g (going_in c.task after r) ran_is stop.0 (ap goes_on stop.1)
 
       by : (b : Bool) → cond {A = Option (List Change)} b None None ≡ None
       by true = refl

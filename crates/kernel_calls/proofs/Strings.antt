@@ -4,7 +4,7 @@ use Rattle.std.proofs.Common.{ap, inl, inr, arith}
 use Rattle.std.proofs.lemmas.Bool.{lt-ltb}
 use Rattle.std.proofs.lemmas.List.Sums.{sum_by-cons}
 use Rattle.image_load.specs.Stacks.{IsTooBig, strings_room}
-use Rattle.kernel_model.specs.Arguments.{strings_size, is_too_long}
+use Rattle.kernel_model.specs.opening.Arguments.{strings_size, is_too_long}
 
 -- more strings than there may be
 pub too_many : (args env : List (List ℕ)) → 1024 < length args + length env → is_too_long args env ≡ true

@@ -1,7 +1,7 @@
 //! The strings that an image is started with.
 
 ghost use Rattle.std.specs.Prelude.{◌≡◌, ◌≤◌, min, length};
-ghost use Rattle.kernel_model.specs.Arguments.{strings_size, is_too_long};
+ghost use Rattle.kernel_model.specs.opening.Arguments.{strings_size, is_too_long};
 
 use mount_file::Program;
 use sn_text::Text;

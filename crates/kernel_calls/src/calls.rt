@@ -1,85 +1,115 @@
-//! What system calls come to.
+//! What system calls come to: the table of the calls that the kernel has.
 
-ghost use Rattle.std.specs.Prelude.{◌≡◌, ◌≤◌, ℕ, List as Items, length, Some, IfOk};
-ghost use Rattle.kernel_model.specs.declared.kernel.Part.TheVariants.{OfConsole};
-ghost use Rattle.kernel_model.specs.InPlace.{WritesFew};
-ghost use Rattle.kernel_model.specs.Parts.{Parts, run as run_in};
-ghost use Rattle.kernel_model.specs.Rows.{call_row, write_row, is_written_to, descriptor, appended};
+ghost use Rattle.std.specs.Prelude.{◌≡◌, ℕ, length, IfOk};
 ghost use Rattle.sn_errno.specs.Errors.{reply_of};
+ghost use Rattle.kernel_model.specs.declared.kernel.Part.TheVariants.{OfConsole};
+ghost use Rattle.kernel_model.specs.declared.caller.Caller.{Caller as ACaller};
+ghost use Rattle.kernel_model.specs.calls.Callers.{Context};
+ghost use Rattle.kernel_model.specs.calls.Table.{call_row, row_of_call};
+ghost use Rattle.kernel_model.specs.entries.Parts.{Parts, outcome_in};
+ghost use Rattle.kernel_calls.specs.Prepared.{TakesFew, answer_of};
+ghost use Rattle.kernel_calls.specs.declared.prepared.Effect.TheVariants.{Nothing};
 
-use kernel_model::{Args, GuestSpace, Outcome};
-use sn_base::{List, Memory};
+use crate::console::write;
+use crate::ending::exit_group;
+use crate::prepared::{Effect, Prepared};
+use kernel_model::{Args, GuestSpace};
+use sn_base::Memory;
 use sn_errno::{CallNo, Errno, Reply};
 use std::alloc::Global;
 
-/// The most bytes of one write.
-const MOST_WRITTEN: u64 = 65_536;
-
-/// The most bytes of the console.
-const CONSOLE_ROOM: usize = 1_048_576;
-
-/// The call of a number, as far as the kernel has it: `write` and `exit_group`. Any other answers ENOSYS. It reads
-/// guest memory, and of the console only how many bytes that has.
-#[rattlefmt::skip]
-#[tactic(auto, using(sn_errno::proofs::CallLaws::only_number),
-    unfolding(sn_errno::specs::Calls::call_of, sn_errno::specs::Calls::row_of))]
+/// The call of a number, of a task with that memory, as far as the kernel has it: `write` and `exit_group`. Any other answers
+/// ENOSYS. It reads guest memory, and of the console only how many bytes that has.
 pub fn call(
     alloc: Global,
     number: u64,
     args: &Args,
     space: &GuestSpace,
     console: usize,
-) -> Result<Outcome, Memory>
-    ensures row { IfOk result (λ outcome. (s : Parts) → length (s OfConsole) ≡ console →
-        run_in s (call_row number args.now space.now) ≡ outcome) }
-    ensures few { IfOk result WritesFew }
+) -> Result<Prepared, Memory>
+    ensures row { IfOk result (λ p. (context : Context) (caller : ACaller) (s : Parts) → caller.space ≡ space.now →
+        length (s OfConsole) ≡ console →
+        outcome_in s (call_row context caller number args.now) ≡ answer_of p caller.group s) }
+    ensures few { IfOk result (λ p. TakesFew p.effect) }
 {
     match CallNo::of(number) {
-        Some(CallNo::Write) => write(alloc, args, space, console),
-        Some(CallNo::ExitGroup) => Ok(Outcome::Exits((args.a0 % 256) as u8)),
-        _ => Ok(refused(Errno::ENOSYS)),
+        Some(call) => known(alloc, call, args, space, console),
+        None => Ok(refused(Errno::ENOSYS)),
     }
 }
 
-fn write(alloc: Global, args: &Args, space: &GuestSpace, console: usize) -> Result<Outcome, Memory>
-    ensures row { IfOk result (λ outcome. (s : Parts) → length (s OfConsole) ≡ console →
-        run_in s (write_row args.now space.now) ≡ outcome) }
-    ensures few { IfOk result WritesFew }
+/// A call of the table, a row a call.
+#[rattlefmt::skip]
+fn known(alloc: Global, call: CallNo, args: &Args, space: &GuestSpace, console: usize) -> Result<Prepared, Memory>
+    ensures row { IfOk result (λ p. (context : Context) (caller : ACaller) (s : Parts) → caller.space ≡ space.now →
+        length (s OfConsole) ≡ console →
+        outcome_in s (row_of_call context caller args.now call) ≡ answer_of p caller.group s) }
+    ensures few { IfOk result (λ p. TakesFew p.effect) }
 {
-    if !is_written_to(args.a0 % (1 << 32)) {
-        return Ok(refused(Errno::EBADF));
-    }
-    if args.a2 == 0 {
-        return Ok(Outcome::Returns(0));
-    }
-    match space.read(alloc, args.a1, args.a2.min(MOST_WRITTEN))? {
-        Some(bytes) => Ok(appended(bytes, console)),
-        None => Ok(refused(Errno::EFAULT)),
+    match call {
+        CallNo::Getcwd => Ok(refused(Errno::ENOSYS)),
+        CallNo::Dup => Ok(refused(Errno::ENOSYS)),
+        CallNo::Dup3 => Ok(refused(Errno::ENOSYS)),
+        CallNo::Fcntl => Ok(refused(Errno::ENOSYS)),
+        CallNo::Ioctl => Ok(refused(Errno::ENOSYS)),
+        CallNo::Mkdirat => Ok(refused(Errno::ENOSYS)),
+        CallNo::Unlinkat => Ok(refused(Errno::ENOSYS)),
+        CallNo::Symlinkat => Ok(refused(Errno::ENOSYS)),
+        CallNo::Linkat => Ok(refused(Errno::ENOSYS)),
+        CallNo::Ftruncate => Ok(refused(Errno::ENOSYS)),
+        CallNo::Faccessat => Ok(refused(Errno::ENOSYS)),
+        CallNo::Chdir => Ok(refused(Errno::ENOSYS)),
+        CallNo::Openat => Ok(refused(Errno::ENOSYS)),
+        CallNo::Close => Ok(refused(Errno::ENOSYS)),
+        CallNo::Pipe2 => Ok(refused(Errno::ENOSYS)),
+        CallNo::Getdents64 => Ok(refused(Errno::ENOSYS)),
+        CallNo::Lseek => Ok(refused(Errno::ENOSYS)),
+        CallNo::Read => Ok(refused(Errno::ENOSYS)),
+        CallNo::Write => write(alloc, args.a0, args.a1, args.a2, space, console),
+        CallNo::Readv => Ok(refused(Errno::ENOSYS)),
+        CallNo::Writev => Ok(refused(Errno::ENOSYS)),
+        CallNo::Pread64 => Ok(refused(Errno::ENOSYS)),
+        CallNo::Pwrite64 => Ok(refused(Errno::ENOSYS)),
+        CallNo::Readlinkat => Ok(refused(Errno::ENOSYS)),
+        CallNo::Newfstatat => Ok(refused(Errno::ENOSYS)),
+        CallNo::Fstat => Ok(refused(Errno::ENOSYS)),
+        CallNo::Exit => Ok(refused(Errno::ENOSYS)),
+        CallNo::ExitGroup => Ok(exit_group(args.a0)),
+        CallNo::SetTidAddress => Ok(refused(Errno::ENOSYS)),
+        CallNo::Futex => Ok(refused(Errno::ENOSYS)),
+        CallNo::SetRobustList => Ok(refused(Errno::ENOSYS)),
+        CallNo::ClockGettime => Ok(refused(Errno::ENOSYS)),
+        CallNo::SchedYield => Ok(refused(Errno::ENOSYS)),
+        CallNo::Kill => Ok(refused(Errno::ENOSYS)),
+        CallNo::RtSigaction => Ok(refused(Errno::ENOSYS)),
+        CallNo::RtSigprocmask => Ok(refused(Errno::ENOSYS)),
+        CallNo::Uname => Ok(refused(Errno::ENOSYS)),
+        CallNo::Getpid => Ok(refused(Errno::ENOSYS)),
+        CallNo::Getppid => Ok(refused(Errno::ENOSYS)),
+        CallNo::Getuid => Ok(refused(Errno::ENOSYS)),
+        CallNo::Geteuid => Ok(refused(Errno::ENOSYS)),
+        CallNo::Getgid => Ok(refused(Errno::ENOSYS)),
+        CallNo::Getegid => Ok(refused(Errno::ENOSYS)),
+        CallNo::Gettid => Ok(refused(Errno::ENOSYS)),
+        CallNo::Brk => Ok(refused(Errno::ENOSYS)),
+        CallNo::Munmap => Ok(refused(Errno::ENOSYS)),
+        CallNo::Clone => Ok(refused(Errno::ENOSYS)),
+        CallNo::Execve => Ok(refused(Errno::ENOSYS)),
+        CallNo::Mmap => Ok(refused(Errno::ENOSYS)),
+        CallNo::Mprotect => Ok(refused(Errno::ENOSYS)),
+        CallNo::Wait4 => Ok(refused(Errno::ENOSYS)),
+        CallNo::Renameat2 => Ok(refused(Errno::ENOSYS)),
+        CallNo::Getrandom => Ok(refused(Errno::ENOSYS)),
     }
 }
 
-/// Whether a descriptor is open for writing.
-fn is_written_to(descriptor: u64) -> bool
-    ensures { result ≡ is_written_to descriptor }
+/// A call that is refused with an error.
+pub(crate) fn refused(errno: Errno) -> Prepared
+    ensures reply { result.reply ≡ reply_of errno }
+    ensures effect { result.effect ≡ Nothing }
 {
-    descriptor == 1 || descriptor == 2
-}
-
-/// What bytes behind those of a console come to, by how many it has.
-fn appended(bytes: List<u8>, console: usize) -> Outcome
-    requires { length bytes ≤ 65536 }
-    ensures row { (before : Items ℕ) → length before ≡ console → result ≡ appended bytes before }
-    ensures few { WritesFew result }
-{
-    if console <= CONSOLE_ROOM && bytes.len() <= CONSOLE_ROOM - console {
-        Outcome::Writes(bytes)
-    } else {
-        refused(Errno::ENOSPC)
+    Prepared {
+        reply: Reply::of(errno).number(),
+        effect: Effect::Nothing,
     }
-}
-
-fn refused(errno: Errno) -> Outcome
-    ensures { result ≡ Outcome.Returns (reply_of errno) }
-{
-    Outcome::Returns(Reply::of(errno).number())
 }

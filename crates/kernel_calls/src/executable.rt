@@ -1,9 +1,9 @@
 //! Images as execve takes them.
 
 ghost use Rattle.std.specs.Prelude.{◌≡◌, true, Some, IfOk};
-ghost use Rattle.kernel_model.specs.Image.{image_of};
-ghost use Rattle.kernel_model.specs.Opening.{image_within};
-ghost use Rattle.kernel_model.specs.Beginnings.{fits};
+ghost use Rattle.kernel_model.specs.machine.Image.{image_of};
+ghost use Rattle.kernel_model.specs.opening.Opening.{image_within};
+ghost use Rattle.kernel_model.specs.laws.Beginnings.{fits};
 
 use elf_image::{Image, ImageFault, read_image};
 use image_load::has_too_many_pages;
@@ -15,7 +15,7 @@ use std::alloc::Global;
 /// ENOMEM where its pages and those of the stack are more than 16,384.
 ///
 /// execve(2), ERRORS.
-#[tactic(auto, using(crate::proofs::Executables::image_none), unfolding(kernel_model::specs::Image::image_of))]
+#[tactic(auto, using(crate::proofs::Executables::image_none), unfolding(kernel_model::specs::machine::Image::image_of))]
 pub fn read_executable(alloc: Global, bytes: &[u8]) -> Result<Result<Image, Errno>, Memory>
     ensures image { IfOk result (λ image. image ≡ image_within (image_of bytes.now)) }
     ensures pages { IfOk result (λ image. fits image ≡ true) }

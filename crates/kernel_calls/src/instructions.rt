@@ -2,8 +2,8 @@
 
 ghost use Rattle.std.specs.Prelude.{◌≡◌, ℕ, ◌<◌, ◌≤◌, false, Some, IfOk, OnErr};
 ghost use Rattle.quantum.specs.Instructions.{ran};
-ghost use Rattle.kernel_model.specs.Instructions.{StopsAt, goes_on, next_of};
-ghost use Rattle.kernel_model.specs.Spaces.{acting_in, going_in};
+ghost use Rattle.kernel_model.specs.machine.Instructions.{StopsAt, goes_on, next_of};
+ghost use Rattle.kernel_model.specs.machine.Spaces.{acting_in, going_in};
 
 use kernel_model::{GuestSpace, Next};
 use mm_space::Handed;

@@ -1,16 +1,17 @@
 //! The system calls of the Sentry, as functions over the parts that their rows use.
 //!
-//! A caller sees `call`, over a guest's address space and the number of the console's bytes; `args_of`, `call_of` and
-//! `reply`, the registers at a call; `run` and `next`, a task's instructions up to its next call; and of execve
-//! `is_too_long`, `read_executable`, `opened` and `opening_random`. They know no map of tasks, no host and no trace.
-//! What each of them means is said by `kernel_model`.
+//! A caller sees `call`, which prepares what a call of a live task comes to, and `commit`, which does it; `args_of`,
+//! `call_of` and `reply`, the registers at a call; `run` and `next`, a task's instructions up to its next call; and of
+//! execve `is_too_long`, `read_executable`, `opened` and `opening_random`. They know no map of tasks, no host and no
+//! trace. What each of them means is said by `kernel_model`.
 //!
 //! Proved: `call` comes to what its row says, in every state whose console has so many bytes (`row`), and writes no
-//! more than one write may (`few`). `run` is so many instructions one after another (`steps`), up to its limit or to
-//! one that traps or calls (`within`, `stopped`), and want of memory leaves what fewer of them leave (`memory`);
-//! `next` is what the next one does (`next`), and leaves the space where that does not go on (`kept`).
-//! `read_executable` is the image as execve takes it (`image`, `pages`), `opened` the definition of what an opening
-//! task begins with (`task`, `space`), and `opening_random` of its random bytes.
+//! more than one write may (`few`); `commit` leaves of each kernel what the row's changes do (`ok`). `run` is so many
+//! instructions one after another (`steps`), up to its limit or to one that traps or calls (`within`, `stopped`), and
+//! want of memory leaves what fewer of them leave (`memory`); `next` is what the next one does (`next`), and leaves the
+//! space where that does not go on (`kept`). `read_executable` is the image as execve takes it (`image`, `pages`),
+//! `opened` the definition of what an opening task begins with (`registers`, `space`), and `opening_random` of its
+//! random bytes.
 //!
 //! Not said: which tasks there are, what a host is, and what an entry changes.
 //!
@@ -19,9 +20,12 @@
 
 mod arguments;
 mod calls;
+mod console;
+mod ending;
 mod executable;
 mod instructions;
 mod opened_task;
+mod prepared;
 mod random;
 mod registers;
 
@@ -29,6 +33,7 @@ pub use arguments::is_too_long;
 pub use calls::call;
 pub use executable::read_executable;
 pub use instructions::{Ran, next, run};
-pub use opened_task::opened;
+pub use opened_task::{Beginning, opened};
+pub use prepared::{Effect, Prepared, commit};
 pub use random::opening_random;
 pub use registers::{args_of, call_of, reply};

@@ -1,20 +1,27 @@
 //! What an opening task begins with.
 
 ghost use Rattle.std.specs.Prelude.{◌≡◌, false, IfOk};
-ghost use Rattle.kernel_model.specs.Arguments.{is_too_long};
-ghost use Rattle.kernel_model.specs.Opening.{space_opened, task_opened};
-ghost use Rattle.kernel_model.specs.Beginnings.{HasRoom};
+ghost use Rattle.kernel_model.specs.opening.Arguments.{is_too_long};
+ghost use Rattle.kernel_model.specs.opening.Opening.{registers_opened, space_opened};
+ghost use Rattle.kernel_model.specs.laws.Beginnings.{HasRoom};
 
 use crate::opening_random;
 use elf_image::Image;
 use image_load::{LoadErr, load};
-use kernel_model::{GuestSpace, Life, Running, Task};
+use kernel_model::GuestSpace;
+use rv_table::Regs;
 use mount_file::Program;
 use sn_base::Memory;
 use std::alloc::Global;
 
-/// What the opening task of that number begins with, which is a group of its own: the memory and the registers of
-/// its image, with its strings and with sixteen random bytes by the mount file's seed.
+/// What a task begins with: its registers and its address space.
+#[derive(Drop)]
+pub struct Beginning {
+    pub registers: Regs,
+    pub space: GuestSpace,
+}
+
+/// What the opening task of that number begins with: the memory and the registers of its image, with its strings and with sixteen random bytes by the mount file's seed.
 ///
 /// execve(2).
 pub fn opened(
@@ -23,11 +30,11 @@ pub fn opened(
     number: u32,
     program: &Program,
     image: &Image,
-) -> Result<Running, Memory>
+) -> Result<Beginning, Memory>
     requires short { is_too_long program.now.args program.now.env ≡ false }
     requires pages { HasRoom image.now }
-    ensures task { IfOk result (λ r. r.task ≡ task_opened seed.now number program.now image.now) }
-    ensures space { IfOk result (λ r. r.space ≡ space_opened seed.now number program.now image.now) }
+    ensures registers { IfOk result (λ b. b.registers ≡ registers_opened seed.now number program.now image.now) }
+    ensures space { IfOk result (λ b. b.space ≡ space_opened seed.now number program.now image.now) }
 {
     let program = image_load::Program {
         args: program.args.as_slice(),
@@ -35,13 +42,8 @@ pub fn opened(
         random: opening_random(seed, number),
     };
     match load(alloc, image, &program) {
-        Ok(loaded) => Ok(Running {
-            task: Task {
-                group: number,
-                space: u64::from(number),
-                registers: loaded.registers,
-                life: Life::Live,
-            },
+        Ok(loaded) => Ok(Beginning {
+            registers: loaded.registers,
             space: GuestSpace {
                 space: loaded.space,
             },

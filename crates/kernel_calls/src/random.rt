@@ -1,7 +1,7 @@
 //! The random bytes of an opening task: words of the ChaCha20 stream whose key is the mount file's seed.
 
 ghost use Rattle.std.specs.Prelude.{◌≡◌, ℕ, ◌<◌, slice_index};
-ghost use Rattle.kernel_model.specs.Random.{opening_random, random_bytes};
+ghost use Rattle.kernel_model.specs.machine.Random.{opening_random, random_bytes};
 
 use rand_chacha::ChaCha20Rng;
 use rand_core::SeedableRng;

@@ -1,7 +1,7 @@
 //! The registers of a task at a system call (syscall(2), riscv).
 
 ghost use Rattle.std.specs.Prelude.{◌≡◌};
-ghost use Rattle.kernel_model.specs.Registers.{args_of, call_of, replied};
+ghost use Rattle.kernel_model.specs.machine.Registers.{args_of, call_of, replied};
 
 use kernel_model::Args;
 use rv_table::{Reg, Regs};

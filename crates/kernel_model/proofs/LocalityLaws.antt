@@ -1,36 +1,43 @@
 -- What a step reads and changes: a decision tree comes to the same where the parts that it looks at are the same, and
 -- changes leave every other part as it was.
-use Rattle.std.proofs.Common.{◌≡◌, ◌≢◌, ℕ, List, [], ◌∷◌, Option, Some, None, cond, refl, ap, sym, ◌∙◌, ◌⊎◌, inl, inr}
-use Rattle.std.proofs.Common.{option_map}
+use Rattle.std.proofs.Common.{◌≡◌, ◌≢◌, ℕ, List, [], ◌∷◌, Option, Some, None, cond, refl, ap, sym, ◌∙◌, ◌⊎◌}
+use Rattle.std.proofs.Common.{inl, inr, option_map}
 use Rattle.std.specs.Ordering.{nat_cmp, eq_by_cmp}
 use Rattle.std.specs.Cmp.{nat_cmp_total}
 use Rattle.std.specs.FinMap as map
 use Rattle.sn_base.proofs.Maps.{get-insert_same, get-insert_other, get-remove_same, get-remove_other}
+use Rattle.sn_errno.specs.declared.calls.CallNo.{CallNo}
+use Rattle.sn_errno.specs.declared.calls.CallNo.TheVariants.{Write, ExitGroup}
+use Rattle.sn_errno.specs.Calls.{call_of}
+use Rattle.kernel_model.specs.declared.caller.Caller.{Caller}
+use Rattle.kernel_model.specs.declared.entry.Args.{Args}
+use Rattle.kernel_model.specs.declared.entry.Entry.{Entry}
 use Rattle.kernel_model.specs.declared.kernel.Kernel.{Kernel}
 use Rattle.kernel_model.specs.declared.kernel.Part.{Part}
-use Rattle.kernel_model.specs.declared.kernel.Part.TheVariants.{OfTask, OfSpace, OfNode, OfConsole, OfFaults}
-use Rattle.kernel_model.specs.declared.entry.Entry.{Entry}
-use Rattle.kernel_model.specs.Parts.{Holds, Parts, parts, Prog, done, look, run, uses, IsIn, AgreeOn, Change, set_at}
-use Rattle.kernel_model.specs.Parts.{put, changed, parts_of}
-use Rattle.kernel_model.specs.Step.{entry_row, step, stepped, used, touched, touches}
+use Rattle.kernel_model.specs.declared.kernel.Part.TheVariants.{OfTasks, OfTask, OfSpace, OfNode, OfConsole, OfFaults}
+use Rattle.kernel_model.specs.declared.traps.Next.{Next}
+use Rattle.kernel_model.specs.declared.traps.Next.TheVariants.{Goes, Calls, Traps}
+use Rattle.kernel_model.specs.machine.Registers.{args_of, call_of as number_of}
+use Rattle.kernel_model.specs.calls.Answers.{Answer, is_reply}
+use Rattle.kernel_model.specs.calls.Callers.{Context, context_of, caller_of}
+use Rattle.kernel_model.specs.calls.Table.{row_of_call, row_if_known}
+use Rattle.kernel_model.specs.entries.Parts.{Holds, Parts, parts, Prog, done, outcome_in, uses, ◌>>=◌, IsIn, AgreeOn}
+use Rattle.kernel_model.specs.entries.Parts.{Change, set_at, put, changed, parts_of}
+use Rattle.kernel_model.specs.entries.Ready.{ready_by, ready_if_live, ready_row, is_ready}
+use Rattle.kernel_model.specs.entries.Steps.{entry_row, step, stepped, used, touched, touches, next_in}
+use Rattle.kernel_model.proofs.NamedMaps.{get-set_same, get-set_other, get-set_alike}
+use Rattle.kernel_model.proofs.Trees.{outcome_alike, outcome-bind}
 
--- ---- what a tree reads
+-- ---- what an entry reads
 
--- states that agree on what a tree looks at bring it to the same, and it looks at the same
-pub run_local : {A : Type 0} (a b : Parts) (tree : Prog A) → AgreeOn (uses a tree) a b
-    → (uses b tree ≡ uses a tree) × (run b tree ≡ run a tree)
-run_local a b (done x) same = (refl, refl)
-run_local {A} a b (look part then) same =
-    let here : b part ≡ a part = sym (same part (inl refl)) in
-    let rest : (uses b (then (a part)) ≡ uses a (then (a part))) × (run b (then (a part)) ≡ run a (then (a part))) =
-    run_local a b (then (a part)) (λ q is. same q (inr is)) in (
-      ap (λ (c : Holds part). part ∷ uses b (then c)) here ∙ ap (λ (ps : List Part). part ∷ ps) rest.0,
-      ap (λ (c : Holds part). run b (then c)) here ∙ rest.1,
+pub same_reads : (a b : Kernel) (e : Entry) → context_of b ≡ context_of a → AgreeOn (used a e) (parts a) (parts b)
+    → (used b e ≡ used a e)
+    × (outcome_in (parts b) (entry_row (context_of b) e) ≡ outcome_in (parts a) (entry_row (context_of a) e))
+same_reads a b e context same =
+    let here = outcome_alike (parts a) (parts b) (entry_row (context_of a) e) same in (
+      ap (λ (c : Context). uses (parts b) (entry_row c e)) context ∙ here.0,
+      ap (λ (c : Context). outcome_in (parts b) (entry_row c e)) context ∙ here.1,
     )
-
-pub same_reads : (a b : Kernel) (e : Entry) → AgreeOn (used a e) (parts a) (parts b)
-    → (used b e ≡ used a e) × (run (parts b) (entry_row e) ≡ run (parts a) (entry_row e))
-same_reads a b e = run_local (parts a) (parts b) (entry_row e)
 
 -- ---- what a change leaves
 
@@ -55,37 +62,49 @@ module _ {V : Type 0} where
 
 -- a part that was put holds what was put
 put_same : (p : Part) (content : Holds p) (k : Kernel) → parts (put p content k) p ≡ content
-put_same (OfTask n) content k = set_same n content k.tasks
-put_same (OfSpace n) content k = set_same n content k.spaces
+put_same OfTasks content k = refl
+put_same (OfTask n) content k = set_same n content k.registers
+put_same (OfSpace n) content k = get-set_same n content k.spaces
 put_same (OfNode n) content k = set_same n content k.nodes
 put_same OfConsole content k = refl
 put_same OfFaults content k = refl
 
 -- another part holds what it held
 put_other : (q p : Part) (content : Holds q) (k : Kernel) → ¬ (p ≡ q) → parts (put q content k) p ≡ parts k p
+put_other OfTasks OfTasks content k apart = absurd (apart refl)
+put_other OfTasks (OfTask m) content k apart = refl
+put_other OfTasks (OfSpace m) content k apart = refl
+put_other OfTasks (OfNode m) content k apart = refl
+put_other OfTasks OfConsole content k apart = refl
+put_other OfTasks OfFaults content k apart = refl
+put_other (OfTask n) OfTasks content k apart = refl
 put_other (OfTask n) (OfTask m) content k apart =
-    set_other n m content k.tasks (λ e. apart (ap (λ i. OfTask i) (sym e)))
+    set_other n m content k.registers (λ e. apart (ap (λ i. OfTask i) (sym e)))
 put_other (OfTask n) (OfSpace m) content k apart = refl
 put_other (OfTask n) (OfNode m) content k apart = refl
 put_other (OfTask n) OfConsole content k apart = refl
 put_other (OfTask n) OfFaults content k apart = refl
+put_other (OfSpace n) OfTasks content k apart = refl
 put_other (OfSpace n) (OfTask m) content k apart = refl
 put_other (OfSpace n) (OfSpace m) content k apart =
-    set_other n m content k.spaces (λ e. apart (ap (λ i. OfSpace i) (sym e)))
+    get-set_other n m content k.spaces (λ e. apart (ap (λ i. OfSpace i) (sym e)))
 put_other (OfSpace n) (OfNode m) content k apart = refl
 put_other (OfSpace n) OfConsole content k apart = refl
 put_other (OfSpace n) OfFaults content k apart = refl
+put_other (OfNode n) OfTasks content k apart = refl
 put_other (OfNode n) (OfTask m) content k apart = refl
 put_other (OfNode n) (OfSpace m) content k apart = refl
 put_other (OfNode n) (OfNode m) content k apart =
     set_other n m content k.nodes (λ e. apart (ap (λ i. OfNode i) (sym e)))
 put_other (OfNode n) OfConsole content k apart = refl
 put_other (OfNode n) OfFaults content k apart = refl
+put_other OfConsole OfTasks content k apart = refl
 put_other OfConsole (OfTask m) content k apart = refl
 put_other OfConsole (OfSpace m) content k apart = refl
 put_other OfConsole (OfNode m) content k apart = refl
 put_other OfConsole OfConsole content k apart = absurd (apart refl)
 put_other OfConsole OfFaults content k apart = refl
+put_other OfFaults OfTasks content k apart = refl
 put_other OfFaults (OfTask m) content k apart = refl
 put_other OfFaults (OfSpace m) content k apart = refl
 put_other OfFaults (OfNode m) content k apart = refl
@@ -95,26 +114,37 @@ put_other OfFaults OfFaults content k apart = absurd (apart refl)
 -- kernels with the same in a part have the same there after one change
 put_alike : (q p : Part) (content : Holds q) (a b : Kernel) → parts a p ≡ parts b p
     → parts (put q content a) p ≡ parts (put q content b) p
-put_alike (OfTask n) (OfTask m) content a b e = set_alike n m content a.tasks b.tasks e
+put_alike OfTasks OfTasks content a b e = refl
+put_alike OfTasks (OfTask m) content a b e = e
+put_alike OfTasks (OfSpace m) content a b e = e
+put_alike OfTasks (OfNode m) content a b e = e
+put_alike OfTasks OfConsole content a b e = e
+put_alike OfTasks OfFaults content a b e = e
+put_alike (OfTask n) OfTasks content a b e = e
+put_alike (OfTask n) (OfTask m) content a b e = set_alike n m content a.registers b.registers e
 put_alike (OfTask n) (OfSpace m) content a b e = e
 put_alike (OfTask n) (OfNode m) content a b e = e
 put_alike (OfTask n) OfConsole content a b e = e
 put_alike (OfTask n) OfFaults content a b e = e
+put_alike (OfSpace n) OfTasks content a b e = e
 put_alike (OfSpace n) (OfTask m) content a b e = e
-put_alike (OfSpace n) (OfSpace m) content a b e = set_alike n m content a.spaces b.spaces e
+put_alike (OfSpace n) (OfSpace m) content a b e = get-set_alike n m content a.spaces b.spaces e
 put_alike (OfSpace n) (OfNode m) content a b e = e
 put_alike (OfSpace n) OfConsole content a b e = e
 put_alike (OfSpace n) OfFaults content a b e = e
+put_alike (OfNode n) OfTasks content a b e = e
 put_alike (OfNode n) (OfTask m) content a b e = e
 put_alike (OfNode n) (OfSpace m) content a b e = e
 put_alike (OfNode n) (OfNode m) content a b e = set_alike n m content a.nodes b.nodes e
 put_alike (OfNode n) OfConsole content a b e = e
 put_alike (OfNode n) OfFaults content a b e = e
+put_alike OfConsole OfTasks content a b e = e
 put_alike OfConsole (OfTask m) content a b e = e
 put_alike OfConsole (OfSpace m) content a b e = e
 put_alike OfConsole (OfNode m) content a b e = e
 put_alike OfConsole OfConsole content a b e = refl
 put_alike OfConsole OfFaults content a b e = e
+put_alike OfFaults OfTasks content a b e = e
 put_alike OfFaults (OfTask m) content a b e = e
 put_alike OfFaults (OfSpace m) content a b e = e
 put_alike OfFaults (OfNode m) content a b e = e
@@ -145,6 +175,7 @@ changed_alike (c ∷ changes) a b p (inr e) =
 -- the count of entries is no part
 parts_of_stepped : (k : Kernel) (changes : List Change) (p : Part)
     → parts (stepped k changes) p ≡ parts (changed changes k) p
+parts_of_stepped k changes OfTasks = refl
 parts_of_stepped k changes (OfTask n) = refl
 parts_of_stepped k changes (OfSpace n) = refl
 parts_of_stepped k changes (OfNode n) = refl
@@ -163,7 +194,7 @@ rest_by k next (Some changes) e p apart =
 pub rest_stays : (k next : Kernel) (e : Entry) → step k e ≡ Some next → (p : Part) → ¬ IsIn p (touches k e)
     → parts next p ≡ parts k p
 unfolding step
-rest_stays k next e = rest_by k next (run (parts k) (entry_row e))
+rest_stays k next e = rest_by k next (outcome_in (parts k) (entry_row (context_of k) e))
 
 touched_by : (a b next other : Kernel) (changes : Option (List Change)) → option_map (stepped a) changes ≡ Some next
     → option_map (stepped b) changes ≡ Some other → (p : Part) → IsIn p (touched changes) → parts next p ≡ parts other p
@@ -177,9 +208,48 @@ touched_by a b next other (Some changes) e f p is =
     ∙ sym (parts_of_stepped b changes p)
     ∙ sym (ap (λ (n : Kernel). parts n p) there)
 
-pub touched_alike : (a b next other : Kernel) (e : Entry) → AgreeOn (used a e) (parts a) (parts b)
-    → step a e ≡ Some next → step b e ≡ Some other → (p : Part) → IsIn p (touches a e) → parts next p ≡ parts other p
+pub touched_alike : (a b next other : Kernel) (e : Entry) → context_of b ≡ context_of a
+    → AgreeOn (used a e) (parts a) (parts b) → step a e ≡ Some next → step b e ≡ Some other
+    → (p : Part) → IsIn p (touches a e) → parts next p ≡ parts other p
 unfolding step
-touched_alike a b next other e same first second =
-    touched_by a b next other (run (parts a) (entry_row e)) first
-    (ap (option_map (stepped b)) (sym (same_reads a b e same).1) ∙ second)
+touched_alike a b next other e context same first second =
+    touched_by a b next other (outcome_in (parts a) (entry_row (context_of a) e)) first
+    (ap (option_map (stepped b)) (sym (same_reads a b e context same).1) ∙ second)
+
+-- ---- when a step is ready
+
+-- no row so far reads its context
+row_alike : (c d : Context) (caller : Caller) (args : Args) (call : CallNo)
+    → row_of_call c caller args call ≡ row_of_call d caller args call
+row_alike c d caller args Write = refl
+row_alike c d caller args ExitGroup = refl
+row_alike c d caller args _ = refl
+
+known_alike : (c d : Context) (caller : Caller) (args : Args) (call : Option CallNo)
+    → row_if_known c caller args call ≡ row_if_known d caller args call
+known_alike c d caller args None = refl
+known_alike c d caller args (Some call) = row_alike c d caller args call
+
+by_alike : (c d : Context) (caller : Caller) (next : Next) → ready_by c caller next ≡ ready_by d caller next
+by_alike c d caller Goes = refl
+by_alike c d caller (Traps signal) = refl
+by_alike c d caller Calls =
+    ap (λ (row : Prog Answer). row >>= λ answer. done (is_reply answer.reply))
+    (known_alike c d caller (args_of caller.registers) (call_of (number_of caller.registers)))
+
+if_live_alike : (c d : Context) (caller : Option Caller) → ready_if_live c caller ≡ ready_if_live d caller
+if_live_alike c d None = refl
+if_live_alike c d (Some caller) = by_alike c d caller (next_in caller)
+
+any_context : (s : Parts) (c d : Context) (task : ℕ)
+    → outcome_in s (ready_row c task) ≡ outcome_in s (ready_row d task)
+any_context s c d task =
+    outcome-bind s (caller_of task) (ready_if_live c)
+    ∙ ap (outcome_in s) (if_live_alike c d (outcome_in s (caller_of task)))
+    ∙ sym (outcome-bind s (caller_of task) (ready_if_live d))
+
+pub ready_alike : (a b : Kernel) (task : ℕ)
+    → AgreeOn (uses (parts a) (ready_row (context_of a) task)) (parts a) (parts b) → is_ready b task ≡ is_ready a task
+ready_alike a b task same =
+    any_context (parts b) (context_of b) (context_of a) task
+    ∙ (outcome_alike (parts a) (parts b) (ready_row (context_of a) task) same).1

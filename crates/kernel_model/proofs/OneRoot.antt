@@ -16,17 +16,19 @@ use Rattle.elf_image.specs.declared.image.Image.{Image}
 use Rattle.kernel_model.specs.declared.kernel.Node.{Node}
 use Rattle.kernel_model.specs.declared.kernel.Part.TheVariants.{OfNode, OfFaults}
 use Rattle.kernel_model.specs.declared.opening.Given.{Given}
-use Rattle.kernel_model.specs.FileTree.{root_node, child_node, numbered_in, owner_executes, unnumbered}
-use Rattle.kernel_model.specs.Parts.{Parts, parts, Prog, run, done, look, ◌>>=◌}
+use Rattle.kernel_model.specs.files.FileTree.{root_node, child_node, numbered_in, owner_executes, unnumbered}
+use Rattle.kernel_model.specs.entries.Parts.{Parts, parts, Prog, outcome_in, done, look, ◌>>=◌}
 use Rattle.kernel_model.specs.declared.opening.Fresh.{Fresh}
-use Rattle.kernel_model.specs.Faulted.{Nodes_so_far, has_any, is_in_order, number_all, number_at, number_next}
-use Rattle.kernel_model.specs.Faulted.{given_number, met, all_known_in, faulted, node_changes}
+use Rattle.kernel_model.specs.entries.Given.{Nodes_so_far, has_any, is_in_order, number_all, number_at, number_next}
+use Rattle.kernel_model.specs.entries.Given.{given_number, met, all_known_in, faulted, node_changes, above_last}
+use Rattle.mount_file.specs.declared.mounts.Mounts.{Mounts}
 use Rattle.mount_file.specs.declared.mounts.Program.{Program}
-use Rattle.kernel_model.specs.Arguments.{is_too_long}
-use Rattle.kernel_model.specs.WalkedIn.{walked_by, walked_in}
-use Rattle.kernel_model.specs.Opening.{Walked, walk_of, walked_from, walked_to, executed, rooted, bare, execve}
-use Rattle.kernel_model.specs.Opening.{execve_of, unwalked, name_in_path, by_walk, by_image, by_numbers, failed_by}
-use Rattle.kernel_model.specs.Opening.{draws_just, above_last, Fails, Unfit}
+use Rattle.kernel_model.specs.opening.Arguments.{is_too_long}
+use Rattle.kernel_model.specs.laws.WalkedIn.{walked_by, walked_in}
+use Rattle.kernel_model.specs.opening.Opening.{Walked, walk_of, walked_from, walked_to, executed, rooted, bare, execve}
+use Rattle.kernel_model.specs.opening.Opening.{execve_of, unwalked, name_in_path, by_walk, by_image, by_numbers, failed_by}
+use Rattle.kernel_model.specs.opening.Opening.{draws_just, Fails, Unfit}
+use Rattle.kernel_model.proofs.Trees.{outcome-bind}
 
 -- what was met: nothing, a fault of the root, a number drawn, or a fault of the node that has it
 abbrev pub nothing_given : Given
@@ -42,8 +44,12 @@ abbrev pub child_failed : List ℕ → ℕ → Given
 child_failed name d =
     record { fresh = record { dir = 1; name = name; ino = 2 } ∷ []; rises = record { ino = 2; count = d } ∷ [] }
 
+-- the parts of a kernel before its first task, over one root; the mounts and the key are no parts
+abbrev pub nothing_mounted : Mounts
+nothing_mounted = record { entries = 0; seed = []; mounts = []; tasks = [] }
+
 abbrev pub one : Shape → Parts
-one t = parts (bare (t ∷ []))
+one t = parts (bare nothing_mounted (t ∷ []))
 
 pub root_of : (t : Shape) → map.get (rooted 1 (t ∷ [])) 1 ≡ Some (root_node 1 t)
 root_of t = get-insert_same _ 1 (root_node 1 t)
@@ -52,76 +58,71 @@ pub none_of : (t : Shape) → map.get (rooted 1 (t ∷ [])) 2 ≡ None
 none_of t = let apart : 1 ≢ 2 = omega arith in get-insert_other map.empty 1 2 (root_node 1 t) apart ∙ get_of_empty 2
 
 walk_branch : (s : Parts) (b : Bool) (o : Option Shape)
-    → run s (if b then walked_to (unnumbered o) else done (record { draws = false; image = Err EACCES }))
+    → outcome_in s (if b then walked_to (unnumbered o) else done (record { draws = false; image = Err EACCES }))
     ≡ (if b then walked_by o else record { draws = false; image = Err EACCES })
 walk_branch s true None = refl
 walk_branch s true (Some shape) = refl
 walk_branch s false o = refl
 
-pub walk_is : (t : Shape) (name : List ℕ) → run (one t) (walk_of name) ≡ walked_in t name
+pub walk_is : (t : Shape) (name : List ℕ) → outcome_in (one t) (walk_of name) ≡ walked_in t name
 walk_is t name =
-    ap (λ o. run (one t) (walked_from name o)) (root_of t) ∙ walk_branch (one t) (owner_executes t) (child_of name t)
-
--- a run of one tree and then another
-pub run_bind : {A B : Type 0} (s : Parts) (p : Prog A) (next : A → Prog B) → run s (p >>= next) ≡ run s (next (run s p))
-run_bind s (done a) next = refl
-run_bind s (look part rest) next = run_bind s (rest (s part)) next
+    ap (λ o. outcome_in (one t) (walked_from name o)) (root_of t) ∙ walk_branch (one t) (owner_executes t) (child_of name t)
 
 pub execve_by : (t : Shape) (name : List ℕ) (given : Given)
-    → run (one t) (execve name given) ≡ run (one t) (by_walk name given (walked_in t name))
+    → outcome_in (one t) (execve name given) ≡ outcome_in (one t) (by_walk name given (walked_in t name))
 execve_by t name given =
-    run_bind (one t) (walk_of name) (by_walk name given) ∙ ap (λ w. run (one t) (by_walk name given w)) (walk_is t name)
+    outcome-bind (one t) (walk_of name) (by_walk name given) ∙ ap (λ w. outcome_in (one t) (by_walk name given w)) (walk_is t name)
 
 -- with nothing drawn and nothing met
 pub execve_nothing : (t : Shape) (name : List ℕ) (image : Result Image Errno)
     → walked_in t name ≡ record { draws = false; image = image }
-    → run (one t) (execve name nothing_given) ≡ by_image image []
-execve_nothing t name image e = execve_by t name nothing_given ∙ ap (λ w. run (one t) (by_walk name nothing_given w)) e
+    → outcome_in (one t) (execve name nothing_given) ≡ by_image image []
+execve_nothing t name image e = execve_by t name nothing_given ∙ ap (λ w. outcome_in (one t) (by_walk name nothing_given w)) e
 
 -- an execve that is not refused before it walks
 pub execve_short : (t : Shape) (program : Program) (given : Given) → is_too_long program.args program.env ≡ false
-    → run (one t) (execve_of program given) ≡ run (one t) (execve (name_in_path program.path) given)
+    → outcome_in (one t) (execve_of program given) ≡ outcome_in (one t) (execve (name_in_path program.path) given)
 execve_short t program given short =
-    ap (λ b. run (one t) (if b then by_walk (name_in_path program.path) given unwalked
+    ap (λ b. outcome_in (one t) (if b then by_walk (name_in_path program.path) given unwalked
     else execve (name_in_path program.path) given)) short
 
 -- and one that is
 pub execve_long : (t : Shape) (program : Program) → is_too_long program.args program.env ≡ true
-    → run (one t) (execve_of program nothing_given) ≡ Fails E2BIG []
+    → outcome_in (one t) (execve_of program nothing_given) ≡ Fails E2BIG []
 execve_long t program long =
-    ap (λ b. run (one t) (if b then by_walk (name_in_path program.path) nothing_given unwalked
+    ap (λ b. outcome_in (one t) (if b then by_walk (name_in_path program.path) nothing_given unwalked
     else execve (name_in_path program.path) nothing_given)) long
 
 -- what is left of a failed call, by its parts
 pub faulted_is : (s : Parts) (given : Given)
-    → run s (faulted given)
-    ≡ met given (run s (number_all given.fresh []))
-    (run s (all_known_in given.rises (run s (number_all given.fresh [])))) (s OfFaults)
+    → outcome_in s (faulted given)
+    ≡ met given (outcome_in s (number_all given.fresh []))
+    (outcome_in s (all_known_in given.rises (outcome_in s (number_all given.fresh [])))) (s OfFaults)
 faulted_is s given =
-    run_bind s (number_all given.fresh []) (λ nodes. all_known_in given.rises nodes
+    outcome-bind s (number_all given.fresh []) (λ nodes. all_known_in given.rises nodes
     >>= λ known. look OfFaults (λ failed. done (met given nodes known failed)))
-    ∙ run_bind s (all_known_in given.rises (run s (number_all given.fresh [])))
-    (λ known. look OfFaults (λ failed. done (met given (run s (number_all given.fresh [])) known failed)))
+    ∙ outcome-bind s (all_known_in given.rises (outcome_in s (number_all given.fresh [])))
+    (λ known. look OfFaults (λ failed. done (met given (outcome_in s (number_all given.fresh [])) known failed)))
 
 -- the one number that is drawn
 abbrev pub drawn_nodes : Shape → List ℕ → Shape → Nodes_so_far
 drawn_nodes t name s = (2, child_node 1 s) ∷ (1, numbered_in (root_node 1 t) name 2) ∷ []
 
 number_by : Nodes_so_far → Fresh → Option Node → Option Node → Parts → Option Nodes_so_far
-number_by nodes fresh dir taken s = run s (number_next (number_all []) (number_at nodes fresh dir taken))
+number_by nodes fresh dir taken s = outcome_in s (number_next (number_all []) (number_at nodes fresh dir taken))
 
 pub numbers_drawn : (t : Shape) (name : List ℕ) (s : Shape) → child_of name t ≡ Some s
-    → run (one t) (number_all (child_drawn name).fresh []) ≡ Some (drawn_nodes t name s)
+    → outcome_in (one t) (number_all (child_drawn name).fresh []) ≡ Some (drawn_nodes t name s)
 numbers_drawn t name s e =
-    ap (λ dir. run (one t)
+    ap (λ dir. outcome_in (one t)
     (number_next (number_all []) (number_at [] (record { dir = 1; name = name; ino = 2 }) dir (one t (OfNode 2)))))
     (root_of t)
     ∙ ap
-    (λ taken. run (one t)
+    (λ taken. outcome_in (one t)
     (number_next (number_all []) (number_at [] (record { dir = 1; name = name; ino = 2 })
     (Some (root_node 1 t)) taken))) (none_of t)
     ∙ ap
-    (λ c. run (one t)
+    (λ c. outcome_in (one t)
     (number_next (number_all []) (given_number [] (record { dir = 1; name = name; ino = 2 }) (root_node 1 t) None
     (unnumbered c)))) e
 
@@ -130,10 +131,10 @@ same_bytes name = (bytes_eq-Decides name name).1 refl
 
 -- a walk that draws, with just its number
 by_walk_drawn : (t : Shape) (name : List ℕ) (image : Result Image Errno)
-    → run (one t) (by_walk name (child_drawn name) (record { draws = true; image = image }))
-    ≡ run (one t) (number_all (child_drawn name).fresh [] >>= λ nodes. done (by_numbers image nodes))
+    → outcome_in (one t) (by_walk name (child_drawn name) (record { draws = true; image = image }))
+    ≡ outcome_in (one t) (number_all (child_drawn name).fresh [] >>= λ nodes. done (by_numbers image nodes))
 by_walk_drawn t name image =
-    ap (λ b. run (one t) (if not b then done Unfit
+    ap (λ b. outcome_in (one t) (if not b then done Unfit
     else (number_all (child_drawn name).fresh [] >>= λ nodes. done (by_numbers image nodes))))
     (ap (λ b. true && b && true) (same_bytes name))
 
@@ -143,37 +144,37 @@ walks_to t name s x e =
     ap (λ b. if b then walked_by (child_of name t) else record { draws = false; image = Err EACCES }) x ∙ ap walked_by e
 
 pub execve_drawn : (t : Shape) (name : List ℕ) (s : Shape) → owner_executes t ≡ true → child_of name t ≡ Some s
-    → run (one t) (execve name (child_drawn name)) ≡ by_image (executed s) (node_changes (drawn_nodes t name s))
+    → outcome_in (one t) (execve name (child_drawn name)) ≡ by_image (executed s) (node_changes (drawn_nodes t name s))
 execve_drawn t name s x e =
     execve_by t name (child_drawn name)
-    ∙ ap (λ w. run (one t) (by_walk name (child_drawn name) w)) (walks_to t name s x e)
+    ∙ ap (λ w. outcome_in (one t) (by_walk name (child_drawn name) w)) (walks_to t name s x e)
     ∙ by_walk_drawn t name (executed s)
-    ∙ run_bind (one t) (number_all (child_drawn name).fresh []) (λ nodes. done (by_numbers (executed s) nodes))
+    ∙ outcome-bind (one t) (number_all (child_drawn name).fresh []) (λ nodes. done (by_numbers (executed s) nodes))
     ∙ ap (by_numbers (executed s)) (numbers_drawn t name s e)
 
 -- a fault with a count
 by_walk_failed : (s : Parts) (name : List ℕ) (given : Given) (w : Walked) → has_any given.rises ≡ true
-    → is_in_order given ≡ true → run s (by_walk name given w) ≡ failed_by (run s (faulted given))
+    → is_in_order given ≡ true → outcome_in s (by_walk name given w) ≡ failed_by (outcome_in s (faulted given))
 by_walk_failed s name given w h o =
-    ap (λ b. run s (if b then (if is_in_order given then (faulted given >>= λ changes. done (failed_by changes))
+    ap (λ b. outcome_in s (if b then (if is_in_order given then (faulted given >>= λ changes. done (failed_by changes))
     else done Unfit) else (if not (draws_just w.draws name given.fresh) then done Unfit
     else if list_any above_last given.fresh then done (Fails ENFILE [])
     else (number_all given.fresh [] >>= λ nodes. done (by_numbers w.image nodes))))) h
-    ∙ ap (λ b. run s (if b then (faulted given >>= λ changes. done (failed_by changes)) else done Unfit)) o
-    ∙ run_bind s (faulted given) (λ changes. done (failed_by changes))
+    ∙ ap (λ b. outcome_in s (if b then (faulted given >>= λ changes. done (failed_by changes)) else done Unfit)) o
+    ∙ outcome-bind s (faulted given) (λ changes. done (failed_by changes))
 
 -- the root's fault
 root_in_order : (d : ℕ) → 0 < d → is_in_order (root_failed d) ≡ true
 root_in_order d h = ap (λ b. b && true) (lt-ltb 0 d h)
 
-root_known : (t : Shape) → run (one t) (all_known_in (root_failed 1).rises (Some [])) ≡ true
+root_known : (t : Shape) → outcome_in (one t) (all_known_in (root_failed 1).rises (Some [])) ≡ true
 root_known t = ap (λ (o : Option Node). is_some o && true) (root_of t)
 
 no_fault : map.get (map.empty {X = ℕ} {R = nat_cmp}) 1 ≡ None
 no_fault = get_of_empty 1
 
 pub execve_root_failed : (t : Shape) (name : List ℕ) (d : ℕ) → 0 < d
-    → run (one t) (execve name (root_failed d)) ≡ Fails EIO ((OfFaults, map.insert map.empty 1 (capped (0 + d))) ∷ [])
+    → outcome_in (one t) (execve name (root_failed d)) ≡ Fails EIO ((OfFaults, map.insert map.empty 1 (capped (0 + d))) ∷ [])
 execve_root_failed t name d h =
     execve_by t name (root_failed d)
     ∙ by_walk_failed (one t) name (root_failed d) (walked_in t name) refl (root_in_order d h)
@@ -186,13 +187,13 @@ child_in_order : (name : List ℕ) (d : ℕ) → 0 < d → is_in_order (child_fa
 child_in_order name d h = ap (λ b. b && true) (lt-ltb 0 d h)
 
 pub execve_child_failed : (t : Shape) (name : List ℕ) (s : Shape) (d : ℕ) → 0 < d → child_of name t ≡ Some s
-    → run (one t) (execve name (child_failed name d))
+    → outcome_in (one t) (execve name (child_failed name d))
     ≡ Fails EIO (node_changes (drawn_nodes t name s) ++ (OfFaults, map.insert map.empty 2 (capped (0 + d))) ∷ [])
 execve_child_failed t name s d h e =
     execve_by t name (child_failed name d)
     ∙ by_walk_failed (one t) name (child_failed name d) (walked_in t name) refl (child_in_order name d h)
     ∙ ap failed_by (faulted_is (one t) (child_failed name d)
-    ∙ ap (λ n. met (child_failed name d) n (run (one t) (all_known_in (child_failed name d).rises n)) map.empty)
+    ∙ ap (λ n. met (child_failed name d) n (outcome_in (one t) (all_known_in (child_failed name d).rises n)) map.empty)
     (numbers_drawn t name s e)
     ∙ ap
     (λ n. Some (node_changes (drawn_nodes t name s) ++ (

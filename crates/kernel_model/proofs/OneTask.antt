@@ -10,11 +10,11 @@ use Rattle.mount_file.specs.declared.mounts.Mount.{Mount}
 use Rattle.mount_file.specs.declared.mounts.Program.{Program}
 use Rattle.kernel_model.specs.declared.opening.Opening.{Opening}
 use Rattle.kernel_model.specs.declared.opening.Given.{Given}
-use Rattle.kernel_model.specs.Parts.{run}
-use Rattle.kernel_model.specs.Numbers.{count_up}
-use Rattle.kernel_model.specs.FileTree.{Nodes, plain, plain_node, root_node, child_node, numbered_in}
-use Rattle.kernel_model.specs.Opening.{opening_of, is_of, same_list, same_mount, same_place, same_folder, same_flag}
-use Rattle.kernel_model.specs.Opening.{begins, tasks_begun, task_begun, with_task, bare, execve_of, Opens, Misfits}
+use Rattle.kernel_model.specs.entries.Parts.{outcome_in}
+use Rattle.kernel_model.specs.files.Numbers.{count_up}
+use Rattle.kernel_model.specs.files.FileTree.{Nodes, plain, plain_node, root_node, child_node, numbered_in}
+use Rattle.kernel_model.specs.opening.Opening.{opening_of, is_of, same_list, same_mount, same_place, same_folder, same_flag}
+use Rattle.kernel_model.specs.opening.Opening.{begins, tasks_begun, task_begun, with_task, bare, execve_of, Opens, Misfits}
 use Rattle.kernel_model.proofs.OneRoot.{one, same_bytes}
 
 -- ---- the record of one task
@@ -62,13 +62,13 @@ record_fits m p given e f =
 
 -- the opening of one mount and one task is the execve of the task's program
 pub opening_by : (m : Mounts) (t : Shape) (p : Program) (given : Given) → length m.mounts ≡ 1 → m.tasks ≡ p ∷ []
-    → opening_of m (t ∷ []) (record_of m p given) ≡ task_begun (λ k. Opens k) (with_task m.seed 1 p) 1
-    (bare (t ∷ [])) (run (one t) (execve_of p given))
+    → opening_of m (t ∷ []) (record_of m p given) ≡ task_begun (λ k. Opens k) (with_task 1 p) 1
+    (bare m (t ∷ [])) (outcome_in (one t) (execve_of p given))
 unfolding opening_of
 opening_by m t p given e f =
-    ap (λ b. if b then tasks_begun m.seed 1 m.tasks (record { words = p.args; given = given } ∷ []) (bare (t ∷ []))
+    ap (λ b. if b then tasks_begun 1 m.tasks (record { words = p.args; given = given } ∷ []) (bare m (t ∷ []))
     else Misfits 0) (record_fits m p given e f)
-    ∙ ap (λ ps. tasks_begun m.seed 1 ps (record { words = p.args; given = given } ∷ []) (bare (t ∷ []))) f
+    ∙ ap (λ ps. tasks_begun 1 ps (record { words = p.args; given = given } ∷ []) (bare m (t ∷ []))) f
 
 -- ---- the tree of the root
 

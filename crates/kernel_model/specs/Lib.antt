@@ -1,22 +1,11 @@
--- What contracts of this crate say, by subject.
-pub mod Registers
-pub mod SpaceCodes
-pub mod Spaces
-pub mod Instructions
-pub mod Random
-pub mod Image
-pub mod FileTree
-pub mod Parts
-pub mod Rows
-pub mod Faulted
-pub mod Step
-pub mod History
+-- The definitions of the one-thread kernel, by subject.
+pub mod Names
+pub mod NameLends
+pub mod machine
+pub mod calls
+pub mod entries
+pub mod files
+pub mod opening
+pub mod printed
+pub mod laws
 pub mod Words
-pub mod InPlace
-pub mod Beginnings
-pub mod Printed
-pub mod Arguments
-pub mod Opening
-pub mod Settled
-pub mod Numbers
-pub mod WalkedIn

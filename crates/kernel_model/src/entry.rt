@@ -1,7 +1,7 @@
 //! The atomic steps of the kernel, as the commit log has them.
 
 ghost use Rattle.std.specs.Prelude.{◌≡◌};
-ghost use Rattle.kernel_model.specs.Step.{task_of};
+ghost use Rattle.kernel_model.specs.entries.Steps.{task_of};
 
 use crate::Given;
 use sn_base::List;

@@ -1,7 +1,7 @@
 //! A guest's address space, as the kernel has it.
 
 ghost use Rattle.std.specs.Prelude.{◌≡◌, length, IfOk, IfSome};
-ghost use Rattle.kernel_model.specs.Spaces.{bytes_read};
+ghost use Rattle.kernel_model.specs.machine.Spaces.{bytes_read};
 
 use mm_space::{Handed, Space};
 use sn_base::{List, Memory};
@@ -17,7 +17,7 @@ pub struct GuestSpace {
 
 impl Model for GuestSpace {
     ghost use Rattle.mm_space.specs.Spaces.{AddressSpace, space_of};
-    ghost use Rattle.kernel_model.specs.SpaceCodes.{coded_space};
+    ghost use Rattle.kernel_model.specs.machine.SpaceCodes.{coded_space};
 
     ghost Value = { AddressSpace };
 

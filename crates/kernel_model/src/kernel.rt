@@ -1,27 +1,12 @@
 //! The kernel's state, and the parts of it that a step reads and changes.
 
-use crate::GuestSpace;
+use crate::{GuestSpace, Named};
 use host_node::Tree;
+use mount_file::Mount;
 use rv_table::Regs;
 use sn_base::{List, Map};
 use sn_text::Name;
-
-/// Whether a task lives, and how it ended: by exit with that code, or by that signal.
-#[derive(Clone, Copy, Debug, Drop, PartialEq, Eq)]
-pub enum Life {
-    Live,
-    Exited(u8),
-    Killed(u8),
-}
-
-/// A task: its thread group, its address space by number, its registers, and its life.
-#[derive(Clone, Copy, Debug, PartialEq, Eq)]
-pub struct Task {
-    pub group: u32,
-    pub space: u64,
-    pub registers: Regs,
-    pub life: Life,
-}
+use task_table::{Made, Tasks};
 
 /// A name in a directory, and the inode number of the node there.
 #[derive(Drop)]
@@ -41,23 +26,29 @@ pub struct Node {
     pub numbers: List<Numbered>,
 }
 
-/// The kernel's state: tasks, address spaces and nodes by number, the console's bytes, by how much each node's count
-/// of faults rose, and the number of entries so far.
+/// The kernel's state: the task list (which tasks and thread groups there are, and how they stand), the registers of
+/// tasks by number, address spaces by the place of the entry that made them and an index (those of opening tasks by
+/// place 0 and the task's number), nodes by number, the console's bytes, by how much each node's count of faults rose,
+/// the mounts, the key of the random stream, and the number of entries so far.
 #[derive(Drop)]
 pub struct Kernel {
-    pub tasks: Map<Task>,
-    pub spaces: Map<GuestSpace>,
+    pub tasks: Tasks,
+    pub registers: Map<Regs>,
+    pub spaces: Named<GuestSpace>,
     pub nodes: Map<Node>,
     pub console: List<u8>,
     pub failed: Map<u64>,
+    pub mounts: List<Mount>,
+    pub seed: List<u8>,
     pub entries: u64,
 }
 
 /// A part of the state, as a step reads and changes it.
 #[derive(Clone, Copy, Debug, Drop, PartialEq, Eq)]
 pub enum Part {
+    OfTasks,
     OfTask(u32),
-    OfSpace(u64),
+    OfSpace(Made),
     OfNode(u64),
     OfConsole,
     OfFaults,

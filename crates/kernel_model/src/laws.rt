@@ -1,24 +1,31 @@
 //! The law of locality: what an entry reads and changes.
 
-ghost use Rattle.std.specs.Prelude.{◌≡◌, Some};
+ghost use Rattle.std.specs.Prelude.{◌≡◌, ℕ, Some};
 ghost use Rattle.kernel_model.specs.declared.entry.Entry.{Entry as AnEntry};
 ghost use Rattle.kernel_model.specs.declared.kernel.Kernel.{Kernel as AKernel};
 ghost use Rattle.kernel_model.specs.declared.kernel.Part.{Part as APart};
-ghost use Rattle.kernel_model.specs.Parts.{IsIn, AgreeOn, parts, run as outcome_in};
-ghost use Rattle.kernel_model.specs.Step.{step, entry_row, used, touches};
+ghost use Rattle.kernel_model.specs.calls.Callers.{context_of};
+ghost use Rattle.kernel_model.specs.entries.Parts.{IsIn, AgreeOn, parts, outcome_in, uses};
+ghost use Rattle.kernel_model.specs.entries.Ready.{ready_row, is_ready};
+ghost use Rattle.kernel_model.specs.entries.Steps.{step, entry_row, used, touches};
 
 /// The law of locality, which holds of every kernel and entry. It does nothing.
 ///
-/// - `same`: in kernels that hold the same in each part that an entry reads, the entry reads the same parts and
-///   changes the same.
+/// - `same`: in kernels with the same mounts, key of the random stream and number of entries, which hold the same in
+///   each part that an entry reads, the entry reads the same parts and changes the same.
 /// - `rest`: each part that an entry does not change holds what it held.
-/// - `touched`: what the changed parts hold after the entry depends on nothing but the parts that it reads.
+/// - `touched`: what the changed parts hold after the entry depends on nothing but the parts that it reads, and these.
+/// - `ready`: whether a task's next step is ready depends on the parts that it reads, and on nothing else.
 pub fn locality()
-    ensures same { (a b : AKernel) (e : AnEntry) → AgreeOn (used a e) (parts a) (parts b) →
-        (used b e ≡ used a e) × (outcome_in (parts b) (entry_row e) ≡ outcome_in (parts a) (entry_row e)) }
+    ensures same { (a b : AKernel) (e : AnEntry) → context_of b ≡ context_of a →
+        AgreeOn (used a e) (parts a) (parts b) → (used b e ≡ used a e)
+        × (outcome_in (parts b) (entry_row (context_of b) e) ≡ outcome_in (parts a) (entry_row (context_of a) e)) }
     ensures rest { (k next : AKernel) (e : AnEntry) → step k e ≡ Some next →
         (p : APart) → ¬ IsIn p (touches k e) → parts next p ≡ parts k p }
-    ensures touched { (a b next other : AKernel) (e : AnEntry) → AgreeOn (used a e) (parts a) (parts b) →
-        step a e ≡ Some next → step b e ≡ Some other →
+    ensures touched { (a b next other : AKernel) (e : AnEntry) → context_of b ≡ context_of a →
+        AgreeOn (used a e) (parts a) (parts b) → step a e ≡ Some next → step b e ≡ Some other →
         (p : APart) → IsIn p (touches a e) → parts next p ≡ parts other p }
+    ensures ready { (a b : AKernel) (task : ℕ) →
+        AgreeOn (uses (parts a) (ready_row (context_of a) task)) (parts a) (parts b) →
+        is_ready b task ≡ is_ready a task }
 {}

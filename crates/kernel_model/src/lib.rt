@@ -17,20 +17,20 @@
 //! Standards: RISC-V Unprivileged ISA 20191213, ELF-64 Object File Format, Linux man-pages sections 2, 3 and 7.
 #![tactic(auto)]
 
+mod caller;
 mod entry;
 mod guest_space;
 mod kernel;
 mod laws;
+mod named;
 mod opening;
-mod outcome;
-mod running;
 mod traps;
 
+pub use caller::Caller;
 pub use entry::{Args, Entry, Trace};
 pub use guest_space::GuestSpace;
-pub use kernel::{Kernel, Life, Node, Numbered, Part, Task};
+pub use kernel::{Kernel, Node, Numbered, Part};
 pub use laws::locality;
+pub use named::Named;
 pub use opening::{Fresh, Given, Left, LeftRise, Opened, Opening, Rise};
-pub use outcome::Outcome;
-pub use running::Running;
 pub use traps::Next;

@@ -4,7 +4,7 @@ use Rattle.elf_image.specs.declared.image.Image.{Image}
 use Rattle.image_load.specs.Loading.{opening_space}
 use Rattle.image_load.specs.Stacks.{IsTooBig}
 use Rattle.mm_space.specs.Spaces.{AddressSpace}
-use Rattle.kernel_model.specs.Arguments.{is_too_long}
+use Rattle.kernel_model.specs.opening.Arguments.{is_too_long}
 use Rattle.kernel_calls.proofs.Strings.{not_too_big}
 use Rattle.kernel_calls.proofs.opened_task.opened.Goals as goal
 

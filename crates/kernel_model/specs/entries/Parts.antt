@@ -2,18 +2,22 @@
 use Rattle.std.specs.Prelude.{◌≡◌, ℕ, List, [], ◌∷◌, Option, Some, None, ◌⊎◌}
 use Rattle.std.specs.Ordering.{nat_cmp}
 use Rattle.std.specs.FinMap as map
+use Rattle.kernel_model.specs.Names.{NamedMap, get_named, with_named, without_named}
+use Rattle.rv_table.specs.declared.regs.Regs.{Regs}
+use Rattle.task_table.specs.declared.task.Made.{Made}
+use Rattle.task_table.specs.Table.{TaskTable}
+use Rattle.mm_space.specs.Spaces.{AddressSpace}
 use Rattle.kernel_model.specs.declared.kernel.Kernel.{Kernel}
-use Rattle.kernel_model.specs.declared.kernel.Task.{Task}
 use Rattle.kernel_model.specs.declared.kernel.Node.{Node}
 use Rattle.kernel_model.specs.declared.kernel.Part.{Part}
-use Rattle.kernel_model.specs.declared.kernel.Part.TheVariants.{OfTask, OfSpace, OfNode, OfConsole, OfFaults}
-use Rattle.mm_space.specs.Spaces.{AddressSpace}
+use Rattle.kernel_model.specs.declared.kernel.Part.TheVariants.{OfTasks, OfTask, OfSpace, OfNode, OfConsole, OfFaults}
 
--- what a part holds
+-- what a part holds: the task list, a task's registers, an address space, a node, the console's bytes, rises of counts
 -- profile
 abbrev pub Holds : Part → Type 0
-Holds (OfTask task) = Option Task
-Holds (OfSpace space) = Option AddressSpace
+Holds OfTasks = TaskTable
+Holds (OfTask task) = Option Regs
+Holds (OfSpace name) = Option AddressSpace
 Holds (OfNode ino) = Option Node
 Holds OfConsole = List ℕ
 Holds OfFaults = map.FinMap nat_cmp ℕ
@@ -26,8 +30,9 @@ Parts = (part : Part) → Holds part
 -- the parts of a kernel
 -- profile
 abbrev pub parts : Kernel → Parts
-parts k (OfTask task) = map.get k.tasks task
-parts k (OfSpace space) = map.get k.spaces space
+parts k OfTasks = k.tasks
+parts k (OfTask task) = map.get k.registers task
+parts k (OfSpace name) = get_named k.spaces name.place name.index
 parts k (OfNode ino) = map.get k.nodes ino
 parts k OfConsole = k.console
 parts k OfFaults = k.failed
@@ -40,9 +45,9 @@ pub data Prog (A : Type 0) : Type 0 where
 
 -- what the tree comes to in a state
 -- profile
-abbrev pub run : {A : Type 0} → Parts → Prog A → A
-run state (done a) = a
-run state (look part then) = run state (then (state part))
+abbrev pub outcome_in : {A : Type 0} → Parts → Prog A → A
+outcome_in state (done a) = a
+outcome_in state (look part then) = outcome_in state (then (state part))
 
 -- the parts that the tree looks at in a state, in order
 -- profile
@@ -79,11 +84,16 @@ abbrev pub set_at : {V : Type 0} → ℕ → Option V → map.FinMap nat_cmp V �
 set_at key (Some value) m = map.insert m key value
 set_at key None m = map.remove m key
 
+abbrev pub set_named : {V : Type 0} → Made → Option V → NamedMap V → NamedMap V
+set_named name (Some value) m = with_named m name.place name.index value
+set_named name None m = without_named m name.place name.index
+
 -- a kernel with another content of a part
 -- profile
 abbrev pub put : (part : Part) → Holds part → Kernel → Kernel
-put (OfTask task) content k = record k { tasks = set_at task content k.tasks }
-put (OfSpace space) content k = record k { spaces = set_at space content k.spaces }
+put OfTasks content k = record k { tasks = content }
+put (OfTask task) content k = record k { registers = set_at task content k.registers }
+put (OfSpace name) content k = record k { spaces = set_named name content k.spaces }
 put (OfNode ino) content k = record k { nodes = set_at ino content k.nodes }
 put OfConsole content k = record k { console = content }
 put OfFaults content k = record k { failed = content }

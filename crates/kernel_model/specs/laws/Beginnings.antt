@@ -2,7 +2,7 @@
 use Rattle.std.specs.Prelude.{◌≡◌, Bool, true, Result, Ok, Err}
 use Rattle.sn_errno.specs.declared.errno.Errno.{Errno}
 use Rattle.elf_image.specs.declared.image.Image.{Image as AnImage}
-use Rattle.kernel_model.specs.Opening.{has_room}
+use Rattle.kernel_model.specs.opening.Opening.{has_room}
 
 -- an image has no more pages than may be mapped
 -- execve(2), ENOMEM

@@ -10,9 +10,9 @@ use Rattle.mount_file.specs.declared.mounts.Mount.{Mount}
 use Rattle.kernel_model.specs.declared.opening.Rise.{Rise}
 use Rattle.kernel_model.specs.declared.opening.Left.{Left}
 use Rattle.kernel_model.specs.declared.opening.LeftRise.{LeftRise}
-use Rattle.kernel_model.specs.FileTree.{last_number, plain}
-use Rattle.kernel_model.specs.Faulted.{Nodes_so_far, number_all, node_changes}
-use Rattle.kernel_model.specs.Parts.{parts, run, changed}
+use Rattle.kernel_model.specs.files.FileTree.{last_number, plain}
+use Rattle.kernel_model.specs.entries.Given.{Nodes_so_far, number_all, node_changes}
+use Rattle.kernel_model.specs.entries.Parts.{parts, outcome_in, changed}
 
 -- the kernel with the fresh numbers of rises that reached no entry
 -- profile
@@ -22,7 +22,7 @@ numbered_by k (Some nodes) = changed (node_changes nodes) k
 
 abbrev pub left_numbered : List LeftRise → Kernel → Kernel
 left_numbered [] k = k
-left_numbered (r ∷ rises) k = left_numbered rises (numbered_by k (run (parts k) (number_all r.given.fresh [])))
+left_numbered (r ∷ rises) k = left_numbered rises (numbered_by k (outcome_in (parts k) (number_all r.given.fresh [])))
 
 -- by how much a node's count rose in calls that reached no entry
 -- profile

@@ -11,9 +11,12 @@ use Rattle.sn_errno.specs.declared.errno.Errno.TheVariants.{EIO, ENOENT, E2BIG, 
 use Rattle.elf_image.specs.declared.image.Image.{Image}
 use Rattle.kernel_model.specs.declared.kernel.Kernel.{Kernel}
 use Rattle.kernel_model.specs.declared.kernel.Node.{Node}
-use Rattle.kernel_model.specs.declared.kernel.Task.{Task}
+use Rattle.rv_table.specs.declared.regs.Regs.{Regs}
+use Rattle.kernel_model.specs.Names.{with_named}
+use Rattle.task_table.specs.declared.task.Made.{Made}
+use Rattle.task_table.specs.Clones.{opened}
+use Rattle.task_table.specs.Table.{no_tasks}
 use Rattle.mm_space.specs.Spaces.{AddressSpace}
-use Rattle.kernel_model.specs.declared.kernel.Life.TheVariants.{Live}
 use Rattle.kernel_model.specs.declared.kernel.Part.TheVariants.{OfNode}
 use Rattle.mount_file.specs.declared.mounts.Mounts.{Mounts}
 use Rattle.mount_file.specs.declared.mounts.Mount.{Mount}
@@ -22,16 +25,17 @@ use Rattle.kernel_model.specs.declared.opening.Opening.{Opening}
 use Rattle.kernel_model.specs.declared.opening.Opened.{Opened}
 use Rattle.kernel_model.specs.declared.opening.Given.{Given}
 use Rattle.kernel_model.specs.declared.opening.Fresh.{Fresh}
-use Rattle.kernel_model.specs.Arguments.{is_too_long}
+use Rattle.kernel_model.specs.opening.Arguments.{is_too_long}
 use Rattle.image_load.specs.Loading.{opening_space, opening_registers}
 use Rattle.image_load.specs.Pages.{pages_mapped}
-use Rattle.kernel_model.specs.Image.{image_of}
-use Rattle.kernel_model.specs.Numbers.{count_up}
-use Rattle.kernel_model.specs.Random.{opening_random}
-use Rattle.kernel_model.specs.FileTree.{Nodes, last_number, Child, Missing, Known, Unnumbered, child_at, root_node}
-use Rattle.kernel_model.specs.FileTree.{owner_executes}
-use Rattle.kernel_model.specs.Faulted.{has_any, is_in_order, Nodes_so_far, number_all, node_changes, faulted}
-use Rattle.kernel_model.specs.Parts.{parts, Prog, done, look, run, ◌>>=◌, Change, changed}
+use Rattle.kernel_model.specs.machine.Image.{image_of}
+use Rattle.kernel_model.specs.files.Numbers.{count_up}
+use Rattle.kernel_model.specs.machine.Random.{opening_random}
+use Rattle.kernel_model.specs.files.FileTree.{Nodes, last_number, Child, Missing, Known, Unnumbered, child_at, root_node}
+use Rattle.kernel_model.specs.files.FileTree.{owner_executes}
+use Rattle.kernel_model.specs.entries.Given.{has_any, is_in_order, above_last, Nodes_so_far, number_all, node_changes}
+use Rattle.kernel_model.specs.entries.Given.{faulted}
+use Rattle.kernel_model.specs.entries.Parts.{parts, Prog, done, look, outcome_in, ◌>>=◌, Change, changed}
 
 -- whether an image has at most 16,384 pages
 -- execve(2), ERRORS, ENOMEM; the number: profile
@@ -106,11 +110,6 @@ abbrev pub by_numbers : Result Image Errno → Option Nodes_so_far → Executed
 by_numbers image None = Unfit
 by_numbers image (Some nodes) = by_image image (node_changes nodes)
 
--- a number above the greatest is drawn for a child and given to no node
--- profile
-abbrev pub above_last : Fresh → Bool
-above_last f = nat_lt last_number f.ino
-
 abbrev pub by_walk : List ℕ → Given → Walked → Prog Executed
 by_walk name given walked =
     if has_any given.rises
@@ -151,36 +150,41 @@ rooted first (tree ∷ trees) = map.insert (rooted (first + 1) trees) first (roo
 
 -- the kernel before its first task
 -- profile
-abbrev pub bare : List Shape → Kernel
-bare trees = record {
-  tasks = map.empty;
+abbrev pub bare : Mounts → List Shape → Kernel
+bare mounts trees = record {
+  tasks = no_tasks;
+  registers = map.empty;
   spaces = map.empty;
   nodes = rooted 1 trees;
   console = [];
   failed = map.empty;
+  mounts = mounts.mounts;
+  seed = mounts.seed;
   entries = 0;
 }
 
+-- the name of an opening task's memory, and of its descriptor table
+-- profile
+abbrev pub made_by : (number : ℕ) → Made
+made_by number = record { place = 0; index = number }
+
 -- what the opening task of that number begins with, of this image and with its strings
 -- execve(2)
-abbrev pub task_opened : (seed : List ℕ) → (number : ℕ) → Program → Image → Task
-task_opened seed number program image = record {
-  group = number;
-  space = number;
-  registers = opening_registers image program.args program.env (opening_random seed number);
-  life = Live;
-}
+abbrev pub registers_opened : (seed : List ℕ) → (number : ℕ) → Program → Image → Regs
+registers_opened seed number program image =
+    opening_registers image program.args program.env (opening_random seed number)
 
 abbrev pub space_opened : (seed : List ℕ) → (number : ℕ) → Program → Image → AddressSpace
 space_opened seed number program image =
     opening_space image program.args program.env (opening_random seed number)
 
--- the kernel with an opening task, which is a group of its own
--- execve(2)
-abbrev pub with_task : (seed : List ℕ) → (number : ℕ) → Program → Image → Kernel → Kernel
-with_task seed number program image k = record k {
-  tasks = map.insert k.tasks number (task_opened seed number program image);
-  spaces = map.insert k.spaces number (space_opened seed number program image);
+-- the kernel with an opening task, which is a group of its own, without a parent, and whose working directory is `/`
+-- execve(2); profile
+abbrev pub with_task : (number : ℕ) → Program → Image → Kernel → Kernel
+with_task number program image k = record k {
+  tasks = opened k.tasks (made_by number) (made_by number) 1;
+  registers = map.insert k.registers number (registers_opened k.seed number program image);
+  spaces = with_named k.spaces 0 number (space_opened k.seed number program image);
 }
 
 -- what an opening comes to: a kernel, or the errno of the first execve that fails, with the kernel that it leaves, or
@@ -198,12 +202,12 @@ task_begun rest begin number k (Starts image changes) = rest (begin image (chang
 task_begun rest begin number k (Fails errno changes) = Refuses (changed changes k) number errno
 task_begun rest begin number k Unfit = Misfits number
 
-abbrev pub tasks_begun : (seed : List ℕ) → (number : ℕ) → List Program → List Opened → Kernel → Begun
-tasks_begun seed number [] opened k = Opens k
-tasks_begun seed number (p ∷ ps) [] k = Misfits number
-tasks_begun seed number (p ∷ ps) (o ∷ os) k =
-    task_begun (tasks_begun seed (number + 1) ps os) (with_task seed number p) number k
-    (run (parts k) (execve_of p o.given))
+abbrev pub tasks_begun : (number : ℕ) → List Program → List Opened → Kernel → Begun
+tasks_begun number [] records k = Opens k
+tasks_begun number (p ∷ ps) [] k = Misfits number
+tasks_begun number (p ∷ ps) (o ∷ os) k =
+    task_begun (tasks_begun (number + 1) ps os) (with_task number p) number k
+    (outcome_in (parts k) (execve_of p o.given))
 
 -- two lists have the same items, by a test of two items; and the first is a beginning of the second
 -- profile
@@ -245,4 +249,4 @@ is_of mounts opening =
 -- profile
 unfoldable pub opening_of : Mounts → List Shape → Opening → Begun
 opening_of mounts trees opening =
-    if is_of mounts opening then tasks_begun mounts.seed 1 mounts.tasks opening.tasks (bare trees) else Misfits 0
+    if is_of mounts opening then tasks_begun 1 mounts.tasks opening.tasks (bare mounts trees) else Misfits 0

@@ -1,7 +1,8 @@
 -- What a call draws and meets: fresh inode numbers of children, and rises of nodes' counts of faults.
 use Rattle.std.specs.Prelude.{ℕ, ◌+◌, ◌==◌, nat_lt, nat_le, List, [], ◌∷◌, ◌++◌, map, Bool, true, false, ◌&&◌, Option}
-use Rattle.std.specs.Prelude.{Some, None, if◌then◌else◌, is_some, unwrap_or}
-use Rattle.std.specs.List.{list_all}
+use Rattle.std.specs.Prelude.{Some, None, if◌then◌else◌, is_some, unwrap_or, not}
+use Rattle.std.specs.List.{list_all, list_any}
+use Rattle.std.specs.Str.{bytes_eq}
 use Rattle.std.specs.Ordering.{nat_cmp}
 use Rattle.std.specs.FinMap as map
 use Rattle.sn_base.specs.Sums.{capped}
@@ -10,8 +11,8 @@ use Rattle.kernel_model.specs.declared.kernel.Part.TheVariants.{OfNode, OfFaults
 use Rattle.kernel_model.specs.declared.opening.Fresh.{Fresh}
 use Rattle.kernel_model.specs.declared.opening.Rise.{Rise}
 use Rattle.kernel_model.specs.declared.opening.Given.{Given}
-use Rattle.kernel_model.specs.FileTree.{last_number, Child, Unnumbered, child_at, child_node, numbered_in}
-use Rattle.kernel_model.specs.Parts.{Prog, done, look, ◌>>=◌, Change}
+use Rattle.kernel_model.specs.files.FileTree.{last_number, Child, Unnumbered, child_at, child_node, numbered_in}
+use Rattle.kernel_model.specs.entries.Parts.{Prog, done, look, ◌>>=◌, Change}
 
 -- a list has an item
 -- profile
@@ -31,12 +32,28 @@ numbers_of fresh = map (λ (f : Fresh). f.ino) fresh
 abbrev pub nodes_of : List Rise → List ℕ
 nodes_of rises = map (λ (r : Rise). r.ino) rises
 
--- fresh numbers ascend from 1 on, rises ascend by node, and none is of 0
+-- two fresh numbers are of one child
+-- inode(7), st_ino
+abbrev pub same_child : Fresh → Fresh → Bool
+same_child a b = (a.dir == b.dir) && bytes_eq a.name b.name
+
+-- each child has one number at most
+-- inode(7), st_ino
+abbrev pub are_apart : List Fresh → Bool
+are_apart [] = true
+are_apart (f ∷ fresh) = not (list_any (same_child f) fresh) && are_apart fresh
+
+-- fresh numbers ascend from 1 on, each of another child, rises ascend by node, and none is of 0
 -- profile
 abbrev pub is_in_order : Given → Bool
 is_in_order given =
-    ascend_from 0 (numbers_of given.fresh) && ascend_from 0 (nodes_of given.rises)
+    ascend_from 0 (numbers_of given.fresh) && are_apart given.fresh && ascend_from 0 (nodes_of given.rises)
     && list_all (λ (r : Rise). nat_lt 0 r.count) given.rises
+
+-- a number above the greatest is drawn for a child and given to no node
+-- profile
+abbrev pub above_last : Fresh → Bool
+above_last f = nat_lt last_number f.ino
 
 -- nodes that a step has changed so far, the latest first
 -- profile

@@ -1,17 +1,20 @@
 -- The text of a run: the console, the groups, and where it is asked for the trace.
-use Rattle.std.specs.Prelude.{ℕ, ◌+◌, ◌==◌, ◌||◌, ℤ, List, [], ◌∷◌, ◌++◌, Bool, true, if◌then◌else◌, codes}
+use Rattle.std.specs.Prelude.{ℕ, ◌+◌, ◌==◌, ◌||◌, ℤ, List, [], ◌∷◌, ◌++◌, Bool, true, Option, Some, None, codes}
+use Rattle.std.specs.Prelude.{if◌then◌else◌}
 use Rattle.std.specs.Int.{cast_signed, w64}
 use Rattle.std.specs.Fmt.{decimal, signed_decimal}
 use Rattle.std.specs.List.{flat_map}
 use Rattle.std.specs.FinMap as map
 use Rattle.kernel_model.specs.declared.kernel.Kernel.{Kernel}
-use Rattle.kernel_model.specs.declared.kernel.Task.{Task}
-use Rattle.kernel_model.specs.declared.kernel.Life.{Life}
-use Rattle.kernel_model.specs.declared.kernel.Life.TheVariants.{Live, Exited, Killed}
+use Rattle.task_table.specs.declared.task.Group.{Group}
+use Rattle.task_table.specs.declared.task.Status.{Status}
+use Rattle.task_table.specs.declared.task.Status.TheVariants.{Exited, Killed}
 use Rattle.kernel_model.specs.declared.entry.Entry.{Entry}
 use Rattle.kernel_model.specs.declared.entry.Entry.TheVariants.{Run, Call, Sleep, End}
 use Rattle.kernel_model.specs.declared.entry.Args.{Args}
-use Rattle.sn_errno.specs.Calls.{call_name}
+use Rattle.sn_errno.specs.declared.calls.CallNo.{CallNo}
+use Rattle.sn_errno.specs.declared.calls.CallNo.TheVariants.{Exit, ExitGroup}
+use Rattle.sn_errno.specs.Calls.{call_of, call_name}
 
 -- the bytes end with a newline, or there are none
 -- profile
@@ -25,21 +28,21 @@ is_closed (c ∷ d ∷ cs) = is_closed (d ∷ cs)
 abbrev pub console_text : List ℕ → List ℕ
 console_text console = if is_closed console then console else console ++ 10 ∷ []
 
--- how a group stands
+-- how a group stands: it lives, or ended by a code or a signal
 -- profile
-abbrev pub life_text : Life → List ℕ
-life_text Live = codes "live"
-life_text (Exited code) = codes "exit " ++ decimal code
-life_text (Killed signal) = codes "signal " ++ decimal signal
+abbrev pub status_text : Option Status → List ℕ
+status_text None = codes "live"
+status_text (Some (Exited code)) = codes "exit " ++ decimal code
+status_text (Some (Killed signal)) = codes "signal " ++ decimal signal
 
--- the line of a group, which its first task stands for
+-- the line of a group
 -- profile
-abbrev pub group_text : ℕ × Task → List ℕ
-group_text entry = codes "group " ++ decimal entry.0 ++ codes " " ++ life_text entry.1.life ++ codes "\n"
+abbrev pub group_text : ℕ × Group → List ℕ
+group_text entry = codes "group " ++ decimal entry.0 ++ codes " " ++ status_text entry.1.ended ++ codes "\n"
 
 -- the lines of the groups, ascending
 -- profile
-abbrev pub groups_text : List (ℕ × Task) → List ℕ
+abbrev pub groups_text : List (ℕ × Group) → List ℕ
 groups_text groups = flat_map group_text groups
 
 -- an argument as a signed number of 64 bits
@@ -52,10 +55,15 @@ arguments_text args =
     argument_text args.a0 ++ argument_text args.a1 ++ argument_text args.a2
     ++ argument_text args.a3 ++ argument_text args.a4 ++ argument_text args.a5
 
--- the reply of a call; exit (93) and exit_group (94) have none
--- profile
-abbrev pub reply_text : ℕ → ℤ → List ℕ
-reply_text number reply = if (number == 93) || (number == 94) then codes "?" else signed_decimal reply
+-- the reply of a call; exit and exit_group have none
+-- exit_group(2), RETURN VALUE; profile
+abbrev pub reply_by : Option CallNo → ℤ → List ℕ
+reply_by (Some Exit) reply = codes "?"
+reply_by (Some ExitGroup) reply = codes "?"
+reply_by _ reply = signed_decimal reply
+
+abbrev pub reply_text : (number : ℕ) → ℤ → List ℕ
+reply_text number reply = reply_by (call_of number) reply
 
 -- the line of an entry at a place, where it has one
 -- profile
@@ -78,4 +86,4 @@ trace_text place (entry ∷ entries) = entry_text place entry ++ trace_text (pla
 -- profile
 abbrev pub printed : Kernel → List Entry → Bool → List ℕ
 printed k trace flag =
-    console_text k.console ++ groups_text (map.entries k.tasks) ++ (if flag then trace_text 1 trace else [])
+    console_text k.console ++ groups_text (map.entries k.tasks.groups) ++ (if flag then trace_text 1 trace else [])

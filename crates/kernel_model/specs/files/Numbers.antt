@@ -8,8 +8,8 @@ use Rattle.kernel_model.specs.declared.opening.Opening.{Opening}
 use Rattle.kernel_model.specs.declared.opening.Opened.{Opened}
 use Rattle.kernel_model.specs.declared.opening.Left.{Left}
 use Rattle.kernel_model.specs.declared.opening.LeftRise.{LeftRise}
-use Rattle.kernel_model.specs.FileTree.{last_number, Child, Missing, Known, Unnumbered}
-use Rattle.kernel_model.specs.Faulted.{numbers_of}
+use Rattle.kernel_model.specs.files.FileTree.{last_number, Child, Missing, Known, Unnumbered}
+use Rattle.kernel_model.specs.entries.Given.{numbers_of}
 
 -- so many numbers from the first on, ascending
 -- profile

@@ -2,8 +2,8 @@
 use Rattle.std.specs.Prelude.{ℕ, List, Option, Some, None, Err, false, true, if◌then◌else◌}
 use Rattle.host_node.specs.Tree.{Shape, child_of}
 use Rattle.sn_errno.specs.declared.errno.Errno.TheVariants.{ENOENT, EACCES}
-use Rattle.kernel_model.specs.FileTree.{owner_executes}
-use Rattle.kernel_model.specs.Opening.{Walked, executed}
+use Rattle.kernel_model.specs.files.FileTree.{owner_executes}
+use Rattle.kernel_model.specs.opening.Opening.{Walked, executed}
 
 -- what a look for a name comes to
 -- path_resolution(7), ENOENT

@@ -1,0 +1,47 @@
+-- A history goes on by one entry at its end.
+use Rattle.std.proofs.Common.{◌≡◌, Bool, true, List, [], ◌∷◌, ◌++◌, refl, ap, ◌∙◌}
+use Rattle.std.specs.Prelude.{Option, Some, None, ◌&&◌, option_and_then}
+use Rattle.host_node.proofs.TreeLemmas.{first_part, second_part}
+use Rattle.kernel_model.specs.declared.entry.Entry.{Entry}
+use Rattle.kernel_model.specs.declared.kernel.Kernel.{Kernel}
+use Rattle.kernel_model.specs.entries.Steps.{step}
+use Rattle.kernel_model.specs.entries.History.{replay, each_whole, whole_then, is_whole}
+
+pub replay-last : (k : Kernel) (es : List Entry) (e : Entry)
+    → replay k (es ++ e ∷ []) ≡ option_and_then (λ (next : Kernel). step next e) (replay k es)
+replay-last k [] e = after (step k e)
+  where
+    after : (o : Option Kernel) → option_and_then (λ (next : Kernel). replay next []) o ≡ o
+    after None = refl
+    after (Some next) = refl
+replay-last k (x ∷ es) e = go (step k x) (λ next. replay-last next es e)
+  where
+    go : (o : Option Kernel)
+        → ((next : Kernel) → replay next (es ++ e ∷ []) ≡ option_and_then (λ (y : Kernel). step y e) (replay next es))
+        → option_and_then (λ (next : Kernel). replay next (es ++ e ∷ [])) o
+        ≡ option_and_then (λ (next : Kernel). step next e) (option_and_then (λ (next : Kernel). replay next es) o)
+    go None f = refl
+    go (Some next) f = f next
+
+pub replay_more : (k next last : Kernel) (es : List Entry) (e : Entry) → replay k es ≡ Some next
+    → step next e ≡ Some last → replay k (es ++ e ∷ []) ≡ Some last
+replay_more k next last es e r s = replay-last k es e ∙ ap (option_and_then (λ (x : Kernel). step x e)) r ∙ s
+
+both : {a b : Bool} → a ≡ true → b ≡ true → (a && b) ≡ true
+both {a} {b} p q = ap (λ x. x && b) p ∙ q
+
+pub whole_more : (k next last : Kernel) (es : List Entry) (e : Entry) → replay k es ≡ Some next → each_whole k es ≡ true
+    → step next e ≡ Some last → is_whole e last ≡ true → each_whole k (es ++ e ∷ []) ≡ true
+whole_more k next last [] e r w s h =
+    let same : k ≡ next = cc in
+    ap (λ (x : Kernel). whole_then e (step x e) (λ after. true)) same ∙ ap (λ o. whole_then e o (λ after. true)) s
+    ∙ both h refl
+whole_more k next last (x ∷ es) e r w s h = go (step k x) r w (λ y p q. whole_more y next last es e p q s h)
+  where
+    go : (o : Option Kernel) → option_and_then (λ (y : Kernel). replay y es) o ≡ Some next
+        → whole_then x o (λ after. each_whole after es) ≡ true
+        → ((y : Kernel) → replay y es ≡ Some next → each_whole y es ≡ true → each_whole y (es ++ e ∷ []) ≡ true)
+        → whole_then x o (λ after. each_whole after (es ++ e ∷ [])) ≡ true
+    go None p q f = cc
+    go (Some y) p q f =
+        both (first_part (is_whole x y) (each_whole y es) q) (f y p (second_part (is_whole x y) (each_whole y es) q))

@@ -1,0 +1,6 @@
+-- Lemmas of processes and their entries, by subject.
+pub mod Ends
+pub mod Found
+pub mod Histories
+pub mod Homes
+pub mod Steps

@@ -1,0 +1,314 @@
+-- What an entry of a live task is to the kernel of its processes.
+use Rattle.std.proofs.Common.{◌≡◌, ◌⊎◌, inl, inr, ℕ, ◌+◌, ◌≤◌, Bool, true, false, cond, List, [], ◌∷◌, ◌++◌, refl, ap, sym}
+use Rattle.std.proofs.Common.{◌∙◌, arith, ℤ, option_map}
+use Rattle.std.specs.Prelude.{Option, Some, None, if◌then◌else◌, ◌&&◌, ◌||◌, not, ◌==◌, nat_eq}
+use Rattle.std.specs.Ordering.{int_eq, nat_cmp}
+use Rattle.std.specs.FinMap as map
+use Rattle.std.proofs.lemmas.Bool.Decides.{Decides-int_eq, Decides-eqb}
+use Rattle.sn_base.proofs.Maps.{get-insert_same, insert_same}
+use Rattle.rv_table.specs.declared.regs.Regs.{Regs}
+use Rattle.mm_space.specs.Spaces.{AddressSpace}
+use Rattle.quantum.specs.Instructions.{Going, ran}
+use Rattle.task_table.specs.declared.task.Group.{Group}
+use Rattle.task_table.specs.declared.task.Made.{Made}
+use Rattle.task_table.specs.declared.task.Status.{Status}
+use Rattle.task_table.specs.declared.task.Status.TheVariants.{Killed}
+use Rattle.task_table.specs.Ends.{group_ended}
+use Rattle.task_table.specs.Table.{TaskTable, is_live, group_of}
+use Rattle.kernel_model.specs.Names.{NamedMap, get_named, with_named}
+use Rattle.kernel_model.specs.declared.caller.Caller.{Caller}
+use Rattle.kernel_model.specs.declared.entry.Args.{Args}
+use Rattle.kernel_model.specs.declared.entry.Entry.{Entry}
+use Rattle.kernel_model.specs.declared.entry.Entry.TheVariants.{Run, Call, End}
+use Rattle.kernel_model.specs.declared.kernel.Kernel.{Kernel}
+use Rattle.kernel_model.specs.declared.kernel.Part.TheVariants.{OfTasks, OfTask, OfSpace}
+use Rattle.kernel_model.specs.declared.opening.Given.{Given}
+use Rattle.kernel_model.specs.declared.traps.Next.{Next}
+use Rattle.kernel_model.specs.declared.traps.Next.TheVariants.{Goes, Calls, Traps}
+use Rattle.kernel_model.specs.machine.Instructions.{StopsAt, goes_on, next_of}
+use Rattle.kernel_model.specs.machine.Registers.{args_of, call_of, replied}
+use Rattle.kernel_model.specs.machine.Spaces.{acting_in, going_in}
+use Rattle.kernel_model.specs.calls.Answers.{replies}
+use Rattle.kernel_model.specs.calls.Callers.{Context, context_of, caller_of, in_memory, with_memory, in_group}
+use Rattle.kernel_model.specs.calls.Ending.{group_end}
+use Rattle.kernel_model.specs.calls.Table.{call_row}
+use Rattle.kernel_model.specs.entries.History.{is_whole, goes_next}
+use Rattle.kernel_model.specs.entries.Parts.{Parts, parts, done, look, outcome_in, Change, put, changed}
+use Rattle.kernel_model.specs.entries.Steps.{by_given, end_at, entry_row, going_on, if_live, next_in, row_of, same_args}
+use Rattle.kernel_model.specs.entries.Steps.{stands_at, step, stepped, task_change, task_of}
+use Rattle.kernel_model.proofs.CallLemmas.{call_quiet}
+use Rattle.kernel_model.proofs.NamedMaps.{get-with_same}
+use Rattle.kernel_model.proofs.Trees.{outcome-bind}
+use Rattle.kernel_calls.proofs.Runs.{nothing_ran, row_ran}
+use Rattle.call_table.specs.declared.processes.Processes.{Processes}
+use Rattle.call_table.specs.declared.processes.Standing.{Standing}
+use Rattle.call_table.specs.Beside.{Beside, nothing_beside, kernel_with, found_in}
+use Rattle.call_table.specs.Processes.{kernel_of, caller_in, caller_with, StandsAs, RunsIn, NextIn, IsNextOf, HasRunPart}
+use Rattle.call_table.proofs.Found.{Parted, found_by, parted}
+
+-- ---- numbers and arguments are themselves
+
+int_same : (z : ℤ) → int_eq z z ≡ true
+int_same z = (Decides-int_eq z z).1 refl
+
+pub nat_same : (n : ℕ) → nat_eq n n ≡ true
+nat_same n = (Decides-eqb n n).1 refl
+
+args_same : (args : Args) → same_args args args ≡ true
+args_same args = simp nat_same
+
+-- ---- a live task is found, whatever stands beside the processes
+
+module _ (list : TaskTable) (registers : map.FinMap nat_cmp Regs) (spaces : NamedMap AddressSpace)
+    (console : List ℕ) (beside : Beside) (n task : ℕ) where
+  s : Parts
+  s = parts (kernel_with list registers spaces console beside n)
+
+  z : Parts
+  z = parts (kernel_with list registers spaces [] nothing_beside 0)
+
+  alike_registers : (group : ℕ) (memory : Made) (o : Option Regs)
+      → outcome_in s (with_memory task group memory o) ≡ outcome_in z (with_memory task group memory o)
+  unfolding s z
+  alike_registers group memory None = refl
+  alike_registers group memory (Some r) = refl
+
+  alike_group : (group : ℕ) (o : Option Group)
+      → outcome_in s (in_group task group o) ≡ outcome_in z (in_group task group o)
+  unfolding s z
+  alike_group group None = refl
+  alike_group group (Some g) = alike_registers group g.memory (map.get registers task)
+
+  alike_life : (b : Bool)
+      → outcome_in s (cond b (in_group task (group_of list.tasks task)
+      (map.get list.groups (group_of list.tasks task))) (done None))
+      ≡ outcome_in z (cond b (in_group task (group_of list.tasks task)
+      (map.get list.groups (group_of list.tasks task))) (done None))
+  unfolding s z
+  alike_life true = alike_group (group_of list.tasks task) (map.get list.groups (group_of list.tasks task))
+  alike_life false = refl
+
+  pub found_beside : outcome_in (parts (kernel_with list registers spaces console beside n)) (caller_of task)
+      ≡ found_in list registers spaces task
+  unfolding s z
+  found_beside = alike_life (is_live list.tasks task)
+
+-- ---- an entry of a task that was found
+
+row_found : (k : Kernel) (e : Entry) (c : Caller) → outcome_in (parts k) (caller_of (task_of e)) ≡ Some c
+    → outcome_in (parts k) (entry_row (context_of k) e) ≡ outcome_in (parts k) (row_of (context_of k) e c)
+row_found k e c found =
+    outcome-bind (parts k) (caller_of (task_of e)) (if_live (context_of k) e)
+    ∙ ap (λ o. outcome_in (parts k) (if_live (context_of k) e o)) found
+
+step_found : (k : Kernel) (e : Entry) (c : Caller) (changes : List Change)
+    → outcome_in (parts k) (caller_of (task_of e)) ≡ Some c
+    → outcome_in (parts k) (row_of (context_of k) e c) ≡ Some changes → step k e ≡ Some (stepped k changes)
+unfolding step
+step_found k e c changes found row = ap (option_map (stepped k)) (row_found k e c found ∙ row)
+
+-- processes with the same parts
+pub same_kernel : (q : Processes) (list : TaskTable) (registers : map.FinMap nat_cmp Regs)
+    (spaces : NamedMap AddressSpace) (console : List ℕ) (beside : Beside) (n : ℕ) → q.tasks ≡ list
+    → q.registers ≡ registers → q.spaces ≡ spaces → q.console ≡ console
+    → kernel_with list registers spaces console beside n ≡ kernel_of q beside n
+same_kernel q list registers spaces console beside n e f g h =
+    sym (ap (λ x. kernel_with x q.registers q.spaces q.console beside n) e
+    ∙ ap (λ x. kernel_with list x q.spaces q.console beside n) f
+    ∙ ap (λ x. kernel_with list registers x q.console beside n) g
+    ∙ ap (λ x. kernel_with list registers spaces x beside n) h)
+
+-- changes and then others
+changed-append : (xs ys : List Change) (k : Kernel) → changed (xs ++ ys) k ≡ changed ys (changed xs k)
+changed-append [] ys k = refl
+changed-append (x ∷ xs) ys k = changed-append xs ys (put x.0 x.1 k)
+
+-- one of no instruction stands before a call or a trap
+pub stop_none : (n : ℕ) (told next : Next) → StopsAt 10000 n told next → n ≡ 0 → told ≡ next
+stop_none n Goes next all none = absurd (omega arith)
+stop_none n Calls next stop none = sym stop.1
+stop_none n (Traps signal) next stop none = sym stop.1
+
+pub stop_not_on : (n : ℕ) (told next : Next) → StopsAt 10000 n told next → n ≡ 0 → goes_on told ≡ false
+stop_not_on n Goes next all none = absurd (omega arith)
+stop_not_on n Calls next stop none = refl
+stop_not_on n (Traps signal) next stop none = refl
+
+or_true : (b : Bool) → (b || true) ≡ true
+or_true true = refl
+or_true false = refl
+
+module _ (p : Processes) (task : ℕ) (standing : Standing) (stands : StandsAs p task standing) where
+  c : Caller
+  c = caller_with task standing stands.space
+
+  found_here : (beside : Beside) (n : ℕ) → outcome_in (parts (kernel_of p beside n)) (caller_of task) ≡ Some c
+  unfolding c
+  found_here beside n = found_beside p.tasks p.registers p.spaces p.console beside n task ∙ stands.found
+
+  -- what its next instruction does
+  next_here : (next : Next) → NextIn p task next → next_in c ≡ next
+  unfolding c
+  next_here next is = by (caller_in p task) stands.found is
+    where
+      by : (o : Option Caller) → o ≡ Some (caller_with task standing stands.space) → IsNextOf o next
+          → next_in (caller_with task standing stands.space) ≡ next
+      by None e is = absurd is
+      by (Some x) e is = let same : x ≡ caller_with task standing stands.space = cc e in ap next_in (sym same) ∙ is
+
+  -- ---- runs
+
+  module _ (count : ℕ) (after : Regs) (spaces' : NamedMap AddressSpace)
+      (runs : RunsIn task standing.memory count standing.registers after p.spaces spaces') where
+    -- the memory that it ran over is its own
+    same_space : runs.space ≡ stands.space
+    same_space = let e : Some runs.space ≡ Some stands.space = sym runs.there ∙ stands.in_memory in cc e
+
+    ran_here : ran count (going_in task stands.space standing.registers) ≡ Some (going_in task runs.left after)
+    ran_here = ap (λ a. ran count (going_in task a standing.registers)) (sym same_space) ∙ runs.steps
+
+    pub step_run : (q : Processes) (beside : Beside) (n : ℕ) → 1 ≤ count → count ≤ 10000 → q.tasks ≡ p.tasks
+        → q.registers ≡ map.insert p.registers task after → q.spaces ≡ spaces' → q.console ≡ p.console
+        → step (kernel_of p beside n) (Run task count) ≡ Some (kernel_of q beside (n + 1))
+    unfolding c
+    step_run q beside n low high e f g h =
+        step_found (kernel_of p beside n) (Run task count) c
+        ((OfSpace standing.memory, Some runs.left) ∷ task_change task after ∷ []) (found_here beside n)
+        (row_ran count c runs.left after (parts (kernel_of p beside n)) ran_here low high)
+        ∙ ap Some (same_kernel q p.tasks (map.insert p.registers task after)
+        (with_named p.spaces standing.memory.place standing.memory.index runs.left) p.console beside (n + 1) e f
+        (g ∙ runs.put) h)
+
+    -- what its task is then
+    found_after : (q : Processes) (beside : Beside) (n : ℕ) → q.tasks ≡ p.tasks
+        → q.registers ≡ map.insert p.registers task after → q.spaces ≡ spaces'
+        → outcome_in (parts (kernel_of q beside n)) (caller_of task)
+        ≡ Some (caller_with task (record { group = standing.group; memory = standing.memory; registers = after })
+        runs.left)
+    unfolding c
+    found_after q beside n e f g =
+        found_beside q.tasks q.registers q.spaces q.console beside n task
+        ∙ ap (λ x. found_in x q.registers q.spaces task) e
+        ∙ ap (λ x. found_in p.tasks x q.spaces task) f
+        ∙ ap (λ x. found_in p.tasks (map.insert p.registers task after) x task) (g ∙ runs.put)
+        ∙ found_by p.tasks (map.insert p.registers task after)
+        (with_named p.spaces standing.memory.place standing.memory.index runs.left) task before.group after runs.left
+        before.live before.grouped (get-insert_same p.registers task after)
+        (ap (λ (m : Made). get_named (with_named p.spaces standing.memory.place standing.memory.index runs.left)
+        m.place m.index) (sym memory)
+        ∙ get-with_same p.spaces standing.memory.place standing.memory.index runs.left)
+        ∙ ap (λ g. Some (record {
+          task = task;
+          group = g;
+          memory = before.group.memory;
+          registers = after;
+          space = runs.left;
+        })) (sym grouped)
+        ∙ ap (λ m. Some (record {
+          task = task;
+          group = standing.group;
+          memory = m;
+          registers = after;
+          space = runs.left;
+        })) (sym memory)
+      where
+        before : Parted p.tasks p.registers p.spaces task (caller_with task standing stands.space)
+        before = parted p.tasks p.registers p.spaces task (caller_with task standing stands.space) stands.found
+
+        memory : standing.memory ≡ before.group.memory
+        memory = ap (λ (x : Caller). x.memory) before.is
+
+        grouped : standing.group ≡ group_of p.tasks.tasks task
+        grouped = ap (λ (x : Caller). x.group) before.is
+
+    -- a run that stopped is whole
+    pub whole_run : (q : Processes) (beside : Beside) (n : ℕ) (told : Next) → q.tasks ≡ p.tasks
+        → q.registers ≡ map.insert p.registers task after → q.spaces ≡ spaces'
+        → StopsAt 10000 count told (next_of (acting_in task runs.left) after)
+        → is_whole (Run task count) (kernel_of q beside n) ≡ true
+    whole_run q beside n Goes e f g all =
+        ap (λ x. nat_eq x 10000 || not (goes_next (outcome_in (parts (kernel_of q beside n)) (caller_of task)))) all
+    whole_run q beside n Calls e f g stop =
+        ap (λ o. nat_eq count 10000 || not (goes_next o)) (found_after q beside n e f g)
+        ∙ ap (λ x. nat_eq count 10000 || not (goes_on x)) stop.1 ∙ or_true (nat_eq count 10000)
+    whole_run q beside n (Traps signal) e f g stop =
+        ap (λ o. nat_eq count 10000 || not (goes_next o)) (found_after q beside n e f g)
+        ∙ ap (λ x. nat_eq count 10000 || not (goes_on x)) stop.1 ∙ or_true (nat_eq count 10000)
+
+    -- one of no instruction leaves all as it was, and stands before a call or a trap
+    nothing : count ≡ 0 → going_in task runs.left after ≡ going_in task stands.space standing.registers
+    nothing none = nothing_ran count _ _ ran_here (omega arith)
+
+    pub registers_left : count ≡ 0 → after ≡ standing.registers
+    registers_left none = ap (λ (g : Going). g.registers) (nothing none)
+
+    pub space_left : count ≡ 0 → runs.left ≡ stands.space
+    space_left none = ap (λ (g : Going). g.acting.reach.space) (nothing none)
+
+    pub next_left : (told : Next) → count ≡ 0 → StopsAt 10000 count told (next_of (acting_in task runs.left) after)
+        → NextIn p task told
+    next_left told none stop = by (caller_in p task) stands.found
+      where
+        told_is : told ≡ next_of (acting_in task runs.left) after
+        told_is = stop_none count told _ stop none
+
+        by : (o : Option Caller) → o ≡ Some (caller_with task standing stands.space) → IsNextOf o told
+        by None e = absurd (cc e)
+        by (Some x) e =
+            let same : x ≡ caller_with task standing stands.space = cc e in
+            ap next_in same
+            ∙ sym (ap (λ (g : Going). next_of g.acting g.registers) (nothing none)) ∙ sym told_is
+
+  -- ---- calls
+
+  pub step_call : (number : ℕ) (args : Args) (given : Given) (value : ℤ) (changes : List Change) (q : Processes)
+      (beside : Beside) (n : ℕ) → next_in c ≡ Calls → number ≡ call_of standing.registers
+      → args ≡ args_of standing.registers → given ≡ record { fresh = []; rises = [] }
+      → outcome_in (parts (kernel_of p beside n)) (call_row (context_of (kernel_of p beside n)) c number args)
+      ≡ replies value changes
+      → changed changes (kernel_of p beside n) ≡ record (kernel_of p beside n) { tasks = q.tasks; console = q.console }
+      → q.registers ≡ map.insert p.registers task (replied standing.registers value) → q.spaces ≡ p.spaces
+      → step (kernel_of p beside n) (Call task number args given value) ≡ Some (kernel_of q beside (n + 1))
+  unfolding c
+  step_call number args given value changes q beside n calls no same none row left f g =
+      step_found k (Call task number args given value) c (changes ++ going_on c value) (found_here beside n)
+      (ap (λ b. outcome_in (parts k) (if b then by_given (context_of k) c number args value given else done None)) at
+      ∙ ap (λ x. outcome_in (parts k) (by_given (context_of k) c number args value x)) none
+      ∙ call_quiet (parts k) (context_of k) c number args value value changes (record { fresh = []; rises = [] }) row
+      refl
+      ∙ ap (λ b. if b then Some (changes ++ going_on c value) else None) (int_same value))
+      ∙ ap Some (ap (λ (m : Kernel). record m { entries = n + 1 })
+      (changed-append changes (going_on c value) k
+      ∙ ap (put (OfTask task) (Some (replied standing.registers value))) left)
+      ∙ same_kernel q q.tasks (map.insert p.registers task (replied standing.registers value)) p.spaces q.console
+      beside (n + 1) refl f g refl)
+    where
+      k : Kernel
+      k = kernel_of p beside n
+
+      at : stands_at number args standing.registers (next_in c) ≡ true
+      at =
+          ap (stands_at number args standing.registers) calls
+          ∙ ap (λ b. b && same_args (args_of standing.registers) args)
+          (ap (λ x. nat_eq x number) (sym no) ∙ nat_same number)
+          ∙ ap (λ x. same_args x args) (sym same) ∙ args_same args
+
+  -- ---- ends
+
+  pub step_end : (signal : ℕ) (q : Processes) (beside : Beside) (n : ℕ) → next_in c ≡ Traps signal
+      → q.tasks ≡ group_ended p.tasks standing.group (Killed signal) → q.registers ≡ p.registers
+      → q.spaces ≡ p.spaces → q.console ≡ p.console
+      → step (kernel_of p beside n) (End task signal) ≡ Some (kernel_of q beside (n + 1))
+  unfolding c
+  step_end signal q beside n traps e f g h =
+      step_found k (End task signal) c
+      ((OfTasks, group_ended p.tasks standing.group (Killed signal)) ∷ []) (found_here beside n)
+      (ap (λ x. outcome_in (parts k) (end_at signal c x)) traps
+      ∙ ap (λ b. outcome_in (parts k) (if b
+      then look OfTasks (λ list. done (Some (group_end standing.group (Killed signal) list))) else done None))
+      (nat_same signal))
+      ∙ ap Some (same_kernel q (group_ended p.tasks standing.group (Killed signal)) p.registers p.spaces p.console
+      beside (n + 1) e f g h)
+    where
+      k : Kernel
+      k = kernel_of p beside n

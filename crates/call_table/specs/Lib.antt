@@ -1,0 +1,4 @@
+-- What contracts of this crate say, by subject.
+pub mod Beside
+pub mod Processes
+pub mod Turns

@@ -1,0 +1,74 @@
+-- Processes as a kernel, with what stands beside them.
+use Rattle.std.specs.Prelude.{◌≡◌, ℕ, ◌<◌, Option, Some, None}
+use Rattle.rv_table.specs.declared.regs.Regs.{Regs}
+use Rattle.mm_space.specs.Spaces.{AddressSpace}
+use Rattle.task_table.specs.declared.task.Made.{Made}
+use Rattle.quantum.specs.Instructions.{ran}
+use Rattle.kernel_model.specs.Names.{NamedMap, get_named, with_named}
+use Rattle.kernel_model.specs.declared.caller.Caller.{Caller}
+use Rattle.kernel_model.specs.declared.kernel.Kernel.{Kernel}
+use Rattle.kernel_model.specs.machine.Spaces.{going_in}
+use Rattle.kernel_model.specs.declared.traps.Next.{Next}
+use Rattle.kernel_model.specs.entries.Parts.{set_at}
+use Rattle.kernel_model.specs.entries.Steps.{next_in}
+use Rattle.call_table.specs.declared.processes.Processes.{Processes}
+use Rattle.call_table.specs.declared.processes.Standing.{Standing}
+use Rattle.call_table.specs.Beside.{Beside, kernel_with, found_in}
+
+-- the kernel of processes, with this beside them, after so many entries
+-- profile
+abbrev pub kernel_of : Processes → Beside → (entries : ℕ) → Kernel
+kernel_of p beside entries = kernel_with p.tasks p.registers p.spaces p.console beside entries
+
+-- a live task of processes
+-- profile
+abbrev pub caller_in : Processes → (task : ℕ) → Option Caller
+caller_in p task = found_in p.tasks p.registers p.spaces task
+
+-- a live task is in this group, with this memory and these registers
+-- credentials(7), Process ID (PID); clone(2), CLONE_VM
+abbrev pub caller_with : (task : ℕ) → Standing → AddressSpace → Caller
+caller_with task s space = record {
+  task = task;
+  group = s.group;
+  memory = s.memory;
+  registers = s.registers;
+  space = space;
+}
+
+pub record StandsAs (p : Processes) (task : ℕ) (s : Standing) : Type 0 where
+  pub space : AddressSpace
+  pub in_memory : get_named p.spaces s.memory.place s.memory.index ≡ Some space
+  pub found : caller_in p task ≡ Some (caller_with task s space)
+
+-- so many instructions of a task ran over its group's memory, and nothing else changed there
+-- RISC-V Unprivileged ISA 20191213, 1.2
+pub record RunsIn (task : ℕ) (memory : Made) (count : ℕ) (before after : Regs)
+    (spaces spaces' : NamedMap AddressSpace) : Type 0 where
+  pub space : AddressSpace
+  pub left : AddressSpace
+  pub there : get_named spaces memory.place memory.index ≡ Some space
+  pub put : spaces' ≡ with_named spaces memory.place memory.index left
+  pub steps : ran count (going_in task space before) ≡ Some (going_in task left after)
+
+-- processes that lacked memory: some whole instructions of one task have run, fewer than 10,000
+-- profile
+pub record HasRunPart (task : ℕ) (before after : Processes) : Type 0 where
+  pub caller : Caller
+  pub found : caller_in before task ≡ Some caller
+  pub count : ℕ
+  pub few : count < 10000
+  pub registers : Regs
+  pub runs : RunsIn task caller.memory count caller.registers registers before.spaces after.spaces
+  pub kept_registers : after.registers ≡ set_at task (Some registers) before.registers
+  pub kept_tasks : after.tasks ≡ before.tasks
+  pub kept_console : after.console ≡ before.console
+
+-- what the next instruction of a live task does
+-- RISC-V Unprivileged ISA 20191213, 1.2
+abbrev pub IsNextOf : Option Caller → Next → Type 0
+IsNextOf None next = ⊥
+IsNextOf (Some c) next = next_in c ≡ next
+
+abbrev pub NextIn : Processes → (task : ℕ) → Next → Type 0
+NextIn p task next = IsNextOf (caller_in p task) next

@@ -1,0 +1,179 @@
+//! The entries of one task: runs of its instructions, its calls, and its end by a signal.
+
+ghost use Rattle.std.specs.Prelude.{◌≡◌, ℕ, ◌+◌, ◌<◌, ◌≤◌, [], true, false, IsTrue, IsFalse, Some, IfOk, OnErr};
+ghost use Rattle.std.specs.FinMap as map;
+ghost use Rattle.task_table.specs.Table.{has_ended, is_live};
+ghost use Rattle.mm_space.specs.Spaces.{AddressSpace};
+ghost use Rattle.kernel_model.specs.Names.{get_named, has_named};
+ghost use Rattle.kernel_model.specs.machine.Instructions.{StopsAt, goes_on, next_of};
+ghost use Rattle.kernel_model.specs.machine.Spaces.{acting_in};
+ghost use Rattle.kernel_model.specs.entries.History.{is_whole};
+ghost use Rattle.kernel_model.specs.entries.Steps.{step};
+ghost use Rattle.kernel_model.specs.files.Numbers.{numbers_in};
+ghost use Rattle.call_table.specs.Beside.{Beside};
+ghost use Rattle.call_table.specs.Processes.{HasRunPart, NextIn, RunsIn, StandsAs, kernel_of};
+
+use crate::Processes;
+use crate::processes::Standing;
+use kernel_calls::{Prepared, Ran, args_of, call, call_of, commit, reply, run};
+use kernel_model::{Entry, Given, GuestSpace, Named, Next};
+use rv_table::Regs;
+use sn_base::{List, Memory};
+use std::alloc::Global;
+use task_table::{Made, Status};
+
+/// The most instructions of one entry.
+const QUANTUM: u32 = 10_000;
+
+/// Runs a task's next instructions over its group's memory, until one of them traps or calls, or 10,000 ran. Want of
+/// memory leaves what fewer of them have left.
+fn run_in(
+    alloc: Global,
+    task: u32,
+    registers: &mut Regs,
+    spaces: &mut Named<GuestSpace>,
+    memory: Made,
+) -> Result<Ran, Memory>
+    requires { IsTrue (has_named spaces.old memory.place memory.index) }
+    ensures runs { IfOk result (λ r.
+        RunsIn task memory r.count registers.old registers.new spaces.old spaces.new) }
+    ensures within { IfOk result (λ r. r.count ≤ 10000) }
+    ensures stopped { IfOk result (λ r. (space : AddressSpace) →
+        get_named spaces.new memory.place memory.index ≡ Some space →
+        StopsAt 10000 r.count r.next (next_of (acting_in task space) registers.new)) }
+    ensures memory { OnErr result ((n : ℕ) × (n < 10000)
+        × RunsIn task memory n registers.old registers.new spaces.old spaces.new) }
+{
+    match spaces.get_mut(memory.place, memory.index) {
+        Some(space) => run(alloc, task, registers, space, QUANTUM),
+        None => unreachable!(),
+    }
+}
+
+/// That a call drew nothing and met nothing.
+fn nothing_given(alloc: Global) -> Given
+    ensures { result ≡ record { fresh = []; rises = [] } }
+{
+    Given {
+        fresh: List::new(alloc),
+        rises: List::new(alloc),
+    }
+}
+
+impl Processes {
+    /// Makes the next entry of a live task, and does it. Want of memory leaves what some whole instructions, fewer than
+    /// 10,000, have left.
+    pub fn advance(&mut self, alloc: Global, task: u32) -> Result<Entry, Memory>
+        requires { IsTrue (is_live self.old.tasks.tasks task) }
+        ensures step { IfOk result (λ entry. (beside : Beside) (n : ℕ) →
+            step (kernel_of self.old beside n) entry ≡ Some (kernel_of self.new beside (n + 1))) }
+        ensures whole { IfOk result (λ entry. (beside : Beside) (n : ℕ) →
+            is_whole entry (kernel_of self.new beside n) ≡ true) }
+        ensures numbers { IfOk result (λ entry. numbers_in entry ≡ []) }
+        ensures memory { OnErr result (HasRunPart task self.old self.new) }
+    {
+        let standing = self.standing(task);
+        let ran = self.run_standing(alloc, task, standing)?;
+        if ran.count > 0 {
+            return Ok(Entry::Run { task, n: ran.count });
+        }
+        match ran.next {
+            Next::Goes => unreachable!(),
+            Next::Calls => self.answer(alloc, task, standing),
+            Next::Traps(signal) => self.end(alloc, task, standing, signal),
+        }
+    }
+
+    /// Runs a live task's next instructions. Where none ran, nothing has changed.
+    fn run_standing(&mut self, alloc: Global, task: u32, standing: Standing) -> Result<Ran, Memory>
+        requires stands { StandsAs self.old task standing }
+        requires lives { IsTrue (is_live self.old.tasks.tasks task) }
+        ensures step { IfOk result (λ r. 0 < r.count → (beside : Beside) (n : ℕ) →
+            step (kernel_of self.old beside n) (Entry.Run task r.count) ≡ Some (kernel_of self.new beside (n + 1))) }
+        ensures whole { IfOk result (λ r. (beside : Beside) (n : ℕ) →
+            is_whole (Entry.Run task r.count) (kernel_of self.new beside n) ≡ true) }
+        ensures none { IfOk result (λ r. r.count ≡ 0 → self.new ≡ self.old) }
+        ensures next { IfOk result (λ r. r.count ≡ 0 → NextIn self.old task r.next) }
+        ensures stops { IfOk result (λ r. r.count ≡ 0 → goes_on r.next ≡ false) }
+        ensures memory { OnErr result (HasRunPart task self.old self.new) }
+    {
+        let mut registers = standing.registers;
+        let ran = run_in(
+            alloc,
+            task,
+            &mut registers,
+            &mut self.spaces,
+            standing.memory,
+        );
+        self.registers.replace(u64::from(task), registers);
+        ran
+    }
+
+    /// Answers the call that a live task stands at. Want of memory changes nothing.
+    fn answer(&mut self, alloc: Global, task: u32, standing: Standing) -> Result<Entry, Memory>
+        requires stands { StandsAs self.old task standing }
+        requires calls { NextIn self.old task Next.Calls }
+        requires there { IsTrue (map.contains_key self.old.tasks.groups standing.group) }
+        requires lives { IsFalse (has_ended self.old.tasks.groups standing.group) }
+        requires registers { IsTrue (map.contains_key self.old.registers task) }
+        ensures step { IfOk result (λ entry. (beside : Beside) (n : ℕ) →
+            step (kernel_of self.old beside n) entry ≡ Some (kernel_of self.new beside (n + 1))) }
+        ensures whole { IfOk result (λ entry. (beside : Beside) (n : ℕ) →
+            is_whole entry (kernel_of self.new beside n) ≡ true) }
+        ensures numbers { IfOk result (λ entry. numbers_in entry ≡ []) }
+        ensures err { OnErr result (self.new ≡ self.old) }
+    {
+        let no = call_of(&standing.registers);
+        let args = args_of(&standing.registers);
+        let console = self.console.len();
+        let Some(space) = self.spaces.get(standing.memory.place, standing.memory.index) else {
+            unreachable!()
+        };
+        let Prepared {
+            reply: value,
+            effect,
+        } = call(alloc, no, &args, space, console)?;
+        commit(
+            alloc,
+            effect,
+            standing.group,
+            &mut self.tasks,
+            &mut self.console,
+        )?;
+        let mut registers = standing.registers;
+        reply(&mut registers, value);
+        self.registers.replace(u64::from(task), registers);
+        Ok(Entry::Call {
+            task,
+            no,
+            args,
+            given: nothing_given(alloc),
+            reply: value,
+        })
+    }
+
+    /// Ends the thread group of a live task by the signal of its next instruction's trap. Want of memory changes
+    /// nothing.
+    fn end(
+        &mut self,
+        alloc: Global,
+        task: u32,
+        standing: Standing,
+        signal: u8,
+    ) -> Result<Entry, Memory>
+        requires stands { StandsAs self.old task standing }
+        requires traps { NextIn self.old task (Next.Traps signal) }
+        requires there { IsTrue (map.contains_key self.old.tasks.groups standing.group) }
+        requires lives { IsFalse (has_ended self.old.tasks.groups standing.group) }
+        ensures step { IfOk result (λ entry. (beside : Beside) (n : ℕ) →
+            step (kernel_of self.old beside n) entry ≡ Some (kernel_of self.new beside (n + 1))) }
+        ensures whole { IfOk result (λ entry. (beside : Beside) (n : ℕ) →
+            is_whole entry (kernel_of self.new beside n) ≡ true) }
+        ensures numbers { IfOk result (λ entry. numbers_in entry ≡ []) }
+        ensures err { OnErr result (self.new ≡ self.old) }
+    {
+        self.tasks
+            .end_group(alloc, standing.group, Status::Killed(signal))?;
+        Ok(Entry::End { task, signal })
+    }
+}

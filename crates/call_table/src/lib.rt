@@ -1,0 +1,23 @@
+//! The state of a run, and its turns: the entries that its tasks make, one after another.
+//!
+//! A caller sees `Processes`: the task list, registers by task, address spaces by name, and the console. It opens tasks
+//! (`open`) and has them make entries (`advance`), or all of a run (`run_turns`): each turn is one call or one run of
+//! instructions, of the least live task above that of the last turn, or else of the least. What the host gave stands
+//! beside: no entry so far reads or changes a node.
+//!
+//! Proved: an entry is a step of the kernel that the processes are, whatever stands beside them (`step`), and each of
+//! its Runs is whole (`whole`); want of memory leaves what some whole instructions, fewer than 10,000, have left
+//! (`memory`). A run of turns is a history (`history`), which leaves the processes (`state`), is no longer than asked
+//! for (`bound`), and ends where no task lives or the trace is full (`ended`).
+//!
+//! Not said: time, fairness, or what a host is.
+//!
+//! Standard: the entries are the profile's; Linux man-pages sections 2 and 7.
+#![tactic(auto)]
+
+mod entries;
+mod processes;
+mod turns;
+
+pub use processes::Processes;
+pub use turns::{Ran, run_turns};

@@ -1,0 +1,72 @@
+//! write to the console.
+
+ghost use Rattle.std.specs.Prelude.{◌≡◌, ◌≤◌, ℕ, length, IfOk};
+ghost use Rattle.kernel_model.specs.declared.kernel.Part.TheVariants.{OfConsole};
+ghost use Rattle.kernel_model.specs.calls.Console.{appended, is_written_to, write_row};
+ghost use Rattle.kernel_model.specs.entries.Parts.{Parts, outcome_in};
+ghost use Rattle.kernel_calls.specs.Prepared.{TakesFew, answer_of};
+
+use crate::calls::refused;
+use crate::prepared::{Effect, Prepared};
+use kernel_model::GuestSpace;
+use sn_base::{List, Memory};
+use sn_errno::Errno;
+use std::alloc::Global;
+
+/// The most bytes of one write.
+const MOST_WRITTEN: u64 = 65_536;
+
+/// The most bytes of the console.
+const CONSOLE_ROOM: usize = 1_048_576;
+
+/// write(fd, buffer, count). It reads guest memory, and of the console only how many bytes that has.
+pub(crate) fn write(
+    alloc: Global,
+    fd: u64,
+    buffer: u64,
+    count: u64,
+    space: &GuestSpace,
+    console: usize,
+) -> Result<Prepared, Memory>
+    ensures row { IfOk result (λ p. (s : Parts) (group : ℕ) → length (s OfConsole) ≡ console →
+        outcome_in s (write_row fd buffer count space.now) ≡ answer_of p group s) }
+    ensures few { IfOk result (λ p. TakesFew p.effect) }
+{
+    if !is_written_to(fd % (1 << 32)) {
+        return Ok(refused(Errno::EBADF));
+    }
+    if count == 0 {
+        return Ok(Prepared {
+            reply: 0,
+            effect: Effect::Nothing,
+        });
+    }
+    match space.read(alloc, buffer, count.min(MOST_WRITTEN))? {
+        Some(bytes) => Ok(appended(bytes, console)),
+        None => Ok(refused(Errno::EFAULT)),
+    }
+}
+
+/// Whether a descriptor is open for writing.
+fn is_written_to(descriptor: u64) -> bool
+    ensures { result ≡ is_written_to descriptor }
+{
+    descriptor == 1 || descriptor == 2
+}
+
+/// What bytes behind those of a console come to, by how many it has.
+fn appended(bytes: List<u8>, console: usize) -> Prepared
+    requires { length bytes ≤ 65536 }
+    ensures row { (s : Parts) (group : ℕ) → length (s OfConsole) ≡ console →
+        appended bytes (s OfConsole) ≡ answer_of result group s }
+    ensures few { TakesFew result.effect }
+{
+    if console <= CONSOLE_ROOM && bytes.len() <= CONSOLE_ROOM - console {
+        Prepared {
+            reply: bytes.len() as i64,
+            effect: Effect::TakesBytes(bytes),
+        }
+    } else {
+        refused(Errno::ENOSPC)
+    }
+}

@@ -1,0 +1,52 @@
+//! What a call comes to, before it is done, and the doing of it.
+
+ghost use Rattle.std.specs.Prelude.{◌≡◌, IsTrue, IsFalse, OnOk, OnErr};
+ghost use Rattle.std.specs.FinMap as map;
+ghost use Rattle.task_table.specs.Table.{has_ended};
+ghost use Rattle.kernel_model.specs.declared.kernel.Kernel.{Kernel as AKernel};
+ghost use Rattle.kernel_model.specs.entries.Parts.{changed, parts};
+ghost use Rattle.kernel_calls.specs.Prepared.{EndsLive, changes_of};
+
+use sn_base::{List, Memory};
+use std::alloc::Global;
+use task_table::{Status, Tasks};
+
+/// What a call is to do beside its reply: nothing, or the console takes bytes, or the caller's thread group ends.
+#[derive(Debug, Drop)]
+pub enum Effect {
+    Nothing,
+    TakesBytes(List<u8>),
+    EndsGroup(Status),
+}
+
+/// What a call comes to: its reply (a negative one is an error's number), and what is to be done.
+#[derive(Debug, Drop)]
+pub struct Prepared {
+    pub reply: i64,
+    pub effect: Effect,
+}
+
+/// Does what a call of a thread group comes to, to the parts that it changes. Want of memory leaves both.
+#[tactic(auto, using(crate::proofs::Effects::kernel_kept, crate::proofs::Effects::bytes_taken, crate::proofs::Effects::group_ends))]
+pub fn commit(
+    alloc: Global,
+    effect: Effect,
+    group: u32,
+    tasks: &mut Tasks,
+    console: &mut List<u8>,
+) -> Result<(), Memory>
+    requires lives { EndsLive effect group tasks.old }
+    ensures ok { OnOk result ((k : AKernel) → k.tasks ≡ tasks.old → k.console ≡ console.old →
+        changed (changes_of effect group (parts k)) k ≡ record k { tasks = tasks.new; console = console.new }) }
+    ensures err { OnErr result (tasks.new ≡ tasks.old) }
+    ensures err_console { OnErr result (console.new ≡ console.old) }
+{
+    match effect {
+        Effect::Nothing => Ok(()),
+        Effect::TakesBytes(bytes) => console.extend_from_slice(bytes.as_slice()),
+        Effect::EndsGroup(status) => {
+            tasks.end_group(alloc, group, status)?;
+            Ok(())
+        }
+    }
+}

@@ -1,0 +1,6 @@
+-- The system calls, by family, and what a call comes to.
+pub mod Answers
+pub mod Callers
+pub mod Console
+pub mod Ending
+pub mod Table

@@ -1,0 +1,41 @@
+-- What a call comes to: its reply, what it changes, and the children that it walks to, lists or makes.
+use Rattle.std.specs.Prelude.{ℕ, ℤ, List, [], Bool, true, false}
+use Rattle.sn_errno.specs.declared.errno.Errno.{Errno}
+use Rattle.sn_errno.specs.Errors.{reply_of}
+use Rattle.kernel_model.specs.entries.Parts.{Change}
+
+-- what a call replies: a value, of which a negative one is an error's number, or nothing so far, since it waits
+-- syscall(2); profile
+pub data Reply : Type 0 where
+  Replies : ℤ → Reply
+  NotReady : Reply
+
+-- a child by its directory's number and its name
+-- path_resolution(7)
+pub record Key : Type 0 where
+  pub dir : ℕ
+  pub name : List ℕ
+
+-- what a call comes to: its reply, the new contents of the parts that it changes beside the caller's registers, and the
+-- children without an inode number that it walks to, lists or makes
+-- profile
+pub record Answer : Type 0 where
+  pub reply : Reply
+  pub changes : List Change
+  pub fresh : List Key
+
+-- a call that replies a value, with changes
+-- syscall(2)
+abbrev pub replies : ℤ → List Change → Answer
+replies value changes = record { reply = Replies value; changes = changes; fresh = [] }
+
+-- a call that is refused with an error, and changes nothing
+-- syscall(2)
+abbrev pub refuses : Errno → Answer
+refuses errno = replies (reply_of errno) []
+
+-- whether a call replies
+-- profile
+abbrev pub is_reply : Reply → Bool
+is_reply (Replies value) = true
+is_reply NotReady = false

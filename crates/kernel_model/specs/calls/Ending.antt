@@ -1,0 +1,20 @@
+-- exit_group, and the end of a thread group.
+use Rattle.std.specs.Prelude.{ℕ, ◌%◌, List, [], ◌∷◌, pos}
+use Rattle.task_table.specs.declared.task.Status.{Status}
+use Rattle.task_table.specs.declared.task.Status.TheVariants.{Exited}
+use Rattle.task_table.specs.Ends.{group_ended}
+use Rattle.task_table.specs.Table.{TaskTable}
+use Rattle.kernel_model.specs.declared.kernel.Part.TheVariants.{OfTasks}
+use Rattle.kernel_model.specs.calls.Answers.{Answer, replies}
+use Rattle.kernel_model.specs.entries.Parts.{Prog, done, look, Change}
+
+-- a thread group ends with a status, with all its tasks
+-- exit_group(2)
+abbrev pub group_end : (group : ℕ) → Status → TaskTable → List Change
+group_end group status list = (OfTasks, group_ended list group status) ∷ []
+
+-- exit_group(status): the group ends with the low 8 bits of the status; the reply, which nobody reads, is 0
+-- exit_group(2); wait(2), WEXITSTATUS
+abbrev pub exit_group_row : (status group : ℕ) → Prog Answer
+exit_group_row status group =
+    look OfTasks (λ list. done (replies (pos 0) (group_end group (Exited (status % 256)) list)))

@@ -1,0 +1,29 @@
+-- The table of system calls: the row of each call that the kernel has.
+use Rattle.std.specs.Prelude.{ℕ, Option, Some, None}
+use Rattle.sn_errno.specs.declared.errno.Errno.TheVariants.{ENOSYS}
+use Rattle.sn_errno.specs.declared.calls.CallNo.{CallNo}
+use Rattle.sn_errno.specs.declared.calls.CallNo.TheVariants.{Write, ExitGroup}
+use Rattle.sn_errno.specs.Calls.{call_of}
+use Rattle.kernel_model.specs.declared.caller.Caller.{Caller}
+use Rattle.kernel_model.specs.declared.entry.Args.{Args}
+use Rattle.kernel_model.specs.calls.Answers.{Answer, refuses}
+use Rattle.kernel_model.specs.calls.Callers.{Context}
+use Rattle.kernel_model.specs.calls.Console.{write_row}
+use Rattle.kernel_model.specs.calls.Ending.{exit_group_row}
+use Rattle.kernel_model.specs.entries.Parts.{Prog, done}
+
+-- the row of a call; one that the kernel does not have answers ENOSYS
+-- syscall(2)
+abbrev pub row_of_call : Context → Caller → Args → CallNo → Prog Answer
+row_of_call context caller args Write = write_row args.a0 args.a1 args.a2 caller.space
+row_of_call context caller args ExitGroup = exit_group_row args.a0 caller.group
+row_of_call context caller args _ = done (refuses ENOSYS)
+
+-- the row of a call by its number in the table of calls; a number that the table lacks answers ENOSYS
+-- syscall(2)
+abbrev pub row_if_known : Context → Caller → Args → Option CallNo → Prog Answer
+row_if_known context caller args None = done (refuses ENOSYS)
+row_if_known context caller args (Some call) = row_of_call context caller args call
+
+abbrev pub call_row : Context → Caller → (number : ℕ) → Args → Prog Answer
+call_row context caller number args = row_if_known context caller args (call_of number)

@@ -1,0 +1,3 @@
+-- The opening tasks: their strings, their execves, and the state that they begin with.
+pub mod Arguments
+pub mod Opening

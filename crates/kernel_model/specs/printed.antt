@@ -1,0 +1,2 @@
+-- What a run prints.
+pub mod Printed

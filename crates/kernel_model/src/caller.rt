@@ -1,0 +1,16 @@
+//! A live task, as an entry of it finds it.
+
+use crate::GuestSpace;
+use rv_table::Regs;
+use task_table::Made;
+
+/// A live task: its number, its thread group's number and the name of the group's memory, its registers, and what its
+/// memory holds.
+#[derive(Drop)]
+pub struct Caller {
+    pub task: u32,
+    pub group: u32,
+    pub memory: Made,
+    pub registers: Regs,
+    pub space: GuestSpace,
+}

@@ -1,0 +1,143 @@
+//! Maps from the names of made things to values: a name is the place of the commit log's entry that made
+//! the thing, and which of that entry's it is.
+
+ghost use Rattle.std.specs.Prelude.{◌≡◌, IsTrue, OnOk, OnErr, None, option_copied};
+ghost use Rattle.std.specs.FinMap as map;
+ghost use Rattle.kernel_model.specs.Names.{get_named, has_named, with_named, without_named};
+
+use sn_base::{Map, Memory};
+use std::alloc::Global;
+use std::marker::Model;
+
+/// A map from names to values: address spaces, shared areas, descriptor tables, pipes. A name is a place in
+/// the commit log and an index among what the entry there made. Contracts see it as a finite map from
+/// places to finite maps from indices. A place whose last thing is gone keeps its empty map.
+#[derive(Debug, Drop)]
+pub struct Named<V> {
+    places: Map<Map<V>>,
+}
+
+impl<V> Model for Named<V> {
+    ghost use Rattle.std.specs.Ordering.{nat_cmp};
+    ghost use Rattle.std.specs.FinMap as map;
+    ghost use Rattle.std.specs.Coded.{coded_ℕ};
+
+    ghost Value = { map.FinMap nat_cmp (map.FinMap nat_cmp V) };
+
+    ghost coded = { map.code coded_ℕ (map.code coded_ℕ V.code) };
+
+    ghost view = { λ a. a.places };
+}
+
+impl<V> Named<V> {
+    ghost use Rattle.std.specs.Borrow.{sem};
+    ghost use Rattle.std.specs.Option.{option_copied_mut};
+    ghost use Rattle.kernel_model.specs.NameLends.{lends_named};
+
+    /// The empty map, which takes no memory.
+    pub fn new(alloc: Global) -> Self
+        ensures { result ≡ map.empty }
+    {
+        Named {
+            places: Map::new(alloc),
+        }
+    }
+
+    /// What a name has.
+    pub fn get(&self, place: u64, index: u32) -> Option<&V>
+        ensures { option_copied result ≡ get_named self.now place index }
+    {
+        self.places.get(place)?.get(u64::from(index))
+    }
+
+    /// What a name has, for writing.
+    pub fn get_mut(&mut self, place: u64, index: u32) -> Option<&mut V>
+        ensures* writes_back { sem 𝓛 (lends_named V.row self.entry place index result) }
+        ensures value { option_copied_mut result ≡ get_named self.old place index }
+    {
+        self.places.get_mut(place)?.get_mut(u64::from(index))
+    }
+
+    /// Whether a name has a value.
+    pub fn contains(&self, place: u64, index: u32) -> bool
+        ensures { result ≡ has_named self.now place index }
+    {
+        self.get(place, index).is_some()
+    }
+
+    /// Sets what a name has. An `Err` leaves the map as it was, and comes only where the name has nothing.
+    pub fn insert(&mut self, alloc: Global, place: u64, index: u32, value: V) -> Result<(), Memory>
+    where
+        V: Drop,
+        ensures ok { OnOk result (self.new ≡ with_named self.old place index value) }
+        ensures err { OnErr result (self.new ≡ self.old) }
+        ensures absent { OnErr result (get_named self.old place index ≡ None) }
+    {
+        match self.places.get_mut(place) {
+            Some(made) => made.insert(u64::from(index), value),
+            None => {
+                let mut made = Map::new(alloc);
+                made.insert(u64::from(index), value)?;
+                self.places.insert(place, made)
+            }
+        }
+    }
+
+    /// Sets what a name has that has a value already. It takes no memory.
+    pub fn replace(&mut self, place: u64, index: u32, value: V)
+    where
+        V: Drop,
+        requires { IsTrue (has_named self.old place index) }
+        ensures { self.new ≡ with_named self.old place index value }
+    {
+        if let Some(made) = self.places.get_mut(place) {
+            made.replace(u64::from(index), value);
+        }
+    }
+
+    /// Takes a name's value out, and answers it. It takes no memory.
+    pub fn remove(&mut self, place: u64, index: u32) -> Option<V>
+        ensures value { result ≡ get_named self.old place index }
+        ensures after { self.new ≡ without_named self.old place index }
+    {
+        self.places.get_mut(place)?.remove(u64::from(index))
+    }
+}
+
+#[cfg(test)]
+mod tests {
+    use super::*;
+    use std::test::Fail;
+
+    #[test]
+    fn things_of_one_entry_have_names_of_their_own(rt: HostRuntime) -> Result<(), Fail> {
+        let mut names: Named<u8> = Named::new(rt.alloc());
+        for (place, index, value) in [
+            (7, 0, 1),
+            (7, 1, 2),
+            (8, 0, 3),
+            (7, 0, 4),
+            (u64::MAX, u32::MAX, 5),
+        ] {
+            names.insert(rt.alloc(), place, index, value)?;
+        }
+        assert_eq!(rt; names.get(7, 0).copied(), Some(4));
+        assert_eq!(rt; names.get(7, 1).copied(), Some(2));
+        assert_eq!(rt; names.get(8, 0).copied(), Some(3));
+        assert_eq!(rt; names.get(u64::MAX, u32::MAX).copied(), Some(5));
+        assert_eq!(rt; names.get(8, 1).copied(), None);
+        assert_eq!(rt; names.get(0, 7).copied(), None);
+        if names.contains(7, 1) {
+            names.replace(7, 1, 6);
+        }
+        if let Some(value) = names.get_mut(8, 0) {
+            *value = 9;
+        }
+        assert!(rt; names.get_mut(8, 1).is_none());
+        assert_eq!(rt; names.remove(7, 1), Some(6));
+        assert_eq!(rt; names.remove(7, 1), None);
+        assert_eq!(rt; names.get(7, 0).copied(), Some(4));
+        assert_eq!(rt; names.get(8, 0).copied(), Some(9));
+        Ok(())
+    }
+}
