@@ -1,11 +1,18 @@
 -- A history goes on by one entry at its end.
-use Rattle.std.proofs.Common.{◌≡◌, Bool, true, List, [], ◌∷◌, ◌++◌, refl, ap, ◌∙◌}
+use Rattle.std.proofs.Common.{◌≡◌, Bool, true, false, List, [], ◌∷◌, ◌++◌, refl, ap, ◌∙◌}
 use Rattle.std.specs.Prelude.{Option, Some, None, ◌&&◌, option_and_then}
-use Rattle.host_node.proofs.TreeLemmas.{first_part, second_part}
 use Rattle.kernel_model.specs.declared.entry.Entry.{Entry}
 use Rattle.kernel_model.specs.declared.kernel.Kernel.{Kernel}
 use Rattle.kernel_model.specs.entries.Steps.{step}
 use Rattle.kernel_model.specs.entries.History.{replay, each_whole, whole_then, is_whole}
+
+first_part : (a b : Bool) → (a && b) ≡ true → a ≡ true
+first_part true b h = refl
+first_part false b h = cc
+
+second_part : (a b : Bool) → (a && b) ≡ true → b ≡ true
+second_part true b h = h
+second_part false b h = cc
 
 pub replay-last : (k : Kernel) (es : List Entry) (e : Entry)
     → replay k (es ++ e ∷ []) ≡ option_and_then (λ (next : Kernel). step next e) (replay k es)

@@ -1,6 +1,6 @@
 -- Each live task stays at home: with registers, and with its group's memory.
-use Rattle.std.proofs.Common.{◌≡◌, ◌≢◌, ℕ, ◌⊎◌, inl, inr, Bool, true, false, refl, ap, sym, ◌∙◌}
-use Rattle.std.specs.Prelude.{Option, Some, None, is_some, IsTrue}
+use Rattle.std.proofs.Common.{◌≡◌, ℕ, inl, inr, Bool, true, false, refl, ap, sym, ◌∙◌, subst}
+use Rattle.std.specs.Prelude.{Option, Some, None, is_some}
 use Rattle.std.specs.Option.{option_map_or}
 use Rattle.std.specs.Ordering.{nat_cmp}
 use Rattle.std.specs.FinMap as map
@@ -16,7 +16,12 @@ use Rattle.task_table.specs.Ends.{group_ended}
 use Rattle.task_table.specs.Table.{TaskTable, is_live, group_of, no_tasks}
 use Rattle.kernel_model.specs.Names.{NamedMap, get_named, with_named}
 use Rattle.kernel_model.specs.declared.caller.Caller.{Caller}
-use Rattle.kernel_model.proofs.NamedMaps.{same_or_other, get-with}
+use Rattle.kernel_model.specs.declared.kernel.Kernel.{Kernel}
+use Rattle.kernel_model.specs.entries.Parts.{parts, changed}
+use Rattle.kernel_model.proofs.NamedMaps.{same_or_other, get-with, get-with_same}
+use Rattle.kernel_calls.specs.Prepared.{changes_of}
+use Rattle.kernel_calls.specs.declared.prepared.Effect.{Effect}
+use Rattle.kernel_calls.specs.declared.prepared.Effect.TheVariants.{Nothing, TakesBytes, EndsGroup}
 use Rattle.call_table.specs.Beside.{found_in, AreAtHome}
 use Rattle.call_table.proofs.Ends.{live_before, group_stays, memory_stays}
 use Rattle.call_table.proofs.Found.{Parted, found_by, parted}
@@ -60,6 +65,53 @@ module _ (list : TaskTable) (registers : map.FinMap nat_cmp Regs) (spaces : Name
       (ap (map.get (group_ended list group status).groups) (group_stays list group status task) ∙ g.1)
       c.1.registered (ap (λ (m : Made). get_named spaces m.place m.index) (sym memory) ∙ c.1.remembered))
 
+-- where a call was done
+pub home_committed : (effect : Effect) (group : ℕ) (k : Kernel) (after : TaskTable)
+    (registers : map.FinMap nat_cmp Regs) (spaces : NamedMap AddressSpace)
+    → (changed (changes_of effect group (parts k)) k).tasks ≡ after → AreAtHome k.tasks registers spaces
+    → AreAtHome after registers spaces
+home_committed Nothing group k after registers spaces is home =
+    subst (λ (x : TaskTable). AreAtHome x registers spaces) is home
+home_committed (TakesBytes bytes) group k after registers spaces is home =
+    subst (λ (x : TaskTable). AreAtHome x registers spaces) is home
+home_committed (EndsGroup status) group k after registers spaces is home =
+    subst (λ (x : TaskTable). AreAtHome x registers spaces) is
+    (home_ended k.tasks registers spaces home group status)
+
+-- the first task is at home
+first_live : (made : Made) (task : ℕ) → is_live (opened no_tasks made made 1).tasks task ≡ true → task ≡ 1
+first_live made task live = elim (same_or_other 1 task) [
+  | inl same ↦ sym same
+  | inr apart ↦ absurd (cc (
+    live,
+    ap (λ o. option_map_or (λ (c : Task). c.live) o false)
+    (get-insert_other map.empty 1 task (record { group = 1; clear = 0; live = true }) apart ∙ get_of_empty task),
+  ))
+]
+
+pub first_at_home : (made : Made) (registers : Regs) (space : AddressSpace)
+    → AreAtHome (opened no_tasks made made 1) (map.insert map.empty 1 registers)
+    (with_named map.empty made.place made.index space)
+first_at_home made registers space = λ task live.
+    let is : task ≡ 1 = first_live made task live in
+    subst (λ (x : ℕ). is_some (found_in (opened no_tasks made made 1) (map.insert map.empty 1 registers)
+    (with_named map.empty made.place made.index space) x) ≡ true) (sym is)
+    (ap is_some (found_by (opened no_tasks made made 1) (map.insert map.empty 1 registers)
+    (with_named map.empty made.place made.index space) 1
+    (record { parent = 0; memory = made; table = made; cwd = 1; ended = None }) registers space first_lives
+    (ap (map.get (opened no_tasks made made 1).groups) first_group ∙ get-insert_same map.empty 1 _)
+    (get-insert_same map.empty 1 registers) (get-with_same map.empty made.place made.index space)))
+  where
+    first_lives : is_live (opened no_tasks made made 1).tasks 1 ≡ true
+    first_lives =
+        ap (λ o. option_map_or (λ (c : Task). c.live) o false)
+        (get-insert_same map.empty 1 (record { group = 1; clear = 0; live = true }))
+
+    first_group : group_of (opened no_tasks made made 1).tasks 1 ≡ 1
+    first_group =
+        ap (λ o. option_map_or (λ (c : Task). c.group) o 0)
+        (get-insert_same map.empty 1 (record { group = 1; clear = 0; live = true }))
+
 -- registers that are set are there, and so are all others
 pub registers_stay : (registers : map.FinMap nat_cmp Regs) (task : ℕ) (after : Regs) (q : ℕ) (r : Regs)
     → map.get registers q ≡ Some r → (r' : Regs) × (map.get (map.insert registers task after) q ≡ Some r')
@@ -78,3 +130,23 @@ memories_stay spaces place index after p i a e =
       | inl same ↦ (after, same.1)
       | inr other ↦ (a, other.1 ∙ e)
     ]
+
+-- registers and a memory that are set
+pub home_run : (list : TaskTable) (registers registers' : map.FinMap nat_cmp Regs) (spaces spaces' : NamedMap AddressSpace)
+    (task : ℕ) (after : Regs) (place index : ℕ) (left : AddressSpace) → AreAtHome list registers spaces
+    → registers' ≡ map.insert registers task after → spaces' ≡ with_named spaces place index left
+    → AreAtHome list registers' spaces'
+home_run list registers registers' spaces spaces' task after place index left home e f =
+    subst (λ x. AreAtHome list x spaces') (sym e)
+    (subst (λ x. AreAtHome list (map.insert registers task after) x) (sym f)
+    (home_kept list registers spaces home (map.insert registers task after) (with_named spaces place index left)
+    (registers_stay registers task after) (memories_stay spaces place index left)))
+
+-- registers that are set
+pub home_replied : (list : TaskTable) (registers registers' : map.FinMap nat_cmp Regs) (spaces : NamedMap AddressSpace)
+    (task : ℕ) (after : Regs) → AreAtHome list registers spaces → registers' ≡ map.insert registers task after
+    → AreAtHome list registers' spaces
+home_replied list registers registers' spaces task after home e =
+    subst (λ x. AreAtHome list x spaces) (sym e)
+    (home_kept list registers spaces home (map.insert registers task after) spaces (registers_stay registers task after)
+    (λ p i a there. (a, there)))

@@ -4,3 +4,4 @@ pub mod Found
 pub mod Histories
 pub mod Homes
 pub mod Steps
+pub mod NextTurns

@@ -37,13 +37,14 @@ use Rattle.kernel_model.specs.entries.Parts.{Parts, parts, done, look, outcome_i
 use Rattle.kernel_model.specs.entries.Steps.{by_given, end_at, entry_row, going_on, if_live, next_in, row_of, same_args}
 use Rattle.kernel_model.specs.entries.Steps.{stands_at, step, stepped, task_change, task_of}
 use Rattle.kernel_model.proofs.CallLemmas.{call_quiet}
-use Rattle.kernel_model.proofs.NamedMaps.{get-with_same}
+use Rattle.kernel_model.proofs.NamedMaps.{get-with_same, with_same}
 use Rattle.kernel_model.proofs.Trees.{outcome-bind}
-use Rattle.kernel_calls.proofs.Runs.{nothing_ran, row_ran}
+use Rattle.kernel_calls.proofs.Runs.{nothing_ran, ran_none, row_ran}
 use Rattle.call_table.specs.declared.processes.Processes.{Processes}
 use Rattle.call_table.specs.declared.processes.Standing.{Standing}
 use Rattle.call_table.specs.Beside.{Beside, nothing_beside, kernel_with, found_in}
-use Rattle.call_table.specs.Processes.{kernel_of, caller_in, caller_with, StandsAs, RunsIn, NextIn, IsNextOf, HasRunPart}
+use Rattle.call_table.specs.Processes.{kernel_of, caller_in, caller_with, StandsAs, RunsIn, NextIn, IsNextOf}
+use Rattle.call_table.specs.Processes.{AreKept, HasRunPart}
 use Rattle.call_table.proofs.Found.{Parted, found_by, parted}
 
 -- ---- numbers and arguments are themselves
@@ -107,15 +108,15 @@ step_found : (k : Kernel) (e : Entry) (c : Caller) (changes : List Change)
 unfolding step
 step_found k e c changes found row = ap (option_map (stepped k)) (row_found k e c found ∙ row)
 
--- processes with the same parts
-pub same_kernel : (q : Processes) (list : TaskTable) (registers : map.FinMap nat_cmp Regs)
-    (spaces : NamedMap AddressSpace) (console : List ℕ) (beside : Beside) (n : ℕ) → q.tasks ≡ list
-    → q.registers ≡ registers → q.spaces ≡ spaces → q.console ≡ console
-    → kernel_with list registers spaces console beside n ≡ kernel_of q beside n
-same_kernel q list registers spaces console beside n e f g h =
-    sym (ap (λ x. kernel_with x q.registers q.spaces q.console beside n) e
-    ∙ ap (λ x. kernel_with list x q.spaces q.console beside n) f
-    ∙ ap (λ x. kernel_with list registers x q.console beside n) g
+-- kernels with the same parts
+pub same_kernel : (list list' : TaskTable) (registers registers' : map.FinMap nat_cmp Regs)
+    (spaces spaces' : NamedMap AddressSpace) (console console' : List ℕ) (beside : Beside) (n : ℕ) → list' ≡ list
+    → registers' ≡ registers → spaces' ≡ spaces → console' ≡ console
+    → kernel_with list registers spaces console beside n ≡ kernel_with list' registers' spaces' console' beside n
+same_kernel list list' registers registers' spaces spaces' console console' beside n e f g h =
+    sym (ap (λ x. kernel_with x registers' spaces' console' beside n) e
+    ∙ ap (λ x. kernel_with list x spaces' console' beside n) f
+    ∙ ap (λ x. kernel_with list registers x console' beside n) g
     ∙ ap (λ x. kernel_with list registers spaces x beside n) h)
 
 -- changes and then others
@@ -139,16 +140,14 @@ or_true true = refl
 or_true false = refl
 
 module _ (p : Processes) (task : ℕ) (standing : Standing) (stands : StandsAs p task standing) where
-  c : Caller
+  abbrev c : Caller
   c = caller_with task standing stands.space
 
   found_here : (beside : Beside) (n : ℕ) → outcome_in (parts (kernel_of p beside n)) (caller_of task) ≡ Some c
-  unfolding c
   found_here beside n = found_beside p.tasks p.registers p.spaces p.console beside n task ∙ stands.found
 
   -- what its next instruction does
-  next_here : (next : Next) → NextIn p task next → next_in c ≡ next
-  unfolding c
+  pub next_here : (next : Next) → NextIn p task next → next_in c ≡ next
   next_here next is = by (caller_in p task) stands.found is
     where
       by : (o : Option Caller) → o ≡ Some (caller_with task standing stands.space) → IsNextOf o next
@@ -167,29 +166,29 @@ module _ (p : Processes) (task : ℕ) (standing : Standing) (stands : StandsAs p
     ran_here : ran count (going_in task stands.space standing.registers) ≡ Some (going_in task runs.left after)
     ran_here = ap (λ a. ran count (going_in task a standing.registers)) (sym same_space) ∙ runs.steps
 
-    pub step_run : (q : Processes) (beside : Beside) (n : ℕ) → 1 ≤ count → count ≤ 10000 → q.tasks ≡ p.tasks
-        → q.registers ≡ map.insert p.registers task after → q.spaces ≡ spaces' → q.console ≡ p.console
-        → step (kernel_of p beside n) (Run task count) ≡ Some (kernel_of q beside (n + 1))
-    unfolding c
-    step_run q beside n low high e f g h =
+    pub step_run : (list : TaskTable) (registers : map.FinMap nat_cmp Regs) (spaces : NamedMap AddressSpace)
+        (console : List ℕ) (beside : Beside) (n : ℕ) → 1 ≤ count → count ≤ 10000 → list ≡ p.tasks
+        → registers ≡ map.insert p.registers task after → spaces ≡ spaces' → console ≡ p.console
+        → step (kernel_of p beside n) (Run task count) ≡ Some (kernel_with list registers spaces console beside (n + 1))
+    step_run list registers spaces console beside n low high e f g h =
         step_found (kernel_of p beside n) (Run task count) c
         ((OfSpace standing.memory, Some runs.left) ∷ task_change task after ∷ []) (found_here beside n)
         (row_ran count c runs.left after (parts (kernel_of p beside n)) ran_here low high)
-        ∙ ap Some (same_kernel q p.tasks (map.insert p.registers task after)
-        (with_named p.spaces standing.memory.place standing.memory.index runs.left) p.console beside (n + 1) e f
-        (g ∙ runs.put) h)
+        ∙ ap Some (same_kernel p.tasks list (map.insert p.registers task after) registers
+        (with_named p.spaces standing.memory.place standing.memory.index runs.left) spaces p.console console beside
+        (n + 1) e f (g ∙ runs.put) h)
 
     -- what its task is then
-    found_after : (q : Processes) (beside : Beside) (n : ℕ) → q.tasks ≡ p.tasks
-        → q.registers ≡ map.insert p.registers task after → q.spaces ≡ spaces'
-        → outcome_in (parts (kernel_of q beside n)) (caller_of task)
+    found_after : (list : TaskTable) (registers : map.FinMap nat_cmp Regs) (spaces : NamedMap AddressSpace)
+        (console : List ℕ) (beside : Beside) (n : ℕ) → list ≡ p.tasks
+        → registers ≡ map.insert p.registers task after → spaces ≡ spaces'
+        → outcome_in (parts (kernel_with list registers spaces console beside n)) (caller_of task)
         ≡ Some (caller_with task (record { group = standing.group; memory = standing.memory; registers = after })
         runs.left)
-    unfolding c
-    found_after q beside n e f g =
-        found_beside q.tasks q.registers q.spaces q.console beside n task
-        ∙ ap (λ x. found_in x q.registers q.spaces task) e
-        ∙ ap (λ x. found_in p.tasks x q.spaces task) f
+    found_after list registers spaces console beside n e f g =
+        found_beside list registers spaces console beside n task
+        ∙ ap (λ x. found_in x registers spaces task) e
+        ∙ ap (λ x. found_in p.tasks x spaces task) f
         ∙ ap (λ x. found_in p.tasks (map.insert p.registers task after) x task) (g ∙ runs.put)
         ∙ found_by p.tasks (map.insert p.registers task after)
         (with_named p.spaces standing.memory.place standing.memory.index runs.left) task before.group after runs.left
@@ -222,28 +221,43 @@ module _ (p : Processes) (task : ℕ) (standing : Standing) (stands : StandsAs p
         grouped = ap (λ (x : Caller). x.group) before.is
 
     -- a run that stopped is whole
-    pub whole_run : (q : Processes) (beside : Beside) (n : ℕ) (told : Next) → q.tasks ≡ p.tasks
-        → q.registers ≡ map.insert p.registers task after → q.spaces ≡ spaces'
+    pub whole_run : (list : TaskTable) (registers : map.FinMap nat_cmp Regs) (spaces : NamedMap AddressSpace)
+        (console : List ℕ) (beside : Beside) (n : ℕ) (told : Next) → list ≡ p.tasks
+        → registers ≡ map.insert p.registers task after → spaces ≡ spaces'
         → StopsAt 10000 count told (next_of (acting_in task runs.left) after)
-        → is_whole (Run task count) (kernel_of q beside n) ≡ true
-    whole_run q beside n Goes e f g all =
-        ap (λ x. nat_eq x 10000 || not (goes_next (outcome_in (parts (kernel_of q beside n)) (caller_of task)))) all
-    whole_run q beside n Calls e f g stop =
-        ap (λ o. nat_eq count 10000 || not (goes_next o)) (found_after q beside n e f g)
+        → is_whole (Run task count) (kernel_with list registers spaces console beside n) ≡ true
+    whole_run list registers spaces console beside n Goes e f g all =
+        ap (λ x. nat_eq x 10000
+        || not (goes_next (outcome_in (parts (kernel_with list registers spaces console beside n)) (caller_of task)))) all
+    whole_run list registers spaces console beside n Calls e f g stop =
+        ap (λ o. nat_eq count 10000 || not (goes_next o)) (found_after list registers spaces console beside n e f g)
         ∙ ap (λ x. nat_eq count 10000 || not (goes_on x)) stop.1 ∙ or_true (nat_eq count 10000)
-    whole_run q beside n (Traps signal) e f g stop =
-        ap (λ o. nat_eq count 10000 || not (goes_next o)) (found_after q beside n e f g)
+    whole_run list registers spaces console beside n (Traps signal) e f g stop =
+        ap (λ o. nat_eq count 10000 || not (goes_next o)) (found_after list registers spaces console beside n e f g)
         ∙ ap (λ x. nat_eq count 10000 || not (goes_on x)) stop.1 ∙ or_true (nat_eq count 10000)
+
+    -- the memory that it left is there
+    pub left_there : get_named spaces' standing.memory.place standing.memory.index ≡ Some runs.left
+    left_there =
+        ap (λ m. get_named m standing.memory.place standing.memory.index) runs.put
+        ∙ get-with_same p.spaces standing.memory.place standing.memory.index runs.left
 
     -- one of no instruction leaves all as it was, and stands before a call or a trap
     nothing : count ≡ 0 → going_in task runs.left after ≡ going_in task stands.space standing.registers
     nothing none = nothing_ran count _ _ ran_here (omega arith)
 
-    pub registers_left : count ≡ 0 → after ≡ standing.registers
-    registers_left none = ap (λ (g : Going). g.registers) (nothing none)
+    pub registers_left : count ≡ 0 → map.insert p.registers task after ≡ p.registers
+    registers_left none =
+        ap (λ (g : Going). map.insert p.registers task g.registers) (nothing none)
+        ∙ insert_same p.registers task standing.registers
+        (parted p.tasks p.registers p.spaces task (caller_with task standing stands.space) stands.found).registered
 
-    pub space_left : count ≡ 0 → runs.left ≡ stands.space
-    space_left none = ap (λ (g : Going). g.acting.reach.space) (nothing none)
+    pub spaces_left : count ≡ 0 → spaces' ≡ p.spaces
+    spaces_left none =
+        runs.put
+        ∙ ap (λ (g : Going). with_named p.spaces standing.memory.place standing.memory.index g.acting.reach.space)
+        (nothing none)
+        ∙ with_same p.spaces standing.memory.place standing.memory.index stands.space stands.in_memory
 
     pub next_left : (told : Next) → count ≡ 0 → StopsAt 10000 count told (next_of (acting_in task runs.left) after)
         → NextIn p task told
@@ -261,27 +275,27 @@ module _ (p : Processes) (task : ℕ) (standing : Standing) (stands : StandsAs p
 
   -- ---- calls
 
-  pub step_call : (number : ℕ) (args : Args) (given : Given) (value : ℤ) (changes : List Change) (q : Processes)
-      (beside : Beside) (n : ℕ) → next_in c ≡ Calls → number ≡ call_of standing.registers
+  pub step_call : (number : ℕ) (args : Args) (given : Given) (value : ℤ) (changes : List Change)
+      (list : TaskTable) (registers : map.FinMap nat_cmp Regs) (console : List ℕ) (beside : Beside) (n : ℕ)
+      → next_in c ≡ Calls → number ≡ call_of standing.registers
       → args ≡ args_of standing.registers → given ≡ record { fresh = []; rises = [] }
       → outcome_in (parts (kernel_of p beside n)) (call_row (context_of (kernel_of p beside n)) c number args)
       ≡ replies value changes
-      → changed changes (kernel_of p beside n) ≡ record (kernel_of p beside n) { tasks = q.tasks; console = q.console }
-      → q.registers ≡ map.insert p.registers task (replied standing.registers value) → q.spaces ≡ p.spaces
-      → step (kernel_of p beside n) (Call task number args given value) ≡ Some (kernel_of q beside (n + 1))
-  unfolding c
-  step_call number args given value changes q beside n calls no same none row left f g =
+      → changed changes (kernel_of p beside n) ≡ record (kernel_of p beside n) { tasks = list; console = console }
+      → registers ≡ map.insert p.registers task (replied standing.registers value)
+      → step (kernel_of p beside n) (Call task number args given value)
+      ≡ Some (kernel_with list registers p.spaces console beside (n + 1))
+  step_call number args given value changes list registers console beside n calls is same nothing_met row left f =
       step_found k (Call task number args given value) c (changes ++ going_on c value) (found_here beside n)
       (ap (λ b. outcome_in (parts k) (if b then by_given (context_of k) c number args value given else done None)) at
-      ∙ ap (λ x. outcome_in (parts k) (by_given (context_of k) c number args value x)) none
+      ∙ ap (λ x. outcome_in (parts k) (by_given (context_of k) c number args value x)) nothing_met
       ∙ call_quiet (parts k) (context_of k) c number args value value changes (record { fresh = []; rises = [] }) row
       refl
       ∙ ap (λ b. if b then Some (changes ++ going_on c value) else None) (int_same value))
       ∙ ap Some (ap (λ (m : Kernel). record m { entries = n + 1 })
       (changed-append changes (going_on c value) k
       ∙ ap (put (OfTask task) (Some (replied standing.registers value))) left)
-      ∙ same_kernel q q.tasks (map.insert p.registers task (replied standing.registers value)) p.spaces q.console
-      beside (n + 1) refl f g refl)
+      ∙ ap (λ x. kernel_with list x p.spaces console beside (n + 1)) (sym f))
     where
       k : Kernel
       k = kernel_of p beside n
@@ -290,25 +304,82 @@ module _ (p : Processes) (task : ℕ) (standing : Standing) (stands : StandsAs p
       at =
           ap (stands_at number args standing.registers) calls
           ∙ ap (λ b. b && same_args (args_of standing.registers) args)
-          (ap (λ x. nat_eq x number) (sym no) ∙ nat_same number)
+          (ap (λ x. nat_eq x number) (sym is) ∙ nat_same number)
           ∙ ap (λ x. same_args x args) (sym same) ∙ args_same args
 
   -- ---- ends
 
-  pub step_end : (signal : ℕ) (q : Processes) (beside : Beside) (n : ℕ) → next_in c ≡ Traps signal
-      → q.tasks ≡ group_ended p.tasks standing.group (Killed signal) → q.registers ≡ p.registers
-      → q.spaces ≡ p.spaces → q.console ≡ p.console
-      → step (kernel_of p beside n) (End task signal) ≡ Some (kernel_of q beside (n + 1))
-  unfolding c
-  step_end signal q beside n traps e f g h =
+  pub step_end : (signal : ℕ) (list : TaskTable) (beside : Beside) (n : ℕ) → next_in c ≡ Traps signal
+      → list ≡ group_ended p.tasks standing.group (Killed signal)
+      → step (kernel_of p beside n) (End task signal)
+      ≡ Some (kernel_with list p.registers p.spaces p.console beside (n + 1))
+  step_end signal list beside n traps e =
       step_found k (End task signal) c
       ((OfTasks, group_ended p.tasks standing.group (Killed signal)) ∷ []) (found_here beside n)
       (ap (λ x. outcome_in (parts k) (end_at signal c x)) traps
       ∙ ap (λ b. outcome_in (parts k) (if b
       then look OfTasks (λ list. done (Some (group_end standing.group (Killed signal) list))) else done None))
       (nat_same signal))
-      ∙ ap Some (same_kernel q (group_ended p.tasks standing.group (Killed signal)) p.registers p.spaces p.console
-      beside (n + 1) e f g h)
+      ∙ ap (λ x. Some (kernel_with x p.registers p.spaces p.console beside (n + 1))) (sym e)
     where
       k : Kernel
       k = kernel_of p beside n
+
+-- ---- where nothing changed
+
+-- a task stands as it did
+pub stands_kept : (p q : Processes) (task : ℕ) (standing : Standing) → AreKept p q → StandsAs p task standing
+    → StandsAs q task standing
+stands_kept p q task standing kept stands = record {
+  space = stands.space;
+  in_memory =
+      ap (λ m. get_named m standing.memory.place standing.memory.index) kept.spaces ∙ stands.in_memory;
+  found =
+      ap (λ x. found_in x q.registers q.spaces task) kept.tasks
+      ∙ ap (λ x. found_in p.tasks x q.spaces task) kept.registers
+      ∙ ap (λ x. found_in p.tasks p.registers x task) kept.spaces
+      ∙ stands.found;
+}
+
+-- no instruction has run
+pub part_none : (p q : Processes) (task : ℕ) (standing : Standing) → AreKept p q → StandsAs p task standing
+    → HasRunPart task p q
+part_none p q task standing kept stands = record {
+  caller = caller_with task standing stands.space;
+  found = stands.found;
+  count = 0;
+  few = omega arith;
+  registers = standing.registers;
+  runs = record {
+    space = stands.space;
+    left = stands.space;
+    there = stands.in_memory;
+    put =
+        kept.spaces
+        ∙ sym (with_same p.spaces standing.memory.place standing.memory.index stands.space stands.in_memory);
+    steps = ran_none (going_in task stands.space standing.registers);
+  };
+  kept_registers =
+      kept.registers
+      ∙ sym (insert_same p.registers task standing.registers
+      (parted p.tasks p.registers p.spaces task (caller_with task standing stands.space) stands.found).registered);
+  kept_tasks = kept.tasks;
+  kept_console = kept.console;
+}
+
+pub kept_twice : (p q r : Processes) → AreKept p q → AreKept q r → AreKept p r
+kept_twice p q r a b = record {
+  tasks = b.tasks ∙ a.tasks;
+  registers = b.registers ∙ a.registers;
+  spaces = b.spaces ∙ a.spaces;
+  console = b.console ∙ a.console;
+}
+
+-- a step of processes that are the same
+pub step_kept : (p q : Processes) (e : Entry) (o : Option Kernel) (beside : Beside) (n : ℕ) → AreKept p q
+    → step (kernel_of q beside n) e ≡ o → step (kernel_of p beside n) e ≡ o
+step_kept p q e o beside n kept is =
+    ap (λ (k : Kernel). step k e)
+    (same_kernel p.tasks q.tasks p.registers q.registers p.spaces q.spaces p.console q.console beside n kept.tasks
+    kept.registers kept.spaces kept.console)
+    ∙ is

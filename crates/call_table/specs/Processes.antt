@@ -72,3 +72,11 @@ IsNextOf (Some c) next = next_in c ≡ next
 
 abbrev pub NextIn : Processes → (task : ℕ) → Next → Type 0
 NextIn p task next = IsNextOf (caller_in p task) next
+
+-- nothing changed
+-- profile
+pub record AreKept (before after : Processes) : Type 0 where
+  pub tasks : after.tasks ≡ before.tasks
+  pub registers : after.registers ≡ before.registers
+  pub spaces : after.spaces ≡ before.spaces
+  pub console : after.console ≡ before.console

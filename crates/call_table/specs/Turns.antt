@@ -1,5 +1,5 @@
 -- Whose turn it is, and how a run of turns ended.
-use Rattle.std.specs.Prelude.{◌≡◌, ◌⊎◌, ℕ, nat_lt, List, find, length, Option, Some, None, ⊥}
+use Rattle.std.specs.Prelude.{◌≡◌, ℕ, nat_lt, List, find, Option, Some, None}
 use Rattle.kernel_model.specs.declared.kernel.Kernel.{Kernel}
 use Rattle.call_table.specs.Beside.{Beside}
 

@@ -11,7 +11,7 @@ ghost use Rattle.kernel_model.specs.entries.History.{is_whole};
 ghost use Rattle.kernel_model.specs.entries.Steps.{step};
 ghost use Rattle.kernel_model.specs.files.Numbers.{numbers_in};
 ghost use Rattle.call_table.specs.Beside.{Beside};
-ghost use Rattle.call_table.specs.Processes.{HasRunPart, NextIn, RunsIn, StandsAs, kernel_of};
+ghost use Rattle.call_table.specs.Processes.{AreKept, HasRunPart, NextIn, RunsIn, StandsAs, kernel_of};
 
 use crate::Processes;
 use crate::processes::Standing;
@@ -92,7 +92,7 @@ impl Processes {
             step (kernel_of self.old beside n) (Entry.Run task r.count) ≡ Some (kernel_of self.new beside (n + 1))) }
         ensures whole { IfOk result (λ r. (beside : Beside) (n : ℕ) →
             is_whole (Entry.Run task r.count) (kernel_of self.new beside n) ≡ true) }
-        ensures none { IfOk result (λ r. r.count ≡ 0 → self.new ≡ self.old) }
+        ensures none { IfOk result (λ r. r.count ≡ 0 → AreKept self.old self.new) }
         ensures next { IfOk result (λ r. r.count ≡ 0 → NextIn self.old task r.next) }
         ensures stops { IfOk result (λ r. r.count ≡ 0 → goes_on r.next ≡ false) }
         ensures memory { OnErr result (HasRunPart task self.old self.new) }
@@ -121,7 +121,7 @@ impl Processes {
         ensures whole { IfOk result (λ entry. (beside : Beside) (n : ℕ) →
             is_whole entry (kernel_of self.new beside n) ≡ true) }
         ensures numbers { IfOk result (λ entry. numbers_in entry ≡ []) }
-        ensures err { OnErr result (self.new ≡ self.old) }
+        ensures err { OnErr result (AreKept self.old self.new) }
     {
         let no = call_of(&standing.registers);
         let args = args_of(&standing.registers);
@@ -170,7 +170,7 @@ impl Processes {
         ensures whole { IfOk result (λ entry. (beside : Beside) (n : ℕ) →
             is_whole entry (kernel_of self.new beside n) ≡ true) }
         ensures numbers { IfOk result (λ entry. numbers_in entry ≡ []) }
-        ensures err { OnErr result (self.new ≡ self.old) }
+        ensures err { OnErr result (AreKept self.old self.new) }
     {
         self.tasks
             .end_group(alloc, standing.group, Status::Killed(signal))?;

@@ -24,11 +24,15 @@ pub struct Ran {
 }
 
 /// The live task whose turn is next, behind that of the last turn: the least above it, or else the least.
+#[tactic(auto, using(crate::proofs::NextTurns::found_lives, crate::proofs::NextTurns::none_counted))]
 fn next_turn(tasks: &Tasks, last: u32) -> Option<u32>
     ensures next { result ≡ next_of last (live_numbers tasks.now.tasks) }
     ensures live { IfSome result (λ task. IsTrue (is_live tasks.now.tasks task)) }
     ensures none { result ≡ None → has_any (live_numbers tasks.now.tasks) ≡ false }
 {
+    if tasks.live() == 0 {
+        return None;
+    }
     match tasks.next_live(last) {
         Some(task) => Some(task),
         None => tasks.next_live(0),

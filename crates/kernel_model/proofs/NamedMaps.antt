@@ -9,6 +9,7 @@ use Rattle.std.specs.Cmp.{nat_cmp_total, tied_itself}
 use Rattle.std.specs.FinMap.{nat_cmp-IsAntisymmetric}
 use Rattle.std.specs.declared.cmp.Ordering.TheVariants.{Less, Equal, Greater}
 use Rattle.sn_base.proofs.Maps.{get_of_empty, get-insert_same, get-insert_other, get-remove_same, get-remove_other}
+use Rattle.sn_base.proofs.Maps.{insert_same}
 use Rattle.task_table.specs.declared.task.Made.{Made}
 use Rattle.kernel_model.specs.entries.Parts.{set_named}
 
@@ -99,6 +100,18 @@ module _ {V : Type 0} where
         | inl a ↦ a.1 ∙ sym (get-with_it n place index p i v a.0)
         | inr a ↦ a.1 ∙ h ∙ sym (get-with_other n place index p i v a.0)
       ]
+
+  -- to set what is there changes nothing
+  pub with_same : (names : NamedMap V) (place index : ℕ) (v : V) → get_named names place index ≡ Some v
+      → with_named names place index v ≡ names
+  with_same names place index v e = by_place (get names place) refl e
+    where
+      by_place : (o : Option (FinMap nat_cmp V)) → get names place ≡ o → option_and_then (λ m. get m index) o ≡ Some v
+          → insert names place (insert (unwrap_or (get names place) empty) index v) ≡ names
+      by_place None g e = absurd (cc e)
+      by_place (Some m) g e =
+          ap (λ o. insert names place (insert (unwrap_or o empty) index v)) g
+          ∙ ap (insert names place) (insert_same m index v e) ∙ insert_same names place m g
 
   -- ---- a value taken out
 

@@ -1,0 +1,114 @@
+-- A run of a task's instructions is a step of the kernel, or nothing.
+use Rattle.std.proofs.Common.{◌≡◌, ℕ, ◌<◌, ◌≤◌, refl, ap, ◌∙◌, arith}
+use Rattle.std.specs.Prelude.{Result, Ok, Err, IfOk, OnErr}
+use Rattle.std.specs.FinMap as map
+use Rattle.rv_table.specs.declared.regs.Regs.{Regs}
+use Rattle.mm_space.specs.Spaces.{AddressSpace}
+use Rattle.task_table.specs.declared.task.Made.{Made}
+use Rattle.kernel_model.specs.Names.{NamedMap, with_named}
+use Rattle.kernel_calls.specs.declared.instructions.Ran.{Ran}
+use Rattle.call_table.specs.Processes.{RunsIn, caller_with}
+use Rattle.call_table.proofs.Homes.{home_run}
+use Rattle.call_table.proofs.Steps.{step_run, whole_run, registers_left, spaces_left, next_left, left_there, stop_none}
+use Rattle.call_table.proofs.Steps.{stop_not_on}
+use Rattle.call_table.proofs.processes.Processes.run_standing.Goals as goal
+
+-- what holds on success, by what else does
+with_ok : {A E : Type 0} (P Q S : A → Type 0) (r : Result A E) → ((x : A) → P x → Q x → S x) → IfOk r P → IfOk r Q
+    → IfOk r S
+with_ok P Q S (Ok x) f p q = f x p q
+with_ok P Q S (Err e) f p q = tt
+
+on_err : {A E P Q : Type 0} (r : Result A E) → (P → Q) → OnErr r P → OnErr r Q
+on_err (Ok x) f h = tt
+on_err (Err e) f h = f h
+
+-- one memory alone was written to
+put_by : {E : Type 0} (task : ℕ) (memory : Made) (before after : Regs) (spaces spaces' : NamedMap AddressSpace)
+    (r : Result Ran E) → IfOk r (λ x. RunsIn task memory x.count before after spaces spaces')
+    → OnErr r ((n : ℕ) × (n < 10000) × RunsIn task memory n before after spaces spaces')
+    → (left : AddressSpace) × (spaces' ≡ with_named spaces memory.place memory.index left)
+put_by task memory before after spaces spaces' (Ok x) runs part = (runs.left, runs.put)
+put_by task memory before after spaces spaces' (Err e) runs part = (part.2.left, part.2.put)
+
+pub invariant_of-self : goal.invariant_of-self
+invariant_of-self c =
+    let put = put_by c.args.task c.args.standing.memory c.args.standing.registers c.run_in-ran.new.registers
+    c.args.self.now.spaces c.run_in-ran.new.spaces c.run_in-ran.result c.run_in-ran.ensures.runs
+    c.run_in-ran.ensures.memory in
+    record {
+      at_home =
+          home_run c.args.self.now.tasks c.args.self.now.registers _ c.args.self.now.spaces _ c.args.task
+          c.run_in-ran.new.registers c.args.standing.memory.place c.args.standing.memory.index put.0
+          c.args.self.now.at_home
+          (c.replace.ensures
+          ∙ ap (λ k. map.insert c.args.self.now.registers k c.run_in-ran.new.registers) c.from.ensures) put.1;
+    }
+
+pub returns-clause-step : goal.returns-clause-step
+returns-clause-step c =
+    with_ok _ _ _ c.run_in-ran.result (λ r runs within more beside n.
+    step_run c.args.self.now c.args.task c.args.standing c.requires.stands r.count c.run_in-ran.new.registers
+    c.run_in-ran.new.spaces runs c.args.self.now.tasks c.replace.new.self c.run_in-ran.new.spaces
+    c.args.self.now.console beside n (omega arith) within refl
+    (c.replace.ensures ∙ ap (λ k. map.insert c.args.self.now.registers k c.run_in-ran.new.registers) c.from.ensures)
+    refl refl) c.run_in-ran.ensures.runs c.run_in-ran.ensures.within
+
+pub returns-clause-whole : goal.returns-clause-whole
+returns-clause-whole c =
+    with_ok _ _ _ c.run_in-ran.result (λ r runs stops beside n.
+    whole_run c.args.self.now c.args.task c.args.standing c.requires.stands r.count c.run_in-ran.new.registers
+    c.run_in-ran.new.spaces runs c.args.self.now.tasks c.replace.new.self c.run_in-ran.new.spaces
+    c.args.self.now.console beside n r.next refl
+    (c.replace.ensures ∙ ap (λ k. map.insert c.args.self.now.registers k c.run_in-ran.new.registers) c.from.ensures)
+    refl
+    (stops runs.left
+    (left_there c.args.self.now c.args.task c.args.standing c.requires.stands r.count c.run_in-ran.new.registers
+    c.run_in-ran.new.spaces runs))) c.run_in-ran.ensures.runs c.run_in-ran.ensures.stopped
+
+pub returns-clause-none : goal.returns-clause-none
+returns-clause-none c =
+    with_ok _ _ _ c.run_in-ran.result (λ r runs within none. record {
+      tasks = refl;
+      registers =
+          c.replace.ensures
+          ∙ ap (λ k. map.insert c.args.self.now.registers k c.run_in-ran.new.registers) c.from.ensures
+          ∙ registers_left c.args.self.now c.args.task c.args.standing c.requires.stands r.count
+          c.run_in-ran.new.registers c.run_in-ran.new.spaces runs none;
+      spaces =
+          spaces_left c.args.self.now c.args.task c.args.standing c.requires.stands r.count
+          c.run_in-ran.new.registers c.run_in-ran.new.spaces runs none;
+      console = refl;
+    }) c.run_in-ran.ensures.runs c.run_in-ran.ensures.within
+
+pub returns-clause-next : goal.returns-clause-next
+returns-clause-next c =
+    with_ok _ _ _ c.run_in-ran.result (λ r runs stops none.
+    next_left c.args.self.now c.args.task c.args.standing c.requires.stands r.count c.run_in-ran.new.registers
+    c.run_in-ran.new.spaces runs r.next none
+    (stops runs.left
+    (left_there c.args.self.now c.args.task c.args.standing c.requires.stands r.count c.run_in-ran.new.registers
+    c.run_in-ran.new.spaces runs))) c.run_in-ran.ensures.runs c.run_in-ran.ensures.stopped
+
+pub returns-clause-stops : goal.returns-clause-stops
+returns-clause-stops c =
+    with_ok _ _ _ c.run_in-ran.result (λ r runs stops none.
+    stop_not_on r.count r.next _ (stops runs.left
+    (left_there c.args.self.now c.args.task c.args.standing c.requires.stands r.count c.run_in-ran.new.registers
+    c.run_in-ran.new.spaces runs)) none) c.run_in-ran.ensures.runs c.run_in-ran.ensures.stopped
+
+pub returns-clause-memory : goal.returns-clause-memory
+returns-clause-memory c =
+    on_err c.run_in-ran.result (λ part. record {
+      caller = caller_with c.args.task c.args.standing c.requires.stands.space;
+      found = c.requires.stands.found;
+      count = part.0;
+      few = part.1;
+      registers = c.run_in-ran.new.registers;
+      runs = part.2;
+      kept_registers =
+          c.replace.ensures
+          ∙ ap (λ k. map.insert c.args.self.now.registers k c.run_in-ran.new.registers) c.from.ensures;
+      kept_tasks = refl;
+      kept_console = refl;
+    }) c.run_in-ran.ensures.memory
