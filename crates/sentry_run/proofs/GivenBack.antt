@@ -14,16 +14,16 @@ use Rattle.host_node.proofs.RouteLemmas.{put-put_subtree, none_lent-subtree, is_
 use Rattle.host_node.proofs.RouteLemmas.{is_directory-directory_at, subtree-granted}
 use Rattle.sn_errno.specs.declared.errno.Errno.{Errno}
 use Rattle.sn_errno.specs.declared.errno.Errno.TheVariants.{ENOENT, EACCES}
-use Rattle.kernel_model.specs.declared.entry.Entry.{Entry}
 use Rattle.mount_file.specs.declared.mounts.Mounts.{Mounts}
 use Rattle.mount_file.specs.declared.mounts.Mount.{Mount}
-use Rattle.kernel_model.specs.declared.opening.Opening.{Opening}
 use Rattle.kernel_model.specs.FileTree.{owner_executes}
 use Rattle.kernel_model.specs.WalkedIn.{walked_in, walked_by}
 use Rattle.sentry_run.specs.declared.walk.Met.{Met}
 use Rattle.sentry_run.specs.declared.walk.Met.TheVariants.{Nothing, RootFailed, Drawn, ChildFailed}
 use Rattle.sentry_run.specs.declared.walk.Answer.{Answer}
 use Rattle.sentry_run.specs.declared.walk.Answer.TheVariants.{Starts, Refuses, Memory}
+use Rattle.sentry_run.specs.declared.walk.Loaded.{Loaded}
+use Rattle.sentry_run.specs.declared.play.Played.{Played}
 use Rattle.sentry_run.specs.declared.play.End.{End}
 use Rattle.sentry_run.specs.declared.play.End.TheVariants as ends
 use Rattle.sentry_run.specs.Walk.{faulted_by, Loads, LendsFrom, WalksTo, Unwalked, Execves}
@@ -31,7 +31,7 @@ use Rattle.sentry_run.specs.Played.{Fits, FitsFor, given_back, Ended}
 use Rattle.sentry_run.specs.PlayedMachine.{IsInner}
 use Rattle.sn_base.specs.Faults.{HasCause}
 use Rattle.sentry_run.specs.Causes.{is_grant_failed}
-use Rattle.sentry_run.specs.Granted.{PlaysRoot, IsUngranted, first_names, Plays, PlaysIn, PlaysOver}
+use Rattle.sentry_run.specs.Granted.{PlaysRoot, IsUngranted, first_names, Untouched, PlaysAs, PlaysIn, PlaysOver}
 
 -- ---- what was answered fits the walk
 
@@ -184,10 +184,10 @@ walked_alone t name root met answer (inr (inr (inr h))) = h.2 ∙ ap (λ m. Some
 -- ---- a run over a root, where it tells
 
 -- what was shown of each tree that fits
-abbrev pub EndsForAll : Bool → Mounts → List ℕ → Met → Answer → Opening → List Entry → End → Type 0
-EndsForAll is_long mounts name met answer opening trace end =
-    (t : Shape) → faults_of t < 2 ^ 64 → FitsFor is_long t name met answer
-    → Ended mounts t (given_back t name met) opening trace end
+abbrev pub EndsForAll : Bool → Mounts → List ℕ → Loaded → Played → Type 0
+EndsForAll is_long mounts name loaded played =
+    (t : Shape) → faults_of t < 2 ^ 64 → FitsFor is_long t name loaded.met loaded.answer
+    → Ended mounts t (given_back t name loaded.met) played.opening played.trace played.end
 
 -- nothing that was not walked to has a child
 unwalked_child : (told root : Option Shape) (child : Option Shape) (met : Met) (answer : Answer)
@@ -195,35 +195,34 @@ unwalked_child : (told root : Option Shape) (child : Option Shape) (met : Met) (
 unwalked_child told root child met answer u = let e = u.2 in cc
 
 pub plays_back : (b : Bool) (mounts : Mounts) (name : List ℕ) (told root : Option Shape) (child : Option Shape)
-    (met : Met) (answer : Answer) (after : Option Shape) (opening : Opening) (trace : List Entry) (end : End)
-    → Execves b told name root (Some child) met answer → TakesBack name root child after
-    → EndsForAll b mounts name met answer opening trace end → PlaysRoot mounts told after opening trace end
-plays_back true mounts name told root child met answer after opening trace end w b ends =
-    absurd (unwalked_child told root child met answer w)
-plays_back false mounts name None root child met answer after opening trace end w b ends =
+    (loaded : Loaded) (after : Option Shape) (played : Played)
+    → Execves b told name root (Some child) loaded.met loaded.answer → TakesBack name root child after
+    → EndsForAll b mounts name loaded played → PlaysRoot mounts told after played
+plays_back true mounts name told root child loaded after played w b ends =
+    absurd (unwalked_child told root child loaded.met loaded.answer w)
+plays_back false mounts name None root child loaded after played w b ends =
     subst (λ (o : Option Shape). TakesBack name o child after) w b
-plays_back false mounts name (Some t) root child met answer after opening trace end w b ends = (
-  given_back t name met,
-  walked_back t name root child met answer after w.1 b,
-  ends t w.0 (walked_fits t name root (Some child) met answer w.1),
+plays_back false mounts name (Some t) root child loaded after played w b ends = (
+  given_back t name loaded.met,
+  walked_back t name root child loaded.met loaded.answer after w.1 b,
+  ends t w.0 (walked_fits t name root (Some child) loaded.met loaded.answer w.1),
 )
 
-pub plays_alone : (b : Bool) (mounts : Mounts) (name : List ℕ) (told root : Option Shape) (met : Met)
-    (answer : Answer) (opening : Opening) (trace : List Entry) (end : End)
-    → Execves b told name root None met answer → EndsForAll b mounts name met answer opening trace end
-    → PlaysRoot mounts told root opening trace end
-plays_alone true mounts name None root met answer opening trace end w ends = w.1
-plays_alone true mounts name (Some t) root met answer opening trace end w ends = (
+pub plays_alone : (b : Bool) (mounts : Mounts) (name : List ℕ) (told root : Option Shape) (loaded : Loaded)
+    (played : Played) → Execves b told name root None loaded.met loaded.answer
+    → EndsForAll b mounts name loaded played → PlaysRoot mounts told root played
+plays_alone true mounts name None root loaded played w ends = w.1
+plays_alone true mounts name (Some t) root loaded played w ends = (
   t,
   w.1,
-  subst (λ (x : Shape). Ended mounts t x opening trace end) (ap (given_back t name) w.3)
+  subst (λ (x : Shape). Ended mounts t x played.opening played.trace played.end) (ap (given_back t name) w.3)
       (ends t w.0 (w.3, w.4)),
 )
-plays_alone false mounts name None root met answer opening trace end w ends = w
-plays_alone false mounts name (Some t) root met answer opening trace end w ends = (
-  given_back t name met,
-  walked_alone t name root met answer w.1,
-  ends t w.0 (walked_fits t name root None met answer w.1),
+plays_alone false mounts name None root loaded played w ends = w
+plays_alone false mounts name (Some t) root loaded played w ends = (
+  given_back t name loaded.met,
+  walked_alone t name root loaded.met loaded.answer w.1,
+  ends t w.0 (walked_fits t name root None loaded.met loaded.answer w.1),
 )
 
 pub takes_back : (b : Bool) (name : List ℕ) (told root : Option Shape) (child : Option Shape) (met : Met)
@@ -280,41 +279,54 @@ first_names_of [] m e = cc
 first_names_of (x ∷ xs) m e = let same : x ≡ m = cc in ap (λ (y : Mount). y.folder.names) same
 
 -- an end after a grant, over the granted tree
-inner_plays : (mounts : Mounts) (names : List (List ℕ)) (w : Shape) (after : Option Shape) (opening : Opening)
-    (trace : List Entry) (end : End) → IsInner end → PlaysOver mounts names w after opening trace end
-    → Plays mounts names w after opening trace end
-inner_plays mounts names w after opening trace (ends.Done k) i p = p
-inner_plays mounts names w after opening trace (ends.Full k) i p = p
-inner_plays mounts names w after opening trace (ends.Image errno) i p = p
-inner_plays mounts names w after opening trace ends.Memory i p = inr p
-inner_plays mounts names w after opening trace ends.HostFault i p = absurd i
-inner_plays mounts names w after opening trace ends.Grant i p = absurd i
+inner_plays : (end : End) (untouched missing over : Type 0) → IsInner end → over → PlaysAs end untouched missing over
+inner_plays (ends.Done k) untouched missing over i p = p
+inner_plays (ends.Full k) untouched missing over i p = p
+inner_plays (ends.Image errno) untouched missing over i p = p
+inner_plays ends.Memory untouched missing over i p = inr p
+inner_plays ends.HostFault untouched missing over i p = absurd i
+inner_plays ends.Grant untouched missing over i p = absurd i
 
-pub plays_in : (mounts : Mounts) (names : List (List ℕ)) (world world1 world2 root root1 : Option Shape)
-    (count : ℕ) (what : Kind) (opening : Opening) (trace : List Entry) (end : End)
-    → first_names mounts.mounts ≡ names → TellsGranted names world root count what
-    → world1 ≡ option_map (put_subtree names (lent Dir)) world → PlaysRoot mounts root root1 opening trace end
-    → IsInner end
-    → Settles names world1 root1 world2 → PlaysIn mounts world world2 opening trace end
-plays_in mounts names None world1 world2 root root1 count what opening trace end f g e p i s =
-    subst (λ (o : Option Shape). Settles names o root1 world2) e s
-plays_in mounts names (Some w) world1 world2 root root1 count what opening trace end f g e p i s =
-    subst (λ (ns : List (List ℕ)). Plays mounts ns w world2 opening trace end) (sym f)
-    (inner_plays mounts names w world2 opening trace end i (by_directory (directory_at names w) refl g))
+-- a folder of these names was granted, the run went over its root, and it was settled
+pub record Visits (names : List (List ℕ)) (world after root root' : Option Shape) : Type 0 where
+  pub count : ℕ
+  pub what : Kind
+  pub granted : TellsGranted names world root count what
+  pub between : Option Shape
+  pub between_is : between ≡ option_map (put_subtree names (lent Dir)) world
+  pub settled : Settles names between root' after
+
+pub plays_in : (mounts : Mounts) (names : List (List ℕ)) (world after root root' : Option Shape) (played : Played)
+    → first_names mounts.mounts ≡ names → Visits names world after root root'
+    → PlaysRoot mounts root root' played → IsInner played.end → PlaysIn mounts world after played
+plays_in mounts names world after root root' played f v p i =
+    by world (subst (λ (ns : List (List ℕ)). Visits ns world after root root') (sym f) v)
   where
-    over_tree : (t : Shape) → directory_at names w ≡ Some t → PlaysRoot mounts (Some t) root1 opening trace end
-        → PlaysOver mounts names w world2 opening trace end
-    over_tree t d p =
-        let settled : world2 ≡ Some (put_subtree names p.0 (put_subtree names (lent Dir) w)) =
-        subst (λ (o : Option Shape). Settles names o (Some p.0) world2) e
-        (subst (λ (o : Option Shape). Settles names world1 o world2) p.1 s) in
+    over_tree : (w t : Shape) → Visits (first_names mounts.mounts) (Some w) after root root'
+        → directory_at (first_names mounts.mounts) w ≡ Some t → PlaysRoot mounts (Some t) root' played
+        → PlaysOver mounts w after played
+    over_tree w t v d p =
+        let names : List (List ℕ) = first_names mounts.mounts in
+        let settled : after ≡ Some (put_subtree names p.0 (put_subtree names (lent Dir) w)) =
+        subst (λ (o : Option Shape). Settles names o (Some p.0) after) v.between_is
+        (subst (λ (o : Option Shape). Settles names v.between o after) p.1 v.settled) in
         (t, d, p.0, settled ∙ ap Some (put-put_subtree names p.0 (lent Dir) w), p.2)
 
-    by_directory : (o : Option Shape) → directory_at names w ≡ o → ComesFrom o root count what
-        → PlaysOver mounts names w world2 opening trace end
-    by_directory None d from = absurd from
-    by_directory (Some t) d from =
-        over_tree t d (subst (λ (o : Option Shape). PlaysRoot mounts o root1 opening trace end) from.0 p)
+    by_directory : (w : Shape) (o : Option Shape) (v : Visits (first_names mounts.mounts) (Some w) after root root')
+        → directory_at (first_names mounts.mounts) w ≡ o → ComesFrom o root v.count v.what
+        → PlaysOver mounts w after played
+    by_directory w None v d from = absurd from
+    by_directory w (Some t) v d from =
+        over_tree w t v d (subst (λ (o : Option Shape). PlaysRoot mounts o root' played) from.0 p)
+
+    by : (world : Option Shape) → Visits (first_names mounts.mounts) world after root root'
+        → PlaysIn mounts world after played
+    by None v =
+        subst (λ (o : Option Shape). Settles (first_names mounts.mounts) o root' after) v.between_is v.settled
+    by (Some w) v =
+        inner_plays played.end (Untouched w after played) (directory_at (first_names mounts.mounts) w ≡ None)
+        (PlaysOver mounts w after played) i
+        (by_directory w (directory_at (first_names mounts.mounts) w) v refl v.granted)
 
 pub inner_fault : (end : End) → IsInner end → end ≡ ends.HostFault → ⊥
 inner_fault end i e = subst (λ (x : End). IsInner x) e i

@@ -32,8 +32,7 @@ returns-in-Some-clause-plays g c =
     subst (λ (b : Bool). Execves b (told c.args.root.now) c.args.name.now (told w.new.root)
     (option_map told w.result.child) w.result.loaded.met w.result.loaded.answer) (sym long) w.ensures.walks in
     plays_back (first_is_too_long c.args.mounts.now.tasks) c.args.mounts.now c.args.name.now (told c.args.root.now)
-    (told w.new.root) (told c.in-Some.child) w.result.loaded.met w.result.loaded.answer (told c.take_back.new.self)
-    c.play_loaded-played.result.opening c.play_loaded-played.result.trace c.play_loaded-played.result.end
+    (told w.new.root) (told c.in-Some.child) w.result.loaded (told c.take_back.new.self) c.play_loaded-played.result
     (subst (λ (o : Option (Option Shape)). Execves (first_is_too_long c.args.mounts.now.tasks)
     (told c.args.root.now) c.args.name.now (told w.new.root) o w.result.loaded.met w.result.loaded.answer)
     (ap (option_map told) c.in-Some.is) done)
@@ -48,8 +47,7 @@ returns-in_default-clause-plays g c =
     subst (λ (b : Bool). Execves b (told c.args.root.now) c.args.name.now (told w.new.root)
     (option_map told w.result.child) w.result.loaded.met w.result.loaded.answer) (sym long) w.ensures.walks in
     plays_alone (first_is_too_long c.args.mounts.now.tasks) c.args.mounts.now c.args.name.now (told c.args.root.now)
-    (told w.new.root) w.result.loaded.met w.result.loaded.answer c.play_loaded-played.result.opening
-    c.play_loaded-played.result.trace c.play_loaded-played.result.end
+    (told w.new.root) w.result.loaded c.play_loaded-played.result
     (subst (λ (o : Option (Option Shape)). Execves (first_is_too_long c.args.mounts.now.tasks)
     (told c.args.root.now) c.args.name.now (told w.new.root) o w.result.loaded.met w.result.loaded.answer)
     (ap (option_map told) (not_some w.result.child c.in_default.not-Some)) done)
