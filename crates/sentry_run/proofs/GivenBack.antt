@@ -16,6 +16,8 @@ use Rattle.sn_errno.specs.declared.errno.Errno.{Errno}
 use Rattle.sn_errno.specs.declared.errno.Errno.TheVariants.{ENOENT, EACCES}
 use Rattle.mount_file.specs.declared.mounts.Mounts.{Mounts}
 use Rattle.mount_file.specs.declared.mounts.Mount.{Mount}
+use Rattle.mount_file.specs.declared.mounts.Program.{Program}
+use Rattle.kernel_model.specs.Arguments.{is_too_long}
 use Rattle.kernel_model.specs.FileTree.{owner_executes}
 use Rattle.kernel_model.specs.WalkedIn.{walked_in, walked_by}
 use Rattle.sentry_run.specs.declared.walk.Met.{Met}
@@ -26,8 +28,9 @@ use Rattle.sentry_run.specs.declared.walk.Loaded.{Loaded}
 use Rattle.sentry_run.specs.declared.play.Played.{Played}
 use Rattle.sentry_run.specs.declared.play.End.{End}
 use Rattle.sentry_run.specs.declared.play.End.TheVariants as ends
-use Rattle.sentry_run.specs.Walk.{faulted_by, Loads, LendsFrom, WalksTo, Unwalked, Execves}
-use Rattle.sentry_run.specs.Played.{Fits, FitsFor, given_back, Ended}
+use Rattle.sentry_run.specs.Walk.{faulted_by, Loads, Walked, LendsNothing, LendsFrom, WalksTo, Unwalked, Execves}
+use Rattle.sentry_run.proofs.Endings.{first_long}
+use Rattle.sentry_run.specs.Played.{Fits, FitsFor, given_back, Ended, first_is_too_long}
 use Rattle.sentry_run.specs.PlayedMachine.{IsInner}
 use Rattle.sn_base.specs.Faults.{HasCause}
 use Rattle.sentry_run.specs.Causes.{is_grant_failed}
@@ -61,37 +64,44 @@ loads_fit t name s child (RootFailed d) (Starts image) x e l h = absurd h
 loads_fit t name s child (RootFailed d) (Refuses errno) x e l h = absurd h
 loads_fit t name s child (RootFailed d) Memory x e l h = absurd h
 
-lends_fit : (t : Shape) (name : List ℕ) (root : Option Shape) (child : Option (Option Shape)) (met : Met)
-    (answer : Answer) → owner_executes t ≡ true → LendsFrom t name root child met answer → Fits t name met answer
-lends_fit t name root (Some child) met answer x h = loads_fit t name h.1 child met answer x h.2 h.3 h.4
-lends_fit t name root None Nothing (Refuses errno) x h =
+nothing_fits : (t : Shape) (name : List ℕ) (root : Option Shape) (met : Met) (answer : Answer)
+    → owner_executes t ≡ true → LendsNothing t name root met answer → Fits t name met answer
+nothing_fits t name root Nothing (Refuses errno) x h =
     subst (λ (e : Errno). walked_in t name ≡ record { draws = false; image = Err e }) (sym h.2)
     (missing_walk t name x h.1)
-lends_fit t name root None Nothing Memory x h = tt
-lends_fit t name root None Nothing (Starts image) x h = absurd h
-lends_fit t name root None (RootFailed d) (Refuses errno) x h = (h.0, h.1)
-lends_fit t name root None (RootFailed d) (Starts image) x h = absurd h
-lends_fit t name root None (RootFailed d) Memory x h = absurd h
-lends_fit t name root None Drawn (Refuses errno) x h = absurd h
-lends_fit t name root None Drawn (Starts image) x h = absurd h
-lends_fit t name root None Drawn Memory x h = absurd h
-lends_fit t name root None (ChildFailed d) (Refuses errno) x h = absurd h
-lends_fit t name root None (ChildFailed d) (Starts image) x h = absurd h
-lends_fit t name root None (ChildFailed d) Memory x h = absurd h
+nothing_fits t name root Nothing Memory x h = tt
+nothing_fits t name root Nothing (Starts image) x h = absurd h
+nothing_fits t name root (RootFailed d) (Refuses errno) x h = (h.0, h.1)
+nothing_fits t name root (RootFailed d) (Starts image) x h = absurd h
+nothing_fits t name root (RootFailed d) Memory x h = absurd h
+nothing_fits t name root Drawn (Refuses errno) x h = absurd h
+nothing_fits t name root Drawn (Starts image) x h = absurd h
+nothing_fits t name root Drawn Memory x h = absurd h
+nothing_fits t name root (ChildFailed d) (Refuses errno) x h = absurd h
+nothing_fits t name root (ChildFailed d) (Starts image) x h = absurd h
+nothing_fits t name root (ChildFailed d) Memory x h = absurd h
 
-pub walked_fits : (t : Shape) (name : List ℕ) (root : Option Shape) (child : Option (Option Shape)) (met : Met)
-    (answer : Answer) → WalksTo t name root child met answer → Fits t name met answer
-walked_fits t name root child met answer (inl h) = lends_fit t name root child met answer h.0 h.1
-walked_fits t name root child met answer (inr (inl h)) =
-    subst (λ (m : Met). Fits t name m answer) (sym h.3)
+lends_fit : (t : Shape) (name : List ℕ) (child : Option (Option Shape)) (w : Walked) → owner_executes t ≡ true
+    → LendsFrom t name child w → Fits t name w.met w.answer
+lends_fit t name (Some child) w x h = loads_fit t name h.1 child w.met w.answer x h.2 h.3 h.4
+lends_fit t name None w x h = nothing_fits t name w.root w.met w.answer x h
+
+pub walked_fits : (t : Shape) (name : List ℕ) (w : Walked) → WalksTo t name w → Fits t name w.met w.answer
+walked_fits t name w (inl h) = lends_fit t name w.child w h.0 h.1
+walked_fits t name w (inr (inl h)) =
+    subst (λ (m : Met). Fits t name m w.answer) (sym h.3)
     (subst (λ (a : Answer). Fits t name Nothing a) (sym h.4) (refused_walk t name h.0))
-walked_fits t name root child met answer (inr (inr (inl h))) =
-    subst (λ (m : Met). Fits t name m answer) (sym h.2) (subst (λ (a : Answer). Fits t name Nothing a) (sym h.3) tt)
-walked_fits t name root child met answer (inr (inr (inr h))) =
-    subst (λ (m : Met). Fits t name m answer) (sym h.4)
+walked_fits t name w (inr (inr (inl h))) =
+    subst (λ (m : Met). Fits t name m w.answer) (sym h.2) (subst (λ (a : Answer). Fits t name Nothing a) (sym h.3) tt)
+walked_fits t name w (inr (inr (inr h))) =
+    subst (λ (m : Met). Fits t name m w.answer) (sym h.4)
     (subst (λ (a : Answer). Fits t name (RootFailed h.0) a) (sym h.5) (refl, h.1))
 
 -- ---- the root, with the program's node in its place
+
+-- what a walk came to, from what it answered and what the nodes tell then
+abbrev pub walked_with : (root : Option Shape) → (child : Option (Option Shape)) → Loaded → Walked
+walked_with root child loaded = record { root = root; child = child; met = loaded.met; answer = loaded.answer }
 
 not_lent : (s : Shape) → none_lent s ≡ true → is_lent s ≡ false
 not_lent (directory mode faults entries) e = refl
@@ -141,26 +151,26 @@ loads_back t name s child (RootFailed d) answer after e h b = absurd (no_load an
     no_load (Refuses errno) h = h
     no_load Memory h = h
 
-pub can_take_back : (t : Shape) (name : List ℕ) (root : Option Shape) (child : Option Shape) (met : Met)
-    (answer : Answer) → WalksTo t name root (Some child) met answer → CanTakeBack name root
-can_take_back t name root child met answer (inl h) =
+pub can_take_back : (t : Shape) (name : List ℕ) (root child : Option Shape) (loaded : Loaded)
+    → WalksTo t name (walked_with root (Some child) loaded) → CanTakeBack name root
+can_take_back t name root child loaded (inl h) =
     subst (λ (o : Option Shape). CanTakeBack name o) (sym h.1.0) (lent_there t name h.1.1 h.1.2)
-can_take_back t name root child met answer (inr (inl h)) = absurd (let e = h.2 in cc)
-can_take_back t name root child met answer (inr (inr (inl h))) = absurd (let e = h.1 in cc)
-can_take_back t name root child met answer (inr (inr (inr h))) = absurd (let e = h.3 in cc)
+can_take_back t name root child loaded (inr (inl h)) = absurd (let e = h.2 in cc)
+can_take_back t name root child loaded (inr (inr (inl h))) = absurd (let e = h.1 in cc)
+can_take_back t name root child loaded (inr (inr (inr h))) = absurd (let e = h.3 in cc)
 
-pub walked_back : (t : Shape) (name : List ℕ) (root : Option Shape) (child : Option Shape) (met : Met)
-    (answer : Answer) (after : Option Shape) → WalksTo t name root (Some child) met answer
-    → TakesBack name root child after → after ≡ Some (given_back t name met)
-walked_back t name root child met answer after (inl h) b =
-    loads_back t name h.1.1 child met answer after h.1.2 h.1.4
+pub walked_back : (t : Shape) (name : List ℕ) (root child : Option Shape) (loaded : Loaded) (after : Option Shape)
+    → WalksTo t name (walked_with root (Some child) loaded) → TakesBack name root child after
+    → after ≡ Some (given_back t name loaded.met)
+walked_back t name root child loaded after (inl h) b =
+    loads_back t name h.1.1 child loaded.met loaded.answer after h.1.2 h.1.4
     (subst (λ (o : Option Shape). TakesBack name o child after) h.1.0 b)
-walked_back t name root child met answer after (inr (inl h)) b = absurd (let e = h.2 in cc)
-walked_back t name root child met answer after (inr (inr (inl h))) b = absurd (let e = h.1 in cc)
-walked_back t name root child met answer after (inr (inr (inr h))) b = absurd (let e = h.3 in cc)
+walked_back t name root child loaded after (inr (inl h)) b = absurd (let e = h.2 in cc)
+walked_back t name root child loaded after (inr (inr (inl h))) b = absurd (let e = h.1 in cc)
+walked_back t name root child loaded after (inr (inr (inr h))) b = absurd (let e = h.3 in cc)
 
 lends_alone : (t : Shape) (name : List ℕ) (root : Option Shape) (met : Met) (answer : Answer)
-    → LendsFrom t name root None met answer → root ≡ Some (given_back t name met)
+    → LendsNothing t name root met answer → root ≡ Some (given_back t name met)
 lends_alone t name root Nothing (Refuses errno) h = h.0
 lends_alone t name root Nothing Memory h = h
 lends_alone t name root Nothing (Starts image) h = absurd h
@@ -174,12 +184,12 @@ lends_alone t name root (ChildFailed d) (Refuses errno) h = absurd h
 lends_alone t name root (ChildFailed d) (Starts image) h = absurd h
 lends_alone t name root (ChildFailed d) Memory h = absurd h
 
-pub walked_alone : (t : Shape) (name : List ℕ) (root : Option Shape) (met : Met) (answer : Answer)
-    → WalksTo t name root None met answer → root ≡ Some (given_back t name met)
-walked_alone t name root met answer (inl h) = lends_alone t name root met answer h.1
-walked_alone t name root met answer (inr (inl h)) = h.1 ∙ ap (λ m. Some (given_back t name m)) (sym h.3)
-walked_alone t name root met answer (inr (inr (inl h))) = h.0 ∙ ap (λ m. Some (given_back t name m)) (sym h.2)
-walked_alone t name root met answer (inr (inr (inr h))) = h.2 ∙ ap (λ m. Some (given_back t name m)) (sym h.4)
+pub walked_alone : (t : Shape) (name : List ℕ) (root : Option Shape) (loaded : Loaded)
+    → WalksTo t name (walked_with root None loaded) → root ≡ Some (given_back t name loaded.met)
+walked_alone t name root loaded (inl h) = lends_alone t name root loaded.met loaded.answer h.1
+walked_alone t name root loaded (inr (inl h)) = h.1 ∙ ap (λ m. Some (given_back t name m)) (sym h.3)
+walked_alone t name root loaded (inr (inr (inl h))) = h.0 ∙ ap (λ m. Some (given_back t name m)) (sym h.2)
+walked_alone t name root loaded (inr (inr (inr h))) = h.2 ∙ ap (λ m. Some (given_back t name m)) (sym h.4)
 
 -- ---- a run over a root, where it tells
 
@@ -190,27 +200,26 @@ EndsForAll is_long mounts name loaded played =
     → Ended mounts t (given_back t name loaded.met) played.opening played.trace played.end
 
 -- nothing that was not walked to has a child
-unwalked_child : (told root : Option Shape) (child : Option Shape) (met : Met) (answer : Answer)
-    → Unwalked told root (Some child) met answer → ⊥
-unwalked_child told root child met answer u = let e = u.2 in cc
+unwalked_child : (told root child : Option Shape) (loaded : Loaded)
+    → Unwalked told (walked_with root (Some child) loaded) → ⊥
+unwalked_child told root child loaded u = let e = u.2 in cc
 
-pub plays_back : (b : Bool) (mounts : Mounts) (name : List ℕ) (told root : Option Shape) (child : Option Shape)
-    (loaded : Loaded) (after : Option Shape) (played : Played)
-    → Execves b told name root (Some child) loaded.met loaded.answer → TakesBack name root child after
-    → EndsForAll b mounts name loaded played → PlaysRoot mounts told after played
+pub plays_back : (b : Bool) (mounts : Mounts) (name : List ℕ) (told root child : Option Shape) (loaded : Loaded)
+    (after : Option Shape) (played : Played) → Execves b told name (walked_with root (Some child) loaded)
+    → TakesBack name root child after → EndsForAll b mounts name loaded played → PlaysRoot mounts told after played
 plays_back true mounts name told root child loaded after played w b ends =
-    absurd (unwalked_child told root child loaded.met loaded.answer w)
+    absurd (unwalked_child told root child loaded w)
 plays_back false mounts name None root child loaded after played w b ends =
     subst (λ (o : Option Shape). TakesBack name o child after) w b
 plays_back false mounts name (Some t) root child loaded after played w b ends = (
   given_back t name loaded.met,
-  walked_back t name root child loaded.met loaded.answer after w.1 b,
-  ends t w.0 (walked_fits t name root (Some child) loaded.met loaded.answer w.1),
+  walked_back t name root child loaded after w.1 b,
+  ends t w.0 (walked_fits t name (walked_with root (Some child) loaded) w.1),
 )
 
 pub plays_alone : (b : Bool) (mounts : Mounts) (name : List ℕ) (told root : Option Shape) (loaded : Loaded)
-    (played : Played) → Execves b told name root None loaded.met loaded.answer
-    → EndsForAll b mounts name loaded played → PlaysRoot mounts told root played
+    (played : Played) → Execves b told name (walked_with root None loaded) → EndsForAll b mounts name loaded played
+    → PlaysRoot mounts told root played
 plays_alone true mounts name None root loaded played w ends = w.1
 plays_alone true mounts name (Some t) root loaded played w ends = (
   t,
@@ -221,15 +230,24 @@ plays_alone true mounts name (Some t) root loaded played w ends = (
 plays_alone false mounts name None root loaded played w ends = w
 plays_alone false mounts name (Some t) root loaded played w ends = (
   given_back t name loaded.met,
-  walked_alone t name root loaded.met loaded.answer w.1,
-  ends t w.0 (walked_fits t name root None loaded.met loaded.answer w.1),
+  walked_alone t name root loaded w.1,
+  ends t w.0 (walked_fits t name (walked_with root None loaded) w.1),
 )
 
-pub takes_back : (b : Bool) (name : List ℕ) (told root : Option Shape) (child : Option Shape) (met : Met)
-    (answer : Answer) → Execves b told name root (Some child) met answer → CanTakeBack name root
-takes_back true name told root child met answer w = absurd (unwalked_child told root child met answer w)
-takes_back false name None root child met answer w = subst (λ (o : Option Shape). CanTakeBack name o) (sym w) tt
-takes_back false name (Some t) root child met answer w = can_take_back t name root child met answer w.1
+pub takes_back : (b : Bool) (name : List ℕ) (told root child : Option Shape) (loaded : Loaded)
+    → Execves b told name (walked_with root (Some child) loaded) → CanTakeBack name root
+takes_back true name told root child loaded w = absurd (unwalked_child told root child loaded w)
+takes_back false name None root child loaded w = subst (λ (o : Option Shape). CanTakeBack name o) (sym w) tt
+takes_back false name (Some t) root child loaded w = can_take_back t name root child loaded w.1
+
+-- what a walk came to, by the strings of the first task, and by what its child is
+pub as_lent : (ps : List Program) (p : Program) (told : Option Shape) (name : List ℕ) (root : Option Shape)
+    (child child' : Option (Option Shape)) (loaded : Loaded) → slice_get ps 0 ≡ Some p → child ≡ child'
+    → Execves (is_too_long p.args p.env) told name (walked_with root child loaded)
+    → Execves (first_is_too_long ps) told name (walked_with root child' loaded)
+as_lent ps p told name root child child' loaded first e w =
+    subst (λ (o : Option (Option Shape)). Execves (first_is_too_long ps) told name (walked_with root o loaded)) e
+    (subst (λ (b : Bool). Execves b told name (walked_with root child loaded)) (sym (first_long ps p first)) w)
 
 -- an option that is no `Some`
 pub not_some : {A : Type 0} (o : Option A) → ((x : A) → o ≡ Some x → ⊥) → o ≡ None
