@@ -1,18 +1,16 @@
 -- The clauses of a run on what failed: where a count rose, the answer says so, and nothing else.
-use Rattle.std.proofs.Common.{◌≡◌, ◌⊎◌, inl, inr, ℕ, ◌<◌, Bool, true, false, List, take, refl, ap, sym, ◌∙◌, subst}
+use Rattle.std.proofs.Common.{◌≡◌, inl, inr, ℕ, ◌<◌, Bool, true, false, List, take, refl, ap, sym, ◌∙◌, subst}
 use Rattle.std.proofs.Common.{length, arith}
 use Rattle.std.specs.Prelude.{Option, Some, None, IsSomeAnd, IfSome, option_map, option_and_then}
 use Rattle.std.proofs.lemmas.Option.{same_Some}
 use Rattle.host_node.specs.Tree.{Shape}
 use Rattle.sn_base.specs.Faults.{HasCause}
 use Rattle.sn_edge.specs.Shelf.{Shelf, content_at}
-use Rattle.sn_edge.specs.Taken.{with_taken}
 use Rattle.kernel_model.specs.declared.kernel.Kernel.{Kernel}
 use Rattle.kernel_model.specs.Opening.{Begun, Refuses, Misfits}
 use Rattle.kernel_model.specs.History.{any_live, replay}
 use Rattle.kernel_model.specs.Printed.{printed}
 use Rattle.kernel_model.specs.Words.{Command}
-use Rattle.mount_file.specs.declared.mounts.Mounts.{Mounts}
 use Rattle.mount_file.specs.MountFile.{IsMountFile, IsFaultOf}
 use Rattle.sentry_run.specs.declared.outcome.Fault.{Fault}
 use Rattle.sentry_run.specs.declared.outcome.Fault.TheVariants as faults
@@ -25,7 +23,7 @@ use Rattle.sentry_run.specs.Outcome.{started_kernel, state_after, text_of, asks_
 use Rattle.sentry_run.specs.Sides.{Side, Sides}
 use Rattle.sentry_run.proofs.Courses.{Session, Output, text_with, state_left, Began, state_of}
 use Rattle.sentry_run.proofs.RunFacts.{ToldFacts}
-use Rattle.sentry_run.proofs.Ways.{Call, session, output, Over, Way, Misused, Unread, Over_file}
+use Rattle.sentry_run.proofs.Ways.{Call, session, output, Way, Misused, Unread, Over_file}
 use Rattle.sentry_run.proofs.Clauses.{told_as, where_read}
 use Rattle.sentry_run.proofs.ExactClauses.{told_file, unopened}
 

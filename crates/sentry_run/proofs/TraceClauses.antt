@@ -1,5 +1,5 @@
 -- The clauses of a run on its trace, its text, its numbers and the world, each from the way that it went.
-use Rattle.std.proofs.Common.{◌≡◌, ◌⊎◌, ℕ, ◌+◌, ◌-◌, zero, suc, ◌<◌, ◌≤◌, Bool, true, false, List, [], ◌++◌, length}
+use Rattle.std.proofs.Common.{◌≡◌, ◌⊎◌, ℕ, ◌+◌, ◌-◌, zero, suc, ◌<◌, ◌≤◌, true, false, List, [], ◌++◌, length}
 use Rattle.std.proofs.Common.{refl, ap, sym, ◌∙◌, subst, arith}
 use Rattle.std.specs.Prelude.{Option, Some, None, IfSome, All, slice_index_or}
 use Rattle.std.specs.List.{flat_map}
@@ -16,7 +16,6 @@ use Rattle.kernel_model.specs.History.{any_live}
 use Rattle.kernel_model.specs.Numbers.{count_up}
 use Rattle.kernel_model.specs.Numbers.{IsGapless, HasAllBelow, numbers_opened, numbers_in, numbers_drawn, left_fresh}
 use Rattle.kernel_model.specs.Printed.{printed}
-use Rattle.kernel_model.specs.Words.{Command}
 use Rattle.sentry_run.specs.declared.outcome.Fault.{Fault}
 use Rattle.sentry_run.specs.declared.outcome.Fault.TheVariants as faults
 use Rattle.sentry_run.specs.declared.outcome.Outcome.{Outcome}

@@ -189,8 +189,12 @@ fn root_failed<N: HostNode>(before: u64, root: &N) -> Walk<N>
 fn lend_program<N: HostNode>(alloc: Global, root: &mut N, routes: &Routes, name: &Name) -> Walk<N>
     requires { CanLend name.now (N.told root.old) }
     ensures { LendsTo (N.told root.old) name.now
-        (record { root = N.told root.new; child = option_map N.told result.child; met = result.loaded.met;
-        answer = result.loaded.answer }) }
+        (record {
+          root = N.told root.new;
+          child = option_map N.told result.child;
+          met = result.loaded.met;
+          answer = result.loaded.answer;
+        }) }
 {
     let before = root.faults();
     match root.lend(&routes.root, name) {
@@ -233,8 +237,12 @@ fn walk_to_program<N: HostNode>(alloc: Global, root: &mut N, name: &Name, before
     requires lends { CanLend name.now (N.told root.old) }
     requires before { before ≡ N.count root.old }
     ensures { Walks (N.told root.old) name.now
-        (record { root = N.told root.new; child = option_map N.told result.child; met = result.loaded.met;
-        answer = result.loaded.answer }) }
+        (record {
+          root = N.told root.new;
+          child = option_map N.told result.child;
+          met = result.loaded.met;
+          answer = result.loaded.answer;
+        }) }
 {
     let routes = match make_routes(alloc, name) {
         Ok(routes) => routes,
@@ -257,8 +265,12 @@ fn walk_to_program<N: HostNode>(alloc: Global, root: &mut N, name: &Name, before
 pub fn execve<N: HostNode>(alloc: Global, root: &mut N, program: &Program, name: &Name) -> Walk<N>
     requires { CanLend name.now (N.told root.old) }
     ensures walks { Execves (is_too_long program.now.args program.now.env) (N.told root.old) name.now
-        (record { root = N.told root.new; child = option_map N.told result.child; met = result.loaded.met;
-        answer = result.loaded.answer }) }
+        (record {
+          root = N.told root.new;
+          child = option_map N.told result.child;
+          met = result.loaded.met;
+          answer = result.loaded.answer;
+        }) }
     ensures long { is_too_long program.now.args program.now.env ≡ true →
         result.loaded.answer ≡ Answer.Refuses E2BIG }
 {

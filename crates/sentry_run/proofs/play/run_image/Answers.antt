@@ -1,5 +1,5 @@
 -- A machine that began an image runs from the kernel that opens with that image.
-use Rattle.std.proofs.Common.{ℕ, List, [], sym, subst}
+use Rattle.std.proofs.Common.{ℕ, List, sym, subst}
 use Rattle.elf_image.specs.declared.image.Image.{Image}
 use Rattle.mount_file.specs.declared.mounts.Program.{Program}
 use Rattle.std.specs.FinMap as map
