@@ -28,7 +28,8 @@ use Rattle.sentry_run.specs.declared.walk.Loaded.{Loaded}
 use Rattle.sentry_run.specs.declared.play.Played.{Played}
 use Rattle.sentry_run.specs.declared.play.End.{End}
 use Rattle.sentry_run.specs.declared.play.End.TheVariants as ends
-use Rattle.sentry_run.specs.Walk.{faulted_by, Loads, Walked, LendsNothing, LendsFrom, WalksTo, Unwalked, Execves}
+use Rattle.sentry_run.specs.Walk.{faulted_by, Loads, Walked, came_to, LendsNothing, LendsFrom, WalksTo, Unwalked}
+use Rattle.sentry_run.specs.Walk.{Execves}
 use Rattle.sentry_run.proofs.Endings.{first_long}
 use Rattle.sentry_run.specs.Played.{Fits, FitsFor, given_back, Ended, first_is_too_long}
 use Rattle.sentry_run.specs.PlayedMachine.{IsInner}
@@ -101,7 +102,7 @@ walked_fits t name w (inr (inr (inr h))) =
 
 -- what a walk came to, from what it answered and what the nodes tell then
 abbrev pub walked_with : (root : Option Shape) → (child : Option (Option Shape)) → Loaded → Walked
-walked_with root child loaded = record { root = root; child = child; met = loaded.met; answer = loaded.answer }
+walked_with root child loaded = came_to root child loaded.met loaded.answer
 
 not_lent : (s : Shape) → none_lent s ≡ true → is_lent s ≡ false
 not_lent (directory mode faults entries) e = refl

@@ -11,7 +11,7 @@ use Rattle.sentry_run.specs.declared.walk.Met.{Met}
 use Rattle.sentry_run.specs.declared.walk.Met.TheVariants.{Drawn}
 use Rattle.sentry_run.specs.declared.walk.Answer.{Answer}
 use Rattle.sentry_run.specs.declared.walk.Answer.TheVariants.{Refuses}
-use Rattle.sentry_run.specs.Walk.{Refusal, IsHere, LoadsWhere, Walked, LendsTo, Walks}
+use Rattle.sentry_run.specs.Walk.{Refusal, IsHere, LoadsWhere, Walked, came_to, LendsTo, Walks}
 
 -- what a node tells after a call that did not fail is what it told
 same_told : (s : Shape) (count : ℕ) → faults_of s ≡ count → with_faults count s ≡ s
@@ -33,12 +33,12 @@ pub lends_child : (told root' child child' : Option Shape) (name : List ℕ) (co
     (answer : Answer)
     → TellsLent name told child count what → root' ≡ option_map (lend_child name) told
     → LoadsWhere child child' met answer
-    → LendsTo told name (record { root = root'; child = Some child'; met = met; answer = answer })
+    → LendsTo told name (came_to root' (Some child') met answer)
 lends_child None root' child child' name count what met answer lent r loads = r
 lends_child (Some t) root' child child' name count what met answer lent r loads = from_child (child_of name t) refl lent
   where
     from_child : (o : Option Shape) → child_of name t ≡ o → ComesFrom o child count what
-        → LendsTo (Some t) name (record { root = root'; child = Some child'; met = met; answer = answer })
+        → LendsTo (Some t) name (came_to root' (Some child') met answer)
     from_child None e from = absurd from
     from_child (Some s) e from =
         let l : LoadsWhere (Some s) child' met answer =

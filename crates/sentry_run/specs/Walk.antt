@@ -118,6 +118,11 @@ pub record Walked : Type 0 where
   pub met : Met
   pub answer : Answer
 
+-- a walk that came to this: what the nodes tell then, what was met, and what was answered
+-- profile
+abbrev pub came_to : (root : Option Shape) → (child : Option (Option Shape)) → Met → Answer → Walked
+came_to root child met answer = record { root = root; child = child; met = met; answer = answer }
+
 -- what a look for a program's node gave that was not lent, from what the root told before, and what it tells then
 -- path_resolution(7); execve(2), ENOENT
 abbrev pub LendsNothing : Shape → List ℕ → (root : Option Shape) → Met → Answer → Type 0

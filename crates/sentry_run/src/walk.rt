@@ -7,7 +7,8 @@ ghost use Rattle.sn_base.specs.Faults.{Rose, HasCause};
 ghost use Rattle.host_node.specs.Told.{CanLend, kept};
 ghost use Rattle.sn_base.specs.Sums.{capped};
 ghost use Rattle.sentry_run.specs.Walk.{is_roomy, Refusal, FileRefusal, Classified, given_by, IsHere, IsFileOf};
-ghost use Rattle.sentry_run.specs.Walk.{ReadsFile, FailedBy, RootFailedBy, LoadsWhere, LendsTo, Walks, Execves};
+ghost use Rattle.sentry_run.specs.Walk.{ReadsFile, FailedBy, RootFailedBy, LoadsWhere, came_to, LendsTo, Walks};
+ghost use Rattle.sentry_run.specs.Walk.{Execves};
 ghost use Rattle.kernel_model.specs.Arguments.{is_too_long};
 
 use elf_image::Image;
@@ -189,12 +190,7 @@ fn root_failed<N: HostNode>(before: u64, root: &N) -> Walk<N>
 fn lend_program<N: HostNode>(alloc: Global, root: &mut N, routes: &Routes, name: &Name) -> Walk<N>
     requires { CanLend name.now (N.told root.old) }
     ensures { LendsTo (N.told root.old) name.now
-        (record {
-          root = N.told root.new;
-          child = option_map N.told result.child;
-          met = result.loaded.met;
-          answer = result.loaded.answer;
-        }) }
+        (came_to (N.told root.new) (option_map N.told result.child) result.loaded.met result.loaded.answer) }
 {
     let before = root.faults();
     match root.lend(&routes.root, name) {
@@ -237,12 +233,7 @@ fn walk_to_program<N: HostNode>(alloc: Global, root: &mut N, name: &Name, before
     requires lends { CanLend name.now (N.told root.old) }
     requires before { before ≡ N.count root.old }
     ensures { Walks (N.told root.old) name.now
-        (record {
-          root = N.told root.new;
-          child = option_map N.told result.child;
-          met = result.loaded.met;
-          answer = result.loaded.answer;
-        }) }
+        (came_to (N.told root.new) (option_map N.told result.child) result.loaded.met result.loaded.answer) }
 {
     let routes = match make_routes(alloc, name) {
         Ok(routes) => routes,
@@ -265,12 +256,7 @@ fn walk_to_program<N: HostNode>(alloc: Global, root: &mut N, name: &Name, before
 pub fn execve<N: HostNode>(alloc: Global, root: &mut N, program: &Program, name: &Name) -> Walk<N>
     requires { CanLend name.now (N.told root.old) }
     ensures walks { Execves (is_too_long program.now.args program.now.env) (N.told root.old) name.now
-        (record {
-          root = N.told root.new;
-          child = option_map N.told result.child;
-          met = result.loaded.met;
-          answer = result.loaded.answer;
-        }) }
+        (came_to (N.told root.new) (option_map N.told result.child) result.loaded.met result.loaded.answer) }
     ensures long { is_too_long program.now.args program.now.env ≡ true →
         result.loaded.answer ≡ Answer.Refuses E2BIG }
 {
