@@ -1,7 +1,7 @@
 -- How the last byte tells whether bytes end with a newline.
 use Rattle.std.proofs.Common.{◌≡◌, ℕ, suc, ◌-◌, List, [], ◌∷◌, length, refl, true, ◌==◌, arith}
 use Rattle.std.specs.Prelude.{Some, None, slice_get}
-use Rattle.kernel_model.specs.Printed.{is_closed}
+use Rattle.kernel_model.specs.printed.Printed.{is_closed}
 
 one_less : (n : ℕ) → suc (suc n) - 1 ≡ suc (suc n - 1)
 one_less n = omega arith

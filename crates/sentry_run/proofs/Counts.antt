@@ -5,7 +5,7 @@ use Rattle.std.specs.Option.{option_map_or}
 use Rattle.std.specs.Str.{bytes_eq}
 use Rattle.std.proofs.lemmas.Option.{same_Some}
 use Rattle.host_node.specs.Tree.{Shape, Children, directory, file, link, lent, no_children, child, faults_of}
-use Rattle.host_node.specs.Tree.{find_child, replace_child, put_child, child_of, with_child, lend_child, kind_of}
+use Rattle.host_node.specs.Tree.{find_child, replace_child, child_of, with_child, lend_child, kind_of}
 use Rattle.host_node.specs.Routes.{subtree, put_subtree}
 use Rattle.host_node.proofs.TreeLemmas.{put-replaces, lend_child_found, with_child_twice}
 use Rattle.sentry_run.specs.declared.walk.Met.{Met}
@@ -13,7 +13,7 @@ use Rattle.sentry_run.specs.declared.walk.Met.TheVariants.{Nothing, RootFailed, 
 use Rattle.sentry_run.specs.declared.walk.Answer.{Answer}
 use Rattle.sentry_run.specs.declared.walk.Answer.TheVariants.{Starts, Refuses, Memory}
 use Rattle.sentry_run.specs.Walk.{faulted_by}
-use Rattle.sentry_run.specs.Played.{Fits, FitsFor, given_back}
+use Rattle.sentry_run.specs.Played.{FitsFor, given_back}
 use Rattle.sentry_run.specs.Counts.{HasRisen, HaveRisen}
 
 mutual

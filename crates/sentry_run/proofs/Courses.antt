@@ -1,33 +1,35 @@
 -- How a run over one granted folder goes, in the words of the clauses of a run.
-use Rattle.std.proofs.Common.{◌≡◌, ◌⊎◌, inl, inr, ℕ, ◌<◌, Bool, true, false, List, [], ◌∷◌, ◌++◌, length, refl, ap, sym, ◌∙◌}
-use Rattle.std.proofs.Common.{subst}
-use Rattle.std.specs.Prelude.{Option, Some, None, take, if◌then◌else◌, nat_eq, option_and_then}
+use Rattle.std.proofs.Common.{◌≡◌, ◌⊎◌, inl, inr, ℕ, Bool, true, false, List, [], ◌∷◌, ◌++◌, length, refl, ap, sym}
+use Rattle.std.proofs.Common.{◌∙◌, subst}
+use Rattle.std.specs.Prelude.{Option, Some, None, if◌then◌else◌, nat_eq, option_and_then}
 use Rattle.std.proofs.lemmas.Bool.{eqb-true, and_parts}
 use Rattle.std.specs.FinMap as map
 use Rattle.host_node.specs.Tree.{Shape, lent}
 use Rattle.host_node.specs.declared.kind.Kind.TheVariants.{Dir}
 use Rattle.host_node.specs.Routes.{directory_at, put_subtree}
 use Rattle.host_node.proofs.RouteLemmas.{put-put_subtree, subtree-directory_at}
-use Rattle.sn_edge.specs.Taken.{with_taken}
 use Rattle.sn_errno.specs.declared.errno.Errno.{Errno}
 use Rattle.kernel_model.specs.declared.entry.Entry.{Entry}
 use Rattle.kernel_model.specs.declared.kernel.Kernel.{Kernel}
 use Rattle.mount_file.specs.declared.mounts.Mounts.{Mounts}
 use Rattle.mount_file.specs.declared.mounts.Mount.{Mount}
 use Rattle.kernel_model.specs.declared.opening.Opening.{Opening}
-use Rattle.kernel_model.specs.Numbers.{count_up}
-use Rattle.kernel_model.specs.Opening.{Opens, Refuses, Misfits, opening_of, is_of, tasks_begun, bare, same_list}
-use Rattle.kernel_model.specs.History.{replay, each_whole, any_live}
-use Rattle.kernel_model.specs.Printed.{printed, console_text, groups_text, trace_text}
-use Rattle.kernel_model.specs.Settled.{tree_now, settled, outside, with_grant}
+use Rattle.kernel_model.specs.files.Numbers.{count_up}
+use Rattle.kernel_model.specs.opening.Opening.{Opens, Refuses, Misfits, opening_of, is_of, tasks_begun, bare, same_list}
+use Rattle.kernel_model.specs.entries.History.{replay, each_whole, any_live}
+use Rattle.kernel_model.specs.printed.Printed.{printed, console_text, groups_text, trace_text}
+use Rattle.kernel_model.specs.files.Settled.{tree_now, settled, outside, with_grant}
 use Rattle.sentry_run.specs.declared.outcome.Fault.{Fault}
 use Rattle.sentry_run.specs.declared.outcome.Fault.TheVariants as faults
+use Rattle.sentry_run.specs.declared.outcome.Outcome.{Outcome}
 use Rattle.sentry_run.specs.declared.play.End.{End}
 use Rattle.sentry_run.specs.declared.play.End.TheVariants as ends
 use Rattle.sentry_run.specs.Played.{no_left, SameText, Runs, Failed, nothing_opened}
 use Rattle.sentry_run.specs.Granted.{Plays, first_names}
 use Rattle.sentry_run.specs.Concluded.{Writes, Concludes}
 use Rattle.sentry_run.specs.Counts.{HasRisen}
+use Rattle.sentry_run.specs.Ran.{played_by}
+use Rattle.sentry_run.specs.Sides.{Side}
 use Rattle.sentry_run.proofs.Counts.{risen_subtree}
 use Rattle.sentry_run.specs.Outcome.{granted, begun, begun_over, started_kernel, state_after, world_after}
 
@@ -91,61 +93,91 @@ outside_one (m ∷ n ∷ ms) s world e = cc
 
 -- ---- what a run left
 
+-- a run over an accepted mount file, where the host tells its world: that before it and what is told then
+pub record Session : Type 0 where
+  pub mounts : Mounts
+  pub world : Shape
+  pub after : Option Shape
+  pub outcome : Outcome
+
+-- the text of a run: whether the trace is asked for, and the sink before and after it
+pub record Output : Type 0 where
+  pub flag : Bool
+  pub before : Side (List ℕ)
+  pub after : Side (List ℕ)
+
+-- the text of a state behind a run's trace, and the state that this trace leaves
+abbrev pub text_with : Session → Output → Kernel → List ℕ
+text_with x p state = printed state x.outcome.trace p.flag
+
+abbrev pub state_left : Session → Option Kernel
+state_left x = state_after x.mounts x.world x.outcome.opening x.outcome.trace
+
+-- the world that a state leaves with nothing left over, and the world with a tree in the place of the granted folder
+abbrev pub world_left : Session → Kernel → Shape
+world_left x state = world_after x.mounts x.outcome.opening no_left state x.world
+
+abbrev pub world_with : Session → Shape → Shape
+world_with x tree = put_subtree (first_names x.mounts.mounts) tree x.world
+
 -- a task began: the trace is a history that leaves this state, and the world has the state's tree
-pub record Began (mounts : Mounts) (world : Shape) (after : Option Shape) (opening : Opening) (trace : List Entry)
-    (state : Kernel) : Type 0 where
+pub record Began (x : Session) (state : Kernel) : Type 0 where
   pub start : Kernel
-  pub opens : begun mounts world opening ≡ Opens start
-  pub replayed : replay start trace ≡ Some state
-  pub whole : each_whole start trace ≡ true
+  pub opens : begun x.mounts x.world x.outcome.opening ≡ Opens start
+  pub replayed : replay start x.outcome.trace ≡ Some state
+  pub whole : each_whole start x.outcome.trace ≡ true
   pub tree : Shape
-  pub put : after ≡ Some (put_subtree (first_names mounts.mounts) tree world)
-  pub settles : after ≡ Some (world_after mounts opening no_left state world)
+  pub put : x.after ≡ Some (world_with x tree)
+  pub settles : x.after ≡ Some (world_left x state)
 
-begun_one : (m : Mounts) (world t : Shape) (o : Opening) → length m.mounts ≡ 1
-    → directory_at (first_names m.mounts) world ≡ Some t → begun m world o ≡ opening_of m (t ∷ []) o
-begun_one m world t o e h = ap (begun_over m o) (granted_one m.mounts world t e h)
+begun_one : (x : Session) (t : Shape) → length x.mounts.mounts ≡ 1
+    → directory_at (first_names x.mounts.mounts) x.world ≡ Some t
+    → begun x.mounts x.world x.outcome.opening ≡ opening_of x.mounts (t ∷ []) x.outcome.opening
+begun_one x t e h = ap (begun_over x.mounts x.outcome.opening) (granted_one x.mounts.mounts x.world t e h)
 
-began : (m : Mounts) (world t tree : Shape) (after : Option Shape) (o : Opening) (trace : List Entry) (state : Kernel)
-    → length m.mounts ≡ 1 → directory_at (first_names m.mounts) world ≡ Some t
-    → after ≡ Some (put_subtree (first_names m.mounts) tree world) → Runs m t tree o trace state
-    → Began m world after o trace state
-began m world t tree after o trace state e h put runs = record {
+-- the world with the tree of a state's root is the world that this state leaves
+settles_as : (x : Session) (tree : Shape) (state : Kernel) → length x.mounts.mounts ≡ 1
+    → is_of x.mounts x.outcome.opening ≡ true → tree_now state no_left 1 ≡ Some tree
+    → x.after ≡ Some (world_with x tree) → x.after ≡ Some (world_left x state)
+settles_as x tree state e fits tells put =
+    put
+    ∙ ap Some (sym (settled_one x.mounts.mounts x.outcome.opening.roots (tree_now state no_left) tree x.world e
+    (root_numbers x.mounts x.outcome.opening e fits) tells))
+
+began : (x : Session) (t tree : Shape) (state : Kernel) → length x.mounts.mounts ≡ 1
+    → directory_at (first_names x.mounts.mounts) x.world ≡ Some t → x.after ≡ Some (world_with x tree)
+    → Runs x.mounts t tree x.outcome.opening x.outcome.trace state → Began x state
+began x t tree state e h put runs = record {
   start = runs.start;
-  opens = begun_one m world t o e h ∙ runs.opens;
+  opens = begun_one x t e h ∙ runs.opens;
   replayed = runs.replayed;
   whole = runs.whole;
   tree = tree;
   put = put;
   settles =
-      put
-      ∙ ap Some (sym (settled_one m.mounts o.roots (tree_now state no_left) tree world e
-      (root_numbers m o e (opens_fits m (t ∷ []) o runs.start runs.opens)) runs.settles));
+      settles_as x tree state e (opens_fits x.mounts (t ∷ []) x.outcome.opening runs.start runs.opens)
+      runs.settles put;
 }
 
-pub state_of : (m : Mounts) (world : Shape) (after : Option Shape) (o : Opening) (trace : List Entry) (state : Kernel)
-    → Began m world after o trace state → state_after m world o trace ≡ Some state
-state_of m world after o trace state b =
-    ap (λ s. option_and_then (λ (k : Kernel). replay k trace) (started_kernel s)) b.opens ∙ b.replayed
+pub state_of : (x : Session) (state : Kernel) → Began x state → state_left x ≡ Some state
+state_of x state b =
+    ap (λ s. option_and_then (λ (k : Kernel). replay k x.outcome.trace) (started_kernel s)) b.opens ∙ b.replayed
 
 -- the opening execve answered an error
-pub record Refused (mounts : Mounts) (world : Shape) (after : Option Shape) (opening : Opening)
-    (errno : Errno) : Type 0 where
+pub record Refused (x : Session) (errno : Errno) : Type 0 where
   pub left : Kernel
-  pub refuses : begun mounts world opening ≡ Refuses left 1 errno
-  pub settles : after ≡ Some (world_after mounts opening no_left left world)
+  pub refuses : begun x.mounts x.world x.outcome.opening ≡ Refuses left 1 errno
+  pub settles : x.after ≡ Some (world_left x left)
 
-refused : (m : Mounts) (world t tree : Shape) (after : Option Shape) (o : Opening) (errno : Errno) → length m.mounts ≡ 1
-    → directory_at (first_names m.mounts) world ≡ Some t
-    → after ≡ Some (put_subtree (first_names m.mounts) tree world) → Failed m t tree o errno
-    → Refused m world after o errno
-refused m world t tree after o errno e h put failed = record {
+refused : (x : Session) (t tree : Shape) (errno : Errno) → length x.mounts.mounts ≡ 1
+    → directory_at (first_names x.mounts.mounts) x.world ≡ Some t → x.after ≡ Some (world_with x tree)
+    → Failed x.mounts t tree x.outcome.opening errno → Refused x errno
+refused x t tree errno e h put failed = record {
   left = failed.left;
-  refuses = begun_one m world t o e h ∙ failed.refuses;
+  refuses = begun_one x t e h ∙ failed.refuses;
   settles =
-      put
-      ∙ ap Some (sym (settled_one m.mounts o.roots (tree_now failed.left no_left) tree world e
-      (root_numbers m o e (refuses_fits m (t ∷ []) o failed.left 1 errno failed.refuses)) failed.settles));
+      settles_as x tree failed.left e
+      (refuses_fits x.mounts (t ∷ []) x.outcome.opening failed.left 1 errno failed.refuses) failed.settles put;
 }
 
 -- ---- the text
@@ -158,75 +190,54 @@ printed_same state kernel trace flag same =
     ∙ ap (λ ts. console_text state.console ++ groups_text (map.entries ts) ++ (if flag then trace_text 1 trace else []))
     (sym same.tasks)
 
-writes_same : (state kernel : Kernel) (trace : List Entry) (flag : Bool) (whole : Fault) (sink after : Option (List ℕ))
-    (count now : ℕ) (fault : Fault) → SameText state kernel
-    → Writes kernel trace flag whole sink after count now fault
-    → Writes state trace flag whole sink after count now fault
-writes_same state kernel trace flag whole sink after count now fault same (inl w) =
-    inl (w.0, w.1 ∙ ap (with_taken sink) (printed_same state kernel trace flag same))
-writes_same state kernel trace flag whole sink after count now fault same (inr (inl w)) =
-    inr (inl (
-      w.0,
-      w.1,
-      (
-        w.2.0,
-        subst (λ (t : List ℕ). w.2.0 < length t) (printed_same state kernel trace flag same) w.2.1,
-        w.2.2 ∙ ap (λ t. with_taken sink (take w.2.0 t)) (printed_same state kernel trace flag same),
-      ),
-    ))
-writes_same state kernel trace flag whole sink after count now fault same (inr (inr w)) =
-    inr (inr (
-      w.0,
-      (w.1.0, w.1.1 ∙ ap (λ t. with_taken sink (take w.1.0 t)) (printed_same state kernel trace flag same)),
-    ))
+writes_same : (x : Session) (p : Output) (state kernel : Kernel) (whole fault : Fault) → SameText state kernel
+    → Writes (text_with x p kernel) whole p.before p.after fault
+    → Writes (text_with x p state) whole p.before p.after fault
+writes_same x p state kernel whole fault same =
+    subst (λ (text : List ℕ). Writes text whole p.before p.after fault)
+    (printed_same state kernel x.outcome.trace p.flag same)
 
 -- ---- the course of a run
 
-pub data Course (mounts : Mounts) (world : Shape) (after : Option Shape) (opening : Opening) (trace : List Entry)
-    (flag : Bool) (sink sink' : Option (List ℕ)) (sinks sinks' : ℕ) (fault : Fault) : Type 0 where
-  Finished : (state : Kernel) → Began mounts world after opening trace state → any_live state ≡ false
-      → Writes state trace flag faults.Done sink sink' sinks sinks' fault
-      → Course mounts world after opening trace flag sink sink' sinks sinks' fault
-  Filled : (state : Kernel) → Began mounts world after opening trace state → any_live state ≡ true
-      → length trace ≡ mounts.entries → Writes state trace flag faults.Full sink sink' sinks sinks' fault
-      → Course mounts world after opening trace flag sink sink' sinks sinks' fault
-  Stopped : (errno : Errno) → Refused mounts world after opening errno → trace ≡ [] → fault ≡ faults.Image 1 errno
-      → sink' ≡ sink → Course mounts world after opening trace flag sink sink' sinks sinks' fault
-  Starved : (state : Kernel) → Began mounts world after opening trace state → fault ≡ faults.Memory → sink' ≡ sink
-      → Course mounts world after opening trace flag sink sink' sinks sinks' fault
-  Emptied : (tree : Shape) → after ≡ Some (put_subtree (first_names mounts.mounts) tree world)
-      → HasRisen world (put_subtree (first_names mounts.mounts) tree world) → trace ≡ [] → fault ≡ faults.Memory → sink' ≡ sink
-      → Course mounts world after opening trace flag sink sink' sinks sinks' fault
-  Untaken : after ≡ Some world → opening ≡ nothing_opened → trace ≡ [] → fault ≡ faults.Memory → sink' ≡ sink
-      → Course mounts world after opening trace flag sink sink' sinks sinks' fault
-  Failing : after ≡ Some world → opening ≡ nothing_opened → trace ≡ [] → fault ≡ faults.HostFault → sink' ≡ sink
-      → Course mounts world after opening trace flag sink sink' sinks sinks' fault
-  Missing : after ≡ Some world → opening ≡ nothing_opened → trace ≡ [] → granted mounts.mounts world ≡ None
-      → fault ≡ faults.Grant 1 → sink' ≡ sink
-      → Course mounts world after opening trace flag sink sink' sinks sinks' fault
+pub data Course (x : Session) (p : Output) (fault : Fault) : Type 0 where
+  Finished : (state : Kernel) → Began x state → any_live state ≡ false
+      → Writes (text_with x p state) faults.Done p.before p.after fault → Course x p fault
+  Filled : (state : Kernel) → Began x state → any_live state ≡ true → length x.outcome.trace ≡ x.mounts.entries
+      → Writes (text_with x p state) faults.Full p.before p.after fault → Course x p fault
+  Stopped : (errno : Errno) → Refused x errno → x.outcome.trace ≡ [] → fault ≡ faults.Image 1 errno
+      → p.after.told ≡ p.before.told → Course x p fault
+  Starved : (state : Kernel) → Began x state → fault ≡ faults.Memory → p.after.told ≡ p.before.told
+      → Course x p fault
+  Emptied : (tree : Shape) → x.after ≡ Some (world_with x tree) → HasRisen x.world (world_with x tree)
+      → x.outcome.trace ≡ [] → fault ≡ faults.Memory → p.after.told ≡ p.before.told → Course x p fault
+  Untaken : x.after ≡ Some x.world → x.outcome.opening ≡ nothing_opened → x.outcome.trace ≡ []
+      → fault ≡ faults.Memory → p.after.told ≡ p.before.told → Course x p fault
+  Failing : x.after ≡ Some x.world → x.outcome.opening ≡ nothing_opened → x.outcome.trace ≡ []
+      → fault ≡ faults.HostFault → p.after.told ≡ p.before.told → Course x p fault
+  Missing : x.after ≡ Some x.world → x.outcome.opening ≡ nothing_opened → x.outcome.trace ≡ []
+      → granted x.mounts.mounts x.world ≡ None → fault ≡ faults.Grant 1 → p.after.told ≡ p.before.told
+      → Course x p fault
 
-pub course : (m : Mounts) (world : Shape) (after : Option Shape) (o : Opening) (trace : List Entry) (flag : Bool)
-    (sink sink' : Option (List ℕ)) (sinks sinks' : ℕ) (fault : Fault) (end : End) → length m.mounts ≡ 1
-    → Plays m (first_names m.mounts) world after o trace end → Concludes end trace flag sink sink' sinks sinks' fault
-    → Course m world after o trace flag sink sink' sinks sinks' fault
-course m world after o trace flag sink sink' sinks sinks' fault (ends.Done kernel) e p c =
-    Finished p.4.0 (began m world p.0 p.2 after o trace p.4.0 e p.1 p.3 p.4.1) p.4.3
-    (writes_same p.4.0 kernel trace flag faults.Done sink sink' sinks sinks' fault p.4.2 c)
-course m world after o trace flag sink sink' sinks sinks' fault (ends.Full kernel) e p c =
-    Filled p.4.0 (began m world p.0 p.2 after o trace p.4.0 e p.1 p.3 p.4.1) p.4.3 p.4.4
-    (writes_same p.4.0 kernel trace flag faults.Full sink sink' sinks sinks' fault p.4.2 c)
-course m world after o trace flag sink sink' sinks sinks' fault (ends.Image errno) e p c =
-    Stopped errno (refused m world p.0 p.2 after o errno e p.1 p.3 p.4.0) p.4.1 c.0 c.1
-course m world after o trace flag sink sink' sinks sinks' fault ends.HostFault e p c = Failing p.0 p.1 p.2 c.0 c.1
-course m world after o trace flag sink sink' sinks sinks' fault ends.Grant e p c =
-    Missing p.0.0 p.0.1 p.0.2 (granted_none m.mounts world e p.1) c.0 c.1
-course m world after o trace flag sink sink' sinks sinks' fault ends.Memory e (inl p) c = Untaken p.0 p.1 p.2 c.0 c.1
-course m world after o trace flag sink sink' sinks sinks' fault ends.Memory e (inr p) c = by p.4
+pub course : (x : Session) (p : Output) (fault : Fault) (end : End) → length x.mounts.mounts ≡ 1
+    → Plays x.mounts x.world x.after (played_by x.outcome end)
+    → Concludes end (text_with x p) p.before p.after fault → Course x p fault
+course x p fault (ends.Done kernel) e q c =
+    Finished q.4.0 (began x q.0 q.2 q.4.0 e q.1 q.3 q.4.1) q.4.3
+    (writes_same x p q.4.0 kernel faults.Done fault q.4.2 c)
+course x p fault (ends.Full kernel) e q c =
+    Filled q.4.0 (began x q.0 q.2 q.4.0 e q.1 q.3 q.4.1) q.4.3 q.4.4
+    (writes_same x p q.4.0 kernel faults.Full fault q.4.2 c)
+course x p fault (ends.Image errno) e q c = Stopped errno (refused x q.0 q.2 errno e q.1 q.3 q.4.0) q.4.1 c.0 c.1
+course x p fault ends.HostFault e q c = Failing q.0 q.1 q.2 c.0 c.1
+course x p fault ends.Grant e q c =
+    Missing q.0.0 q.0.1 q.0.2 (granted_none x.mounts.mounts x.world e q.1) c.0 c.1
+course x p fault ends.Memory e (inl q) c = Untaken q.0 q.1 q.2 c.0 c.1
+course x p fault ends.Memory e (inr q) c = by q.4
   where
-    by : (((trace ≡ []) × HasRisen p.0 p.2) ⊎ ((state : Kernel) × Runs m p.0 p.2 o trace state))
-        → Course m world after o trace flag sink sink' sinks sinks' fault
+    by : (((x.outcome.trace ≡ []) × HasRisen q.0 q.2)
+        ⊎ ((state : Kernel) × Runs x.mounts q.0 q.2 x.outcome.opening x.outcome.trace state)) → Course x p fault
     by (inl h) =
-        Emptied p.2 p.3
-        (risen_subtree (first_names m.mounts) world p.0 p.2
-        (subtree-directory_at (first_names m.mounts) p.0 world p.1) h.1) h.0 c.0 c.1
-    by (inr h) = Starved h.0 (began m world p.0 p.2 after o trace h.0 e p.1 p.3 h.1) c.0 c.1
+        Emptied q.2 q.3
+        (risen_subtree (first_names x.mounts.mounts) x.world q.0 q.2
+        (subtree-directory_at (first_names x.mounts.mounts) q.0 x.world q.1) h.1) h.0 c.0 c.1
+    by (inr h) = Starved h.0 (began x q.0 q.2 h.0 e q.1 q.3 h.1) c.0 c.1

@@ -19,16 +19,16 @@ use Rattle.mount_file.specs.declared.mounts.Mounts.{Mounts}
 use Rattle.mount_file.specs.declared.mounts.Program.{Program}
 use Rattle.kernel_model.specs.declared.opening.Opening.{Opening}
 use Rattle.kernel_model.specs.declared.opening.Given.{Given}
-use Rattle.kernel_model.specs.Parts.{changed, run}
-use Rattle.kernel_model.specs.FileTree.{Nodes, owner_executes, root_node, child_node, numbered_in}
-use Rattle.kernel_model.specs.Faulted.{node_changes}
-use Rattle.kernel_model.specs.Opening.{opening_of, Opens, Refuses, Executed, Fails, executed, by_image, bare, execve}
-use Rattle.kernel_model.specs.Opening.{execve_of, name_in_path, task_begun, with_task, rooted}
-use Rattle.kernel_model.specs.Arguments.{is_too_long}
+use Rattle.kernel_model.specs.entries.Parts.{changed, run}
+use Rattle.kernel_model.specs.files.FileTree.{Nodes, owner_executes, root_node, child_node, numbered_in}
+use Rattle.kernel_model.specs.entries.Given.{node_changes}
+use Rattle.kernel_model.specs.opening.Opening.{opening_of, Opens, Refuses, Executed, Fails, executed, by_image, bare, execve}
+use Rattle.kernel_model.specs.opening.Opening.{execve_of, name_in_path, task_begun, with_task, rooted}
+use Rattle.kernel_model.specs.opening.Arguments.{is_too_long}
 use Rattle.sn_errno.specs.declared.errno.Errno.TheVariants.{E2BIG}
-use Rattle.kernel_model.specs.History.{replay, each_whole}
-use Rattle.kernel_model.specs.Settled.{tree_now, count_now}
-use Rattle.kernel_model.specs.Numbers.{IsGapless, numbers_opened, count_up}
+use Rattle.kernel_model.specs.entries.History.{replay, each_whole}
+use Rattle.kernel_model.specs.files.Settled.{tree_now, count_now}
+use Rattle.kernel_model.specs.files.Numbers.{IsGapless, numbers_opened, count_up}
 use Rattle.kernel_model.proofs.OneRoot.{one, root_of, drawn_nodes, execve_short, execve_long, execve_nothing}
 use Rattle.kernel_model.proofs.OneRoot.{execve_drawn, execve_root_failed, execve_child_failed}
 use Rattle.kernel_model.proofs.OneTask.{opening_by, plain_root, plain_child}

@@ -1,5 +1,5 @@
 -- The clauses of a run that go from a cause to the answer, each from the way that it went.
-use Rattle.std.proofs.Common.{◌≡◌, ℕ, Bool, false, List, [], ◌∷◌, length, refl, ap, sym, ◌∙◌, subst}
+use Rattle.std.proofs.Common.{◌≡◌, inl, inr, ℕ, false, List, [], ◌∷◌, length, refl, ap, sym, ◌∙◌, subst}
 use Rattle.std.specs.Prelude.{Option, Some, None, IsSome, IsSomeAnd, if◌then◌else◌, ◌&&◌, nat_eq, map}
 use Rattle.std.specs.Str.{bytes_eq}
 use Rattle.std.proofs.lemmas.Option.{same_Some}
@@ -7,7 +7,6 @@ use Rattle.host_node.specs.Tree.{Shape}
 use Rattle.sn_base.specs.Faults.{Rose}
 use Rattle.sn_edge.specs.Shelf.{Shelf}
 use Rattle.sn_errno.specs.declared.errno.Errno.{Errno}
-use Rattle.kernel_model.specs.declared.entry.Entry.{Entry}
 use Rattle.kernel_model.specs.declared.kernel.Kernel.{Kernel}
 use Rattle.mount_file.specs.declared.mounts.Mounts.{Mounts}
 use Rattle.mount_file.specs.declared.mounts.Mount.{Mount}
@@ -15,9 +14,9 @@ use Rattle.kernel_model.specs.declared.opening.Opening.{Opening}
 use Rattle.mount_file.specs.MountFile.{IsMountFile, IsFaultOf}
 use Rattle.mount_file.specs.declared.mounts.MountFault.{MountFault}
 use Rattle.mount_file.proofs.Faults.{mounts_same, fault_same, no_fault}
-use Rattle.kernel_model.specs.Opening.{Opens, Refuses, Misfits, opening_of, is_of, tasks_begun, bare, same_list}
-use Rattle.kernel_model.specs.Opening.{same_mount, begins}
-use Rattle.kernel_model.specs.Numbers.{count_up}
+use Rattle.kernel_model.specs.opening.Opening.{Opens, Refuses, Misfits, opening_of, is_of, tasks_begun, bare, same_list}
+use Rattle.kernel_model.specs.opening.Opening.{same_mount, begins}
+use Rattle.kernel_model.specs.files.Numbers.{count_up}
 use Rattle.mount_file.specs.declared.mounts.Program.{Program}
 use Rattle.kernel_model.specs.Words.{Command}
 use Rattle.sentry_run.specs.declared.outcome.Fault.{Fault}
@@ -26,26 +25,33 @@ use Rattle.sentry_run.specs.declared.outcome.Outcome.{Outcome}
 use Rattle.sentry_run.specs.Played.{nothing_opened}
 use Rattle.sentry_run.specs.Ran.{ReadsAs, FailsToRead}
 use Rattle.sentry_run.specs.Outcome.{NamesMountFile, NamesFaulty}
-use Rattle.sentry_run.specs.Outcome.{WhereTold, bytes_read, MeetsFault, MayFailToRead, granted, begun, begun_over}
-use Rattle.sentry_run.specs.Outcome.{WhereRead, MayFailToGrant, MayFailToStart, IsAccepted, HasEnded}
+use Rattle.sentry_run.specs.Outcome.{WhereTold, bytes_read, MeetsFault, granted, begun, begun_over, WhereRead}
+use Rattle.sentry_run.specs.Outcome.{IsAccepted}
+use Rattle.sentry_run.specs.Causes.{MayFailToRead, MayFailToGrant, MayFailToStart, HasEnded}
+use Rattle.sentry_run.specs.Sides.{Side}
+use Rattle.sentry_run.proofs.Courses.{Session, Output}
 use Rattle.sentry_run.proofs.RunFacts.{ToldFacts}
-use Rattle.sentry_run.proofs.Ways.{Sides, Over, Way, Misused, Unread, Over_file}
-use Rattle.sentry_run.proofs.Clauses.{any_as, told_as, where_none, where_read}
+use Rattle.sentry_run.proofs.Ways.{Call, session, output, Over, Way, Misused, Unread, Over_file}
+use Rattle.sentry_run.proofs.Clauses.{any_as, told_as, where_read}
 
 -- ---- what an opening can't be
 
-starts_not_granted : (m : Mounts) (w : Shape) (o : Opening) (k : Kernel) → granted m.mounts w ≡ None
-    → begun m w o ≡ Opens k → ⊥
-starts_not_granted m w o k e b = let f : Misfits 0 ≡ Opens k = sym (ap (begun_over m o) e) ∙ b in cc
+starts_not_granted : (x : Session) (k : Kernel) → granted x.mounts.mounts x.world ≡ None
+    → begun x.mounts x.world x.outcome.opening ≡ Opens k → ⊥
+starts_not_granted x k e b =
+    let f : Misfits 0 ≡ Opens k = sym (ap (begun_over x.mounts x.outcome.opening) e) ∙ b in
+    cc
 
-refuses_not_granted : (m : Mounts) (w : Shape) (o : Opening) (k : Kernel) (task : ℕ) (errno : Errno)
-    → granted m.mounts w ≡ None → begun m w o ≡ Refuses k task errno → ⊥
-refuses_not_granted m w o k task errno e b =
-    let f : Misfits 0 ≡ Refuses k task errno = sym (ap (begun_over m o) e) ∙ b in cc
+refuses_not_granted : (x : Session) (k : Kernel) (task : ℕ) (errno : Errno) → granted x.mounts.mounts x.world ≡ None
+    → begun x.mounts x.world x.outcome.opening ≡ Refuses k task errno → ⊥
+refuses_not_granted x k task errno e b =
+    let f : Misfits 0 ≡ Refuses k task errno = sym (ap (begun_over x.mounts x.outcome.opening) e) ∙ b in
+    cc
 
-starts_not_refused : (m : Mounts) (w : Shape) (o : Opening) (k j : Kernel) (task : ℕ) (errno : Errno)
-    → begun m w o ≡ Opens k → begun m w o ≡ Refuses j task errno → ⊥
-starts_not_refused m w o k j task errno e b = let f : Opens k ≡ Refuses j task errno = sym e ∙ b in cc
+starts_not_refused : (x : Session) (k j : Kernel) (task : ℕ) (errno : Errno)
+    → begun x.mounts x.world x.outcome.opening ≡ Opens k
+    → begun x.mounts x.world x.outcome.opening ≡ Refuses j task errno → ⊥
+starts_not_refused x k j task errno e b = let f : Opens k ≡ Refuses j task errno = sym e ∙ b in cc
 
 no_mounts : (mounts : List Mount) → length mounts ≡ 1 → same_list same_mount [] mounts ≡ false
 no_mounts [] e = cc
@@ -57,82 +63,67 @@ nothing_unlike m e =
     ap (λ b. b && same_list nat_eq [] (count_up 1 (length m.mounts)) && begins (same_list bytes_eq) []
     (map (λ (p : Program). p.args) m.tasks)) (no_mounts m.mounts e)
 
-pub nothing_begun : (m : Mounts) (trees : Option (List Shape)) → length m.mounts ≡ 1
+nothing_begun : (m : Mounts) (trees : Option (List Shape)) → length m.mounts ≡ 1
     → begun_over m nothing_opened trees ≡ Misfits 0
 unfolding opening_of
 nothing_begun m None e = refl
 nothing_begun m (Some trees) e =
     ap (λ b. if b then tasks_begun m.seed 1 m.tasks [] (bare trees) else Misfits 0) (nothing_unlike m e)
 
-nothing_refused : (m : Mounts) (w : Shape) (o : Opening) (k : Kernel) (task : ℕ) (errno : Errno) → length m.mounts ≡ 1
-    → o ≡ nothing_opened → begun m w o ≡ Refuses k task errno → ⊥
-nothing_refused m w o k task errno e f b =
-    let g : Misfits 0 ≡ Refuses k task errno =
-    sym (nothing_begun m (granted m.mounts w) e) ∙ ap (λ x. begun m w x) (sym f) ∙ b in
+-- an opening of nothing is a misfit
+pub unopened : (x : Session) → length x.mounts.mounts ≡ 1 → x.outcome.opening ≡ nothing_opened
+    → begun x.mounts x.world x.outcome.opening ≡ Misfits 0
+unopened x one e = ap (begun x.mounts x.world) e ∙ nothing_begun x.mounts (granted x.mounts.mounts x.world) one
+
+nothing_refused : (x : Session) (k : Kernel) (task : ℕ) (errno : Errno) → length x.mounts.mounts ≡ 1
+    → x.outcome.opening ≡ nothing_opened → begun x.mounts x.world x.outcome.opening ≡ Refuses k task errno → ⊥
+nothing_refused x k task errno e f b =
+    let g : Misfits 0 ≡ Refuses k task errno = sym (unopened x e f) ∙ b in
     cc
 
 -- ---- from the folder and the image to the answer
 
-grant_by : (m : Mounts) (w : Shape) (after : Option Shape) (o : Opening) (trace : List Entry) (flag : Bool)
-    (sink sink' : Option (List ℕ)) (f : Fault) → ToldFacts m w after o trace flag sink sink' f
-    → granted m.mounts w ≡ None → MayFailToGrant f
-grant_by m w after o trace flag sink sink' faults.Done t e = absurd (starts_not_granted m w o t.1.start e t.1.opens)
-grant_by m w after o trace flag sink sink' faults.Full t e = absurd (starts_not_granted m w o t.1.start e t.1.opens)
-grant_by m w after o trace flag sink sink' faults.SinkFault t e =
-    absurd (starts_not_granted m w o t.1.start e t.1.opens)
-grant_by m w after o trace flag sink sink' (faults.Image task errno) t e =
-    absurd (refuses_not_granted m w o t.1.left 1 errno e t.1.refuses)
-grant_by m w after o trace flag sink sink' faults.Memory t e = tt
-grant_by m w after o trace flag sink sink' faults.HostFault t e = tt
-grant_by m w after o trace flag sink sink' (faults.Grant n) t e = tt
-grant_by m w after o trace flag sink sink' faults.Usage t e = absurd t
-grant_by m w after o trace flag sink sink' (faults.Mounts f) t e = absurd t
-grant_by m w after o trace flag sink sink' faults.SourceFault t e = absurd t
-grant_by m w after o trace flag sink sink' faults.Stuck t e = absurd t
+grant_by : (x : Session) (p : Output) (f : Fault) → ToldFacts x p f → granted x.mounts.mounts x.world ≡ None
+    → MayFailToGrant f
+grant_by x p faults.Done t e = absurd (starts_not_granted x t.1.start e t.1.opens)
+grant_by x p faults.Full t e = absurd (starts_not_granted x t.1.start e t.1.opens)
+grant_by x p faults.SinkFault t e = absurd (starts_not_granted x t.1.start e t.1.opens)
+grant_by x p (faults.Image task errno) t e = absurd (refuses_not_granted x t.1.left 1 errno e t.1.refuses)
+grant_by x p faults.Memory t e = inr (inr refl)
+grant_by x p faults.HostFault t e = inr (inl refl)
+grant_by x p (faults.Grant n) t e = inl (n, refl)
+grant_by x p _ t e = absurd t
 
-pub grant_exact : (s : Sides) (r : Outcome) → Way s r
-    → WhereRead r.mounts s.world (λ m w. granted m.mounts w ≡ None → MayFailToGrant r.fault)
-grant_exact s r (Misused e n) = where_none r.mounts s.world _ n.refused.mounts
-grant_exact s r (Unread command e w u) = where_none r.mounts s.world _ u.refused.mounts
-grant_exact s r (Over_file command e w m d o) =
-    where_read r.mounts s.world (λ m w. granted m.mounts w ≡ None → MayFailToGrant r.fault) m o.read
-    (λ v told no_folder. grant_by m v s.world' r.opening r.trace command.trace s.sink s.sink' r.fault
-    (o.told v told) no_folder)
+pub grant_exact : (s : Call) (r : Outcome) → Way s r
+    → WhereRead r.mounts s.before.host.told (λ m w. granted m.mounts w ≡ None → MayFailToGrant r.fault)
+grant_exact s r way =
+    where_read s r (λ m w. granted m.mounts w ≡ None → MayFailToGrant r.fault) way
+    (λ m o w told. grant_by (session s m r w) (output s) r.fault (o.told w told))
 
-image_by : (m : Mounts) (w : Shape) (after : Option Shape) (o : Opening) (trace : List Entry) (flag : Bool)
-    (sink sink' : Option (List ℕ)) (f : Fault) → length m.mounts ≡ 1 → ToldFacts m w after o trace flag sink sink' f
-    → (k : Kernel) (task : ℕ) (errno : Errno) → begun m w o ≡ Refuses k task errno → MayFailToStart task errno f
-image_by m w after o trace flag sink sink' faults.Done e t k task errno b =
-    absurd (starts_not_refused m w o t.1.start k task errno t.1.opens b)
-image_by m w after o trace flag sink sink' faults.Full e t k task errno b =
-    absurd (starts_not_refused m w o t.1.start k task errno t.1.opens b)
-image_by m w after o trace flag sink sink' faults.SinkFault e t k task errno b =
-    absurd (starts_not_refused m w o t.1.start k task errno t.1.opens b)
-image_by m w after o trace flag sink sink' (faults.Image n err) e t k task errno b =
+image_by : (x : Session) (p : Output) (f : Fault) → length x.mounts.mounts ≡ 1 → ToldFacts x p f
+    → (k : Kernel) (task : ℕ) (errno : Errno) → begun x.mounts x.world x.outcome.opening ≡ Refuses k task errno
+    → MayFailToStart task errno f
+image_by x p faults.Done e t k task errno b = absurd (starts_not_refused x t.1.start k task errno t.1.opens b)
+image_by x p faults.Full e t k task errno b = absurd (starts_not_refused x t.1.start k task errno t.1.opens b)
+image_by x p faults.SinkFault e t k task errno b = absurd (starts_not_refused x t.1.start k task errno t.1.opens b)
+image_by x p (faults.Image n err) e t k task errno b =
     let f : Refuses t.1.left 1 err ≡ Refuses k task errno = sym t.1.refuses ∙ b in
     let g : 1 ≡ task = cc f in
     let h : err ≡ errno = cc f in
-    (t.0 ∙ g, h)
-image_by m w after o trace flag sink sink' faults.Memory e t k task errno b = tt
-image_by m w after o trace flag sink sink' faults.HostFault e t k task errno b =
-    absurd (nothing_refused m w o k task errno e t.opened b)
-image_by m w after o trace flag sink sink' (faults.Grant n) e t k task errno b =
-    absurd (nothing_refused m w o k task errno e t.1.opened b)
-image_by m w after o trace flag sink sink' faults.Usage e t k task errno b = absurd t
-image_by m w after o trace flag sink sink' (faults.Mounts f) e t k task errno b = absurd t
-image_by m w after o trace flag sink sink' faults.SourceFault e t k task errno b = absurd t
-image_by m w after o trace flag sink sink' faults.Stuck e t k task errno b = absurd t
+    let one : n ≡ task = t.0 ∙ g in
+    inl cc
+image_by x p faults.Memory e t k task errno b = inr refl
+image_by x p faults.HostFault e t k task errno b = absurd (nothing_refused x k task errno e t.opened b)
+image_by x p (faults.Grant n) e t k task errno b = absurd (nothing_refused x k task errno e t.1.opened b)
+image_by x p _ e t k task errno b = absurd t
 
-pub image_exact : (s : Sides) (r : Outcome) → Way s r
-    → WhereRead r.mounts s.world (λ m w. (k : Kernel) (task : ℕ) (errno : Errno)
+pub image_exact : (s : Call) (r : Outcome) → Way s r
+    → WhereRead r.mounts s.before.host.told (λ m w. (k : Kernel) (task : ℕ) (errno : Errno)
     → begun m w r.opening ≡ Refuses k task errno → MayFailToStart task errno r.fault)
-image_exact s r (Misused e n) = where_none r.mounts s.world _ n.refused.mounts
-image_exact s r (Unread command e w u) = where_none r.mounts s.world _ u.refused.mounts
-image_exact s r (Over_file command e w m d o) =
-    where_read r.mounts s.world (λ m w. (k : Kernel) (task : ℕ) (errno : Errno)
-    → begun m w r.opening ≡ Refuses k task errno → MayFailToStart task errno r.fault) m o.read
-    (λ v told k task errno b. image_by m v s.world' r.opening r.trace command.trace s.sink s.sink' r.fault o.one_mount
-    (o.told v told) k task errno b)
+image_exact s r way =
+    where_read s r (λ m w. (k : Kernel) (task : ℕ) (errno : Errno)
+    → begun m w r.opening ≡ Refuses k task errno → MayFailToStart task errno r.fault) way
+    (λ m o w told. image_by (session s m r w) (output s) r.fault o.one_mount (o.told w told))
 
 -- ---- from the bytes of a mount file to the answer
 
@@ -163,111 +154,104 @@ never_both : (command : Command) (shelf : Shelf) (m : Mounts) (f : MountFault) �
 never_both command shelf m f p q =
     both_there (bytes_read command shelf) (λ b. IsMountFile b m) (λ b. IsFaultOf b f) (λ b. no_fault b m f) p q
 
-read_by : (s : Sides) (command : Command) (shelf : Shelf) (fault : MountFault) (f : Fault) → s.shelf ≡ Some shelf
-    → NamesFaulty command shelf fault → FailsToRead command s.shelf s.count s.now f → MayFailToRead fault f
-read_by s command shelf fault faults.SourceFault e is h = tt
-read_by s command shelf fault (faults.Mounts f) e is h =
-    faulty_same command shelf f fault (told_file s.shelf shelf (λ x. NamesFaulty command x f) e h) is
-read_by s command shelf fault faults.Memory e is h = tt
-read_by s command shelf fault faults.Done e is h = absurd h
-read_by s command shelf fault faults.Full e is h = absurd h
-read_by s command shelf fault faults.Usage e is h = absurd h
-read_by s command shelf fault (faults.Image task errno) e is h = absurd h
-read_by s command shelf fault faults.SinkFault e is h = absurd h
-read_by s command shelf fault faults.Stuck e is h = absurd h
-read_by s command shelf fault faults.HostFault e is h = absurd h
-read_by s command shelf fault (faults.Grant n) e is h = absurd h
+read_by : (command : Command) (before after : Side Shelf) (shelf : Shelf) (reason : MountFault) (f : Fault)
+    → before.told ≡ Some shelf → NamesFaulty command shelf reason → FailsToRead command before after f
+    → MayFailToRead reason f
+read_by command before after shelf reason faults.SourceFault e is h = inr (inl refl)
+read_by command before after shelf reason (faults.Mounts f) e is h =
+    inl (ap (λ (x : MountFault). faults.Mounts x)
+    (faulty_same command shelf f reason (told_file before.told shelf (λ x. NamesFaulty command x f) e h) is))
+read_by command before after shelf reason faults.Memory e is h = inr (inr refl)
+read_by command before after shelf reason _ e is h = absurd h
 
 -- the command and the shelf of a fault that is met
-pub record Met (s : Sides) (fault : MountFault) : Type 0 where
+pub record Met (s : Call) (fault : MountFault) : Type 0 where
   pub command : Command
   pub shelf : Shelf
   pub words_are : s.words ≡ Some command
-  pub shelf_is : s.shelf ≡ Some shelf
+  pub shelf_is : s.before.source.told ≡ Some shelf
   pub fault_is : NamesFaulty command shelf fault
 
-met_by : (s : Sides) (fault : MountFault) (words : Option Command) (shelf : Option Shelf) → s.words ≡ words
-    → s.shelf ≡ shelf → MeetsFault words shelf fault → Met s fault
+met_by : (s : Call) (fault : MountFault) (words : Option Command) (shelf : Option Shelf) → s.words ≡ words
+    → s.before.source.told ≡ shelf → MeetsFault words shelf fault → Met s fault
 met_by s fault None shelf e f meets = absurd meets
 met_by s fault (Some command) None e f meets = absurd meets
 met_by s fault (Some command) (Some shelf) e f meets =
     record { command = command; shelf = shelf; words_are = e; shelf_is = f; fault_is = meets }
 
-pub mounts_exact : (s : Sides) (r : Outcome) → Way s r → (fault : MountFault) → MeetsFault s.words s.shelf fault
-    → MayFailToRead fault r.fault
-mounts_exact s r way fault meets = by way (met_by s fault s.words s.shelf refl refl meets)
+pub mounts_exact : (s : Call) (r : Outcome) → Way s r → (fault : MountFault)
+    → MeetsFault s.words s.before.source.told fault → MayFailToRead fault r.fault
+mounts_exact s r way fault meets = by way (met_by s fault s.words s.before.source.told refl refl meets)
   where
     by : Way s r → Met s fault → MayFailToRead fault r.fault
     by (Misused e n) m = let f : None ≡ Some m.command = sym e ∙ m.words_are in cc
     by (Unread command e w u) m =
         let same : m.command ≡ command = same_Some _ _ (sym m.words_are ∙ e) in
-        read_by s command m.shelf fault r.fault m.shelf_is
+        read_by command s.before.source s.after.source m.shelf fault r.fault m.shelf_is
         (subst (λ (c : Command). NamesFaulty c m.shelf fault) same m.fault_is) u.fails
     by (Over_file command e w mounts d o) m =
         let same : m.command ≡ command = same_Some _ _ (sym m.words_are ∙ e) in
         absurd (never_both command m.shelf mounts fault
-        (told_file s.shelf m.shelf (λ x. NamesMountFile command x mounts) m.shelf_is d)
+        (told_file s.before.source.told m.shelf (λ x. NamesMountFile command x mounts) m.shelf_is d)
         (subst (λ (c : Command). NamesFaulty c m.shelf fault) same m.fault_is))
 
 -- ---- a run of what is accepted comes to its end
 
-unread_end : (s : Sides) (command : Command) (o : Opening) (f : Fault) → s.words ≡ Some command
-    → IsAccepted s.words s.shelf s.world o → (Rose s.count s.now → ⊥) → FailsToRead command s.shelf s.count s.now f
-    → HasEnded f
+unread_end : (s : Call) (command : Command) (o : Opening) (f : Fault) → s.words ≡ Some command
+    → IsAccepted s.words s.before.source.told s.before.host.told o
+    → (Rose s.before.source.count s.after.source.count → ⊥)
+    → FailsToRead command s.before.source s.after.source f → HasEnded f
 unread_end s command o faults.SourceFault e a no_rise h = absurd (no_rise h)
 unread_end s command o (faults.Mounts f) e a no_rise h =
     let same : a.command ≡ command = same_Some _ _ (sym a.words_are ∙ e) in
-    never_both command a.files a.mounts f
+    absurd (never_both command a.files a.mounts f
     (subst (λ (c : Command). NamesMountFile c a.files a.mounts) same a.file)
-    (told_file s.shelf a.files (λ x. NamesFaulty command x f) a.files_are h)
-unread_end s command o faults.Memory e a no_rise h = tt
-unread_end s command o faults.Done e a no_rise h = tt
-unread_end s command o faults.Full e a no_rise h = tt
-unread_end s command o faults.Usage e a no_rise h = absurd h
-unread_end s command o (faults.Image task errno) e a no_rise h = absurd h
-unread_end s command o faults.SinkFault e a no_rise h = absurd h
-unread_end s command o faults.Stuck e a no_rise h = absurd h
-unread_end s command o faults.HostFault e a no_rise h = absurd h
-unread_end s command o (faults.Grant n) e a no_rise h = absurd h
+    (told_file s.before.source.told a.files (λ x. NamesFaulty command x f) a.files_are h))
+unread_end s command o faults.Memory e a no_rise h = inr (inr refl)
+unread_end s command o _ e a no_rise h = absurd h
 
 not_none : {A : Type 0} (o : Option A) → IsSome o → o ≡ None → ⊥
 not_none None h e = cc
 not_none (Some x) h e = cc
 
 -- the accepted mount file is the one that was read
-file_is : (s : Sides) (command : Command) (m : Mounts) (r : Outcome) → s.words ≡ Some command
-    → ReadsAs command s.shelf m → (a : IsAccepted s.words s.shelf s.world r.opening) → a.mounts ≡ m
+file_is : (s : Call) (command : Command) (m : Mounts) (r : Outcome) → s.words ≡ Some command
+    → ReadsAs command s.before.source.told m
+    → (a : IsAccepted s.words s.before.source.told s.before.host.told r.opening) → a.mounts ≡ m
 file_is s command m r e d a =
     let same : a.command ≡ command = same_Some _ _ (sym a.words_are ∙ e) in
     named_same command a.files a.mounts m
     (subst (λ (c : Command). NamesMountFile c a.files a.mounts) same a.file)
-    (told_file s.shelf a.files (λ x. NamesMountFile command x m) a.files_are d)
+    (told_file s.before.source.told a.files (λ x. NamesMountFile command x m) a.files_are d)
 
-over_end : (s : Sides) (command : Command) (m : Mounts) (r : Outcome) (f : Fault) → s.words ≡ Some command
-    → ReadsAs command s.shelf m → Over s command m r → r.fault ≡ f → IsAccepted s.words s.shelf s.world r.opening
-    → (Rose s.hosts s.hosts' → ⊥) → (Rose s.sinks s.sinks' → ⊥) → HasEnded f
-over_end s command m r faults.Done e d o h a no_host no_sink = tt
-over_end s command m r faults.Full e d o h a no_host no_sink = tt
-over_end s command m r faults.Memory e d o h a no_host no_sink = tt
+over_end : (s : Call) (command : Command) (m : Mounts) (r : Outcome) (f : Fault) → s.words ≡ Some command
+    → ReadsAs command s.before.source.told m → Over s m r → r.fault ≡ f
+    → IsAccepted s.words s.before.source.told s.before.host.told r.opening
+    → (Rose s.before.host.count s.after.host.count → ⊥) → (Rose s.before.sink.count s.after.sink.count → ⊥)
+    → HasEnded f
+over_end s command m r faults.Done e d o h a no_host no_sink = inl refl
+over_end s command m r faults.Full e d o h a no_host no_sink = inr (inl refl)
+over_end s command m r faults.Memory e d o h a no_host no_sink = inr (inr refl)
 over_end s command m r faults.SinkFault e d o h a no_host no_sink =
-    absurd (no_sink (any_as s command m r faults.SinkFault o h))
+    absurd (no_sink (any_as s m r faults.SinkFault o h))
 over_end s command m r faults.HostFault e d o h a no_host no_sink =
-    absurd (no_host (any_as s command m r faults.HostFault o h).0)
+    absurd (no_host (any_as s m r faults.HostFault o h).0)
 over_end s command m r (faults.Image task errno) e d o h a no_host no_sink =
-    let t = told_as s command m r (faults.Image task errno) o h a.tree a.tree_is in
+    let t = told_as s m r (faults.Image task errno) o h a.tree a.tree_is in
     absurd (a.starts t.1.left 1 errno (ap (λ x. begun x a.tree r.opening) (file_is s command m r e d a) ∙ t.1.refuses))
 over_end s command m r (faults.Grant n) e d o h a no_host no_sink =
-    let t = told_as s command m r (faults.Grant n) o h a.tree a.tree_is in
+    let t = told_as s m r (faults.Grant n) o h a.tree a.tree_is in
     absurd (not_none (granted a.mounts.mounts a.tree) a.folders
     (ap (λ (x : Mounts). granted x.mounts a.tree) (file_is s command m r e d a) ∙ t.2))
-over_end s command m r faults.Usage e d o h a no_host no_sink = absurd (any_as s command m r faults.Usage o h)
-over_end s command m r (faults.Mounts f) e d o h a no_host no_sink = absurd (any_as s command m r (faults.Mounts f) o h)
-over_end s command m r faults.SourceFault e d o h a no_host no_sink =
-    absurd (any_as s command m r faults.SourceFault o h)
-over_end s command m r faults.Stuck e d o h a no_host no_sink = absurd (any_as s command m r faults.Stuck o h)
+over_end s command m r faults.Usage e d o h a no_host no_sink = absurd (any_as s m r faults.Usage o h)
+over_end s command m r (faults.Mounts f) e d o h a no_host no_sink = absurd (any_as s m r (faults.Mounts f) o h)
+over_end s command m r faults.SourceFault e d o h a no_host no_sink = absurd (any_as s m r faults.SourceFault o h)
+over_end s command m r faults.Stuck e d o h a no_host no_sink = absurd (any_as s m r faults.Stuck o h)
 
-pub complete : (s : Sides) (r : Outcome) → Way s r → IsAccepted s.words s.shelf s.world r.opening
-    → (Rose s.count s.now → ⊥) → (Rose s.hosts s.hosts' → ⊥) → (Rose s.sinks s.sinks' → ⊥) → HasEnded r.fault
+pub complete : (s : Call) (r : Outcome) → Way s r
+    → IsAccepted s.words s.before.source.told s.before.host.told r.opening
+    → (Rose s.before.source.count s.after.source.count → ⊥) → (Rose s.before.host.count s.after.host.count → ⊥)
+    → (Rose s.before.sink.count s.after.sink.count → ⊥) → HasEnded r.fault
 complete s r (Misused e n) a no_source no_host no_sink = let f : None ≡ Some a.command = sym e ∙ a.words_are in cc
 complete s r (Unread command e w u) a no_source no_host no_sink =
     unread_end s command r.opening r.fault e a no_source u.fails

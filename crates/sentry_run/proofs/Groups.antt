@@ -8,7 +8,7 @@ use Rattle.std.specs.declared.cmp.Ordering.TheVariants.{Less, Equal, Greater}
 use Rattle.std.specs.Cmp.{nat_cmp_total, eq_by_cmp_equiv, tied_itself}
 use Rattle.std.specs.FinMap.{FinMap, get, entries, keys, find, is_sorted, entries_sorted, get-entries}
 use Rattle.std.specs.FinMap.Entries.{below_all}
-use Rattle.kernel_model.specs.Printed.{group_text, groups_text}
+use Rattle.kernel_model.specs.printed.Printed.{group_text, groups_text}
 use Rattle.kernel_model.specs.declared.kernel.Task.{Task}
 
 first : (a b : Bool) → T (a && b) → T a

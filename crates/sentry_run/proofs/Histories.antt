@@ -4,8 +4,8 @@ use Rattle.std.specs.Prelude.{Option, Some, None, ◌&&◌, option_and_then}
 use Rattle.host_node.proofs.TreeLemmas.{first_part, second_part}
 use Rattle.kernel_model.specs.declared.entry.Entry.{Entry}
 use Rattle.kernel_model.specs.declared.kernel.Kernel.{Kernel}
-use Rattle.kernel_model.specs.Step.{step}
-use Rattle.kernel_model.specs.History.{replay, each_whole, whole_then, is_whole}
+use Rattle.kernel_model.specs.entries.Steps.{step}
+use Rattle.kernel_model.specs.entries.History.{replay, each_whole, whole_then, is_whole}
 
 pub replay-last : (k : Kernel) (es : List Entry) (e : Entry)
     → replay k (es ++ e ∷ []) ≡ option_and_then (λ (next : Kernel). step next e) (replay k es)

@@ -4,7 +4,7 @@ use Rattle.std.proofs.Common.{append_assoc, length-take, zero-add}
 use Rattle.std.proofs.lemmas.List.{take_more, append-nil}
 use Rattle.std.proofs.lemmas.Grind.{flat_map-append}
 use Rattle.std.specs.List.{flat_map}
-use Rattle.kernel_model.specs.Printed.{entry_text, trace_text}
+use Rattle.kernel_model.specs.printed.Printed.{entry_text, trace_text}
 use Rattle.kernel_model.specs.declared.entry.Entry.{Entry}
 
 -- a piece more behind what was there at first, and the pieces so far

@@ -18,14 +18,14 @@ use Rattle.kernel_model.specs.declared.entry.Args.{Args}
 use Rattle.mm_space.specs.Spaces.{AddressSpace}
 use Rattle.rv_table.specs.declared.regs.Regs.{Regs}
 use Rattle.quantum.specs.Instructions.{Going, ran}
-use Rattle.kernel_model.specs.Spaces.{acting_in, going_in}
-use Rattle.kernel_model.specs.Instructions.{StopsAt, goes_on, next_of}
+use Rattle.kernel_model.specs.machine.Spaces.{acting_in, going_in}
+use Rattle.kernel_model.specs.machine.Instructions.{StopsAt, goes_on, next_of}
 use Rattle.kernel_calls.proofs.Runs.{nothing_ran, ran_none, row_ran}
 use Rattle.kernel_calls.specs.declared.instructions.Ran.{Ran}
 use Rattle.sentry_run.specs.declared.machine.Machine.{Machine}
 use Rattle.sentry_run.specs.MachineKernel.{HasRunPart}
-use Rattle.kernel_model.specs.FileTree.{Nodes}
-use Rattle.kernel_model.specs.History.{has_next, is_whole}
+use Rattle.kernel_model.specs.files.FileTree.{Nodes}
+use Rattle.kernel_model.specs.entries.History.{has_next, is_whole}
 use Rattle.kernel_model.proofs.OneRoot.{run_bind}
 use Rattle.sentry_run.specs.Machine.{kernel_with, Changes, IsWholeRun}
 use Rattle.kernel_model.specs.declared.outcome.Outcome.{Outcome}
@@ -33,11 +33,11 @@ use Rattle.kernel_model.specs.declared.kernel.Part.TheVariants.{OfConsole, OfSpa
 use Rattle.kernel_model.proofs.CallLemmas.{call_quiet}
 use Rattle.kernel_model.specs.declared.opening.Fresh.{Fresh}
 use Rattle.kernel_model.specs.declared.opening.Rise.{Rise}
-use Rattle.kernel_model.specs.Parts.{Parts, parts, run, done, ◌>>=◌}
-use Rattle.kernel_model.specs.Registers.{call_of, args_of}
-use Rattle.kernel_model.specs.Rows.{call_row}
-use Rattle.kernel_model.specs.Step.{run_row, with_registers, task_change, same_args, answered, by_given, at_call, step}
-use Rattle.kernel_model.specs.Step.{stepped, live, found, if_live, in_space, if_running, row_of, task_of}
+use Rattle.kernel_model.specs.entries.Parts.{Parts, parts, run, done, ◌>>=◌}
+use Rattle.kernel_model.specs.machine.Registers.{call_of, args_of}
+use Rattle.kernel_model.specs.calls.Table.{call_row}
+use Rattle.kernel_model.specs.entries.Steps.{run_row, with_registers, task_change, same_args, answered, by_given, at_call, step}
+use Rattle.kernel_model.specs.entries.Steps.{stepped, live, found, if_live, in_space, if_running, row_of, task_of}
 
 pub int_same : (z : ℤ) → int_eq z z ≡ true
 int_same z = (Decides-int_eq z z).1 refl

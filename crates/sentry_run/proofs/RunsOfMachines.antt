@@ -13,8 +13,8 @@ use Rattle.kernel_model.specs.declared.entry.Entry.{Entry}
 use Rattle.kernel_model.specs.declared.kernel.Kernel.{Kernel}
 use Rattle.kernel_model.specs.declared.kernel.Task.{Task}
 use Rattle.mm_space.specs.Spaces.{AddressSpace}
-use Rattle.kernel_model.specs.FileTree.{Nodes}
-use Rattle.kernel_model.specs.History.{is_live, any_live, replay, each_whole}
+use Rattle.kernel_model.specs.files.FileTree.{Nodes}
+use Rattle.kernel_model.specs.entries.History.{is_live, any_live, replay, each_whole}
 use Rattle.sentry_run.specs.declared.machine.Machine.{Machine}
 use Rattle.sentry_run.specs.declared.play.End.{End}
 use Rattle.sentry_run.specs.declared.play.End.TheVariants as ends

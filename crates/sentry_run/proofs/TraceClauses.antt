@@ -1,5 +1,5 @@
 -- The clauses of a run on its trace, its text, its numbers and the world, each from the way that it went.
-use Rattle.std.proofs.Common.{◌≡◌, ◌⊎◌, ℕ, ◌+◌, ◌-◌, zero, suc, ◌<◌, ◌≤◌, Bool, true, false, List, [], ◌++◌, length}
+use Rattle.std.proofs.Common.{◌≡◌, ◌⊎◌, ℕ, ◌+◌, ◌-◌, zero, suc, ◌<◌, ◌≤◌, true, false, List, [], ◌++◌, length}
 use Rattle.std.proofs.Common.{refl, ap, sym, ◌∙◌, subst, arith}
 use Rattle.std.specs.Prelude.{Option, Some, None, IfSome, All, slice_index_or}
 use Rattle.std.specs.List.{flat_map}
@@ -11,258 +11,175 @@ use Rattle.kernel_model.specs.declared.kernel.Kernel.{Kernel}
 use Rattle.mount_file.specs.declared.mounts.Mounts.{Mounts}
 use Rattle.kernel_model.specs.declared.opening.Opening.{Opening}
 use Rattle.kernel_model.specs.declared.opening.Left.{Left}
-use Rattle.kernel_model.specs.Faulted.{numbers_of}
-use Rattle.kernel_model.specs.History.{any_live}
-use Rattle.kernel_model.specs.Numbers.{count_up}
-use Rattle.kernel_model.specs.Numbers.{IsGapless, HasAllBelow, numbers_opened, numbers_in, numbers_drawn, left_fresh}
-use Rattle.kernel_model.specs.Printed.{printed}
-use Rattle.kernel_model.specs.Words.{Command}
+use Rattle.kernel_model.specs.entries.Given.{numbers_of}
+use Rattle.kernel_model.specs.entries.History.{any_live}
+use Rattle.kernel_model.specs.files.Numbers.{count_up}
+use Rattle.kernel_model.specs.files.Numbers.{IsGapless, HasAllBelow, numbers_opened, numbers_in, numbers_drawn, left_fresh}
+use Rattle.kernel_model.specs.printed.Printed.{printed}
 use Rattle.sentry_run.specs.declared.outcome.Fault.{Fault}
 use Rattle.sentry_run.specs.declared.outcome.Fault.TheVariants as faults
 use Rattle.sentry_run.specs.declared.outcome.Outcome.{Outcome}
 use Rattle.sentry_run.specs.Played.{no_left, nothing_opened}
-use Rattle.sentry_run.specs.Concluded.{Fronts}
-use Rattle.sentry_run.specs.Outcome.{state_after, world_after, WhereRead, WhereState, IsHistory, HasRun, HasNotBegun}
-use Rattle.sentry_run.specs.Outcome.{HasNoTrace, IsOver, asks_trace, HasText, HasFront, text_of, KeepsOutside}
-use Rattle.sentry_run.specs.Outcome.{IsLeftOver, AreLeft, LeavesInside, begun, started_kernel}
+use Rattle.sentry_run.specs.Causes.{HasRun, HasNotBegun, HasNoTrace, HasText, HasFront}
+use Rattle.sentry_run.specs.Outcome.{state_after, world_after, WhereRead, WhereState, IsHistory, IsOver, asks_trace}
+use Rattle.sentry_run.specs.Outcome.{KeepsOutside, IsLeftOver, AreLeft, LeavesInside, begun, started_kernel}
 use Rattle.sentry_run.specs.LeftTasks.{MayBeLeft}
-use Rattle.sentry_run.proofs.Courses.{Began, state_of}
-use Rattle.sentry_run.proofs.RunFacts.{AnyFacts, ToldFacts, history_of}
-use Rattle.sentry_run.proofs.Ways.{Sides, Way, Misused, Unread, Over_file}
-use Rattle.sentry_run.proofs.Clauses.{any_as, told_as, where_none, where_read, if_state}
+use Rattle.sentry_run.specs.Sides.{Side, Sides}
+use Rattle.sentry_run.proofs.Courses.{Session, Output, text_with, Began}
+use Rattle.sentry_run.proofs.RunFacts.{AnyFacts, Silent, ToldFacts, FrontOf, front_of, history_of}
+use Rattle.sentry_run.proofs.Ways.{Call, session, output, Over, Way, Misused, Unread, Over_file}
+use Rattle.sentry_run.proofs.Clauses.{any_as, told_as, where_read, where_state}
 
 -- ---- the trace
 
 -- where the run is over, its task began
-began_of : (m : Mounts) (w : Shape) (after : Option Shape) (o : Opening) (trace : List Entry) (flag : Bool)
-    (sink sink' : Option (List ℕ)) (f : Fault) → HasRun f → ToldFacts m w after o trace flag sink sink' f
-    → (state : Kernel) × Began m w after o trace state
-began_of m w after o trace flag sink sink' faults.Done h t = (t.0, t.1)
-began_of m w after o trace flag sink sink' faults.Full h t = (t.0, t.1)
-began_of m w after o trace flag sink sink' faults.SinkFault h t = (t.0, t.1)
-began_of m w after o trace flag sink sink' faults.Memory h t = absurd h
-began_of m w after o trace flag sink sink' (faults.Image task errno) h t = absurd h
-began_of m w after o trace flag sink sink' faults.HostFault h t = absurd h
-began_of m w after o trace flag sink sink' (faults.Grant n) h t = absurd h
-began_of m w after o trace flag sink sink' faults.Usage h t = absurd h
-began_of m w after o trace flag sink sink' (faults.Mounts f) h t = absurd h
-began_of m w after o trace flag sink sink' faults.SourceFault h t = absurd h
-began_of m w after o trace flag sink sink' faults.Stuck h t = absurd h
+began_of : (x : Session) (p : Output) (f : Fault) → HasRun f → ToldFacts x p f → (state : Kernel) × Began x state
+began_of x p faults.Done h t = (t.0, t.1)
+began_of x p faults.Full h t = (t.0, t.1)
+began_of x p faults.SinkFault h t = (t.0, t.1)
+began_of x p _ h t = cc
 
-pub history : (s : Sides) (r : Outcome) → Way s r → HasRun r.fault
-    → WhereRead r.mounts s.world (λ m w. IsHistory m w r.opening r.trace)
-history s r (Misused e n) h = where_none r.mounts s.world _ n.refused.mounts
-history s r (Unread command e w u) h = where_none r.mounts s.world _ u.refused.mounts
-history s r (Over_file command e w m d o) h =
-    where_read r.mounts s.world (λ m w. IsHistory m w r.opening r.trace) m o.read
-    (λ v told. let b = began_of m v s.world' r.opening r.trace command.trace s.sink s.sink' r.fault h (o.told v told) in
-    history_of m v s.world' r.opening r.trace b.0 b.1)
+pub history : (s : Call) (r : Outcome) → Way s r → HasRun r.fault
+    → WhereRead r.mounts s.before.host.told (λ m w. IsHistory m w r.opening r.trace)
+history s r way h =
+    where_read s r (λ m w. IsHistory m w r.opening r.trace) way
+    (λ m o w told. let b = began_of (session s m r w) (output s) r.fault h (o.told w told) in
+    history_of (session s m r w) b.0 b.1)
 
-pub history_memory : (s : Sides) (r : Outcome) → Way s r → r.fault ≡ faults.Memory
-    → WhereRead r.mounts s.world (λ m w. (r.trace ≡ []) ⊎ IsHistory m w r.opening r.trace)
-history_memory s r (Misused e n) h = where_none r.mounts s.world _ n.refused.mounts
-history_memory s r (Unread command e w u) h = where_none r.mounts s.world _ u.refused.mounts
-history_memory s r (Over_file command e w m d o) h =
-    where_read r.mounts s.world (λ m w. (r.trace ≡ []) ⊎ IsHistory m w r.opening r.trace) m o.read
-    (λ v told. (told_as s command m r faults.Memory o h v told).history)
+pub history_memory : (s : Call) (r : Outcome) → Way s r → r.fault ≡ faults.Memory
+    → WhereRead r.mounts s.before.host.told (λ m w. (r.trace ≡ []) ⊎ IsHistory m w r.opening r.trace)
+history_memory s r way h =
+    where_read s r (λ m w. (r.trace ≡ []) ⊎ IsHistory m w r.opening r.trace) way
+    (λ m o w told. (told_as s m r faults.Memory o h w told).history)
 
-if_read : (mounts : Option Mounts) (m : Mounts) (F : Mounts → Type 0) → mounts ≡ Some m → F m → IfSome mounts F
-if_read mounts m F e f = subst (λ (o : Option Mounts). IfSome o F) (sym e) f
+-- a fact of the mount file that is shown of each run over an accepted one
+if_read : (s : Call) (r : Outcome) (F : Mounts → Type 0) → Way s r → ((m : Mounts) → Over s m r → F m)
+    → IfSome r.mounts F
+if_read s r F (Misused e n) f = subst (λ (o : Option Mounts). IfSome o F) (sym n.refused.mounts) tt
+if_read s r F (Unread command e w u) f = subst (λ (o : Option Mounts). IfSome o F) (sym u.refused.mounts) tt
+if_read s r F (Over_file command e w m d o) f = subst (λ (o : Option Mounts). IfSome o F) (sym o.read) (f m o)
 
-if_none : (mounts : Option Mounts) (F : Mounts → Type 0) → mounts ≡ None → IfSome mounts F
-if_none mounts F e = subst (λ (o : Option Mounts). IfSome o F) (sym e) tt
-
-pub bound : (s : Sides) (r : Outcome) → Way s r → IfSome r.mounts (λ m. length r.trace ≤ m.entries)
-bound s r (Misused e n) = if_none r.mounts _ n.refused.mounts
-bound s r (Unread command e w u) = if_none r.mounts _ u.refused.mounts
-bound s r (Over_file command e w m d o) = if_read r.mounts m (λ m. length r.trace ≤ m.entries) o.read o.bound
+pub bound : (s : Call) (r : Outcome) → Way s r → IfSome r.mounts (λ m. length r.trace ≤ m.entries)
+bound s r way = if_read s r (λ m. length r.trace ≤ m.entries) way (λ m o. o.bound)
 
 -- an answer without a trace writes nothing
-silent : (entries : ℕ) (trace : List Entry) (sink sink' : Option (List ℕ)) (sinks sinks' hosts hosts' : ℕ) (f : Fault)
-    → HasNoTrace f → AnyFacts entries trace sink sink' sinks sinks' hosts hosts' f → (trace ≡ []) × (sink' ≡ sink)
-silent entries trace sink sink' sinks sinks' hosts hosts' (faults.Image task errno) h a = (a.1.empty, a.1.same_sink)
-silent entries trace sink sink' sinks sinks' hosts hosts' faults.HostFault h a = (a.1.empty, a.1.same_sink)
-silent entries trace sink sink' sinks sinks' hosts hosts' (faults.Grant n) h a = (a.1.empty, a.1.same_sink)
-silent entries trace sink sink' sinks sinks' hosts hosts' faults.Done h a = absurd h
-silent entries trace sink sink' sinks sinks' hosts hosts' faults.Full h a = absurd h
-silent entries trace sink sink' sinks sinks' hosts hosts' faults.SinkFault h a = absurd h
-silent entries trace sink sink' sinks sinks' hosts hosts' faults.Memory h a = absurd h
-silent entries trace sink sink' sinks sinks' hosts hosts' faults.Usage h a = absurd a
-silent entries trace sink sink' sinks sinks' hosts hosts' (faults.Mounts f) h a = absurd a
-silent entries trace sink sink' sinks sinks' hosts hosts' faults.SourceFault h a = absurd a
-silent entries trace sink sink' sinks sinks' hosts hosts' faults.Stuck h a = absurd h
+silent : (entries : ℕ) (trace : List Entry) (before after : Sides) (f : Fault) → HasNoTrace f
+    → AnyFacts entries trace before after f → Silent trace before.sink after.sink
+silent entries trace before after (faults.Image task errno) h a = a.1
+silent entries trace before after faults.HostFault h a = a.1
+silent entries trace before after (faults.Grant n) h a = a.1
+silent entries trace before after faults.Usage h a = absurd a
+silent entries trace before after (faults.Mounts f) h a = absurd a
+silent entries trace before after faults.SourceFault h a = absurd a
+silent entries trace before after _ h a = cc
 
-pub empty : (s : Sides) (r : Outcome) → Way s r → HasNoTrace r.fault → r.trace ≡ []
+pub empty : (s : Call) (r : Outcome) → Way s r → HasNoTrace r.fault → r.trace ≡ []
 empty s r (Misused e n) h = n.refused.trace
 empty s r (Unread command e w u) h = u.refused.trace
-empty s r (Over_file command e w m d o) h =
-    (silent m.entries r.trace s.sink s.sink' s.sinks s.sinks' s.hosts s.hosts' r.fault h o.any).0
+empty s r (Over_file command e w m d o) h = (silent m.entries r.trace s.before s.after r.fault h o.any).empty
 
-pub text_none : (s : Sides) (r : Outcome) → Way s r → HasNoTrace r.fault → s.sink' ≡ s.sink
-text_none s r (Misused e n) h = n.same_sink
-text_none s r (Unread command e w u) h = u.same_sink
+pub text_none : (s : Call) (r : Outcome) → Way s r → HasNoTrace r.fault → s.after.sink.told ≡ s.before.sink.told
+text_none s r (Misused e n) h = ap (λ (x : Sides). x.sink.told) n.same
+text_none s r (Unread command e w u) h = ap (λ (x : Side (List ℕ)). x.told) u.same_sink
 text_none s r (Over_file command e w m d o) h =
-    (silent m.entries r.trace s.sink s.sink' s.sinks s.sinks' s.hosts s.hosts' r.fault h o.any).1
+    (silent m.entries r.trace s.before s.after r.fault h o.any).same_sink
 
 -- ---- how it ended
 
-pub done : (s : Sides) (r : Outcome) → Way s r → r.fault ≡ faults.Done
-    → WhereState r.mounts s.world r.opening r.trace (λ m w k. any_live k ≡ false)
-done s r (Misused e n) h = where_none r.mounts s.world _ n.refused.mounts
-done s r (Unread command e w u) h = where_none r.mounts s.world _ u.refused.mounts
-done s r (Over_file command e w m d o) h =
-    where_read r.mounts s.world (λ m w. IfSome (state_after m w r.opening r.trace) (λ k. any_live k ≡ false)) m o.read
-    (λ v told. let t = told_as s command m r faults.Done o h v told in
-    if_state m v s.world' r.opening r.trace t.0 (λ k. any_live k ≡ false) t.1 t.2)
+pub done : (s : Call) (r : Outcome) → Way s r → r.fault ≡ faults.Done
+    → WhereState r.mounts s.before.host.told r.opening r.trace (λ m w k. any_live k ≡ false)
+done s r way h =
+    where_state s r (λ m w k. any_live k ≡ false) way
+    (λ m o w told. let t = told_as s m r faults.Done o h w told in (t.0, t.1, t.2))
 
-pub full : (s : Sides) (r : Outcome) → Way s r → r.fault ≡ faults.Full
-    → WhereState r.mounts s.world r.opening r.trace (λ m w k. any_live k ≡ true)
-full s r (Misused e n) h = where_none r.mounts s.world _ n.refused.mounts
-full s r (Unread command e w u) h = where_none r.mounts s.world _ u.refused.mounts
-full s r (Over_file command e w m d o) h =
-    where_read r.mounts s.world (λ m w. IfSome (state_after m w r.opening r.trace) (λ k. any_live k ≡ true)) m o.read
-    (λ v told. let t = told_as s command m r faults.Full o h v told in
-    if_state m v s.world' r.opening r.trace t.0 (λ k. any_live k ≡ true) t.1 t.2)
+pub full : (s : Call) (r : Outcome) → Way s r → r.fault ≡ faults.Full
+    → WhereState r.mounts s.before.host.told r.opening r.trace (λ m w k. any_live k ≡ true)
+full s r way h =
+    where_state s r (λ m w k. any_live k ≡ true) way
+    (λ m o w told. let t = told_as s m r faults.Full o h w told in (t.0, t.1, t.2))
 
-pub full_length : (s : Sides) (r : Outcome) → Way s r → r.fault ≡ faults.Full
+pub full_length : (s : Call) (r : Outcome) → Way s r → r.fault ≡ faults.Full
     → IfSome r.mounts (λ m. length r.trace ≡ m.entries)
-full_length s r (Misused e n) h = if_none r.mounts _ n.refused.mounts
-full_length s r (Unread command e w u) h = if_none r.mounts _ u.refused.mounts
-full_length s r (Over_file command e w m d o) h =
-    if_read r.mounts m (λ m. length r.trace ≡ m.entries) o.read (any_as s command m r faults.Full o h)
+full_length s r way h =
+    if_read s r (λ m. length r.trace ≡ m.entries) way (λ m o. any_as s m r faults.Full o h)
 
-pub sink_over : (s : Sides) (r : Outcome) → Way s r → r.fault ≡ faults.SinkFault
-    → WhereState r.mounts s.world r.opening r.trace (λ m w k. IsOver m r.trace k)
-sink_over s r (Misused e n) h = where_none r.mounts s.world _ n.refused.mounts
-sink_over s r (Unread command e w u) h = where_none r.mounts s.world _ u.refused.mounts
-sink_over s r (Over_file command e w m d o) h =
-    where_read r.mounts s.world (λ m w. IfSome (state_after m w r.opening r.trace) (λ k. IsOver m r.trace k)) m o.read
-    (λ v told. let t = told_as s command m r faults.SinkFault o h v told in
-    if_state m v s.world' r.opening r.trace t.0 (λ k. IsOver m r.trace k) t.1 t.2)
+pub sink_over : (s : Call) (r : Outcome) → Way s r → r.fault ≡ faults.SinkFault
+    → WhereState r.mounts s.before.host.told r.opening r.trace (λ m w k. IsOver m r.trace k)
+sink_over s r way h =
+    where_state s r (λ m w k. IsOver m r.trace k) way
+    (λ m o w told. let t = told_as s m r faults.SinkFault o h w told in (t.0, t.1, t.2))
 
 -- ---- the text
 
-flag_of : (words : Option Command) (command : Command) → words ≡ Some command → command.trace ≡ asks_trace words
-flag_of words command e = ap asks_trace (sym e)
+-- what the sink has where the text of a state was taken
+abbrev TextOf : Call → Outcome → Kernel → Type 0
+TextOf s r k = s.after.sink.told ≡ with_taken s.before.sink.told (printed k r.trace (asks_trace s.words))
 
-text_state : (m : Mounts) (w : Shape) (after : Option Shape) (o : Opening) (trace : List Entry) (flag : Bool)
-    (sink sink' : Option (List ℕ)) (f : Fault) → HasText f → ToldFacts m w after o trace flag sink sink' f
-    → IfSome (state_after m w o trace) (λ k. sink' ≡ with_taken sink (printed k trace flag))
-text_state m w after o trace flag sink sink' faults.Done h t =
-    if_state m w after o trace t.0 (λ k. sink' ≡ with_taken sink (printed k trace flag)) t.1 t.3
-text_state m w after o trace flag sink sink' faults.Full h t =
-    if_state m w after o trace t.0 (λ k. sink' ≡ with_taken sink (printed k trace flag)) t.1 t.3
-text_state m w after o trace flag sink sink' faults.SinkFault h t = absurd h
-text_state m w after o trace flag sink sink' faults.Memory h t = absurd h
-text_state m w after o trace flag sink sink' (faults.Image task errno) h t = absurd h
-text_state m w after o trace flag sink sink' faults.HostFault h t = absurd h
-text_state m w after o trace flag sink sink' (faults.Grant n) h t = absurd h
-text_state m w after o trace flag sink sink' faults.Usage h t = absurd h
-text_state m w after o trace flag sink sink' (faults.Mounts f) h t = absurd h
-text_state m w after o trace flag sink sink' faults.SourceFault h t = absurd h
-text_state m w after o trace flag sink sink' faults.Stuck h t = absurd h
+text_by : (x : Session) (p : Output) (f : Fault) → HasText f → ToldFacts x p f
+    → (state : Kernel) × Began x state × (p.after.told ≡ with_taken p.before.told (text_with x p state))
+text_by x p faults.Done h t = (t.0, t.1, t.3)
+text_by x p faults.Full h t = (t.0, t.1, t.3)
+text_by x p _ h t = cc
 
-pub text : (s : Sides) (r : Outcome) → Way s r → HasText r.fault
-    → WhereState r.mounts s.world r.opening r.trace
-    (λ m w k. s.sink' ≡ with_taken s.sink (printed k r.trace (asks_trace s.words)))
-text s r (Misused e n) h = where_none r.mounts s.world _ n.refused.mounts
-text s r (Unread command e w u) h = where_none r.mounts s.world _ u.refused.mounts
-text s r (Over_file command e w m d o) h =
-    where_read r.mounts s.world
-    (λ m w. IfSome (state_after m w r.opening r.trace)
-    (λ k. s.sink' ≡ with_taken s.sink (printed k r.trace (asks_trace s.words)))) m o.read
-    (λ v told. subst (λ (b : Bool). IfSome (state_after m v r.opening r.trace)
-    (λ k. s.sink' ≡ with_taken s.sink (printed k r.trace b))) (flag_of s.words command e)
-    (text_state m v s.world' r.opening r.trace command.trace s.sink s.sink' r.fault h (o.told v told)))
+pub text : (s : Call) (r : Outcome) → Way s r → HasText r.fault
+    → WhereState r.mounts s.before.host.told r.opening r.trace (λ m w k. TextOf s r k)
+text s r way h =
+    where_state s r (λ m w k. TextOf s r k) way
+    (λ m o w told. text_by (session s m r w) (output s) r.fault h (o.told w told))
 
-text_front_state : (m : Mounts) (w : Shape) (after : Option Shape) (o : Opening) (trace : List Entry)
-    (flag : Bool) (sink sink' : Option (List ℕ)) (f : Fault) → HasFront f
-    → ToldFacts m w after o trace flag sink sink' f
-    → Fronts sink sink' (text_of (state_after m w o trace) trace flag)
-text_front_state m w after o trace flag sink sink' faults.SinkFault h t =
-    subst (λ (k : Option Kernel). Fronts sink sink' (text_of k trace flag)) (sym (state_of m w after o trace t.0 t.1))
-    (t.3.0, t.3.2)
-text_front_state m w after o trace flag sink sink' faults.Memory h t = t.front
-text_front_state m w after o trace flag sink sink' faults.Done h t = absurd h
-text_front_state m w after o trace flag sink sink' faults.Full h t = absurd h
-text_front_state m w after o trace flag sink sink' (faults.Image task errno) h t = absurd h
-text_front_state m w after o trace flag sink sink' faults.HostFault h t = absurd h
-text_front_state m w after o trace flag sink sink' (faults.Grant n) h t = absurd h
-text_front_state m w after o trace flag sink sink' faults.Usage h t = absurd h
-text_front_state m w after o trace flag sink sink' (faults.Mounts f) h t = absurd h
-text_front_state m w after o trace flag sink sink' faults.SourceFault h t = absurd h
-text_front_state m w after o trace flag sink sink' faults.Stuck h t = absurd h
+front_by : (x : Session) (p : Output) (f : Fault) → HasFront f → ToldFacts x p f → FrontOf x p
+front_by x p faults.SinkFault h t = front_of x p t.0 t.1 (t.3.0, t.3.2)
+front_by x p faults.Memory h t = t.front
+front_by x p _ h t = cc
 
-pub text_front : (s : Sides) (r : Outcome) → Way s r → HasFront r.fault
-    → WhereRead r.mounts s.world
-    (λ m w. Fronts s.sink s.sink' (text_of (state_after m w r.opening r.trace) r.trace (asks_trace s.words)))
-text_front s r (Misused e n) h = where_none r.mounts s.world _ n.refused.mounts
-text_front s r (Unread command e w u) h = where_none r.mounts s.world _ u.refused.mounts
-text_front s r (Over_file command e w m d o) h =
-    where_read r.mounts s.world
-    (λ m w. Fronts s.sink s.sink' (text_of (state_after m w r.opening r.trace) r.trace (asks_trace s.words)))
-    m o.read
-    (λ v told. subst (λ (b : Bool). Fronts s.sink s.sink' (text_of (state_after m v r.opening r.trace) r.trace b))
-    (flag_of s.words command e)
-    (text_front_state m v s.world' r.opening r.trace command.trace s.sink s.sink' r.fault h (o.told v told)))
+pub text_front : (s : Call) (r : Outcome) → Way s r → HasFront r.fault
+    → WhereRead r.mounts s.before.host.told (λ m w. FrontOf (session s m r w) (output s))
+text_front s r way h =
+    where_read s r (λ m w. FrontOf (session s m r w) (output s)) way
+    (λ m o w told. front_by (session s m r w) (output s) r.fault h (o.told w told))
 
 -- ---- the world
 
-pub world : (s : Sides) (r : Outcome) → Way s r → HasRun r.fault
-    → WhereState r.mounts s.world r.opening r.trace (λ m w k. s.world' ≡ Some (world_after m r.opening r.left k w))
-world s r (Misused e n) h = where_none r.mounts s.world _ n.refused.mounts
-world s r (Unread command e w u) h = where_none r.mounts s.world _ u.refused.mounts
-world s r (Over_file command e w m d o) h =
-    where_read r.mounts s.world
-    (λ m w. IfSome (state_after m w r.opening r.trace) (λ k. s.world' ≡ Some (world_after m r.opening r.left k w)))
-    m o.read
-    (λ v told. let b = began_of m v s.world' r.opening r.trace command.trace s.sink s.sink' r.fault h (o.told v told) in
-    if_state m v s.world' r.opening r.trace b.0 (λ k. s.world' ≡ Some (world_after m r.opening r.left k v)) b.1
-    (b.1.settles ∙ ap (λ l. Some (world_after m r.opening l b.0 v)) (sym o.left)))
+pub world : (s : Call) (r : Outcome) → Way s r → HasRun r.fault
+    → WhereState r.mounts s.before.host.told r.opening r.trace
+    (λ m w k. s.after.host.told ≡ Some (world_after m r.opening r.left k w))
+world s r way h =
+    where_state s r (λ m w k. s.after.host.told ≡ Some (world_after m r.opening r.left k w)) way
+    (λ m o w told. let b = began_of (session s m r w) (output s) r.fault h (o.told w told) in
+    (b.0, b.1, b.1.settles ∙ ap (λ l. Some (world_after m r.opening l b.0 w)) (sym o.left)))
 
-unbegun : (m : Mounts) (w : Shape) (after : Option Shape) (o : Opening) (trace : List Entry) (flag : Bool)
-    (sink sink' : Option (List ℕ)) (f : Fault) → HasNotBegun f → ToldFacts m w after o trace flag sink sink' f
-    → after ≡ Some w
-unbegun m w after o trace flag sink sink' faults.HostFault h t = t.same
-unbegun m w after o trace flag sink sink' (faults.Grant n) h t = t.1.same
-unbegun m w after o trace flag sink sink' faults.Usage h t = absurd t
-unbegun m w after o trace flag sink sink' (faults.Mounts f) h t = absurd t
-unbegun m w after o trace flag sink sink' faults.SourceFault h t = absurd t
-unbegun m w after o trace flag sink sink' faults.Done h t = absurd h
-unbegun m w after o trace flag sink sink' faults.Full h t = absurd h
-unbegun m w after o trace flag sink sink' faults.SinkFault h t = absurd h
-unbegun m w after o trace flag sink sink' faults.Memory h t = absurd h
-unbegun m w after o trace flag sink sink' (faults.Image task errno) h t = absurd h
-unbegun m w after o trace flag sink sink' faults.Stuck h t = absurd h
+unbegun : (x : Session) (p : Output) (f : Fault) → HasNotBegun f → ToldFacts x p f → x.after ≡ Some x.world
+unbegun x p faults.HostFault h t = t.same
+unbegun x p (faults.Grant n) h t = t.1.same
+unbegun x p faults.Usage h t = absurd t
+unbegun x p (faults.Mounts f) h t = absurd t
+unbegun x p faults.SourceFault h t = absurd t
+unbegun x p _ h t = cc
 
 same_world : (world after : Option Shape) → (world ≡ None → after ≡ None)
     → ((w : Shape) → world ≡ Some w → after ≡ Some w) → after ≡ world
 same_world None after f g = f refl
 same_world (Some w) after f g = g w refl
 
-pub world_same : (s : Sides) (r : Outcome) → Way s r → HasNotBegun r.fault → s.world' ≡ s.world
-world_same s r (Misused e n) h = n.same_world
-world_same s r (Unread command e w u) h = u.same_world
-world_same s r (Over_file command e w m d o) h =
-    same_world s.world s.world' o.untold (λ v told. unbegun m v s.world' r.opening r.trace command.trace
-    s.sink s.sink' r.fault h (o.told v told))
+pub world_same : (s : Call) (r : Outcome) → Way s r → HasNotBegun r.fault → s.after.host.told ≡ s.before.host.told
+world_same s r (Misused e n) h = ap (λ (x : Sides). x.host.told) n.same
+world_same s r (Unread command e w u) h = ap (λ (x : Side Shape). x.told) u.same_host
+world_same s r (Over_file command e v m d o) h =
+    same_world s.before.host.told s.after.host.told o.untold
+    (λ w told. unbegun (session s m r w) (output s) r.fault h (o.told w told))
 
-pub outside : (s : Sides) (r : Outcome) → Way s r → r.fault ≡ faults.Memory
-    → WhereRead r.mounts s.world (λ m w. KeepsOutside m w s.world')
-outside s r (Misused e n) h = where_none r.mounts s.world _ n.refused.mounts
-outside s r (Unread command e w u) h = where_none r.mounts s.world _ u.refused.mounts
-outside s r (Over_file command e w m d o) h =
-    where_read r.mounts s.world (λ m w. KeepsOutside m w s.world') m o.read
-    (λ v told. (told_as s command m r faults.Memory o h v told).kept)
+pub outside : (s : Call) (r : Outcome) → Way s r → r.fault ≡ faults.Memory
+    → WhereRead r.mounts s.before.host.told (λ m w. KeepsOutside m w s.after.host.told)
+outside s r way h =
+    where_read s r (λ m w. KeepsOutside m w s.after.host.told) way
+    (λ m o w told. (told_as s m r faults.Memory o h w told).kept)
 
-pub inside : (s : Sides) (r : Outcome) → Way s r → r.fault ≡ faults.Memory
-    → WhereRead r.mounts s.world (λ m w. LeavesInside m w r.opening r.trace r.left s.world')
-inside s r (Misused e n) h = where_none r.mounts s.world _ n.refused.mounts
-inside s r (Unread command e w u) h = where_none r.mounts s.world _ u.refused.mounts
-inside s r (Over_file command e w m d o) h =
-    where_read r.mounts s.world (λ m w. LeavesInside m w r.opening r.trace r.left s.world') m o.read
-    (λ v told. subst (λ (l : Left). LeavesInside m v r.opening r.trace l s.world') (sym o.left)
-    (told_as s command m r faults.Memory o h v told).inside)
+pub inside : (s : Call) (r : Outcome) → Way s r → r.fault ≡ faults.Memory
+    → WhereRead r.mounts s.before.host.told (λ m w. LeavesInside m w r s.after.host.told)
+inside s r way h =
+    where_read s r (λ m w. LeavesInside m w r s.after.host.told) way
+    (λ m o w told. subst (λ (l : Left). LeavesInside m w (record r { left = l }) s.after.host.told) (sym o.left)
+    (told_as s m r faults.Memory o h w told).inside)
 
 -- ---- the numbers
 
@@ -270,21 +187,21 @@ nothing_gapless : IsGapless (numbers_opened nothing_opened)
 unfolding count_up
 nothing_gapless = refl
 
-pub gapless : (s : Sides) (r : Outcome) → Way s r → IsGapless (numbers_opened r.opening)
+pub gapless : (s : Call) (r : Outcome) → Way s r → IsGapless (numbers_opened r.opening)
 gapless s r (Misused e n) =
     subst (λ (o : Opening). IsGapless (numbers_opened o)) (sym n.refused.opening) nothing_gapless
 gapless s r (Unread command e w u) =
     subst (λ (o : Opening). IsGapless (numbers_opened o)) (sym u.refused.opening) nothing_gapless
 gapless s r (Over_file command e w m d o) = o.numbers
 
-nothing_left : (s : Sides) (r : Outcome) → Way s r → r.left ≡ no_left
+nothing_left : (s : Call) (r : Outcome) → Way s r → r.left ≡ no_left
 nothing_left s r (Misused e n) = n.refused.left
 nothing_left s r (Unread command e w u) = u.refused.left
 nothing_left s r (Over_file command e w m d o) = o.left
 
-pub left_over : (s : Sides) (r : Outcome) → Way s r
-    → WhereState r.mounts s.world r.opening r.trace (λ m w k. IsLeftOver r.left k)
-left_over s r way = each r.mounts s.world (nothing_left s r way)
+pub left_over : (s : Call) (r : Outcome) → Way s r
+    → WhereState r.mounts s.before.host.told r.opening r.trace (λ m w k. IsLeftOver r.left k)
+left_over s r way = each r.mounts s.before.host.told (nothing_left s r way)
   where
     over_nothing : (k : Kernel) (left : Left) → left ≡ no_left → IsLeftOver left k
     over_nothing k left e =
@@ -305,12 +222,12 @@ left_over s r way = each r.mounts s.world (nothing_left s r way)
         of None = tt
         of (Some k) = over_nothing k r.left e
 
-pub left_none : (s : Sides) (r : Outcome) → Way s r → HasNoTrace r.fault → r.left ≡ no_left
+pub left_none : (s : Call) (r : Outcome) → Way s r → HasNoTrace r.fault → r.left ≡ no_left
 left_none s r way h = nothing_left s r way
 
-pub left_tasks : (s : Sides) (r : Outcome) → Way s r
-    → WhereState r.mounts s.world r.opening r.trace (λ m w k. AreLeft m w r.opening r.trace r.left k)
-left_tasks s r way = each r.mounts s.world
+pub left_tasks : (s : Call) (r : Outcome) → Way s r
+    → WhereState r.mounts s.before.host.told r.opening r.trace (λ m w k. AreLeft m w r k)
+left_tasks s r way = each r.mounts s.before.host.told
   where
     none_there : (m : Mounts) (k start : Kernel) (left : Left) → left ≡ no_left
         → All (λ x. MayBeLeft m.entries start r.trace k x.task) left.rises
@@ -324,12 +241,12 @@ left_tasks s r way = each r.mounts s.world
     from m k (Some start) = none_there m k start r.left (nothing_left s r way)
 
     each : (mounts : Option Mounts) (tree : Option Shape)
-        → WhereState mounts tree r.opening r.trace (λ m w k. AreLeft m w r.opening r.trace r.left k)
+        → WhereState mounts tree r.opening r.trace (λ m w k. AreLeft m w r k)
     each None world = tt
     each (Some m) None = tt
     each (Some m) (Some w) = of (state_after m w r.opening r.trace)
       where
-        of : (k : Option Kernel) → IfSome k (λ k. AreLeft m w r.opening r.trace r.left k)
+        of : (k : Option Kernel) → IfSome k (λ k. AreLeft m w r k)
         of None = tt
         of (Some k) = from m k (started_kernel (begun m w r.opening))
 
@@ -359,7 +276,7 @@ all_drawn o trace left e f =
     ∙ ap (λ (l : Left). numbers_opened o ++ [] ++ numbers_of (left_fresh l)) f
     ∙ ap (λ xs. xs ++ []) (append-nil (numbers_opened o)) ∙ append-nil (numbers_opened o)
 
-pub below : (s : Sides) (r : Outcome) → Way s r → HasAllBelow (numbers_drawn r.opening r.trace r.left)
+pub below : (s : Call) (r : Outcome) → Way s r → HasAllBelow (numbers_drawn r.opening r.trace r.left)
 below s r (Misused e n) =
     subst HasAllBelow
     (sym (all_drawn r.opening r.trace r.left (ap (flat_map numbers_in) n.refused.trace) n.refused.left))

@@ -11,7 +11,7 @@ use Rattle.sentry_run.specs.declared.walk.Met.{Met}
 use Rattle.sentry_run.specs.declared.walk.Met.TheVariants.{Drawn}
 use Rattle.sentry_run.specs.declared.walk.Answer.{Answer}
 use Rattle.sentry_run.specs.declared.walk.Answer.TheVariants.{Refuses}
-use Rattle.sentry_run.specs.Walk.{Refusal, IsHere, LoadsWhere, LendsTo, Walks}
+use Rattle.sentry_run.specs.Walk.{Refusal, IsHere, LoadsWhere, Walked, came_to, LendsTo, Walks}
 
 -- what a node tells after a call that did not fail is what it told
 same_told : (s : Shape) (count : ℕ) → faults_of s ≡ count → with_faults count s ≡ s
@@ -32,26 +32,26 @@ load_refused (Some s) told' count count' what attr errno met answer here itself 
 pub lends_child : (told root' child child' : Option Shape) (name : List ℕ) (count : ℕ) (what : Kind) (met : Met)
     (answer : Answer)
     → TellsLent name told child count what → root' ≡ option_map (lend_child name) told
-    → LoadsWhere child child' met answer → LendsTo told name root' (Some child') met answer
+    → LoadsWhere child child' met answer
+    → LendsTo told name (came_to root' (Some child') met answer)
 lends_child None root' child child' name count what met answer lent r loads = r
 lends_child (Some t) root' child child' name count what met answer lent r loads = from_child (child_of name t) refl lent
   where
     from_child : (o : Option Shape) → child_of name t ≡ o → ComesFrom o child count what
-        → LendsTo (Some t) name root' (Some child') met answer
+        → LendsTo (Some t) name (came_to root' (Some child') met answer)
     from_child None e from = absurd from
     from_child (Some s) e from =
         let l : LoadsWhere (Some s) child' met answer =
         subst (λ (x : Option Shape). LoadsWhere x child' met answer) from.0 loads in
         (r, s, e, l.0, l.1)
 
-pub walks_on : (told told1 root' : Option Shape) (child : Option (Option Shape)) (name : List ℕ) (count count1 : ℕ)
-    (what : Kind) (attr : Attr) (met : Met) (answer : Answer)
+pub walks_on : (told told1 : Option Shape) (name : List ℕ) (walked : Walked) (count count1 : ℕ) (what : Kind)
+    (attr : Attr)
     → TellsItself told count what → count < 2 ^ 64 → TellsAttr told attr → told1 ≡ kept count1 told → count1 ≡ count
-    → (attr.mode / 64 % 2 ≡ 0 → ⊥)
-    → LendsTo told1 name root' child met answer → Walks told name root' child met answer
-walks_on None told1 root' child name count count1 what attr met answer itself small tells k same x lends =
-    subst (λ (o : Option Shape). LendsTo o name root' child met answer) k lends
-walks_on (Some t) told1 root' child name count count1 what attr met answer itself small tells k same x lends =
+    → (attr.mode / 64 % 2 ≡ 0 → ⊥) → LendsTo told1 name walked → Walks told name walked
+walks_on None told1 name walked count count1 what attr itself small tells k same x lends =
+    subst (λ (o : Option Shape). LendsTo o name walked) k lends
+walks_on (Some t) told1 name walked count count1 what attr itself small tells k same x lends =
     let told_same : told1 ≡ Some t = k ∙ ap Some (same_told t count1 (itself.0 ∙ sym same)) in
     let mode : attr.mode ≡ mode_of t = ap (λ (a : Attr). a.mode) tells in
     let odd : mode_of t / 64 % 2 ≡ 1 = odd_mode (mode_of t) (λ e. x (ap (λ (m : ℕ). m / 64 % 2) mode ∙ e)) in
@@ -59,7 +59,7 @@ walks_on (Some t) told1 root' child name count count1 what attr met answer itsel
       low,
       inl (
         ap (λ n. nat_eq n 1) odd,
-        subst (λ (o : Option Shape). LendsTo o name root' child met answer) told_same lends,
+        subst (λ (o : Option Shape). LendsTo o name walked) told_same lends,
       ),
     )
   where

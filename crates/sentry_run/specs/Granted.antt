@@ -2,20 +2,19 @@
 use Rattle.std.specs.Prelude.{◌≡◌, ◌⊎◌, ℕ, List, [], ◌∷◌, true, Option, Some, None}
 use Rattle.host_node.specs.Tree.{Shape, none_lent}
 use Rattle.host_node.specs.Routes.{directory_at, put_subtree}
-use Rattle.kernel_model.specs.declared.entry.Entry.{Entry}
 use Rattle.mount_file.specs.declared.mounts.Mounts.{Mounts}
 use Rattle.mount_file.specs.declared.mounts.Mount.{Mount}
-use Rattle.kernel_model.specs.declared.opening.Opening.{Opening}
 use Rattle.sentry_run.specs.declared.play.End.{End}
 use Rattle.sentry_run.specs.declared.play.End.TheVariants as ends
+use Rattle.sentry_run.specs.declared.play.Played.{Played}
 use Rattle.sentry_run.specs.Played.{Ended, nothing_opened}
 
 -- what a run over a granted root leaves, where the root tells
 -- profile
-abbrev pub PlaysRoot : Mounts → (told after : Option Shape) → Opening → List Entry → End → Type 0
-PlaysRoot mounts None after opening trace end = after ≡ None
-PlaysRoot mounts (Some t) after opening trace end =
-    (tree : Shape) × (after ≡ Some tree) × Ended mounts t tree opening trace end
+abbrev pub PlaysRoot : Mounts → (told after : Option Shape) → Played → Type 0
+PlaysRoot mounts None after played = after ≡ None
+PlaysRoot mounts (Some t) after played =
+    (tree : Shape) × (after ≡ Some tree) × Ended mounts t tree played.opening played.trace played.end
 
 -- no folder of the world is granted
 -- profile
@@ -31,32 +30,35 @@ first_names (mount ∷ mounts) = mount.folder.names
 
 -- nothing ran, and the world is as it was
 -- profile
-abbrev pub Untouched : Shape → Option Shape → Opening → List Entry → Type 0
-Untouched world after opening trace = (after ≡ Some world) × (opening ≡ nothing_opened) × (trace ≡ [])
+abbrev pub Untouched : Shape → Option Shape → Played → Type 0
+Untouched world after played = (after ≡ Some world) × (played.opening ≡ nothing_opened) × (played.trace ≡ [])
 
--- the granted folder's tree was opened and run over, and the world has it in its place as it is then
+-- the first mount's folder was opened and run over, and the world has its tree in its place as it is then
 -- profile
-abbrev pub PlaysOver : Mounts → List (List ℕ) → Shape → Option Shape → Opening → List Entry → End → Type 0
-PlaysOver mounts names world after opening trace end =
-    (t : Shape) × (directory_at names world ≡ Some t) × (tree : Shape) × (after ≡ Some (put_subtree names tree world))
-    × Ended mounts t tree opening trace end
+abbrev pub PlaysOver : Mounts → Shape → Option Shape → Played → Type 0
+PlaysOver mounts world after played =
+    (t : Shape) × (directory_at (first_names mounts.mounts) world ≡ Some t)
+    × (tree : Shape) × (after ≡ Some (put_subtree (first_names mounts.mounts) tree world))
+    × Ended mounts t tree played.opening played.trace played.end
+
+-- which of these an end leaves: nothing ran where the host failed or the folder is missing, the run went over it where
+-- the end is the run's own, and either where memory ran out
+-- profile
+abbrev pub PlaysAs : End → (untouched missing over : Type 0) → Type 0
+PlaysAs ends.HostFault untouched missing over = untouched
+PlaysAs ends.Grant untouched missing over = untouched × missing
+PlaysAs ends.Memory untouched missing over = untouched ⊎ over
+PlaysAs (ends.Done kernel) untouched missing over = over
+PlaysAs (ends.Full kernel) untouched missing over = over
+PlaysAs (ends.Image errno) untouched missing over = over
 
 -- what the opening and the run leave of the world, where it tells
 -- profile
-abbrev pub Plays : Mounts → List (List ℕ) → Shape → Option Shape → Opening → List Entry → End → Type 0
-Plays mounts names world after opening trace ends.HostFault = Untouched world after opening trace
-Plays mounts names world after opening trace ends.Grant =
-    Untouched world after opening trace × (directory_at names world ≡ None)
-Plays mounts names world after opening trace ends.Memory =
-    Untouched world after opening trace ⊎ PlaysOver mounts names world after opening trace ends.Memory
-Plays mounts names world after opening trace (ends.Done kernel) =
-    PlaysOver mounts names world after opening trace (ends.Done kernel)
-Plays mounts names world after opening trace (ends.Full kernel) =
-    PlaysOver mounts names world after opening trace (ends.Full kernel)
-Plays mounts names world after opening trace (ends.Image errno) =
-    PlaysOver mounts names world after opening trace (ends.Image errno)
+abbrev pub Plays : Mounts → Shape → Option Shape → Played → Type 0
+Plays mounts world after played =
+    PlaysAs played.end (Untouched world after played) (directory_at (first_names mounts.mounts) world ≡ None)
+    (PlaysOver mounts world after played)
 
-abbrev pub PlaysIn : Mounts → (world after : Option Shape) → Opening → List Entry → End → Type 0
-PlaysIn mounts None after opening trace end = after ≡ None
-PlaysIn mounts (Some world) after opening trace end =
-    Plays mounts (first_names mounts.mounts) world after opening trace end
+abbrev pub PlaysIn : Mounts → (world after : Option Shape) → Played → Type 0
+PlaysIn mounts None after played = after ≡ None
+PlaysIn mounts (Some world) after played = Plays mounts world after played

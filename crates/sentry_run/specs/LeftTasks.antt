@@ -7,11 +7,11 @@ use Rattle.kernel_model.specs.declared.kernel.Task.{Task}
 use Rattle.kernel_model.specs.declared.running.Running.{Running}
 use Rattle.kernel_model.specs.declared.traps.Next.{Next}
 use Rattle.kernel_model.specs.declared.traps.Next.TheVariants.{Goes, Calls, Traps}
-use Rattle.kernel_model.specs.Spaces.{acting_in}
-use Rattle.kernel_model.specs.Instructions.{next_of}
-use Rattle.kernel_model.specs.History.{replay, is_live}
-use Rattle.kernel_model.specs.Parts.{parts, run}
-use Rattle.kernel_model.specs.Step.{live, step, task_of}
+use Rattle.kernel_model.specs.machine.Spaces.{acting_in}
+use Rattle.kernel_model.specs.machine.Instructions.{next_of}
+use Rattle.kernel_model.specs.entries.History.{replay, is_live}
+use Rattle.kernel_model.specs.entries.Parts.{parts, run}
+use Rattle.kernel_model.specs.entries.Steps.{live, step, task_of}
 
 -- the next instruction is a system call
 -- RISC-V Unprivileged ISA 20191213, 2.8, ECALL

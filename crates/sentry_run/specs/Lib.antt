@@ -6,11 +6,11 @@ pub mod Command
 pub mod Played
 pub mod PlayedMachine
 pub mod Granted
-pub mod Status
 pub mod ErrorLine
 pub mod Causes
 pub mod Counts
 pub mod LeftTasks
 pub mod Outcome
+pub mod Sides
 pub mod Concluded
 pub mod Ran

@@ -2,8 +2,8 @@
 use Rattle.std.specs.Prelude.{◌≡◌, ◌⊎◌, ℕ, false, List, Option, Some, None, [], ◌∷◌}
 use Rattle.kernel_model.specs.declared.entry.Entry.{Entry}
 use Rattle.kernel_model.specs.declared.entry.Entry.TheVariants.{Run, Call, Sleep, End}
-use Rattle.kernel_model.specs.Spaces.{acting_in}
-use Rattle.kernel_model.specs.Instructions.{next_of, goes_on}
+use Rattle.kernel_model.specs.machine.Spaces.{acting_in}
+use Rattle.kernel_model.specs.machine.Instructions.{next_of, goes_on}
 use Rattle.std.specs.Ordering.{nat_cmp}
 use Rattle.std.specs.FinMap as map
 use Rattle.kernel_model.specs.declared.kernel.Kernel.{Kernel}
@@ -12,11 +12,11 @@ use Rattle.kernel_model.specs.declared.kernel.Life.TheVariants.{Live}
 use Rattle.kernel_model.specs.declared.kernel.Part.TheVariants.{OfConsole}
 use Rattle.mm_space.specs.Spaces.{AddressSpace}
 use Rattle.elf_image.specs.declared.image.Image.{Image}
-use Rattle.kernel_model.specs.FileTree.{Nodes}
-use Rattle.kernel_model.specs.Parts.{Change}
-use Rattle.kernel_model.specs.Step.{task_change}
+use Rattle.kernel_model.specs.files.FileTree.{Nodes}
+use Rattle.kernel_model.specs.entries.Parts.{Change}
+use Rattle.kernel_model.specs.entries.Steps.{task_change}
 use Rattle.mount_file.specs.declared.mounts.Program.{Program}
-use Rattle.kernel_model.specs.Opening.{space_opened, task_opened}
+use Rattle.kernel_model.specs.opening.Opening.{space_opened, task_opened}
 
 -- a kernel with one task, which is number 1, and these nodes and counts of faults
 -- profile

@@ -3,11 +3,11 @@ use Rattle.std.specs.Prelude.{◌≡◌, ℕ, ◌<◌, Some}
 use Rattle.std.specs.Ordering.{nat_cmp}
 use Rattle.std.specs.FinMap as map
 use Rattle.kernel_model.specs.declared.kernel.Kernel.{Kernel}
-use Rattle.kernel_model.specs.FileTree.{Nodes}
+use Rattle.kernel_model.specs.files.FileTree.{Nodes}
 use Rattle.sentry_run.specs.declared.machine.Machine.{Machine}
 use Rattle.quantum.specs.Instructions.{ran}
-use Rattle.kernel_model.specs.Spaces.{going_in}
-use Rattle.kernel_model.specs.Step.{with_registers}
+use Rattle.kernel_model.specs.machine.Spaces.{going_in}
+use Rattle.kernel_model.specs.entries.Steps.{with_registers}
 use Rattle.sentry_run.specs.Machine.{kernel_with}
 
 -- the kernel of a machine with these nodes and counts

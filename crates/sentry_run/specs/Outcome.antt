@@ -14,21 +14,21 @@ use Rattle.kernel_model.specs.declared.opening.Left.{Left}
 use Rattle.kernel_model.specs.Words.{Command}
 use Rattle.mount_file.specs.MountFile.{IsMountFile, IsFaultOf}
 use Rattle.mount_file.specs.declared.mounts.MountFault.{MountFault}
-use Rattle.kernel_model.specs.Opening.{Begun, Opens, Refuses, Misfits, opening_of}
-use Rattle.kernel_model.specs.History.{replay, each_whole, any_live}
-use Rattle.kernel_model.specs.Printed.{printed}
+use Rattle.kernel_model.specs.opening.Opening.{Begun, Opens, Refuses, Misfits, opening_of}
+use Rattle.kernel_model.specs.entries.History.{replay, each_whole, any_live}
+use Rattle.kernel_model.specs.printed.Printed.{printed}
 use Rattle.std.specs.FinMap as map
 use Rattle.kernel_model.specs.declared.kernel.Node.{Node}
 use Rattle.kernel_model.specs.declared.opening.Fresh.{Fresh}
-use Rattle.kernel_model.specs.FileTree.{Child, Missing, child_at}
-use Rattle.kernel_model.specs.Numbers.{IsUnnumbered, left_fresh}
-use Rattle.kernel_model.specs.Settled.{tree_now, settled, outside}
+use Rattle.kernel_model.specs.files.FileTree.{Child, Missing, child_at}
+use Rattle.kernel_model.specs.files.Numbers.{IsUnnumbered, left_fresh}
+use Rattle.kernel_model.specs.files.Settled.{tree_now, settled, outside}
 use Rattle.sentry_run.specs.Concluded.{StopsShort}
 use Rattle.sentry_run.specs.Counts.{HasRisen}
 use Rattle.sentry_run.specs.LeftTasks.{MayBeLeft}
 use Rattle.sentry_run.specs.declared.outcome.Fault.{Fault}
-use Rattle.sentry_run.specs.declared.outcome.Fault.TheVariants.{Done, Usage, Mounts as MountsRefused, Image}
-use Rattle.sentry_run.specs.declared.outcome.Fault.TheVariants.{SourceFault, SinkFault, Full, Memory, HostFault, Grant}
+use Rattle.sentry_run.specs.declared.outcome.Outcome.{Outcome}
+use Rattle.sentry_run.specs.declared.outcome.Fault.TheVariants.{SinkFault, Memory}
 
 -- a fact of what an object tells, where it tells
 -- profile
@@ -76,21 +76,6 @@ MeetsFault _ _ fault = ⊥
 abbrev pub LacksFile : Option Command → Option Shelf → Type 0
 LacksFile (Some command) (Some shelf) = content_at shelf.files command.mounts ≡ None
 LacksFile _ _ = ⊥
-
--- an answer of a run whose mount file isn't there
--- profile
-abbrev pub MayFailToOpen : Fault → Type 0
-MayFailToOpen SourceFault = ⊤
-MayFailToOpen Memory = ⊤
-MayFailToOpen _ = ⊥
-
--- an answer of a run whose mount file has that fault
--- profile
-abbrev pub MayFailToRead : MountFault → Fault → Type 0
-MayFailToRead fault (MountsRefused told) = told ≡ fault
-MayFailToRead fault SourceFault = ⊤
-MayFailToRead fault Memory = ⊤
-MayFailToRead fault _ = ⊥
 
 -- ---- the opening and the state
 
@@ -157,63 +142,10 @@ refused_kernel (Misfits task) = None
 
 -- ---- how a run came out
 
--- a run whose mount file was not accepted
--- profile
-abbrev pub IsUnread : Fault → Type 0
-IsUnread Usage = ⊤
-IsUnread (MountsRefused fault) = ⊤
-IsUnread SourceFault = ⊤
-IsUnread Memory = ⊤
-IsUnread _ = ⊥
-
--- a run whose task began and that is over: Done, Full or SinkFault
--- profile
-abbrev pub HasRun : Fault → Type 0
-HasRun Done = ⊤
-HasRun Full = ⊤
-HasRun SinkFault = ⊤
-HasRun _ = ⊥
-
--- a run in which nothing of the world was opened
--- profile
-abbrev pub HasNotBegun : Fault → Type 0
-HasNotBegun Usage = ⊤
-HasNotBegun (MountsRefused fault) = ⊤
-HasNotBegun SourceFault = ⊤
-HasNotBegun HostFault = ⊤
-HasNotBegun (Grant mount) = ⊤
-HasNotBegun _ = ⊥
-
--- a run that leaves no trace
--- profile
-abbrev pub HasNoTrace : Fault → Type 0
-HasNoTrace Usage = ⊤
-HasNoTrace (MountsRefused fault) = ⊤
-HasNoTrace (Image task errno) = ⊤
-HasNoTrace SourceFault = ⊤
-HasNoTrace HostFault = ⊤
-HasNoTrace (Grant mount) = ⊤
-HasNoTrace _ = ⊥
-
 -- no task lives, or the trace is full
 -- profile
 abbrev pub IsOver : Mounts → List Entry → Kernel → Type 0
 IsOver mounts trace k = (any_live k ≡ false) ⊎ ((any_live k ≡ true) × (length trace ≡ mounts.entries))
-
--- an answer of a run whose folder isn't there
--- profile
-abbrev pub MayFailToGrant : Fault → Type 0
-MayFailToGrant (Grant mount) = ⊤
-MayFailToGrant HostFault = ⊤
-MayFailToGrant Memory = ⊤
-MayFailToGrant _ = ⊥
-
--- an answer of a run whose opening execve answers that error
--- profile
-abbrev pub MayFailToStart : (task : ℕ) → Errno → Fault → Type 0
-MayFailToStart task errno (Image of errno') = (of ≡ task) × (errno' ≡ errno)
-MayFailToStart task errno Memory = ⊤
-MayFailToStart task errno _ = ⊥
 
 -- ---- the text
 
@@ -222,20 +154,6 @@ MayFailToStart task errno _ = ⊥
 abbrev pub asks_trace : Option Command → Bool
 asks_trace None = false
 asks_trace (Some command) = command.trace
-
--- a run whose text was taken
--- profile
-abbrev pub HasText : Fault → Type 0
-HasText Done = ⊤
-HasText Full = ⊤
-HasText _ = ⊥
-
--- a run of whose text a front was taken
--- profile
-abbrev pub HasFront : Fault → Type 0
-HasFront SinkFault = ⊤
-HasFront Memory = ⊤
-HasFront _ = ⊥
 
 -- an answer of a run that is over: it came out so, or the sink failed before the text's end, or memory ran out
 -- profile
@@ -274,10 +192,10 @@ pub record IsLeftOver (left : Left) (k : Kernel) : Type 0 where
 
 -- each task whose rises no entry has is one whose rises may be left beside this trace
 -- profile
-abbrev pub AreLeft : Mounts → Shape → Opening → List Entry → Left → Kernel → Type 0
-AreLeft mounts world opening trace left state =
-    IfSome (started_kernel (begun mounts world opening))
-    (λ start. All (λ r. MayBeLeft mounts.entries start trace state r.task) left.rises)
+abbrev pub AreLeft : Mounts → Shape → Outcome → Kernel → Type 0
+AreLeft mounts world r state =
+    IfSome (started_kernel (begun mounts world r.opening))
+    (λ start. All (λ rise. MayBeLeft mounts.entries start r.trace state rise.task) r.left.rises)
 
 -- ---- when a run comes to its end
 
@@ -296,14 +214,6 @@ pub record IsAccepted (words : Option Command) (shelf : Option Shelf) (world : O
   pub folders : IsSome (granted mounts.mounts tree)
   pub starts : (k : Kernel) (task : ℕ) (errno : Errno) → begun mounts tree opening ≡ Refuses k task errno → ⊥
 
--- a run that came to its end
--- profile
-abbrev pub HasEnded : Fault → Type 0
-HasEnded Done = ⊤
-HasEnded Full = ⊤
-HasEnded Memory = ⊤
-HasEnded _ = ⊥
-
 -- ---- what is left of the world
 
 -- the world's tree after a run that left this state: each grant replaced by the tree of its root in that state, each
@@ -321,8 +231,8 @@ KeepsOutside mounts world after =
 -- no entry was made, and counts of failed calls rose at most; or the world has each grant as the state of the trace has
 -- it
 -- profile
-abbrev pub LeavesInside : Mounts → Shape → Opening → List Entry → Left → (after : Option Shape) → Type 0
-LeavesInside mounts world opening trace left after =
-    ((trace ≡ []) × (w : Shape) × (after ≡ Some w) × HasRisen world w)
-    ⊎ ((k : Kernel) × (state_after mounts world opening trace ≡ Some k)
-    × (after ≡ Some (world_after mounts opening left k world)))
+abbrev pub LeavesInside : Mounts → Shape → Outcome → (after : Option Shape) → Type 0
+LeavesInside mounts world r after =
+    ((r.trace ≡ []) × (w : Shape) × (after ≡ Some w) × HasRisen world w)
+    ⊎ ((k : Kernel) × (state_after mounts world r.opening r.trace ≡ Some k)
+    × (after ≡ Some (world_after mounts r.opening r.left k world)))

@@ -12,12 +12,12 @@ use Rattle.mount_file.specs.declared.mounts.Program.{Program}
 use Rattle.kernel_model.specs.declared.opening.Opening.{Opening}
 use Rattle.kernel_model.specs.declared.opening.Given.{Given}
 use Rattle.kernel_model.specs.declared.opening.Left.{Left}
-use Rattle.kernel_model.specs.Arguments.{is_too_long}
-use Rattle.kernel_model.specs.FileTree.{Nodes, owner_executes}
-use Rattle.kernel_model.specs.Opening.{opening_of, Opens, Refuses, executed}
-use Rattle.kernel_model.specs.History.{replay, each_whole, any_live}
-use Rattle.kernel_model.specs.Settled.{tree_now}
-use Rattle.kernel_model.specs.WalkedIn.{walked_in}
+use Rattle.kernel_model.specs.opening.Arguments.{is_too_long}
+use Rattle.kernel_model.specs.files.FileTree.{Nodes, owner_executes}
+use Rattle.kernel_model.specs.opening.Opening.{opening_of, Opens, Refuses, executed}
+use Rattle.kernel_model.specs.entries.History.{replay, each_whole, any_live}
+use Rattle.kernel_model.specs.files.Settled.{tree_now}
+use Rattle.kernel_model.specs.laws.WalkedIn.{walked_in}
 use Rattle.sentry_run.specs.declared.walk.Met.{Met}
 use Rattle.sentry_run.specs.declared.walk.Met.TheVariants.{Nothing, RootFailed, Drawn, ChildFailed}
 use Rattle.sentry_run.specs.declared.walk.Answer.{Answer}

@@ -1,7 +1,7 @@
 -- How a machine that stopped has ended.
 use Rattle.std.specs.Prelude.{◌≡◌, ℕ, true, false, Option, Some, None}
 use Rattle.std.specs.FinMap as map
-use Rattle.kernel_model.specs.History.{is_live}
+use Rattle.kernel_model.specs.entries.History.{is_live}
 use Rattle.sentry_run.specs.declared.machine.Machine.{Machine}
 use Rattle.sentry_run.specs.declared.play.End.{End}
 use Rattle.sentry_run.specs.declared.play.End.TheVariants as ends

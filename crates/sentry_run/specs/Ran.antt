@@ -1,26 +1,27 @@
 -- How a run went, from the words to the text.
-use Rattle.std.specs.Prelude.{◌≡◌, ◌≢◌, ◌⊎◌, ℕ, ◌≤◌, List, [], length, Bool, Option, Some, None, ⊤}
+use Rattle.std.specs.Prelude.{◌≡◌, ◌≢◌, ◌⊎◌, ◌≤◌, [], length, Bool, Option, Some, None, ⊤}
 use Rattle.std.specs.List.{flat_map}
-use Rattle.host_node.specs.Tree.{Shape}
 use Rattle.sn_base.specs.Faults.{Rose, HasCause}
 use Rattle.sn_edge.specs.Reading.{ReadsWithin}
 use Rattle.sn_edge.specs.Shelf.{Shelf}
 use Rattle.mount_file.specs.declared.mounts.Mounts.{Mounts}
 use Rattle.mount_file.specs.declared.mounts.MountFault.TheVariants as mount_faults
-use Rattle.kernel_model.specs.Numbers.{IsGapless, numbers_opened, numbers_in}
+use Rattle.kernel_model.specs.files.Numbers.{IsGapless, numbers_opened, numbers_in}
+use Rattle.kernel_model.specs.printed.Printed.{printed}
 use Rattle.kernel_model.specs.Words.{Command}
 use Rattle.sentry_run.specs.declared.outcome.Fault.{Fault}
 use Rattle.sentry_run.specs.declared.outcome.Fault.TheVariants as faults
 use Rattle.sentry_run.specs.declared.outcome.Outcome.{Outcome}
 use Rattle.sentry_run.specs.declared.play.End.{End}
 use Rattle.sentry_run.specs.declared.play.End.TheVariants as ends
+use Rattle.sentry_run.specs.declared.play.Played.{Played}
 use Rattle.mount_file.specs.Form.{HasOneTask}
 use Rattle.sentry_run.specs.Played.{nothing_opened, no_left, TraceOf}
 use Rattle.sentry_run.specs.Granted.{PlaysIn}
 use Rattle.sentry_run.specs.Concluded.{Concludes}
-use Rattle.sentry_run.specs.Status.{status_of}
-use Rattle.sentry_run.specs.Causes.{is_source_fault, is_sink_fault, is_grant_failed}
+use Rattle.sentry_run.specs.Causes.{status_of, is_source_fault, is_sink_fault, is_grant_failed}
 use Rattle.sentry_run.specs.Outcome.{WhereTold, NamesMountFile, NamesFaulty}
+use Rattle.sentry_run.specs.Sides.{Side, Sides}
 
 -- a run that did not begin
 -- profile
@@ -39,82 +40,73 @@ ReadsAs command shelf mounts = WhereTold shelf (λ s. NamesMountFile command s m
 
 -- why a mount file was not read
 -- profile
-abbrev pub FailsToRead : Command → Option Shelf → (count now : ℕ) → Fault → Type 0
-FailsToRead command shelf count now faults.SourceFault = Rose count now
-FailsToRead command shelf count now (faults.Mounts fault) =
-    WhereTold shelf (λ s. NamesFaulty command s fault)
-FailsToRead command shelf count now faults.Memory = ⊤
-FailsToRead command shelf count now _ = ⊥
+abbrev pub FailsToRead : Command → (before after : Side Shelf) → Fault → Type 0
+FailsToRead command before after faults.SourceFault = Rose before.count after.count
+FailsToRead command before after (faults.Mounts fault) = WhereTold before.told (λ s. NamesFaulty command s fault)
+FailsToRead command before after faults.Memory = ⊤
+FailsToRead command before after _ = ⊥
+
+-- what was opened and run, as an outcome has it, and how it ended
+-- profile
+abbrev pub played_by : Outcome → End → Played
+played_by r end = record { end = end; opening = r.opening; trace = r.trace }
 
 -- a run over an accepted mount file
 -- profile
-pub record RanOver (mounts : Mounts) (flag : Bool) (world world' : Option Shape) (hosts hosts' : ℕ)
-    (sink sink' : Option (List ℕ)) (sinks sinks' : ℕ) (r : Outcome) : Type 0 where
+pub record RanOver (mounts : Mounts) (flag : Bool) (before after : Sides) (r : Outcome) : Type 0 where
   pub status : r.status ≡ status_of r.fault
   pub read : r.mounts ≡ Some mounts
   pub left : r.left ≡ no_left
   pub one : HasOneTask mounts
   pub end : End
-  pub plays : PlaysIn mounts world world' r.opening r.trace end
-  pub concludes : Concludes end r.trace flag sink sink' sinks sinks' r.fault
-  pub host : end ≡ ends.HostFault → Rose hosts hosts'
-  pub host_cause : HasCause (is_grant_failed end) hosts hosts'
-  pub sink_cause : HasCause (is_sink_fault r.fault) sinks sinks'
+  pub plays : PlaysIn mounts before.host.told after.host.told (played_by r end)
+  pub concludes : Concludes end (λ k. printed k r.trace flag) before.sink after.sink r.fault
+  pub host : end ≡ ends.HostFault → Rose before.host.count after.host.count
+  pub host_cause : HasCause (is_grant_failed end) before.host.count after.host.count
+  pub sink_cause : HasCause (is_sink_fault r.fault) before.sink.count after.sink.count
   pub trace : TraceOf mounts.entries end r.trace
   pub drawn : flat_map numbers_in r.trace ≡ []
   pub numbers : IsGapless (numbers_opened r.opening)
   pub bound : length r.trace ≤ mounts.entries
 
--- a run of a command whose mount file was not read
+-- a run of a command whose mount file was not read: host and sink are as they were
 -- profile
-pub record NotRead (command : Command) (shelf : Option Shelf) (count now : ℕ) (world world' : Option Shape)
-    (hosts hosts' : ℕ) (sink sink' : Option (List ℕ)) (sinks sinks' : ℕ) (r : Outcome) : Type 0 where
-  pub fails : FailsToRead command shelf count now r.fault
-  pub source_cause : HasCause (is_source_fault r.fault) count now
+pub record NotRead (command : Command) (before after : Sides) (r : Outcome) : Type 0 where
+  pub fails : FailsToRead command before.source after.source r.fault
+  pub source_cause : HasCause (is_source_fault r.fault) before.source.count after.source.count
   pub never_memory : r.fault ≢ faults.Mounts mount_faults.Memory
   pub refused : IsRefused r.fault r
-  pub same_world : world' ≡ world
-  pub same_hosts : hosts' ≡ hosts
-  pub same_sink : sink' ≡ sink
-  pub same_sinks : sinks' ≡ sinks
+  pub same_host : after.host ≡ before.host
+  pub same_sink : after.sink ≡ before.sink
 
 -- a run of a command whose mount file was read
 -- profile
-pub record Read (command : Command) (shelf : Option Shelf) (count now : ℕ) (world world' : Option Shape)
-    (hosts hosts' : ℕ) (sink sink' : Option (List ℕ)) (sinks sinks' : ℕ) (r : Outcome) : Type 0 where
+pub record Read (command : Command) (before after : Sides) (r : Outcome) : Type 0 where
   pub mounts : Mounts
-  pub reads : ReadsAs command shelf mounts
-  pub same_count : now ≡ count
-  pub ran : RanOver mounts command.trace world world' hosts hosts' sink sink' sinks sinks' r
+  pub reads : ReadsAs command before.source.told mounts
+  pub same_count : after.source.count ≡ before.source.count
+  pub ran : RanOver mounts command.trace before after r
 
-abbrev pub RanBy : Command → (shelf shelf' : Option Shelf) → (count now : ℕ) → (world world' : Option Shape)
-    → (hosts hosts' : ℕ) → (sink sink' : Option (List ℕ)) → (sinks sinks' : ℕ) → Outcome → Type 0
-RanBy command shelf shelf' count now world world' hosts hosts' sink sink' sinks sinks' r =
-    ReadsWithin shelf shelf' 65537
-    × (NotRead command shelf count now world world' hosts hosts' sink sink' sinks sinks' r
-    ⊎ Read command shelf count now world world' hosts hosts' sink sink' sinks sinks' r)
-
--- words that are no command
+-- a run of a command
 -- profile
-pub record NoCommand (shelf shelf' : Option Shelf) (count now : ℕ) (world world' : Option Shape) (hosts hosts' : ℕ)
-    (sink sink' : Option (List ℕ)) (sinks sinks' : ℕ) (r : Outcome) : Type 0 where
-  pub refused : IsRefused faults.Usage r
-  pub same_shelf : shelf' ≡ shelf
-  pub same_count : now ≡ count
-  pub same_world : world' ≡ world
-  pub same_hosts : hosts' ≡ hosts
-  pub same_sink : sink' ≡ sink
-  pub same_sinks : sinks' ≡ sinks
+abbrev pub RanBy : Command → (before after : Sides) → Outcome → Type 0
+RanBy command before after r =
+    ReadsWithin before.source.told after.source.told 65537
+    × (NotRead command before after r ⊎ Read command before after r)
 
-abbrev pub RanCommand : Option Command → (shelf shelf' : Option Shelf) → (count now : ℕ) → (world world' : Option Shape)
-    → (hosts hosts' : ℕ) → (sink sink' : Option (List ℕ)) → (sinks sinks' : ℕ) → Outcome → Type 0
-RanCommand None shelf shelf' count now world world' hosts hosts' sink sink' sinks sinks' r =
-    NoCommand shelf shelf' count now world world' hosts hosts' sink sink' sinks sinks' r
-RanCommand (Some command) shelf shelf' count now world world' hosts hosts' sink sink' sinks sinks' r =
-    RanBy command shelf shelf' count now world world' hosts hosts' sink sink' sinks sinks' r
+-- words that are no command: all three sides are as they were
+-- profile
+pub record NoCommand (before after : Sides) (r : Outcome) : Type 0 where
+  pub refused : IsRefused faults.Usage r
+  pub same : after ≡ before
+
+-- a run of the words, where they are a command and where not
+-- profile
+abbrev pub RanCommand : Option Command → (before after : Sides) → Outcome → Type 0
+RanCommand None before after r = NoCommand before after r
+RanCommand (Some command) before after r = RanBy command before after r
 
 -- a run of the words
 -- profile
-pub record RanWords (words : Option Command) (shelf shelf' : Option Shelf) (count now : ℕ) (world world' : Option Shape)
-    (hosts hosts' : ℕ) (sink sink' : Option (List ℕ)) (sinks sinks' : ℕ) (r : Outcome) : Type 0 where
-  pub ran : RanCommand words shelf shelf' count now world world' hosts hosts' sink sink' sinks sinks' r
+pub record RanWords (words : Option Command) (before after : Sides) (r : Outcome) : Type 0 where
+  pub ran : RanCommand words before after r

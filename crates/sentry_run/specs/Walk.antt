@@ -9,9 +9,9 @@ use Rattle.sn_base.specs.Sums.{capped}
 use Rattle.sn_errno.specs.declared.errno.Errno.{Errno}
 use Rattle.sn_errno.specs.declared.errno.Errno.TheVariants.{EIO, ENOENT, E2BIG, EACCES, ENOEXEC}
 use Rattle.kernel_model.specs.declared.opening.Given.{Given}
-use Rattle.kernel_model.specs.Image.{image_of}
-use Rattle.kernel_model.specs.FileTree.{owner_executes}
-use Rattle.kernel_model.specs.Opening.{has_room, executed, image_within}
+use Rattle.kernel_model.specs.machine.Image.{image_of}
+use Rattle.kernel_model.specs.files.FileTree.{owner_executes}
+use Rattle.kernel_model.specs.opening.Opening.{has_room, executed, image_within}
 use Rattle.sentry_run.specs.declared.walk.Met.{Met}
 use Rattle.sentry_run.specs.declared.walk.Met.TheVariants.{Nothing, RootFailed, Drawn, ChildFailed}
 use Rattle.sentry_run.specs.declared.walk.Answer.{Answer}
@@ -110,42 +110,61 @@ abbrev pub LoadsWhere : Option Shape → Option Shape → Met → Answer → Typ
 LoadsWhere None told met answer = told ≡ None
 LoadsWhere (Some s) told met answer = (faults_of s < 2 ^ 64) × Loads s told met answer
 
--- what a look for a program's node gave, from what the root told before: what the root and that node tell then
--- path_resolution(7); execve(2)
-abbrev pub LendsFrom : Shape → List ℕ → Option Shape → Option (Option Shape) → Met → Answer → Type 0
-LendsFrom t name root None Nothing (Refuses errno) = (root ≡ Some t) × (child_of name t ≡ None) × (errno ≡ ENOENT)
-LendsFrom t name root None Nothing Memory = root ≡ Some t
-LendsFrom t name root None (RootFailed d) (Refuses errno) = (errno ≡ EIO) × (0 < d) × (root ≡ Some (faulted_by d t))
-LendsFrom t name root (Some child) met answer =
-    (root ≡ Some (lend_child name t)) × (s : Shape) × (child_of name t ≡ Some s) × (faults_of s < 2 ^ 64)
-    × Loads s child met answer
-LendsFrom t name root _ _ _ = ⊥
+-- what a walk came to: what the root tells then, and the program's node where it was lent; what was met, and answered
+-- profile
+pub record Walked : Type 0 where
+  pub root : Option Shape
+  pub child : Option (Option Shape)
+  pub met : Met
+  pub answer : Answer
 
-abbrev pub LendsTo : Option Shape → List ℕ → Option Shape → Option (Option Shape) → Met → Answer → Type 0
-LendsTo None name root child met answer = root ≡ None
-LendsTo (Some t) name root child met answer = LendsFrom t name root child met answer
+-- a walk that came to this: what the nodes tell then, what was met, and what was answered
+-- profile
+abbrev pub came_to : (root : Option Shape) → (child : Option (Option Shape)) → Met → Answer → Walked
+came_to root child met answer = record { root = root; child = child; met = met; answer = answer }
+
+-- what a look for a program's node gave that was not lent, from what the root told before, and what it tells then
+-- path_resolution(7); execve(2), ENOENT
+abbrev pub LendsNothing : Shape → List ℕ → (root : Option Shape) → Met → Answer → Type 0
+LendsNothing t name root Nothing (Refuses errno) = (root ≡ Some t) × (child_of name t ≡ None) × (errno ≡ ENOENT)
+LendsNothing t name root Nothing Memory = root ≡ Some t
+LendsNothing t name root (RootFailed d) (Refuses errno) = (errno ≡ EIO) × (0 < d) × (root ≡ Some (faulted_by d t))
+LendsNothing t name root _ _ = ⊥
+
+-- what a look for a program's node gave, by whether it was lent, from what the root told before
+-- path_resolution(7); execve(2)
+abbrev pub LendsFrom : Shape → List ℕ → (child : Option (Option Shape)) → Walked → Type 0
+LendsFrom t name None walked = LendsNothing t name walked.root walked.met walked.answer
+LendsFrom t name (Some child) walked =
+    (walked.root ≡ Some (lend_child name t)) × (s : Shape) × (child_of name t ≡ Some s) × (faults_of s < 2 ^ 64)
+    × Loads s child walked.met walked.answer
+
+abbrev pub LendsTo : Option Shape → List ℕ → Walked → Type 0
+LendsTo None name walked = walked.root ≡ None
+LendsTo (Some t) name walked = LendsFrom t name walked.child walked
 
 -- what a walk gave: the root is searched only where its owner may
 -- path_resolution(7), EACCES; execve(2)
-abbrev pub WalksTo : Shape → List ℕ → Option Shape → Option (Option Shape) → Met → Answer → Type 0
-WalksTo t name root child met answer =
-    ((owner_executes t ≡ true) × LendsFrom t name root child met answer)
-    ⊎ ((owner_executes t ≡ false) × (root ≡ Some t) × (child ≡ None) × (met ≡ Nothing) × (answer ≡ Refuses EACCES))
-    ⊎ ((root ≡ Some t) × (child ≡ None) × (met ≡ Nothing) × (answer ≡ Memory))
-    ⊎ ((d : ℕ) × (0 < d) × (root ≡ Some (faulted_by d t)) × (child ≡ None) × (met ≡ RootFailed d)
-    × (answer ≡ Refuses EIO))
+abbrev pub WalksTo : Shape → List ℕ → Walked → Type 0
+WalksTo t name walked =
+    ((owner_executes t ≡ true) × LendsFrom t name walked.child walked)
+    ⊎ ((owner_executes t ≡ false) × (walked.root ≡ Some t) × (walked.child ≡ None) × (walked.met ≡ Nothing)
+    × (walked.answer ≡ Refuses EACCES))
+    ⊎ ((walked.root ≡ Some t) × (walked.child ≡ None) × (walked.met ≡ Nothing) × (walked.answer ≡ Memory))
+    ⊎ ((d : ℕ) × (0 < d) × (walked.root ≡ Some (faulted_by d t)) × (walked.child ≡ None)
+    × (walked.met ≡ RootFailed d) × (walked.answer ≡ Refuses EIO))
 
-abbrev pub Walks : Option Shape → List ℕ → Option Shape → Option (Option Shape) → Met → Answer → Type 0
-Walks None name root child met answer = root ≡ None
-Walks (Some t) name root child met answer = (faults_of t < 2 ^ 64) × WalksTo t name root child met answer
+abbrev pub Walks : Option Shape → List ℕ → Walked → Type 0
+Walks None name walked = walked.root ≡ None
+Walks (Some t) name walked = (faults_of t < 2 ^ 64) × WalksTo t name walked
 
 -- what an opening execve gave: where its strings are too long nothing is walked to
 -- execve(2), E2BIG
-abbrev pub Unwalked : Option Shape → Option Shape → Option (Option Shape) → Met → Answer → Type 0
-Unwalked told root child met answer =
-    IsCounted told × (root ≡ told) × (child ≡ None) × (met ≡ Nothing) × (answer ≡ Refuses E2BIG)
+abbrev pub Unwalked : Option Shape → Walked → Type 0
+Unwalked told walked =
+    IsCounted told × (walked.root ≡ told) × (walked.child ≡ None) × (walked.met ≡ Nothing)
+    × (walked.answer ≡ Refuses E2BIG)
 
-abbrev pub Execves : (is_long : Bool) → Option Shape → List ℕ → Option Shape → Option (Option Shape) → Met
-    → Answer → Type 0
-Execves true told name root child met answer = Unwalked told root child met answer
-Execves false told name root child met answer = Walks told name root child met answer
+abbrev pub Execves : (is_long : Bool) → Option Shape → List ℕ → Walked → Type 0
+Execves true told name walked = Unwalked told walked
+Execves false told name walked = Walks told name walked

@@ -2,10 +2,11 @@
 
 ghost use Rattle.std.specs.Prelude.{◌≡◌, false, Some};
 ghost use Rattle.sn_base.specs.Faults.{HasCause};
-ghost use Rattle.sentry_run.specs.Status.{status_of};
+ghost use Rattle.kernel_model.specs.printed.Printed.{printed};
 ghost use Rattle.sentry_run.specs.Played.{no_left};
-ghost use Rattle.sentry_run.specs.Causes.{is_sink_fault};
+ghost use Rattle.sentry_run.specs.Causes.{status_of, is_sink_fault};
 ghost use Rattle.sentry_run.specs.Concluded.{Writes, Concludes};
+ghost use Rattle.sentry_run.specs.Sides.{side};
 
 use crate::outcome::{Fault, Outcome};
 use crate::play::{End, Played};
@@ -35,8 +36,8 @@ fn written<K: Sink>(
     out: &mut K,
     whole: Fault,
 ) -> Fault
-    ensures writes { Writes kernel.now trace.now flag whole (K.told out.old) (K.told out.new)
-        (K.count out.old) (K.count out.new) result }
+    ensures writes { Writes (printed kernel.now trace.now flag) whole
+        (side (K.told out.old) (K.count out.old)) (side (K.told out.new) (K.count out.new)) result }
     ensures cause { is_sink_fault whole ≡ false →
         HasCause (is_sink_fault result) (K.count out.old) (K.count out.new) }
 {
@@ -53,8 +54,8 @@ fn written<K: Sink>(
 
 /// How a run comes out, once its text is written where it has one.
 fn concluded<K: Sink>(alloc: Global, end: End, trace: &Trace, flag: bool, out: &mut K) -> Fault
-    ensures concludes { Concludes end trace.now flag (K.told out.old) (K.told out.new)
-        (K.count out.old) (K.count out.new) result }
+    ensures concludes { Concludes end (λ k. printed k trace.now flag)
+        (side (K.told out.old) (K.count out.old)) (side (K.told out.new) (K.count out.new)) result }
     ensures cause { HasCause (is_sink_fault result) (K.count out.old) (K.count out.new) }
 {
     match end {
@@ -100,8 +101,8 @@ pub fn conclude<K: Sink>(
     flag: bool,
     out: &mut K,
 ) -> Outcome
-    ensures concludes { Concludes played.end played.trace flag (K.told out.old) (K.told out.new)
-        (K.count out.old) (K.count out.new) result.fault }
+    ensures concludes { Concludes played.end (λ k. printed k played.trace flag)
+        (side (K.told out.old) (K.count out.old)) (side (K.told out.new) (K.count out.new)) result.fault }
     ensures cause { HasCause (is_sink_fault result.fault) (K.count out.old) (K.count out.new) }
     ensures status { result.status ≡ status_of result.fault }
     ensures opening { result.opening ≡ played.opening }

@@ -4,9 +4,9 @@ ghost use Rattle.std.specs.Prelude.{◌≡◌, ◌≤◌, ◌⊎◌, ℕ, true, 
 ghost use Rattle.std.specs.List.{flat_map};
 ghost use Rattle.std.specs.Ordering.{nat_cmp};
 ghost use Rattle.std.specs.FinMap as map;
-ghost use Rattle.kernel_model.specs.FileTree.{Nodes};
-ghost use Rattle.kernel_model.specs.History.{is_live, replay, each_whole};
-ghost use Rattle.kernel_model.specs.Numbers.{numbers_in};
+ghost use Rattle.kernel_model.specs.files.FileTree.{Nodes};
+ghost use Rattle.kernel_model.specs.entries.History.{is_live, replay, each_whole};
+ghost use Rattle.kernel_model.specs.files.Numbers.{numbers_in};
 ghost use Rattle.sentry_run.specs.Machine.{Leaves};
 ghost use Rattle.sentry_run.specs.MachineKernel.{kernel_of};
 

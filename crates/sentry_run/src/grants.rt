@@ -4,7 +4,7 @@ ghost use Rattle.std.specs.Prelude.{◌≡◌, ◌≤◌, length, [], IfOk};
 ghost use Rattle.std.specs.List.{flat_map};
 ghost use Rattle.sn_base.specs.Faults.{Rose, HasCause};
 ghost use Rattle.host_node.specs.Told.{CanLend};
-ghost use Rattle.kernel_model.specs.Numbers.{IsGapless, numbers_opened, numbers_in};
+ghost use Rattle.kernel_model.specs.files.Numbers.{IsGapless, numbers_opened, numbers_in};
 ghost use Rattle.mount_file.specs.Form.{HasOneTask};
 ghost use Rattle.sentry_run.specs.Causes.{is_grant_failed};
 ghost use Rattle.sentry_run.specs.Played.{NamesTask, TraceOf};
@@ -24,7 +24,7 @@ fn play_root<N: HostNode>(alloc: Global, mounts: &Mounts, name: &Name, root: &mu
     requires named { NamesTask mounts.now name.now }
     requires root { CanLend name.now (N.told root.old) }
     ensures inner { IsInner result.end }
-    ensures plays { PlaysRoot mounts.now (N.told root.old) (N.told root.new) result.opening result.trace result.end }
+    ensures plays { PlaysRoot mounts.now (N.told root.old) (N.told root.new) result }
     ensures drawn { flat_map numbers_in result.trace ≡ [] }
     ensures trace { TraceOf mounts.now.entries result.end result.trace }
     ensures numbers { IsGapless (numbers_opened result.opening) }
@@ -54,7 +54,7 @@ fn program_name(alloc: Global, mounts: &Mounts) -> Result<Name, Memory>
 pub fn play<W: HostWorld>(alloc: Global, mounts: &Mounts, host: &mut W) -> Played
     requires one { HasOneTask mounts.now }
     requires ungranted { IsUngranted (W.told host.old) }
-    ensures plays { PlaysIn mounts.now (W.told host.old) (W.told host.new) result.opening result.trace result.end }
+    ensures plays { PlaysIn mounts.now (W.told host.old) (W.told host.new) result }
     ensures fault { result.end ≡ End.HostFault → Rose (W.count host.old) (W.count host.new) }
     ensures cause { HasCause (is_grant_failed result.end) (W.count host.old) (W.count host.new) }
     ensures drawn { flat_map numbers_in result.trace ≡ [] }

@@ -1,7 +1,7 @@
 //! How a run came out: its answer, its exit status, and what it tells of the opening, the trace and the mount file.
 
 ghost use Rattle.std.specs.Prelude.{◌≡◌};
-ghost use Rattle.sentry_run.specs.Status.{status_of};
+ghost use Rattle.sentry_run.specs.Causes.{status_of};
 
 use kernel_model::{Left, Opening, Trace};
 use mount_file::{MountFault, Mounts};

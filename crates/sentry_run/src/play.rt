@@ -4,10 +4,10 @@ ghost use Rattle.std.specs.Prelude.{◌≡◌, ◌≤◌, ◌<◌, ◌^◌, true
 ghost use Rattle.std.specs.FinMap as map;
 ghost use Rattle.std.specs.List.{flat_map};
 ghost use Rattle.host_node.specs.Tree.{Shape, faults_of};
-ghost use Rattle.kernel_model.specs.FileTree.{Nodes};
-ghost use Rattle.kernel_model.specs.Arguments.{is_too_long};
-ghost use Rattle.kernel_model.specs.Beginnings.{HasRoom};
-ghost use Rattle.kernel_model.specs.Numbers.{IsGapless, numbers_opened, numbers_in};
+ghost use Rattle.kernel_model.specs.files.FileTree.{Nodes};
+ghost use Rattle.kernel_model.specs.opening.Arguments.{is_too_long};
+ghost use Rattle.kernel_model.specs.laws.Beginnings.{HasRoom};
+ghost use Rattle.kernel_model.specs.files.Numbers.{IsGapless, numbers_opened, numbers_in};
 ghost use Rattle.sentry_run.specs.Machine.{kernel_opened};
 ghost use Rattle.sn_errno.specs.declared.errno.Errno.TheVariants.{E2BIG};
 ghost use Rattle.sentry_run.specs.Walk.{given_by};

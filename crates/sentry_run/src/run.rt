@@ -5,25 +5,25 @@ ghost use Rattle.std.specs.Prelude.{IfSome, IfOk, IfErr};
 ghost use Rattle.sn_base.specs.Faults.{Rose, HasCause};
 ghost use Rattle.sn_edge.specs.Reading.{ReadsWithin};
 ghost use Rattle.sn_edge.specs.Taken.{with_taken};
-ghost use Rattle.kernel_model.specs.History.{any_live};
-ghost use Rattle.kernel_model.specs.Numbers.{IsGapless, HasAllBelow, numbers_opened, numbers_drawn};
-ghost use Rattle.kernel_model.specs.Opening.{Refuses};
-ghost use Rattle.kernel_model.specs.Printed.{printed};
+ghost use Rattle.kernel_model.specs.entries.History.{any_live};
+ghost use Rattle.kernel_model.specs.files.Numbers.{IsGapless, HasAllBelow, numbers_opened, numbers_drawn};
+ghost use Rattle.kernel_model.specs.opening.Opening.{Refuses};
+ghost use Rattle.kernel_model.specs.printed.Printed.{printed};
 ghost use Rattle.kernel_model.specs.Words.{accepted};
 ghost use Rattle.sentry_run.specs.Command.{command_of};
-ghost use Rattle.sentry_run.specs.Causes.{is_unreadable};
+ghost use Rattle.sentry_run.specs.Causes.{status_of, is_unreadable, IsUnread, HasNotBegun, HasRun, HasNoTrace, HasText};
+ghost use Rattle.sentry_run.specs.Causes.{HasFront, HasEnded, MayFailToOpen, MayFailToRead, MayFailToGrant};
+ghost use Rattle.sentry_run.specs.Causes.{MayFailToStart};
 ghost use Rattle.sentry_run.specs.Concluded.{Fronts, StopsShort};
 ghost use Rattle.sentry_run.specs.Granted.{IsUngranted};
 ghost use Rattle.mount_file.specs.Form.{HasOneTask};
-ghost use Rattle.sentry_run.specs.Outcome.{ReadsMounts, HasMountFault, MeetsFault, MayFailToRead, granted, begun};
-ghost use Rattle.sentry_run.specs.Outcome.{state_after, WhereRead, WhereState, IsHistory, RefusesAs, refused_kernel};
-ghost use Rattle.sentry_run.specs.Outcome.{IsUnread, HasRun, HasNotBegun, HasNoTrace, IsOver, MayFailToGrant};
-ghost use Rattle.sentry_run.specs.Outcome.{MayFailToStart, asks_trace, HasText, HasFront, text_of};
-ghost use Rattle.sentry_run.specs.Outcome.{LacksFile, MayFailToOpen, ComesTo, AreLeft, LeavesInside};
-ghost use Rattle.sentry_run.specs.Outcome.{IsLeftOver, IsAccepted, HasEnded, world_after, KeepsOutside};
+ghost use Rattle.sentry_run.specs.Outcome.{ReadsMounts, HasMountFault, MeetsFault, granted, begun, state_after};
+ghost use Rattle.sentry_run.specs.Outcome.{WhereRead, WhereState, IsHistory, RefusesAs, refused_kernel, IsOver};
+ghost use Rattle.sentry_run.specs.Outcome.{asks_trace, text_of, LacksFile, ComesTo, AreLeft, LeavesInside};
+ghost use Rattle.sentry_run.specs.Outcome.{IsLeftOver, IsAccepted, world_after, KeepsOutside};
 ghost use Rattle.sentry_run.specs.Played.{no_left};
-ghost use Rattle.sentry_run.specs.Ran.{IsRefused, ReadsAs, FailsToRead, RanOver, RanBy, RanWords};
-ghost use Rattle.sentry_run.specs.Status.{status_of};
+ghost use Rattle.sentry_run.specs.Ran.{IsRefused, ReadsAs, FailsToRead, RanBy, RanWords};
+ghost use Rattle.sentry_run.specs.Sides.{side, sides};
 
 use crate::conclude::{conclude, outcome};
 use crate::grants::play;
@@ -57,8 +57,8 @@ fn load_mounts<S: Source>(
     ensures read { ReadsWithin (S.told files.old) (S.told files.new) 65537 }
     ensures ok { IfOk result (ReadsAs (command_of command.now) (S.told files.old)) }
     ensures form { IfOk result HasOneTask }
-    ensures err { IfErr result (FailsToRead (command_of command.now) (S.told files.old)
-        (S.count files.old) (S.count files.new)) }
+    ensures err { IfErr result (FailsToRead (command_of command.now)
+        (side (S.told files.old) (S.count files.old)) (side (S.told files.new) (S.count files.new))) }
     ensures cause { HasCause (is_unreadable result) (S.count files.old) (S.count files.new) }
     ensures memory { IfErr result (λ fault. fault ≢ Fault.Mounts MountFault.Memory) }
 {
@@ -74,23 +74,6 @@ fn load_mounts<S: Source>(
     }
 }
 
-/// Runs an accepted mount file.
-fn run_mounts<W: HostWorld, K: Sink>(
-    alloc: Global,
-    mounts: Mounts,
-    flag: bool,
-    host: &mut W,
-    out: &mut K,
-) -> Outcome
-    requires one { HasOneTask mounts }
-    requires ungranted { IsUngranted (W.told host.old) }
-    ensures { RanOver mounts flag (W.told host.old) (W.told host.new) (W.count host.old) (W.count host.new)
-        (K.told out.old) (K.told out.new) (K.count out.old) (K.count out.new) result }
-{
-    let played = play(alloc, &mounts, host);
-    conclude(alloc, played, mounts, flag, out)
-}
-
 /// Runs a command.
 fn run_command<S: Source, W: HostWorld, K: Sink>(
     alloc: Global,
@@ -100,13 +83,17 @@ fn run_command<S: Source, W: HostWorld, K: Sink>(
     out: &mut K,
 ) -> Outcome
     requires ungranted { IsUngranted (W.told host.old) }
-    ensures { RanBy (command_of command.now) (S.told files.old) (S.told files.new)
-        (S.count files.old) (S.count files.new)
-        (W.told host.old) (W.told host.new) (W.count host.old) (W.count host.new)
-        (K.told out.old) (K.told out.new) (K.count out.old) (K.count out.new) result }
+    ensures { RanBy (command_of command.now)
+        (sides (side (S.told files.old) (S.count files.old)) (side (W.told host.old) (W.count host.old))
+        (side (K.told out.old) (K.count out.old)))
+        (sides (side (S.told files.new) (S.count files.new)) (side (W.told host.new) (W.count host.new))
+        (side (K.told out.new) (K.count out.new))) result }
 {
     match load_mounts(alloc, command, files) {
-        Ok(mounts) => run_mounts(alloc, mounts, command.trace, host, out),
+        Ok(mounts) => {
+            let played = play(alloc, &mounts, host);
+            conclude(alloc, played, mounts, command.trace, out)
+        }
         Err(fault) => refused(alloc, fault),
     }
 }
@@ -120,10 +107,11 @@ fn run_words<S: Source, W: HostWorld, K: Sink>(
     out: &mut K,
 ) -> Outcome
     requires ungranted { IsUngranted (W.told host.old) }
-    ensures { RanWords (accepted (map string_bytes words.now)) (S.told files.old) (S.told files.new)
-        (S.count files.old) (S.count files.new)
-        (W.told host.old) (W.told host.new) (W.count host.old) (W.count host.new)
-        (K.told out.old) (K.told out.new) (K.count out.old) (K.count out.new) result }
+    ensures { RanWords (accepted (map string_bytes words.now))
+        (sides (side (S.told files.old) (S.count files.old)) (side (W.told host.old) (W.count host.old))
+        (side (K.told out.old) (K.count out.old)))
+        (sides (side (S.told files.new) (S.count files.new)) (side (W.told host.new) (W.count host.new))
+        (side (K.told out.new) (K.count out.new))) result }
 {
     match read_words(words) {
         Some(command) => run_command(alloc, &command, files, host, out),
@@ -212,7 +200,7 @@ pub fn run_sentry<S: Source, W: HostWorld, K: Sink>(
     ensures left_over { WhereState result.mounts (W.told host.old) result.opening result.trace (λ m w k.
         IsLeftOver result.left k) }
     ensures left_tasks { WhereState result.mounts (W.told host.old) result.opening result.trace (λ m w k.
-        AreLeft m w result.opening result.trace result.left k) }
+        AreLeft m w result k) }
     ensures left_none { HasNoTrace result.fault → result.left ≡ no_left }
     // ---- the text
     ensures text { HasText result.fault →
@@ -238,7 +226,7 @@ pub fn run_sentry<S: Source, W: HostWorld, K: Sink>(
         WhereRead result.mounts (W.told host.old) (λ m w. KeepsOutside m w (W.told host.new)) }
     // Also where memory runs out, all nodes are given back and the folder is settled.
     ensures inside { result.fault ≡ Fault.Memory → WhereRead result.mounts (W.told host.old) (λ m w.
-        LeavesInside m w result.opening result.trace result.left (W.told host.new)) }
+        LeavesInside m w result (W.told host.new)) }
     // ---- what is accepted comes to its end
     ensures complete { IsAccepted (accepted (map string_bytes words.now)) (S.told files.old)
         (W.told host.old) result.opening →

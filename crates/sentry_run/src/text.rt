@@ -1,7 +1,7 @@
 //! The text of a run: the console, the groups, and where it is asked for the trace.
 
 ghost use Rattle.std.specs.Prelude.{◌≡◌, IfOk, is_ok};
-ghost use Rattle.kernel_model.specs.Printed.{printed, console_text, is_closed};
+ghost use Rattle.kernel_model.specs.printed.Printed.{printed, console_text, is_closed};
 
 mod calls;
 mod groups;

@@ -7,8 +7,9 @@ ghost use Rattle.sn_base.specs.Faults.{Rose, HasCause};
 ghost use Rattle.host_node.specs.Told.{CanLend, kept};
 ghost use Rattle.sn_base.specs.Sums.{capped};
 ghost use Rattle.sentry_run.specs.Walk.{is_roomy, Refusal, FileRefusal, Classified, given_by, IsHere, IsFileOf};
-ghost use Rattle.sentry_run.specs.Walk.{ReadsFile, FailedBy, RootFailedBy, LoadsWhere, LendsTo, Walks, Execves};
-ghost use Rattle.kernel_model.specs.Arguments.{is_too_long};
+ghost use Rattle.sentry_run.specs.Walk.{ReadsFile, FailedBy, RootFailedBy, LoadsWhere, came_to, LendsTo, Walks};
+ghost use Rattle.sentry_run.specs.Walk.{Execves};
+ghost use Rattle.kernel_model.specs.opening.Arguments.{is_too_long};
 
 use elf_image::Image;
 use host_node::{Attr, HostErr, HostNode, Kind};
@@ -188,8 +189,8 @@ fn root_failed<N: HostNode>(before: u64, root: &N) -> Walk<N>
 /// Looks for a program's node in the root and loads its image.
 fn lend_program<N: HostNode>(alloc: Global, root: &mut N, routes: &Routes, name: &Name) -> Walk<N>
     requires { CanLend name.now (N.told root.old) }
-    ensures { LendsTo (N.told root.old) name.now (N.told root.new) (option_map N.told result.child)
-        result.loaded.met result.loaded.answer }
+    ensures { LendsTo (N.told root.old) name.now
+        (came_to (N.told root.new) (option_map N.told result.child) result.loaded.met result.loaded.answer) }
 {
     let before = root.faults();
     match root.lend(&routes.root, name) {
@@ -231,8 +232,8 @@ fn make_routes(alloc: Global, name: &Name) -> Result<Routes, Memory>
 fn walk_to_program<N: HostNode>(alloc: Global, root: &mut N, name: &Name, before: u64) -> Walk<N>
     requires lends { CanLend name.now (N.told root.old) }
     requires before { before ≡ N.count root.old }
-    ensures { Walks (N.told root.old) name.now (N.told root.new) (option_map N.told result.child)
-        result.loaded.met result.loaded.answer }
+    ensures { Walks (N.told root.old) name.now
+        (came_to (N.told root.new) (option_map N.told result.child) result.loaded.met result.loaded.answer) }
 {
     let routes = match make_routes(alloc, name) {
         Ok(routes) => routes,
@@ -254,8 +255,8 @@ fn walk_to_program<N: HostNode>(alloc: Global, root: &mut N, name: &Name, before
 /// it walks to the program's name, and loads the image (execve(2)).
 pub fn execve<N: HostNode>(alloc: Global, root: &mut N, program: &Program, name: &Name) -> Walk<N>
     requires { CanLend name.now (N.told root.old) }
-    ensures walks { Execves (is_too_long program.now.args program.now.env) (N.told root.old) name.now (N.told root.new)
-        (option_map N.told result.child) result.loaded.met result.loaded.answer }
+    ensures walks { Execves (is_too_long program.now.args program.now.env) (N.told root.old) name.now
+        (came_to (N.told root.new) (option_map N.told result.child) result.loaded.met result.loaded.answer) }
     ensures long { is_too_long program.now.args program.now.env ≡ true →
         result.loaded.answer ≡ Answer.Refuses E2BIG }
 {

@@ -2,7 +2,7 @@
 
 ghost use Rattle.std.specs.Prelude.{◌≡◌, ◌++◌, OnOk};
 ghost use Rattle.std.specs.FinMap as map;
-ghost use Rattle.kernel_model.specs.Printed.{group_text, groups_text};
+ghost use Rattle.kernel_model.specs.printed.Printed.{group_text, groups_text};
 
 use super::written;
 use kernel_model::{Life, Task};

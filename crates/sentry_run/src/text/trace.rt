@@ -3,7 +3,7 @@
 ghost use Rattle.std.specs.Prelude.{◌≡◌, ◌++◌, OnOk, codes};
 ghost use Rattle.std.specs.Fmt.{decimal};
 ghost use Rattle.sn_errno.specs.Calls.{call_name};
-ghost use Rattle.kernel_model.specs.Printed.{argument_text, arguments_text, reply_text, entry_text, trace_text};
+ghost use Rattle.kernel_model.specs.printed.Printed.{argument_text, arguments_text, reply_text, entry_text, trace_text};
 
 use super::calls::push_name;
 use super::written;

@@ -3,8 +3,8 @@ use Rattle.std.proofs.Common.{◌≡◌, ℕ, ◌+◌, false, List, [], ◌∷�
 use Rattle.std.specs.Prelude.{Result, Ok, Err, OnOk, is_err, Some}
 use Rattle.std.specs.List.{flat_map}
 use Rattle.std.proofs.lemmas.Grind.{flat_map-append}
-use Rattle.kernel_model.specs.Numbers.{numbers_in}
-use Rattle.kernel_model.specs.History.{replay, each_whole}
+use Rattle.kernel_model.specs.files.Numbers.{numbers_in}
+use Rattle.kernel_model.specs.entries.History.{replay, each_whole}
 use Rattle.sentry_run.specs.MachineKernel.{kernel_of}
 use Rattle.sentry_run.proofs.Histories.{replay_more, whole_more}
 use Rattle.sentry_run.proofs.engine.run_machine.Goals as goal

@@ -4,9 +4,9 @@ use Rattle.std.specs.List.{flat_map}
 use Rattle.std.specs.Prelude.{Some}
 use Rattle.std.specs.Ordering.{nat_cmp}
 use Rattle.std.specs.FinMap as map
-use Rattle.kernel_model.specs.FileTree.{Nodes}
-use Rattle.kernel_model.specs.History.{replay, each_whole}
-use Rattle.kernel_model.specs.Numbers.{numbers_in}
+use Rattle.kernel_model.specs.files.FileTree.{Nodes}
+use Rattle.kernel_model.specs.entries.History.{replay, each_whole}
+use Rattle.kernel_model.specs.files.Numbers.{numbers_in}
 use Rattle.sentry_run.specs.MachineKernel.{kernel_of}
 use Rattle.sentry_run.proofs.engine.run_machine.Given as goal
 

@@ -29,18 +29,23 @@ returns-in-Ok-Some-clause-plays g c =
     let tells = rw c.in-Ok-Some.field-0-is at c.in-Ok-Some.ensures.tells in
     let p = c.play_root-played in
     plays_in c.args.mounts.now c.at.result.now.folder.names (g.W.HostWorld.told c.args.host.now)
-    (g.W.HostWorld.told c.grant.new.self) (g.W.HostWorld.told c.settle.new.self)
-    (g.W.Node.HostNode.told c.in-Ok-Some.root) (g.W.Node.HostNode.told p.new.root)
-    (g.W.Node.HostNode.count c.in-Ok-Some.root) (g.W.Node.HostNode.what c.in-Ok-Some.root)
-    p.result.opening p.result.trace p.result.end
-    (first_names_of c.args.mounts.now.mounts c.at.result.now c.at.ensures) node tells p.ensures.plays p.ensures.inner
-    c.settle.ensures.tells
+    (g.W.HostWorld.told c.settle.new.self) (g.W.Node.HostNode.told c.in-Ok-Some.root)
+    (g.W.Node.HostNode.told p.new.root) p.result
+    (first_names_of c.args.mounts.now.mounts c.at.result.now c.at.ensures)
+    (record {
+      count = g.W.Node.HostNode.count c.in-Ok-Some.root;
+      what = g.W.Node.HostNode.what c.in-Ok-Some.root;
+      granted = node;
+      between = g.W.HostWorld.told c.grant.new.self;
+      between_is = tells;
+      settled = c.settle.ensures.tells;
+    }) p.ensures.plays p.ensures.inner
 
 pub returns-in-Ok-Some-clause-cause : goal.returns-in-Ok-Some-clause-cause
 returns-in-Ok-Some-clause-cause g c =
-    inner_cause c.play_root-played.result.end (g.W.HostWorld.count c.args.host.now) (g.W.HostWorld.count c.grant.new.self)
-    (g.W.HostWorld.count c.settle.new.self) c.play_root-played.ensures.inner c.in-Ok-Some.ensures.faults
-    c.settle.ensures.faults
+    inner_cause c.play_root-played.result.end (g.W.HostWorld.count c.args.host.now)
+    (g.W.HostWorld.count c.grant.new.self) (g.W.HostWorld.count c.settle.new.self) c.play_root-played.ensures.inner
+    c.in-Ok-Some.ensures.faults c.settle.ensures.faults
 
 pub returns-in-Ok-Some-clause-fault : goal.returns-in-Ok-Some-clause-fault
 returns-in-Ok-Some-clause-fault g c =

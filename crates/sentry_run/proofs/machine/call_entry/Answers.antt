@@ -3,10 +3,10 @@ use mir.Val.{SFits, to_z, of_z}
 use mir.Syntax.{w64}
 use Rattle.std.proofs.Common.{◌≡◌, length, ap, sym, ◌∙◌, subst, rules}
 use Rattle.std.proofs.Math.Facts.{to_z-of_z}
-use Rattle.kernel_model.specs.Parts.{run}
-use Rattle.kernel_model.specs.Spaces.{acting_in}
-use Rattle.kernel_model.specs.Instructions.{next_of}
-use Rattle.kernel_model.specs.Step.{answered, at_call}
+use Rattle.kernel_model.specs.entries.Parts.{run}
+use Rattle.kernel_model.specs.machine.Spaces.{acting_in}
+use Rattle.kernel_model.specs.machine.Instructions.{next_of}
+use Rattle.kernel_model.specs.entries.Steps.{answered, at_call}
 use Rattle.sentry_run.specs.Machine.{Changes}
 use Rattle.sentry_run.proofs.MachineRows.{call_is}
 use Rattle.sentry_run.proofs.machine.call_entry.Goals as goal

@@ -1,6 +1,6 @@
 -- A run of no instruction leaves the task and its address space as they were.
 use Rattle.std.proofs.Common.{refl}
-use Rattle.kernel_model.specs.Step.{with_registers}
+use Rattle.kernel_model.specs.entries.Steps.{with_registers}
 use Rattle.sentry_run.proofs.MachineRows.{none_ok}
 use Rattle.sentry_run.proofs.machine.run_task.Goals as goal
 

@@ -1,11 +1,11 @@
 -- A machine that began an image runs from the kernel that opens with that image.
-use Rattle.std.proofs.Common.{ℕ, List, [], sym, subst}
+use Rattle.std.proofs.Common.{ℕ, List, sym, subst}
 use Rattle.elf_image.specs.declared.image.Image.{Image}
 use Rattle.mount_file.specs.declared.mounts.Program.{Program}
 use Rattle.std.specs.FinMap as map
 use Rattle.kernel_model.specs.declared.kernel.Kernel.{Kernel}
 use Rattle.kernel_model.specs.declared.entry.Entry.{Entry}
-use Rattle.kernel_model.specs.Opening.{space_opened, task_opened}
+use Rattle.kernel_model.specs.opening.Opening.{space_opened, task_opened}
 use Rattle.sentry_run.specs.Machine.{kernel_opened}
 use Rattle.sentry_run.specs.MachineKernel.{kernel_of}
 use Rattle.sentry_run.specs.Played.{RanFrom, TraceOf}

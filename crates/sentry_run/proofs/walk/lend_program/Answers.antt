@@ -9,5 +9,4 @@ returns-in-Ok-Some g c =
     lends_child (g.N.HostNode.told c.args.root.now) (g.N.HostNode.told c.lend.new.self)
     (g.N.HostNode.told c.in-Ok-Some.child) (g.N.HostNode.told c.load-loaded.new.child) c.args.name.now
     (g.N.HostNode.count c.in-Ok-Some.child) (g.N.HostNode.what c.in-Ok-Some.child) c.load-loaded.result.met
-    c.load-loaded.result.answer
-    node tells c.load-loaded.ensures
+    c.load-loaded.result.answer node tells c.load-loaded.ensures

@@ -1,6 +1,6 @@
 -- Each round adds the next argument.
 use Rattle.std.proofs.Common.{[], ◌∷◌}
-use Rattle.kernel_model.specs.Printed.{argument_text}
+use Rattle.kernel_model.specs.printed.Printed.{argument_text}
 use Rattle.sentry_run.proofs.Lines.{grown, flat_map_next}
 use Rattle.sentry_run.proofs.text.trace.push_arguments.Goals as goal
 

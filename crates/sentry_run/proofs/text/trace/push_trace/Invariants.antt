@@ -1,6 +1,6 @@
 -- How far the lines of a trace are there.
 use Rattle.std.proofs.Common.{◌≡◌, ◌++◌, take}
-use Rattle.kernel_model.specs.Printed.{trace_text}
+use Rattle.kernel_model.specs.printed.Printed.{trace_text}
 use Rattle.sentry_run.proofs.text.trace.push_trace.Given as goal
 
 -- the lines of the entries so far are there
