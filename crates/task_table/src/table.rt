@@ -13,7 +13,7 @@ use crate::ends::{Leaving, close_group, end_tasks};
 use crate::exits::{end_one, group_of, is_last_of_group, task_leaving};
 use crate::reaps::{end_of_wait, release};
 use crate::{CloneErr, Ended, Group, Made, ReapEnd, Status, Task};
-use sn_base::{List, Map, Memory};
+use sn_base::{Map, Memory};
 use std::alloc::Global;
 use std::marker::Model;
 
@@ -268,11 +268,11 @@ impl Tasks {
         self.groups.get(u64::from(number))
     }
 
-    /// The numbers of the thread groups, ended ones too, ascending.
-    pub fn group_numbers(&self, alloc: Global) -> Result<List<u64>, Memory>
-        ensures { IfOk result (λ numbers. numbers ≡ map.keys self.now.groups) }
+    /// The thread groups by number, ended ones too.
+    pub fn groups(&self) -> &Map<Group>
+        ensures { result.now ≡ self.now.groups }
     {
-        self.groups.keys(alloc)
+        &self.groups
     }
 
     /// How many tasks live.
