@@ -1,13 +1,14 @@
 //! What a call takes from a guest's buffer, and what it comes to.
 
 use crate::guests::{expect_bytes, expect_unreadable, opened, read};
-use kernel_calls::call;
-use kernel_model::{Args, GuestSpace, Outcome};
-use sn_base::Memory;
+use kernel_calls::{Effect, Prepared, call, commit};
+use kernel_model::{Args, GuestSpace};
+use sn_base::{List, Memory};
 use sn_vectors::images::GUEST;
 use std::alloc::Global;
 use std::process::Abort;
 use std::test::Fail;
+use task_table::{Status, Tasks};
 
 /// The first address behind the stack.
 const TOP: u64 = 274_877_906_944;
@@ -64,17 +65,17 @@ fn a_buffer_is_read_whole_or_not_at_all(rt: HostRuntime) -> Result<(), Fail> {
 }
 
 /// What a call comes to, over a console of so many bytes.
-fn outcome(
+fn prepared(
     alloc: Global,
     no: u64,
     some: [u64; 3],
     space: &GuestSpace,
     console: usize,
-) -> Result<Outcome, Memory> {
+) -> Result<Prepared, Memory> {
     call(alloc, no, &args(some), space, console)
 }
 
-/// That a call returns that.
+/// That a call returns that, and does nothing.
 fn expect_returns(
     rt: &impl Abort,
     alloc: Global,
@@ -82,11 +83,12 @@ fn expect_returns(
     space: &GuestSpace,
     console: usize,
 ) -> Result<(), Fail> {
-    match outcome(alloc, no, some, space, console)? {
-        Outcome::Returns(value) => assert_eq!(rt; value, reply, "call {no}"),
-        _ => panic!(rt; "call {no} does not return"),
+    let prepared = prepared(alloc, no, some, space, console)?;
+    assert_eq!(rt; prepared.reply, reply, "call {no}");
+    match prepared.effect {
+        Effect::Nothing => Ok(()),
+        _ => Err(Fail::new("the call does something")),
     }
-    Ok(())
 }
 
 /// That each call of the list returns its reply.
@@ -110,8 +112,10 @@ fn expect_written(
     space: &GuestSpace,
     console: usize,
 ) -> Result<(), Fail> {
-    match outcome(alloc, 64, [1, 65_536, 4], space, console)? {
-        Outcome::Writes(bytes) => assert_eq!(rt; bytes.as_slice(), LETTERS.as_slice()),
+    let prepared = prepared(alloc, 64, [1, 65_536, 4], space, console)?;
+    assert_eq!(rt; prepared.reply, 4);
+    match prepared.effect {
+        Effect::TakesBytes(bytes) => assert_eq!(rt; bytes.as_slice(), LETTERS.as_slice()),
         _ => panic!(rt; "nothing is written"),
     }
     Ok(())
@@ -125,8 +129,10 @@ fn expect_exit(
     status: u64,
     wanted: u8,
 ) -> Result<(), Fail> {
-    match outcome(alloc, 94, [status, 0, 0], space, 0)? {
-        Outcome::Exits(code) => assert_eq!(rt; code, wanted),
+    let prepared = prepared(alloc, 94, [status, 0, 0], space, 0)?;
+    assert_eq!(rt; prepared.reply, 0);
+    match prepared.effect {
+        Effect::EndsGroup(status) => assert_eq!(rt; status, Status::Exited(wanted)),
         _ => panic!(rt; "the group does not exit"),
     }
     Ok(())
@@ -145,4 +151,24 @@ fn what_is_written_is_the_buffers_bytes_where_the_console_has_room(
 ) -> Result<(), Fail> {
     let guest = opened(rt.alloc(), 1, &GUEST)?;
     expect_room(&rt, rt.alloc(), &guest.space)
+}
+
+/// Has a console take bytes, beside no tasks.
+fn take(alloc: Global, console: &mut List<u8>, bytes: &[u8]) -> Result<(), Memory> {
+    let effect = Effect::TakesBytes(List::from_slice(alloc, bytes)?);
+    commit(alloc, effect, 1, &mut Tasks::new(alloc), console)
+}
+
+/// That a console has what it took, in order.
+fn expect_taken(rt: &impl Abort, alloc: Global) -> Result<(), Fail> {
+    let mut console = List::new(alloc);
+    take(alloc, &mut console, b"one ")?;
+    take(alloc, &mut console, b"two")?;
+    assert_eq!(rt; console.as_slice(), b"one two".as_slice());
+    Ok(())
+}
+
+#[test]
+fn bytes_come_behind_those_of_the_console(rt: HostRuntime) -> Result<(), Fail> {
+    expect_taken(&rt, rt.alloc())
 }

@@ -3,12 +3,12 @@
 //! each expectation is a call there, and not the many steps of an assertion.
 
 ghost use Rattle.std.specs.Prelude.{◌≡◌, false, IfOk};
-ghost use Rattle.kernel_model.specs.Arguments.{is_too_long};
-ghost use Rattle.kernel_model.specs.Beginnings.{HasRoom};
+ghost use Rattle.kernel_model.specs.opening.Arguments.{is_too_long};
+ghost use Rattle.kernel_model.specs.laws.Beginnings.{HasRoom};
 
 use elf_image::Image;
-use kernel_calls::{is_too_long, opened as open_task, read_executable};
-use kernel_model::{GuestSpace, Running};
+use kernel_calls::{Beginning, is_too_long, opened as open_task, read_executable};
+use kernel_model::GuestSpace;
 use mm_areas::Rights;
 use mount_file::Program;
 use rv_table::{Reg, Regs};
@@ -52,7 +52,7 @@ fn running(
     number: u32,
     program: &Program,
     image: &Image,
-) -> Result<Running, Memory>
+) -> Result<Beginning, Memory>
     requires short { is_too_long program.now.args program.now.env ≡ false }
     requires pages { HasRoom image.now }
 {
@@ -66,7 +66,7 @@ fn running_short(
     number: u32,
     program: &Program,
     image: &Image,
-) -> Result<Running, Fail>
+) -> Result<Beginning, Fail>
     requires { HasRoom image.now }
 {
     if is_too_long(program) {
@@ -76,7 +76,7 @@ fn running_short(
 }
 
 /// The opening task of that number, of an image with the argument `a`, and with the seed of 32 zeros.
-fn opened_of(alloc: Global, number: u32, image: &Image) -> Result<Running, Fail>
+fn opened_of(alloc: Global, number: u32, image: &Image) -> Result<Beginning, Fail>
     requires { HasRoom image.now }
 {
     let program = program(alloc, b"/init", b"a")?;
@@ -84,7 +84,7 @@ fn opened_of(alloc: Global, number: u32, image: &Image) -> Result<Running, Fail>
 }
 
 /// The opening task of that number, of a file with the argument `a`, and with the seed of 32 zeros.
-pub fn opened(alloc: Global, number: u32, file: &[u8]) -> Result<Running, Fail> {
+pub fn opened(alloc: Global, number: u32, file: &[u8]) -> Result<Beginning, Fail> {
     let image = image_in(alloc, file)?;
     opened_of(alloc, number, &image)
 }

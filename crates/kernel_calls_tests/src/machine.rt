@@ -3,8 +3,8 @@
 use crate::guests::{
     expect_bytes, expect_pages, expect_register, expect_rights, expect_unmapped, opened,
 };
-use kernel_calls::{Ran, args_of, call_of, next, reply, run};
-use kernel_model::{Args, GuestSpace, Life, Next, Running, Task};
+use kernel_calls::{Beginning, Ran, args_of, call_of, next, reply, run};
+use kernel_model::{Args, GuestSpace, Next};
 use mm_areas::Rights;
 use rv_table::{Reg, Regs};
 use sn_base::Memory;
@@ -23,13 +23,6 @@ fn expect_opening_pages(rt: &impl Abort, space: &GuestSpace) {
     expect_unmapped(rt, space, 67_108_799);
 }
 
-/// That a task is the first of its group and lives.
-fn expect_first(rt: &impl Abort, task: &Task) {
-    assert_eq!(rt; task.group, 1);
-    assert_eq!(rt; task.space, 1);
-    assert_eq!(rt; task.life, Life::Live);
-}
-
 /// Its registers: one argument of one letter, by hand from the RISC-V ELF psABI.
 fn expect_opening_registers(rt: &impl Abort, registers: &Regs) {
     expect_pc(rt, registers, 65_656);
@@ -45,8 +38,7 @@ fn expect_pc(rt: &impl Abort, registers: &Regs, pc: u64) {
 fn a_guest_begins_with_its_pages_and_its_stack(rt: HostRuntime) -> Result<(), Fail> {
     let guest = opened(rt.alloc(), 1, &GUEST)?;
     expect_opening_pages(&rt, &guest.space);
-    expect_first(&rt, &guest.task);
-    expect_opening_registers(&rt, &guest.task.registers);
+    expect_opening_registers(&rt, &guest.registers);
     Ok(())
 }
 
@@ -87,11 +79,11 @@ fn ran(
 fn expect_run(
     rt: &impl Abort,
     alloc: Global,
-    guest: &mut Running,
+    guest: &mut Beginning,
     most: u32,
     wanted: Ran,
 ) -> Result<(), Fail> {
-    let told = ran(alloc, &mut guest.task.registers, &mut guest.space, most)?;
+    let told = ran(alloc, &mut guest.registers, &mut guest.space, most)?;
     assert_eq!(rt; told, wanted);
     Ok(())
 }
@@ -105,10 +97,10 @@ fn told_next(alloc: Global, registers: &Regs, space: &mut GuestSpace) -> Result<
 fn expect_next(
     rt: &impl Abort,
     alloc: Global,
-    guest: &mut Running,
+    guest: &mut Beginning,
     wanted: Next,
 ) -> Result<(), Fail> {
-    let told = told_next(alloc, &guest.task.registers, &mut guest.space)?;
+    let told = told_next(alloc, &guest.registers, &mut guest.space)?;
     assert_eq!(rt; told, wanted);
     Ok(())
 }
@@ -142,15 +134,15 @@ fn answer(registers: &mut Regs, value: i64) {
 }
 
 /// A guest's first call, and its answer.
-fn expect_first_call(rt: &impl Abort, alloc: Global, guest: &mut Running) -> Result<(), Fail> {
+fn expect_first_call(rt: &impl Abort, alloc: Global, guest: &mut Beginning) -> Result<(), Fail> {
     expect_run(rt, alloc, guest, 10_000, stop(4, Next::Calls))?;
     expect_next(rt, alloc, guest, Next::Calls)?;
-    expect_call(rt, &guest.task.registers, 64);
-    expect_write_args(rt, &guest.task.registers);
-    answer(&mut guest.task.registers, -9);
+    expect_call(rt, &guest.registers, 64);
+    expect_write_args(rt, &guest.registers);
+    answer(&mut guest.registers, -9);
     expect_register(
         rt,
-        &guest.task.registers,
+        &guest.registers,
         Reg::new(10),
         18_446_744_073_709_551_607,
     );
@@ -158,17 +150,17 @@ fn expect_first_call(rt: &impl Abort, alloc: Global, guest: &mut Running) -> Res
 }
 
 /// Its second: a run of one instruction, of the last, and of none at the call.
-fn expect_second_call(rt: &impl Abort, alloc: Global, guest: &mut Running) -> Result<(), Fail> {
+fn expect_second_call(rt: &impl Abort, alloc: Global, guest: &mut Beginning) -> Result<(), Fail> {
     expect_run(rt, alloc, guest, 1, stop(1, Next::Goes))?;
     expect_run(rt, alloc, guest, 10_000, stop(1, Next::Calls))?;
     expect_run(rt, alloc, guest, 10_000, stop(0, Next::Calls))?;
-    expect_call(rt, &guest.task.registers, 94);
-    expect_register(rt, &guest.task.registers, Reg::new(10), 0);
+    expect_call(rt, &guest.registers, 94);
+    expect_register(rt, &guest.registers, Reg::new(10), 0);
     Ok(())
 }
 
 /// Both.
-fn expect_calls(rt: &impl Abort, alloc: Global, guest: &mut Running) -> Result<(), Fail> {
+fn expect_calls(rt: &impl Abort, alloc: Global, guest: &mut Beginning) -> Result<(), Fail> {
     expect_first_call(rt, alloc, guest)?;
     expect_second_call(rt, alloc, guest)
 }
@@ -180,10 +172,10 @@ fn a_guest_runs_to_its_two_calls(rt: HostRuntime) -> Result<(), Fail> {
 }
 
 /// At the stack's end a guest traps with signal 11, and at a word of zeros with signal 4.
-fn expect_traps(rt: &impl Abort, alloc: Global, guest: &mut Running) -> Result<(), Fail> {
-    guest.task.registers.pc = 274_877_906_944 - 4;
+fn expect_traps(rt: &impl Abort, alloc: Global, guest: &mut Beginning) -> Result<(), Fail> {
+    guest.registers.pc = 274_877_906_944 - 4;
     expect_run(rt, alloc, guest, 10, stop(0, Next::Traps(11)))?;
-    guest.task.registers.pc = 65_536 + 152;
+    guest.registers.pc = 65_536 + 152;
     expect_next(rt, alloc, guest, Next::Traps(4))
 }
 
@@ -194,7 +186,7 @@ fn what_may_not_be_executed_traps_with_signal_11(rt: HostRuntime) -> Result<(), 
 }
 
 /// The guest that stores on its stack.
-fn storing(alloc: Global) -> Result<Running, Fail> {
+fn storing(alloc: Global) -> Result<Beginning, Fail> {
     let file = image_of(alloc, STORES.words)?;
     opened(alloc, 1, file.as_slice())
 }
@@ -213,10 +205,10 @@ fn buffer(registers: &Regs) -> u64 {
 fn expect_apart(
     rt: &impl Abort,
     alloc: Global,
-    guest: &Running,
+    guest: &Beginning,
     copy: &mut GuestSpace,
 ) -> Result<(), Fail> {
-    let mut registers = guest.task.registers;
+    let mut registers = guest.registers;
     let told = ran(alloc, &mut registers, copy, 10_000)?;
     assert_eq!(rt; told.next, Next::Calls);
     let at = buffer(&registers);
@@ -225,7 +217,7 @@ fn expect_apart(
 }
 
 /// The same of a copy that is made for it.
-fn expect_copy_apart(rt: &impl Abort, alloc: Global, guest: &mut Running) -> Result<(), Fail> {
+fn expect_copy_apart(rt: &impl Abort, alloc: Global, guest: &mut Beginning) -> Result<(), Fail> {
     let mut copy = copy_of(alloc, &mut guest.space)?;
     expect_apart(rt, alloc, guest, &mut copy)
 }

@@ -13,9 +13,9 @@ use Rattle.plain_kernel.specs.declared.walking.Execved.{Execved}
 use Rattle.plain_kernel.specs.declared.walking.Execved.TheVariants as answers
 use Rattle.host_node.specs.Tree.{Shape}
 use Rattle.elf_image.specs.declared.image.Image.{Image}
-use Rattle.kernel_model.specs.Opening.{Executed, execve_of, bare, Begun, Refuses, Misfits, with_task, task_begun}
-use Rattle.kernel_model.specs.Opening.{tasks_begun, is_of, opening_of}
-use Rattle.kernel_model.specs.Parts.{parts, run, changed}
+use Rattle.kernel_model.specs.opening.Opening.{Executed, execve_of, bare, Begun, Refuses, Misfits, with_task, task_begun}
+use Rattle.kernel_model.specs.opening.Opening.{tasks_begun, is_of, opening_of}
+use Rattle.kernel_model.specs.entries.Parts.{parts, outcome_in, changed}
 use Rattle.plain_kernel.specs.Beginnings.{Executes, IsRefusedBy}
 
 -- an execve that failed refuses the opening
@@ -27,28 +27,28 @@ fails_refused does before after answer errno rest begin number e is =
     let (changes, fails, left) = subst (Executes does before after) is e in
     (changed changes before, ap (task_begun rest begin number before) fails)
 
-module _ (seed : List ℕ) (n : ℕ) (programs : List Program) (opened : List Opened) (k : Kernel) (i : ℕ) where
+module _ (n : ℕ) (programs : List Program) (opened : List Opened) (k : Kernel) (i : ℕ) where
   -- a program with no record of its opening
-  pub no_record : i < length programs → length opened ≤ i → tasks_begun seed n (drop i programs) (drop i opened) k
+  pub no_record : i < length programs → length opened ≤ i → tasks_begun n (drop i programs) (drop i opened) k
       ≡ Misfits n
   no_record inside short =
-      ap (λ os. tasks_begun seed n (drop i programs) os k) (drop_all i opened short)
+      ap (λ os. tasks_begun n (drop i programs) os k) (drop_all i opened short)
       ∙ by (drop i programs) (length-drop i programs)
     where
-      by : (ps : List Program) → length ps ≡ length programs - i → tasks_begun seed n ps [] k ≡ Misfits n
+      by : (ps : List Program) → length ps ≡ length programs - i → tasks_begun n ps [] k ≡ Misfits n
       by [] e = absurd (omega arith)
       by (p ∷ ps) e = refl
 
   -- the next program, by its execve
   pub next_begun : (p : Program) (o : Opened) → i < length programs → p ≡ get_or programs i p → i < length opened
       → o ≡ get_or opened i o
-      → tasks_begun seed n (drop i programs) (drop i opened) k
-      ≡ task_begun (tasks_begun seed (n + 1) (drop (i + 1) programs) (drop (i + 1) opened)) (with_task seed n p) n k
-      (run (parts k) (execve_of p o.given))
+      → tasks_begun n (drop i programs) (drop i opened) k
+      ≡ task_begun (tasks_begun (n + 1) (drop (i + 1) programs) (drop (i + 1) opened)) (with_task n p) n k
+      (outcome_in (parts k) (execve_of p o.given))
   next_begun p o inside program within record_of =
-      ap (λ ps. tasks_begun seed n ps (drop i opened) k) (drop_more programs i p inside
+      ap (λ ps. tasks_begun n ps (drop i opened) k) (drop_more programs i p inside
       ∙ ap (λ q. q ∷ drop (i + 1) programs) (sym program))
-      ∙ ap (λ os. tasks_begun seed n (p ∷ drop (i + 1) programs) os k) (drop_more opened i o within
+      ∙ ap (λ os. tasks_begun n (p ∷ drop (i + 1) programs) os k) (drop_more opened i o within
       ∙ ap (λ q. q ∷ drop (i + 1) opened) (sym record_of))
 
 -- a record of other mounts or tasks
@@ -56,13 +56,13 @@ pub opening_misfit : (mounts : Mounts) (trees : List Shape) (opening : Opening) 
     → opening_of mounts trees opening ≡ Misfits 0
 unfolding opening_of
 opening_misfit mounts trees opening other =
-    ap (λ b. cond b (tasks_begun mounts.seed 1 mounts.tasks opening.tasks (bare trees)) (Misfits 0)) other
+    ap (λ b. cond b (tasks_begun 1 mounts.tasks opening.tasks (bare mounts trees)) (Misfits 0)) other
 
 pub opening_begun : (mounts : Mounts) (trees : List Shape) (opening : Opening) → is_of mounts opening ≡ true
-    → opening_of mounts trees opening ≡ tasks_begun mounts.seed 1 mounts.tasks opening.tasks (bare trees)
+    → opening_of mounts trees opening ≡ tasks_begun 1 mounts.tasks opening.tasks (bare mounts trees)
 unfolding opening_of
 opening_begun mounts trees opening same =
-    ap (λ b. cond b (tasks_begun mounts.seed 1 mounts.tasks opening.tasks (bare trees)) (Misfits 0)) same
+    ap (λ b. cond b (tasks_begun 1 mounts.tasks opening.tasks (bare mounts trees)) (Misfits 0)) same
 
 -- what refuses one opening refuses another that is the same
 pub refused_same : (a b : Begun) (e : OpeningErr) → a ≡ b → IsRefusedBy b e → IsRefusedBy a e
@@ -70,11 +70,10 @@ refused_same a b e same refused = subst (λ x. IsRefusedBy x e) (sym same) refus
 
 -- the tasks of an opening, begun from the kernel before them
 pub begun_from : (mounts : Mounts) (trees : List Shape) (opening : Opening) → is_of mounts opening ≡ true
-    → (seed : List ℕ) (programs : List Program) (opened : List Opened) (shapes : List Shape) (k : Kernel)
-    → seed ≡ mounts.seed → programs ≡ mounts.tasks → opened ≡ opening.tasks → shapes ≡ trees → k ≡ bare shapes
-    → opening_of mounts trees opening ≡ tasks_begun seed 1 programs opened k
-begun_from mounts trees opening same seed programs opened shapes k s p o t b =
+    → (programs : List Program) (opened : List Opened) (shapes : List Shape) (k : Kernel)
+    → programs ≡ mounts.tasks → opened ≡ opening.tasks → shapes ≡ trees → k ≡ bare mounts shapes
+    → opening_of mounts trees opening ≡ tasks_begun 1 programs opened k
+begun_from mounts trees opening same programs opened shapes k p o t b =
     opening_begun mounts trees opening same
-    ∙ sym (ap (λ x. tasks_begun x 1 programs opened k) s ∙ ap (λ ps. tasks_begun mounts.seed 1 ps opened k) p
-    ∙ ap (λ os. tasks_begun mounts.seed 1 mounts.tasks os k) o
-    ∙ ap (tasks_begun mounts.seed 1 mounts.tasks opening.tasks) (b ∙ ap bare t))
+    ∙ sym (ap (λ ps. tasks_begun 1 ps opened k) p ∙ ap (λ os. tasks_begun 1 mounts.tasks os k) o
+    ∙ ap (tasks_begun 1 mounts.tasks opening.tasks) (b ∙ ap (bare mounts) t))

@@ -11,23 +11,26 @@ use Rattle.kernel_model.specs.declared.kernel.Part.TheVariants.{OfFaults}
 use Rattle.kernel_model.specs.declared.opening.Fresh.{Fresh}
 use Rattle.kernel_model.specs.declared.opening.Rise.{Rise}
 use Rattle.kernel_model.specs.declared.opening.Given.{Given}
-use Rattle.kernel_model.specs.Faulted.{Nodes_so_far, node_now, number_all, all_known, all_known_in, risen, node_changes}
-use Rattle.kernel_model.specs.Faulted.{met, faulted}
-use Rattle.kernel_model.specs.Parts.{parts, done, run, ◌>>=◌, Change, set_at}
-use Rattle.kernel_model.specs.InPlace.{with_nodes, numbered, changed_by}
-use Rattle.kernel_model.proofs.OneRoot.{run_bind, faulted_is}
+use Rattle.kernel_model.specs.entries.Given.{Nodes_so_far, node_now, number_all, all_known, all_known_in, risen, node_changes}
+use Rattle.kernel_model.specs.entries.Given.{met, faulted}
+use Rattle.kernel_model.specs.entries.Parts.{parts, done, outcome_in, ◌>>=◌, Change, set_at}
+use Rattle.kernel_model.specs.laws.InPlace.{with_nodes, numbered, changed_by}
+use Rattle.kernel_model.proofs.OneRoot.{faulted_is}
+use Rattle.kernel_model.proofs.Trees.{outcome-bind}
 use Rattle.plain_kernel.proofs.NumberRuns.{taken_by, refused_by}
 use Rattle.plain_kernel.proofs.Numberings.{node_now_is, with_nodes_first, changed-append}
 
 -- each node whose count rose has a number, in the kernel with the nodes so far
 pub all_known_is : (rises : List Rise) (nodes : Nodes_so_far) (k : Kernel)
-    → run (parts k) (all_known rises nodes)
+    → outcome_in (parts k) (all_known rises nodes)
     ≡ list_all (λ (r : Rise). map.contains_key (with_nodes nodes k).nodes r.ino) rises
 all_known_is [] nodes k = refl
 all_known_is (r ∷ rises) nodes k =
-    run_bind (parts k) (node_now nodes r.ino) (λ node. all_known rises nodes >>= λ rest. done (is_some node && rest))
-    ∙ run_bind (parts k) (all_known rises nodes) (λ rest. done (is_some (run (parts k) (node_now nodes r.ino)) && rest))
-    ∙ ap (λ o. is_some o && run (parts k) (all_known rises nodes)) (node_now_is nodes r.ino k)
+    outcome-bind (parts k) (node_now nodes r.ino)
+    (λ node. all_known rises nodes >>= λ rest. done (is_some node && rest))
+    ∙ outcome-bind (parts k) (all_known rises nodes)
+    (λ rest. done (is_some (outcome_in (parts k) (node_now nodes r.ino)) && rest))
+    ∙ ap (λ o. is_some o && outcome_in (parts k) (all_known rises nodes)) (node_now_is nodes r.ino k)
     ∙ ap (λ b. is_some (map.get (with_nodes nodes k).nodes r.ino) && b) (all_known_is rises nodes k)
 
 -- numbers leave the counts as they are
@@ -37,12 +40,13 @@ failed_stays (n ∷ ns) k = ap (λ (m : Kernel). m.failed) (with_nodes_first n n
 
 -- where a number does not fit, nothing is left
 pub faulted_unnumbered : (given : Given) (k : Kernel) → numbered given.fresh k ≡ None
-    → run (parts k) (faulted given) ≡ None
+    → outcome_in (parts k) (faulted given) ≡ None
 unfolding numbered
-faulted_unnumbered given k none = faulted_is (parts k) given ∙ by (run (parts k) (number_all given.fresh [])) none
+faulted_unnumbered given k none =
+    faulted_is (parts k) given ∙ by (outcome_in (parts k) (number_all given.fresh [])) none
   where
     by : (nodes : Option Nodes_so_far) → option_map (λ ns. with_nodes ns k) nodes ≡ None
-        → met given nodes (run (parts k) (all_known_in given.rises nodes)) k.failed ≡ None
+        → met given nodes (outcome_in (parts k) (all_known_in given.rises nodes)) k.failed ≡ None
     by None e = refl
     by (Some ns) e = absurd (cc e)
 
@@ -51,11 +55,12 @@ left_by : Given → Bool → Kernel → Option Kernel
 left_by given known m = cond known (Some (record m { failed = risen given.rises m.failed })) None
 
 faulted_numbered : (given : Given) (k m : Kernel) → numbered given.fresh k ≡ Some m
-    → changed_by (run (parts k) (faulted given)) k ≡ left_by given (run (parts m) (all_known given.rises [])) m
+    → changed_by (outcome_in (parts k) (faulted given)) k
+    ≡ left_by given (outcome_in (parts m) (all_known given.rises [])) m
 unfolding numbered left_by
 faulted_numbered given k m some =
     ap (λ changes. changed_by changes k) (faulted_is (parts k) given)
-    ∙ by (run (parts k) (number_all given.fresh [])) some
+    ∙ by (outcome_in (parts k) (number_all given.fresh [])) some
   where
     changes : (ns : Nodes_so_far) (known : Bool) → changed_by (met given (Some ns) known k.failed) k
         ≡ cond known (Some (record (with_nodes ns k) { failed = risen given.rises (with_nodes ns k).failed })) None
@@ -65,27 +70,28 @@ faulted_numbered given k m some =
         ∙ ap (λ f. Some (record (with_nodes ns k) { failed = risen given.rises f })) (sym (failed_stays ns k))
 
     by : (nodes : Option Nodes_so_far) → option_map (λ ns. with_nodes ns k) nodes ≡ Some m
-        → changed_by (met given nodes (run (parts k) (all_known_in given.rises nodes)) k.failed) k
-        ≡ cond (run (parts m) (all_known given.rises [])) (Some (record m { failed = risen given.rises m.failed }))
-        None
+        → changed_by (met given nodes (outcome_in (parts k) (all_known_in given.rises nodes)) k.failed) k
+        ≡ cond (outcome_in (parts m) (all_known given.rises []))
+        (Some (record m { failed = risen given.rises m.failed })) None
     by None e = absurd (cc e)
     by (Some ns) e =
         let is : with_nodes ns k ≡ m = cc e in
-        changes ns (run (parts k) (all_known given.rises ns))
+        changes ns (outcome_in (parts k) (all_known given.rises ns))
         ∙ ap
         (λ known. cond known
         (Some (record (with_nodes ns k) { failed = risen given.rises (with_nodes ns k).failed })) None)
         (all_known_is given.rises ns k ∙ sym (all_known_is given.rises [] (with_nodes ns k)))
-        ∙ ap (λ n. cond (run (parts n) (all_known given.rises []))
+        ∙ ap (λ n. cond (outcome_in (parts n) (all_known given.rises []))
         (Some (record n { failed = risen given.rises n.failed })) None) is
 
 pub faulted_unknown : (given : Given) (k m : Kernel) → numbered given.fresh k ≡ Some m
-    → run (parts m) (all_known given.rises []) ≡ false → changed_by (run (parts k) (faulted given)) k ≡ None
+    → outcome_in (parts m) (all_known given.rises []) ≡ false
+    → changed_by (outcome_in (parts k) (faulted given)) k ≡ None
 unfolding left_by
 faulted_unknown given k m some unknown = faulted_numbered given k m some ∙ ap (λ known. left_by given known m) unknown
 
 pub faulted_risen : (given : Given) (k m : Kernel) → numbered given.fresh k ≡ Some m
-    → run (parts m) (all_known given.rises []) ≡ true → changed_by (run (parts k) (faulted given)) k
+    → outcome_in (parts m) (all_known given.rises []) ≡ true → changed_by (outcome_in (parts k) (faulted given)) k
     ≡ Some (record m { failed = risen given.rises m.failed })
 unfolding left_by
 faulted_risen given k m some known = faulted_numbered given k m some ∙ ap (λ b. left_by given b m) known
@@ -107,7 +113,7 @@ count_restored failed ino count (Some n) is = insert-insert failed ino count n �
 module _ (given : Given) (k : Kernel) (fresh : List Fresh) (same : fresh ≡ given.fresh) where
   -- a number that does not fit
   pub first_refused : (b : Bool) (left : Kernel) → b ≡ is_some (numbered fresh k)
-      → left ≡ unwrap_or (numbered fresh k) k → b ≡ false → (run (parts k) (faulted given) ≡ None) × (left ≡ k)
+      → left ≡ unwrap_or (numbered fresh k) k → b ≡ false → (outcome_in (parts k) (faulted given) ≡ None) × (left ≡ k)
   first_refused b left fits ok is =
       let refused : (numbered fresh k ≡ None) × (left ≡ k) = refused_by (numbered fresh k) b k left fits ok is in
       (faulted_unnumbered given k (sym (ap (λ fs. numbered fs k) same) ∙ refused.0), refused.1)
@@ -121,21 +127,21 @@ module _ (given : Given) (k : Kernel) (fresh : List Fresh) (same : fresh ≡ giv
     numbers_given = sym (ap (λ fs. numbered fs k) same) ∙ all_numbered
 
     -- a node without a number
-    pub then_unknown : (known : Bool) → known ≡ run (parts m) (all_known given.rises []) → known ≡ false
-        → run (parts k) (faulted given) ≡ None
+    pub then_unknown : (known : Bool) → known ≡ outcome_in (parts m) (all_known given.rises []) → known ≡ false
+        → outcome_in (parts k) (faulted given) ≡ None
     then_unknown known e f =
-        let none : changed_by (run (parts k) (faulted given)) k ≡ None =
+        let none : changed_by (outcome_in (parts k) (faulted given)) k ≡ None =
         faulted_unknown given k m numbers_given (sym e ∙ f) in
-        nothing (run (parts k) (faulted given)) none
+        nothing (outcome_in (parts k) (faulted given)) none
       where
         nothing : (o : Option (List Change)) → changed_by o k ≡ None → o ≡ None
         nothing None e = refl
         nothing (Some cs) e = absurd (cc e)
 
     -- or all that was met
-    pub then_risen : (known : Bool) (left : Kernel) → known ≡ run (parts m) (all_known given.rises [])
+    pub then_risen : (known : Bool) (left : Kernel) → known ≡ outcome_in (parts m) (all_known given.rises [])
         → known ≡ true → left ≡ cond known (record m { failed = risen given.rises m.failed }) m
-        → changed_by (run (parts k) (faulted given)) k ≡ Some left
+        → changed_by (outcome_in (parts k) (faulted given)) k ≡ Some left
     then_risen known left e t l =
         faulted_risen given k m numbers_given (sym e ∙ t)
         ∙ ap (λ n. Some n) (sym (l ∙ ap (λ b. cond b (record m { failed = risen given.rises m.failed }) m) t))

@@ -5,6 +5,8 @@ pub mod FaultLemmas
 pub mod NodeLemmas
 pub mod Numberings
 pub mod NumberRuns
+pub mod OpenedTasks
 pub mod OptionLemmas
+pub mod SpaceLemmas
 pub mod StepLemmas
 pub mod WalkLemmas

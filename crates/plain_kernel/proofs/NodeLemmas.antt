@@ -7,7 +7,7 @@ use Rattle.host_node.specs.Tree.{Shape, child_of, with_child}
 use Rattle.host_node.proofs.TreeLemmas.{with_child-lend}
 use Rattle.kernel_model.specs.declared.kernel.Node.{Node}
 use Rattle.kernel_model.specs.declared.kernel.Numbered.{Numbered}
-use Rattle.kernel_model.specs.FileTree.{numbered_in}
+use Rattle.kernel_model.specs.files.FileTree.{numbered_in}
 
 -- what is left where the last item was taken
 popped : {A : Type 0} (xs ys : List A) (x : A) (o : Option A) → xs ++ x ∷ [] ≡ ys ++ option_to_list o

@@ -13,13 +13,13 @@ use Rattle.kernel_model.specs.declared.kernel.Kernel.{Kernel}
 use Rattle.kernel_model.specs.declared.kernel.Node.{Node}
 use Rattle.kernel_model.specs.declared.kernel.Part.TheVariants.{OfNode}
 use Rattle.kernel_model.specs.declared.opening.Fresh.{Fresh}
-use Rattle.kernel_model.specs.FileTree.{last_number, Child, Missing, Known, Unnumbered, child_at, child_node}
-use Rattle.kernel_model.specs.FileTree.{numbered_in, number_in, known, unnumbered}
-use Rattle.kernel_model.specs.Faulted.{Nodes_so_far, node_in, node_by, node_now, given_number, number_at, number_one}
-use Rattle.kernel_model.specs.Faulted.{number_next, number_all, node_changes}
-use Rattle.kernel_model.specs.Parts.{parts, done, run, ◌>>=◌, Change, put, changed}
-use Rattle.kernel_model.specs.InPlace.{with_nodes, numbered, IsWaiting, Waits}
-use Rattle.kernel_model.proofs.OneRoot.{run_bind}
+use Rattle.kernel_model.specs.files.FileTree.{last_number, Child, Missing, Known, Unnumbered, child_at, child_node}
+use Rattle.kernel_model.specs.files.FileTree.{numbered_in, number_in, known, unnumbered}
+use Rattle.kernel_model.specs.entries.Given.{Nodes_so_far, node_in, node_by, node_now, given_number, number_at, number_one}
+use Rattle.kernel_model.specs.entries.Given.{number_next, number_all, node_changes}
+use Rattle.kernel_model.specs.entries.Parts.{parts, done, outcome_in, ◌>>=◌, Change, put, changed}
+use Rattle.kernel_model.specs.laws.InPlace.{with_nodes, numbered, IsWaiting, Waits}
+use Rattle.kernel_model.proofs.Trees.{outcome-bind}
 
 -- ---- changes one after another
 
@@ -41,15 +41,16 @@ with_nodes_first n ns k = changed-append (node_changes ns) ((OfNode n.0, Some n.
 
 -- a node as a step has left it so far is the one that the kernel with these nodes has
 pub node_now_is : (nodes : Nodes_so_far) (ino : ℕ) (k : Kernel)
-    → run (parts k) (node_now nodes ino) ≡ map.get (with_nodes nodes k).nodes ino
+    → outcome_in (parts k) (node_now nodes ino) ≡ map.get (with_nodes nodes k).nodes ino
 node_now_is [] ino k = refl
 node_now_is (n ∷ ns) ino k = by (n.0 == ino) refl (node_now_is ns ino k)
   where
     there : map.get (with_nodes (n ∷ ns) k).nodes ino ≡ map.get (map.insert (with_nodes ns k).nodes n.0 n.1) ino
     there = ap (λ (m : Kernel). map.get m.nodes ino) (with_nodes_first n ns k)
 
-    by : (b : Bool) → (n.0 == ino) ≡ b → run (parts k) (node_now ns ino) ≡ map.get (with_nodes ns k).nodes ino
-        → run (parts k) (node_by (cond b (Some n.1) (node_in ino ns)) ino) ≡ map.get (with_nodes (n ∷ ns) k).nodes ino
+    by : (b : Bool) → (n.0 == ino) ≡ b → outcome_in (parts k) (node_now ns ino) ≡ map.get (with_nodes ns k).nodes ino
+        → outcome_in (parts k) (node_by (cond b (Some n.1) (node_in ino ns)) ino)
+        ≡ map.get (with_nodes (n ∷ ns) k).nodes ino
     by true e rest =
         let same : n.0 ≡ ino = eqb-true n.0 ino e in
         sym (there ∙ ap (λ i. map.get (map.insert (with_nodes ns k).nodes i n.1) ino) same
@@ -79,14 +80,14 @@ module _ (nodes : Nodes_so_far) where
   at_behind f (Some dir) taken = given_behind f dir taken (child_at f.name dir)
 
 one_is : (nodes : Nodes_so_far) (f : Fresh) (k : Kernel)
-    → run (parts k) (number_one nodes f) ≡ number_at nodes f (map.get (with_nodes nodes k).nodes f.dir)
+    → outcome_in (parts k) (number_one nodes f) ≡ number_at nodes f (map.get (with_nodes nodes k).nodes f.dir)
     (map.get (with_nodes nodes k).nodes f.ino)
 one_is nodes f k =
-    run_bind (parts k) (node_now nodes f.dir) (λ dir. node_now nodes f.ino
+    outcome-bind (parts k) (node_now nodes f.dir) (λ dir. node_now nodes f.ino
     >>= λ taken. done (number_at nodes f dir taken))
-    ∙ run_bind (parts k) (node_now nodes f.ino)
-    (λ taken. done (number_at nodes f (run (parts k) (node_now nodes f.dir)) taken))
-    ∙ ap (λ dir. number_at nodes f dir (run (parts k) (node_now nodes f.ino))) (node_now_is nodes f.dir k)
+    ∙ outcome-bind (parts k) (node_now nodes f.ino)
+    (λ taken. done (number_at nodes f (outcome_in (parts k) (node_now nodes f.dir)) taken))
+    ∙ ap (λ dir. number_at nodes f dir (outcome_in (parts k) (node_now nodes f.ino))) (node_now_is nodes f.dir k)
     ∙ ap (number_at nodes f (map.get (with_nodes nodes k).nodes f.dir)) (node_now_is nodes f.ino k)
 
 -- what a number leaves: the nodes that it adds
@@ -94,34 +95,37 @@ abbrev number_in_kernel : Fresh → Kernel → Option Nodes_so_far
 number_in_kernel f k = number_at [] f (map.get k.nodes f.dir) (map.get k.nodes f.ino)
 
 one_behind : (nodes : Nodes_so_far) (f : Fresh) (k : Kernel)
-    → run (parts k) (number_one nodes f) ≡ option_map (λ ns. ns ++ nodes) (number_in_kernel f (with_nodes nodes k))
+    → outcome_in (parts k) (number_one nodes f)
+    ≡ option_map (λ ns. ns ++ nodes) (number_in_kernel f (with_nodes nodes k))
 one_behind nodes f k =
     one_is nodes f k
     ∙ at_behind nodes f (map.get (with_nodes nodes k).nodes f.dir) (map.get (with_nodes nodes k).nodes f.ino)
 
 -- numbers behind others come to the kernel of those, numbered on
 on_from : (fresh : List Fresh)
-    → ((nodes : Nodes_so_far) (k : Kernel) → option_map (λ ns. with_nodes ns k) (run (parts k) (number_all fresh nodes))
+    → ((nodes : Nodes_so_far) (k : Kernel)
+    → option_map (λ ns. with_nodes ns k) (outcome_in (parts k) (number_all fresh nodes))
     ≡ numbered fresh (with_nodes nodes k))
     → (f : Fresh) (nodes : Nodes_so_far) (k : Kernel)
-    → option_map (λ ns. with_nodes ns k) (run (parts k) (number_all (f ∷ fresh) nodes))
+    → option_map (λ ns. with_nodes ns k) (outcome_in (parts k) (number_all (f ∷ fresh) nodes))
     ≡ option_and_then (λ ns. numbered fresh (with_nodes ns (with_nodes nodes k)))
     (number_in_kernel f (with_nodes nodes k))
 on_from fresh rest f nodes k =
     ap (option_map (λ ns. with_nodes ns k))
-    (run_bind (parts k) (number_one nodes f) (number_next (number_all fresh))
-    ∙ ap (λ o. run (parts k) (number_next (number_all fresh) o)) (one_behind nodes f k))
+    (outcome-bind (parts k) (number_one nodes f) (number_next (number_all fresh))
+    ∙ ap (λ o. outcome_in (parts k) (number_next (number_all fresh) o)) (one_behind nodes f k))
     ∙ by (number_in_kernel f (with_nodes nodes k))
   where
     by : (added : Option Nodes_so_far)
         → option_map (λ ns. with_nodes ns k)
-        (run (parts k) (number_next (number_all fresh) (option_map (λ ns. ns ++ nodes) added)))
+        (outcome_in (parts k) (number_next (number_all fresh) (option_map (λ ns. ns ++ nodes) added)))
         ≡ option_and_then (λ ns. numbered fresh (with_nodes ns (with_nodes nodes k))) added
     by None = refl
     by (Some ns) = rest (ns ++ nodes) k ∙ ap (numbered fresh) (with_nodes-append ns nodes k)
 
 all_behind : (fresh : List Fresh) (nodes : Nodes_so_far) (k : Kernel)
-    → option_map (λ ns. with_nodes ns k) (run (parts k) (number_all fresh nodes)) ≡ numbered fresh (with_nodes nodes k)
+    → option_map (λ ns. with_nodes ns k) (outcome_in (parts k) (number_all fresh nodes))
+    ≡ numbered fresh (with_nodes nodes k)
 unfolding numbered
 all_behind [] nodes k = refl
 all_behind (f ∷ fresh) nodes k =

@@ -1,72 +1,126 @@
 -- What an entry does, piece by piece.
 use Rattle.std.proofs.Common.{◌≡◌, ℕ, ◌+◌, Bool, true, false, cond, List, [], ◌∷◌, ◌++◌, Option, Some, None, refl, ap}
-use Rattle.std.proofs.Common.{sym, ◌∙◌, ◌↔◌, option_map, is_some, unwrap_or, ℤ}
-use Rattle.std.specs.Prelude.{IsTrue, not}
-use Rattle.std.specs.Ordering.{int_eq, nat_cmp}
-use Rattle.std.specs.FinMap as map
-use Rattle.kernel_model.specs.declared.entry.Entry.{Entry}
-use Rattle.kernel_model.specs.declared.entry.Args.{Args}
-use Rattle.kernel_model.specs.declared.entry.Entry.TheVariants.{Call}
-use Rattle.kernel_model.specs.Spaces.{acting_in}
-use Rattle.kernel_model.specs.Instructions.{next_of}
+use Rattle.std.proofs.Common.{sym, ◌∙◌, ◌↔◌, subst, option_map, is_some, unwrap_or, ℤ}
+use Rattle.std.specs.Prelude.{IsTrue, not, ◌&&◌, Result, Ok}
+use Rattle.std.specs.Ordering.{int_eq}
+use Rattle.sn_base.specs.declared.memory.Memory.{Memory}
 use Rattle.sn_errno.specs.declared.errno.Errno.TheVariants.{EIO}
-use Rattle.kernel_model.specs.declared.kernel.Kernel.{Kernel}
-use Rattle.kernel_model.specs.declared.kernel.Task.{Task}
-use Rattle.kernel_model.specs.declared.running.Running.{Running}
-use Rattle.kernel_model.specs.declared.kernel.Part.{Part}
-use Rattle.kernel_model.specs.declared.kernel.Part.TheVariants.{OfTask, OfSpace, OfNode, OfConsole, OfFaults}
-use Rattle.kernel_model.specs.declared.opening.Given.{Given}
-use Rattle.kernel_model.specs.declared.opening.Fresh.{Fresh}
-use Rattle.kernel_model.specs.declared.traps.Next.{Next}
-use Rattle.mm_space.specs.Spaces.{AddressSpace}
-use Rattle.kernel_model.specs.declared.traps.Next.TheVariants.{Goes, Calls, Traps}
 use Rattle.sn_errno.specs.Errors.{reply_of}
-use Rattle.kernel_model.specs.Registers.{replied}
-use Rattle.kernel_model.specs.Faulted.{has_any, Nodes_so_far, faulted, risen, number_all, all_known}
-use Rattle.kernel_model.specs.Step.{live, task_of, if_running, row_of, entry_row, at_call, by_given, failing}
-use Rattle.kernel_model.specs.Step.{with_reply, with_registers, task_change, answered, stepped, step}
-use Rattle.kernel_model.specs.Rows.{call_row}
-use Rattle.kernel_model.specs.declared.outcome.Outcome.{Outcome}
-use Rattle.kernel_model.specs.Parts.{Holds, Parts, parts, done, run, Change, put, changed}
-use Rattle.kernel_model.specs.InPlace.{with_nodes, numbered, changed_by, is_quiet, stands_at}
-use Rattle.kernel_model.proofs.CallLemmas.{call_quiet}
-use Rattle.kernel_model.proofs.OneRoot.{run_bind}
-use Rattle.plain_kernel.proofs.Numberings.{with_nodes_first, changed-append}
+use Rattle.kernel_model.specs.declared.caller.Caller.{Caller}
+use Rattle.kernel_model.specs.declared.entry.Args.{Args}
+use Rattle.kernel_model.specs.declared.entry.Entry.{Entry}
+use Rattle.kernel_model.specs.declared.entry.Entry.TheVariants.{Call}
+use Rattle.kernel_model.specs.declared.kernel.Kernel.{Kernel}
+use Rattle.kernel_model.specs.declared.kernel.Part.{Part}
+use Rattle.kernel_model.specs.declared.kernel.Part.TheVariants.{OfTasks, OfTask, OfSpace, OfNode, OfConsole, OfFaults}
+use Rattle.kernel_model.specs.declared.opening.Fresh.{Fresh}
+use Rattle.kernel_model.specs.declared.opening.Given.{Given}
+use Rattle.kernel_model.specs.calls.Answers.{Replies, replies}
+use Rattle.kernel_model.specs.calls.Callers.{Context, context_of, caller_of}
+use Rattle.kernel_model.specs.calls.Table.{call_row}
+use Rattle.kernel_model.specs.entries.Given.{has_any, is_in_order, Nodes_so_far, faulted, risen, number_all, all_known}
+use Rattle.kernel_model.specs.entries.Parts.{Holds, Parts, parts, done, outcome_in, Change, put, changed}
+use Rattle.kernel_model.specs.entries.Steps.{by_given, failing, refused_with, going_on, replied_by, next_in, stands_at}
+use Rattle.kernel_model.specs.entries.Steps.{row_of, task_of, if_live, entry_row, stepped, step}
+use Rattle.kernel_model.specs.laws.InPlace.{with_nodes, numbered, changed_by}
+use Rattle.kernel_model.specs.machine.Registers.{replied}
+use Rattle.kernel_model.proofs.CallLemmas.{call_drawing, call_failing, call_quiet}
+use Rattle.kernel_model.proofs.Trees.{outcome-bind}
+use Rattle.plain_kernel.specs.Doing.{Does}
 use Rattle.plain_kernel.proofs.FaultLemmas.{faulted_unnumbered, faulted_unknown, faulted_risen}
+use Rattle.plain_kernel.proofs.Numberings.{with_nodes_first, changed-append}
 
 -- ---- the row of an entry
 
-run_entry : (s : Parts) (e : Entry) → run s (entry_row e) ≡ run s (if_running e (run s (live (task_of e))))
-run_entry s e = run_bind s (live (task_of e)) (if_running e)
+-- what is done over the kernel that is found as it was, of the row of who is found, the entry does
+module _ (k kept : Kernel) (e : Entry) (number : ℕ) (found : Option Caller) (same : kept ≡ k) (of : number ≡ task_of e)
+    (is : outcome_in (parts k) (caller_of number) ≡ found) where
+  row_found : outcome_in (parts k) (entry_row (context_of k) e) ≡ outcome_in (parts k) (if_live (context_of k) e found)
+  row_found =
+      outcome-bind (parts k) (caller_of (task_of e)) (if_live (context_of k) e)
+      ∙ ap (λ n. outcome_in (parts k) (if_live (context_of k) e (outcome_in (parts k) (caller_of n)))) (sym of)
+      ∙ ap (λ o. outcome_in (parts k) (if_live (context_of k) e o)) is
 
-pub not_live : (s : Parts) (e : Entry) (number : ℕ) → number ≡ task_of e → run s (live number) ≡ None
-    → run s (entry_row e) ≡ None
-not_live s e number same none =
-    run_entry s e ∙ ap (λ n. run s (if_running e (run s (live n)))) (sym same) ∙ ap (λ o. run s (if_running e o)) none
-
-pub when_live : (s : Parts) (e : Entry) (number : ℕ) (r : Running) → number ≡ task_of e → run s (live number) ≡ Some r
-    → run s (entry_row e) ≡ run s (row_of e r)
-when_live s e number r same some =
-    run_entry s e ∙ ap (λ n. run s (if_running e (run s (live n)))) (sym same) ∙ ap (λ o. run s (if_running e o)) some
+  pub entry_does : (left : Kernel) (r : Result Bool Memory)
+      → Does (outcome_in (parts kept) (if_live (context_of kept) e found)) kept left r
+      → Does (outcome_in (parts k) (entry_row (context_of k) e)) k left r
+  entry_does left r does =
+      subst (λ (o : Option (List Change)). Does o k left r) (sym row_found)
+      (subst (λ (x : Kernel). Does (outcome_in (parts x) (if_live (context_of x) e found)) x left r) same does)
 
 -- ---- a call
 
-pub stands : (s : Parts) (number call : ℕ) (args : Args) (reply : ℤ) (given : Given) (task : Task)
-    (space : AddressSpace) (next : Next) → stands_at call args task next ≡ true
-    → run s (at_call number call args reply given task space next)
-    ≡ run s (by_given number task space call args reply given)
-stands s number call args reply given task space Calls e =
-    ap (λ b. run s (cond b (by_given number task space call args reply given) (done None))) e
-stands s number call args reply given task space Goes e = absurd (cc e)
-stands s number call args reply given task space (Traps signal) e = absurd (cc e)
+-- the row of a call that its task stands at
+module _ (s : Parts) (context : Context) (c : Caller) (e : Entry) (task no : ℕ) (args : Args) (given : Given)
+    (reply told : ℤ) (is : e ≡ Call task no args given reply) (value : told ≡ reply)
+    (at : stands_at no args c.registers (next_in c) ≡ true) where
+  row_given : outcome_in s (row_of context e c) ≡ outcome_in s (by_given context c no args told given)
+  row_given =
+      ap (λ x. outcome_in s (row_of context x c)) is
+      ∙ ap (λ b. outcome_in s (cond b (by_given context c no args reply given) (done None))) at
+      ∙ ap (λ v. outcome_in s (by_given context c no args v given)) (sym value)
 
-pub stands_not : (s : Parts) (number call : ℕ) (args : Args) (reply : ℤ) (given : Given) (task : Task)
-    (space : AddressSpace) (next : Next) → stands_at call args task next ≡ false
-    → run s (at_call number call args reply given task space next) ≡ None
-stands_not s number call args reply given task space Calls e =
-    ap (λ b. run s (cond b (by_given number task space call args reply given) (done None))) e
-stands_not s number call args reply given task space Goes e = refl
-stands_not s number call args reply given task space (Traps signal) e = refl
+  -- of one that met a rise,
+  pub row_failing : is_in_order given ≡ true → has_any given.rises ≡ true
+      → outcome_in s (row_of context e c) ≡ outcome_in s (failing c told given)
+  row_failing o h = row_given ∙ call_failing s context c no args told given h o
+
+  module _ (v : ℤ) (changes : List Change) (row : outcome_in s (call_row context c no args) ≡ replies v changes)
+      (unfailed : has_any given.rises ≡ false) where
+    -- of one that drew a number and no more,
+    pub row_drawing : has_any given.fresh ≡ true → outcome_in s (row_of context e c) ≡ None
+    row_drawing f = row_given ∙ call_drawing s context c no args told v changes given row unfailed f
+
+    -- and of one that drew nothing and met nothing: by what it comes to
+    pub row_quiet : has_any given.fresh ≡ false
+        → outcome_in s (row_of context e c) ≡ replied_by c told changes (Replies v)
+    row_quiet f =
+        row_given
+        ∙ call_quiet s context c no args told v changes given row
+        (ap (λ b. not b && not (has_any given.fresh)) unfailed ∙ ap not f)
+
+-- an entry of a call, by what was done over the kernel and for the caller that were found and left as they were
+module _ (k kept : Kernel) (e : Entry) (number : ℕ) (found c : Caller) (same : kept ≡ k) (of : number ≡ task_of e)
+    (some : outcome_in (parts k) (caller_of number) ≡ Some found) (stay : c ≡ found) (task no : ℕ) (args : Args)
+    (given : Given) (reply told : ℤ) (is : e ≡ Call task no args given reply) (value : told ≡ reply)
+    (stands : stands_at no args found.registers (next_in found) ≡ true) where
+  stands_still : stands_at no args c.registers (next_in c) ≡ true
+  stands_still = ap (λ (x : Caller). stands_at no args x.registers (next_in x)) stay ∙ stands
+
+  row_does : (row : Option (List Change)) (left : Kernel) (r : Result Bool Memory)
+      → outcome_in (parts kept) (row_of (context_of kept) e c) ≡ row → Does row kept left r
+      → Does (outcome_in (parts k) (entry_row (context_of k) e)) k left r
+  row_does row left r row_is does =
+      entry_does k kept e number (Some c) same of (some ∙ ap (λ x. Some x) (sym stay)) left r
+      (subst (λ (o : Option (List Change)). Does o kept left r) (sym row_is) does)
+
+  -- one that met a rise,
+  pub entry_failing : is_in_order given ≡ true → has_any given.rises ≡ true → (left : Kernel) (r : Result Bool Memory)
+      → Does (outcome_in (parts kept) (failing c told given)) kept left r
+      → Does (outcome_in (parts k) (entry_row (context_of k) e)) k left r
+  entry_failing o h left r does =
+      row_does (outcome_in (parts kept) (failing c told given)) left r
+      (row_failing (parts kept) (context_of kept) c e task no args given reply told is value stands_still o h) does
+
+  module _ (v : ℤ) (changes : List Change)
+      (row : outcome_in (parts kept) (call_row (context_of kept) c no args) ≡ replies v changes)
+      (unfailed : has_any given.rises ≡ false) where
+    -- one that drew a number and no more,
+    pub entry_drawing : has_any given.fresh ≡ true
+        → Does (outcome_in (parts k) (entry_row (context_of k) e)) k kept (Ok false)
+    entry_drawing f =
+        row_does None kept (Ok false)
+        (row_drawing (parts kept) (context_of kept) c e task no args given reply told is value stands_still v changes
+        row unfailed f) (refl, refl)
+
+    -- and one that drew nothing and met nothing
+    pub entry_quiet : has_any given.fresh ≡ false → (left : Kernel) (r : Result Bool Memory)
+        → Does (replied_by c told changes (Replies v)) kept left r
+        → Does (outcome_in (parts k) (entry_row (context_of k) e)) k left r
+    entry_quiet f left r does =
+        row_does (replied_by c told changes (Replies v)) left r
+        (row_quiet (parts kept) (context_of kept) c e task no args given reply told is value stands_still v changes row
+        unfailed f) does
 
 -- whether a list has an item, by whether it is empty
 pub has_any_not : {A : Type 0} (xs : List A) (b : Bool) → IsTrue b ↔ (xs ≡ []) → has_any xs ≡ not b
@@ -74,87 +128,97 @@ has_any_not [] b e = ap not (sym (e.1 refl))
 has_any_not (x ∷ xs) true e = absurd (cc (e.0 refl))
 has_any_not (x ∷ xs) false e = refl
 
+-- ---- a call that is done
+
+-- the call's changes, and then its task behind it
+pub call_done : (k : Kernel) (c : Caller) (reply value : ℤ) (changes : List Change) (after left : Kernel)
+    → int_eq reply value ≡ true → changed changes k ≡ after
+    → left ≡ put (OfTask c.task) (Some (replied c.registers value)) after
+    → changed_by (replied_by c reply changes (Replies value)) k ≡ Some left
+call_done k c reply value changes after left agrees does goes =
+    ap (λ b. changed_by (cond b (Some (changes ++ going_on c value)) None) k) agrees
+    ∙ ap (λ x. Some x) (changed-append changes (going_on c value) k)
+    ∙ ap (λ x. Some (put (OfTask c.task) (Some (replied c.registers value)) x)) does
+    ∙ ap (λ x. Some x) (sym goes)
+
 -- ---- a call in which a host call failed
 
-module _ (number : ℕ) (task : Task) (reply : ℤ) (given : Given) where
+module _ (c : Caller) (reply : ℤ) (given : Given) where
   failing_is : (s : Parts)
-      → run s (failing number task reply given) ≡ with_reply number task reply (run s (faulted given))
-  failing_is s = run_bind s (faulted given) (λ changes. done (with_reply number task reply changes))
+      → outcome_in s (failing c reply given) ≡ refused_with c reply EIO (outcome_in s (faulted given))
+  failing_is s = outcome-bind s (faulted given) (λ changes. done (refused_with c reply EIO changes))
 
   -- it answers EIO and nothing else
-  pub failing_other : (s : Parts) → int_eq reply (reply_of EIO) ≡ false → run s (failing number task reply given) ≡ None
-  failing_other s differs = failing_is s ∙ by (run s (faulted given))
+  pub failing_other : (s : Parts) → int_eq reply (reply_of EIO) ≡ false → outcome_in s (failing c reply given) ≡ None
+  failing_other s differs = failing_is s ∙ by (outcome_in s (faulted given))
     where
-      by : (changes : Option (List Change)) → with_reply number task reply changes ≡ None
+      by : (changes : Option (List Change)) → refused_with c reply EIO changes ≡ None
       by None = refl
-      by (Some cs) =
-          ap (λ b. cond b (Some (cs ++ task_change number (with_registers task (replied task.registers (reply_of EIO)))
-          ∷ [])) None) differs
+      by (Some cs) = ap (λ b. cond b (Some (cs ++ going_on c (reply_of EIO))) None) differs
 
-  pub failing_none : (s : Parts) → run s (faulted given) ≡ None → run s (failing number task reply given) ≡ None
-  failing_none s none = failing_is s ∙ ap (with_reply number task reply) none
+  pub failing_none : (s : Parts) → outcome_in s (faulted given) ≡ None → outcome_in s (failing c reply given) ≡ None
+  failing_none s none = failing_is s ∙ ap (refused_with c reply EIO) none
 
   -- and leaves what was drawn and met, and its task behind the call
   pub failing_some : (k left : Kernel) → int_eq reply (reply_of EIO) ≡ true
-      → changed_by (run (parts k) (faulted given)) k ≡ Some left
-      → changed_by (run (parts k) (failing number task reply given)) k
-      ≡ Some (put (OfTask number) (Some (with_registers task (replied task.registers (reply_of EIO)))) left)
+      → changed_by (outcome_in (parts k) (faulted given)) k ≡ Some left
+      → changed_by (outcome_in (parts k) (failing c reply given)) k
+      ≡ Some (put (OfTask c.task) (Some (replied c.registers (reply_of EIO))) left)
   failing_some k left agrees some =
-      ap (λ o. changed_by o k) (failing_is (parts k)) ∙ by (run (parts k) (faulted given)) some
+      ap (λ o. changed_by o k) (failing_is (parts k)) ∙ by (outcome_in (parts k) (faulted given)) some
     where
       by : (changes : Option (List Change)) → changed_by changes k ≡ Some left
-          → changed_by (with_reply number task reply changes) k
-          ≡ Some (put (OfTask number) (Some (with_registers task (replied task.registers (reply_of EIO)))) left)
+          → changed_by (refused_with c reply EIO changes) k
+          ≡ Some (put (OfTask c.task) (Some (replied c.registers (reply_of EIO))) left)
       by None e = absurd (cc e)
       by (Some cs) e =
           let is : changed cs k ≡ left = cc e in
-          ap (λ b. changed_by
-          (cond b (Some (cs ++ task_change number (with_registers task (replied task.registers (reply_of EIO)))
-          ∷ [])) None) k) agrees
-          ∙ ap (λ m. Some m)
-          (changed-append cs (task_change number (with_registers task (replied task.registers (reply_of EIO)))
-          ∷ []) k)
-          ∙ ap (λ m. Some (put (OfTask number) (Some (with_registers task (replied task.registers (reply_of EIO)))) m))
-          is
+          ap (λ b. changed_by (cond b (Some (cs ++ going_on c (reply_of EIO))) None) k) agrees
+          ∙ ap (λ m. Some m) (changed-append cs (going_on c (reply_of EIO)) k)
+          ∙ ap (λ m. Some (put (OfTask c.task) (Some (replied c.registers (reply_of EIO))) m)) is
 
 -- ---- what stays
 
-tasks_with_nodes : (nodes : Nodes_so_far) (k : Kernel) → (with_nodes nodes k).tasks ≡ k.tasks
-tasks_with_nodes [] k = refl
-tasks_with_nodes (n ∷ ns) k = ap (λ (m : Kernel). m.tasks) (with_nodes_first n ns k) ∙ tasks_with_nodes ns k
+registers_with_nodes : (nodes : Nodes_so_far) (k : Kernel) → (with_nodes nodes k).registers ≡ k.registers
+registers_with_nodes [] k = refl
+registers_with_nodes (n ∷ ns) k =
+    ap (λ (m : Kernel). m.registers) (with_nodes_first n ns k) ∙ registers_with_nodes ns k
 
-numbered_tasks : (fresh : List Fresh) (k m : Kernel) → numbered fresh k ≡ Some m → m.tasks ≡ k.tasks
+numbered_registers : (fresh : List Fresh) (k m : Kernel) → numbered fresh k ≡ Some m → m.registers ≡ k.registers
 unfolding numbered
-numbered_tasks fresh k m e = by (run (parts k) (number_all fresh [])) e
+numbered_registers fresh k m e = by (outcome_in (parts k) (number_all fresh [])) e
   where
-    by : (nodes : Option Nodes_so_far) → option_map (λ ns. with_nodes ns k) nodes ≡ Some m → m.tasks ≡ k.tasks
+    by : (nodes : Option Nodes_so_far) → option_map (λ ns. with_nodes ns k) nodes ≡ Some m → m.registers ≡ k.registers
     by None e = absurd (cc e)
-    by (Some ns) e = let is : m ≡ with_nodes ns k = cc e in ap (λ (n : Kernel). n.tasks) is ∙ tasks_with_nodes ns k
+    by (Some ns) e =
+        let is : m ≡ with_nodes ns k = cc e in ap (λ (n : Kernel). n.registers) is ∙ registers_with_nodes ns k
 
 -- what was drawn and met is of no task
-pub faulted_tasks : (given : Given) (k left : Kernel) → changed_by (run (parts k) (faulted given)) k ≡ Some left
-    → left.tasks ≡ k.tasks
-faulted_tasks given k left some = number (numbered given.fresh k) refl
+pub faulted_registers : (given : Given) (k left : Kernel)
+    → changed_by (outcome_in (parts k) (faulted given)) k ≡ Some left → left.registers ≡ k.registers
+faulted_registers given k left some = number (numbered given.fresh k) refl
   where
-    known : (m : Kernel) → numbered given.fresh k ≡ Some m → (b : Bool) → run (parts m) (all_known given.rises []) ≡ b
-        → left.tasks ≡ k.tasks
+    known : (m : Kernel) → numbered given.fresh k ≡ Some m → (b : Bool)
+        → outcome_in (parts m) (all_known given.rises []) ≡ b → left.registers ≡ k.registers
     known m n false a =
-        let none : changed_by (run (parts k) (faulted given)) k ≡ None = faulted_unknown given k m n a in
+        let none : changed_by (outcome_in (parts k) (faulted given)) k ≡ None = faulted_unknown given k m n a in
         absurd (cc (none, some))
     known m n true a =
         let is : left ≡ record m { failed = risen given.rises m.failed } =
-        let all : changed_by (run (parts k) (faulted given)) k
+        let all : changed_by (outcome_in (parts k) (faulted given)) k
         ≡ Some (record m { failed = risen given.rises m.failed }) =
         faulted_risen given k m n a in
         cc (all, some) in
-        ap (λ (n : Kernel). n.tasks) is ∙ numbered_tasks given.fresh k m n
+        ap (λ (n : Kernel). n.registers) is ∙ numbered_registers given.fresh k m n
 
-    number : (o : Option Kernel) → numbered given.fresh k ≡ o → left.tasks ≡ k.tasks
+    number : (o : Option Kernel) → numbered given.fresh k ≡ o → left.registers ≡ k.registers
     number None n =
-        let none : run (parts k) (faulted given) ≡ None = faulted_unnumbered given k n in absurd (cc (none, some))
-    number (Some m) n = known m n (run (parts m) (all_known given.rises [])) refl
+        let none : outcome_in (parts k) (faulted given) ≡ None = faulted_unnumbered given k n in
+        absurd (cc (none, some))
+    number (Some m) n = known m n (outcome_in (parts m) (all_known given.rises [])) refl
 
 entries_put : (p : Part) (content : Holds p) (k : Kernel) → (put p content k).entries ≡ k.entries
+entries_put OfTasks content k = refl
 entries_put (OfTask n) content k = refl
 entries_put (OfSpace n) content k = refl
 entries_put (OfNode n) content k = refl
@@ -168,22 +232,6 @@ entries_changed (c ∷ cs) k = entries_changed cs (put c.0 c.1 k) ∙ entries_pu
 
 -- ---- what a call in place says, by what it answers
 
-pub refused_fits : (changes : Option (List Change)) → changes ≡ None → false ≡ is_some changes
-refused_fits changes none = sym (ap is_some none)
-
-pub refused_ok : (changes : Option (List Change)) (k left : Kernel) → changes ≡ None → left ≡ k
-    → left ≡ unwrap_or (changed_by changes k) k
-refused_ok changes k left none same = same ∙ sym (ap (λ o. unwrap_or (changed_by o k) k) none)
-
-pub taken_fits : (changes : Option (List Change)) (k left : Kernel) → changed_by changes k ≡ Some left
-    → true ≡ is_some changes
-taken_fits None k left e = absurd (cc e)
-taken_fits (Some cs) k left e = refl
-
-pub taken_ok : (changes : Option (List Change)) (k left now : Kernel) → changed_by changes k ≡ Some left
-    → now ≡ left → now ≡ unwrap_or (changed_by changes k) k
-taken_ok changes k left now e same = same ∙ sym (ap (λ o. unwrap_or o k) e)
-
 -- what is left where it did all, and where it did nothing
 pub done_all : (changes : Option (List Change)) (b : Bool) (k left : Kernel) → b ≡ is_some changes
     → left ≡ unwrap_or (changed_by changes k) k → b ≡ true → changed_by changes k ≡ Some left
@@ -195,100 +243,56 @@ pub done_nothing : (changes : Option (List Change)) (b : Bool) (k left : Kernel)
 done_nothing None b k left fits ok is = (refl, ok)
 done_nothing (Some cs) b k left fits ok is = absurd (cc (fits, is))
 
--- what holds of one list of changes holds of another that is the same
-pub same_fits : (changes others : Option (List Change)) (b : Bool) → others ≡ changes → b ≡ is_some changes
-    → b ≡ is_some others
-same_fits changes others b same fits = fits ∙ sym (ap is_some same)
-
-pub same_ok : (changes others : Option (List Change)) (k left : Kernel) → others ≡ changes
-    → left ≡ unwrap_or (changed_by changes k) k → left ≡ unwrap_or (changed_by others k) k
-same_ok changes others k left same ok = ok ∙ sym (ap (λ o. unwrap_or (changed_by o k) k) same)
-
--- a task that was put in the place of one
-pub task_put : (k : Kernel) (number key : ℕ) (after task : Task) (tasks : map.FinMap nat_cmp Task)
-    → tasks ≡ map.insert k.tasks key after → key ≡ number → after ≡ task
-    → record k { tasks = tasks } ≡ put (OfTask number) (Some task) k
-task_put k number key after task tasks is same to =
-    ap (λ m. record k { tasks = m }) (is ∙ ap (λ q. map.insert k.tasks q after) same
-    ∙ ap (map.insert k.tasks number) to)
-
--- a task that stands at a call, by the number that it was found under
-pub stands_as : (number n call : ℕ) (args : Args) (task : Task) (space : AddressSpace) (b : Bool) → n ≡ number
-    → b ≡ stands_at call args task (next_of (acting_in n space) task.registers) → b ≡ true
-    → stands_at call args task (next_of (acting_in number space) task.registers) ≡ true
-stands_as number n call args task space b same is holds =
-    ap (λ x. stands_at call args task (next_of (acting_in x space) task.registers)) (sym same) ∙ sym is ∙ holds
-
--- an entry of a call that its task stands at
-pub call_is : (s : Parts) (e : Entry) (number : ℕ) (r : Running) (task call : ℕ) (args : Args) (given : Given)
-    (reply : ℤ) → number ≡ task_of e → run s (live number) ≡ Some r → e ≡ Call task call args given reply
-    → stands_at call args r.task (next_of (acting_in number r.space) r.task.registers) ≡ true
-    → run s (entry_row e) ≡ run s (by_given number r.task r.space call args reply given)
-call_is s e number r task call args given reply same some is at =
-    when_live s e number r same some
-    ∙ ap (λ x. run s (row_of x r)) is
-    ∙ ap (λ n. run s (at_call n call args reply given r.task r.space (next_of (acting_in n r.space) r.task.registers)))
-    (sym (same ∙ ap task_of is))
-    ∙ stands s number call args reply given r.task r.space (next_of (acting_in number r.space) r.task.registers) at
-
--- the row of a call that its task stands at, where the kernel was kept as it was
-module _ (k kept : Kernel) (e : Entry) (number task no : ℕ) (args : Args) (given : Given) (reply told : ℤ)
-    (running : Running)
-    (same : kept ≡ k) (of : number ≡ task_of e) (some : run (parts k) (live number) ≡ Some running)
-    (is : e ≡ Call task no args given reply) (value : told ≡ reply)
-    (at : stands_at no args running.task (next_of (acting_in number running.space) running.task.registers) ≡ true) where
-  pub row_given : run (parts k) (entry_row e)
-      ≡ run (parts kept) (by_given number running.task running.space no args told given)
-  row_given =
-      call_is (parts k) e number running task no args given reply of some is at
-      ∙ ap (λ v. run (parts k) (by_given number running.task running.space no args v given)) (sym value)
-      ∙ ap (λ x. run (parts x) (by_given number running.task running.space no args told given)) (sym same)
-
-  -- that drew nothing and met nothing: by what it comes to
-  pub row_quiet : (space : AddressSpace) (o : Outcome) → space ≡ running.space → is_quiet given ≡ true
-      → run (parts kept) (call_row no args space) ≡ o
-      → run (parts k) (entry_row e) ≡ run (parts kept) (answered number running.task told o)
-  row_quiet space o here quiet row =
-      row_given
-      ∙ call_quiet (parts kept) number running.task running.space no args told given quiet
-      ∙ ap (λ x. run (parts kept) (answered number running.task told x))
-      (ap (λ s. run (parts kept) (call_row no args s)) (sym here) ∙ row)
-
 -- ---- a whole step
 
--- the count of entries stays, whatever changes were done
-pub entries_by : (changes : Option (List Change)) (k left : Kernel) → left ≡ unwrap_or (changed_by changes k) k
-    → left.entries ≡ k.entries
-entries_by None k left ok = ap (λ (n : Kernel). n.entries) ok
-entries_by (Some cs) k left ok = ap (λ (n : Kernel). n.entries) ok ∙ entries_changed cs k
+module _ (k left : Kernel) (e : Entry) where
+  pub step_fits : (b : Bool) → Does (outcome_in (parts k) (entry_row (context_of k) e)) k left (Ok b)
+      → b ≡ is_some (step k e)
+  unfolding step
+  step_fits b does = by (outcome_in (parts k) (entry_row (context_of k) e)) b does
+    where
+      by : (changes : Option (List Change)) (b : Bool) → Does changes k left (Ok b)
+          → b ≡ is_some (option_map (stepped k) changes)
+      by None true d = absurd (cc d)
+      by None false d = refl
+      by (Some cs) true d = refl
+      by (Some cs) false d = absurd (cc d.0)
 
-pub step_fits : (k : Kernel) (e : Entry) (b : Bool) → b ≡ is_some (run (parts k) (entry_row e)) → b ≡ is_some (step k e)
-unfolding step
-step_fits k e b fits = fits ∙ by (run (parts k) (entry_row e))
-  where
-    by : (changes : Option (List Change)) → is_some changes ≡ is_some (option_map (stepped k) changes)
-    by None = refl
-    by (Some cs) = refl
+  -- the count of entries stays, whatever changes were done
+  pub entries_by : (b : Bool) → Does (outcome_in (parts k) (entry_row (context_of k) e)) k left (Ok b)
+      → left.entries ≡ k.entries
+  entries_by b does = by (outcome_in (parts k) (entry_row (context_of k) e)) b does
+    where
+      by : (changes : Option (List Change)) (b : Bool) → Does changes k left (Ok b) → left.entries ≡ k.entries
+      by None true d = absurd (cc d)
+      by None false d = ap (λ (n : Kernel). n.entries) d.1
+      by (Some cs) true d =
+          let is : left ≡ changed cs k = cc d in ap (λ (n : Kernel). n.entries) is ∙ entries_changed cs k
+      by (Some cs) false d = absurd (cc d.0)
 
-pub step_taken : (k : Kernel) (e : Entry) (b : Bool) (left : Kernel) → b ≡ is_some (run (parts k) (entry_row e))
-    → left ≡ unwrap_or (changed_by (run (parts k) (entry_row e)) k) k → b ≡ true
-    → record left { entries = left.entries + 1 } ≡ unwrap_or (step k e) k
-unfolding step
-step_taken k e b left fits ok is = by (run (parts k) (entry_row e)) fits ok
-  where
-    by : (changes : Option (List Change)) → b ≡ is_some changes → left ≡ unwrap_or (changed_by changes k) k
-        → record left { entries = left.entries + 1 } ≡ unwrap_or (option_map (stepped k) changes) k
-    by None f o = absurd (cc (f, is))
-    by (Some cs) f o =
-        ap (λ (n : Kernel). record n { entries = n.entries + 1 }) o
-        ∙ ap (λ n. record (changed cs k) { entries = n + 1 }) (entries_changed cs k)
+  pub step_taken : (b : Bool) → Does (outcome_in (parts k) (entry_row (context_of k) e)) k left (Ok b) → b ≡ true
+      → record left { entries = left.entries + 1 } ≡ unwrap_or (step k e) k
+  unfolding step
+  step_taken b does is = by (outcome_in (parts k) (entry_row (context_of k) e)) b does is
+    where
+      by : (changes : Option (List Change)) (b : Bool) → Does changes k left (Ok b) → b ≡ true
+          → record left { entries = left.entries + 1 } ≡ unwrap_or (option_map (stepped k) changes) k
+      by None true d is = absurd (cc d)
+      by None false d is = absurd (cc is)
+      by (Some cs) true d is =
+          let same : left ≡ changed cs k = cc d in
+          ap (λ (n : Kernel). record n { entries = n.entries + 1 }) same
+          ∙ ap (λ n. record (changed cs k) { entries = n + 1 }) (entries_changed cs k)
+      by (Some cs) false d is = absurd (cc is)
 
-pub step_refused : (k : Kernel) (e : Entry) (b : Bool) (left : Kernel) → b ≡ is_some (run (parts k) (entry_row e))
-    → left ≡ unwrap_or (changed_by (run (parts k) (entry_row e)) k) k → b ≡ false → left ≡ unwrap_or (step k e) k
-unfolding step
-step_refused k e b left fits ok is = by (run (parts k) (entry_row e)) fits ok
-  where
-    by : (changes : Option (List Change)) → b ≡ is_some changes → left ≡ unwrap_or (changed_by changes k) k
-        → left ≡ unwrap_or (option_map (stepped k) changes) k
-    by None f o = o
-    by (Some cs) f o = absurd (cc (f, is))
+  pub step_refused : (b : Bool) → Does (outcome_in (parts k) (entry_row (context_of k) e)) k left (Ok b) → b ≡ false
+      → left ≡ unwrap_or (step k e) k
+  unfolding step
+  step_refused b does is = by (outcome_in (parts k) (entry_row (context_of k) e)) b does is
+    where
+      by : (changes : Option (List Change)) (b : Bool) → Does changes k left (Ok b) → b ≡ false
+          → left ≡ unwrap_or (option_map (stepped k) changes) k
+      by None true d is = absurd (cc d)
+      by None false d is = d.1
+      by (Some cs) true d is = absurd (cc is)
+      by (Some cs) false d is = absurd (cc d.0)

@@ -1,6 +1,6 @@
 -- An opening execve, piece by piece.
-use Rattle.std.proofs.Common.{◌≡◌, ℕ, Bool, true, false, cond, List, [], Option, Some, None, Result, refl, ap, sym, ◌∙◌}
-use Rattle.std.proofs.Common.{subst, option_map}
+use Rattle.std.proofs.Common.{◌≡◌, ℕ, Bool, true, false, cond, List, [], ◌∷◌, Option, Some, None, Result, refl}
+use Rattle.std.proofs.Common.{ap, sym, ◌∙◌, subst, option_map}
 use Rattle.std.specs.Prelude.{Ok, Err, not, IfOk}
 use Rattle.sn_base.specs.declared.memory.Memory.{Memory}
 use Rattle.std.specs.List.{list_any}
@@ -9,65 +9,70 @@ use Rattle.sn_errno.specs.declared.errno.Errno.TheVariants.{EIO, ENFILE}
 use Rattle.elf_image.specs.declared.image.Image.{Image}
 use Rattle.kernel_model.specs.declared.kernel.Kernel.{Kernel}
 use Rattle.kernel_model.specs.declared.opening.Given.{Given}
-use Rattle.kernel_model.specs.Faulted.{Nodes_so_far, has_any, is_in_order, number_all, node_changes, faulted}
-use Rattle.kernel_model.specs.Opening.{Walked, walk_of, by_walk, draws_just, above_last, Executed, Fails, Unfit}
-use Rattle.kernel_model.specs.Opening.{failed_by, by_image, by_numbers, execve, execve_of, unwalked, name_in_path}
-use Rattle.kernel_model.specs.Arguments.{is_too_long}
+use Rattle.kernel_model.specs.entries.Given.{Nodes_so_far, has_any, is_in_order, above_last, number_all, node_changes}
+use Rattle.kernel_model.specs.entries.Given.{faulted}
+use Rattle.kernel_model.specs.opening.Opening.{Walked, walk_of, by_walk, draws_just, Executed, Starts, Fails, Unfit}
+use Rattle.kernel_model.specs.opening.Opening.{failed_by, by_image, by_numbers, execve, execve_of, unwalked, name_in_path}
+use Rattle.kernel_model.specs.opening.Arguments.{is_too_long}
 use Rattle.mount_file.specs.declared.mounts.Program.{Program}
-use Rattle.kernel_model.specs.Parts.{parts, done, run, ◌>>=◌, Change, changed}
-use Rattle.kernel_model.specs.InPlace.{with_nodes, numbered, changed_by}
+use Rattle.kernel_model.specs.entries.Parts.{Parts, parts, done, outcome_in, ◌>>=◌, Change, changed}
+use Rattle.kernel_model.specs.laws.InPlace.{with_nodes, numbered, changed_by}
 use Rattle.plain_kernel.specs.declared.walking.Execved.{Execved}
 use Rattle.plain_kernel.specs.declared.walking.Execved.TheVariants as answers
-use Rattle.kernel_model.specs.Beginnings.{fits}
+use Rattle.kernel_model.specs.laws.Beginnings.{fits}
 use Rattle.plain_kernel.specs.Beginnings.{Executes, IsByImage, IsFrom, MayStart}
-use Rattle.kernel_model.proofs.OneRoot.{run_bind}
+use Rattle.kernel_model.proofs.Trees.{outcome-bind}
+use Rattle.plain_kernel.proofs.Numberings.{with_nodes_first}
 
 -- an execve that is not refused before it walks does as its walk comes out
 pub execve_is : (k : Kernel) (program : Program) (given : Given) (draws : Bool) (image : Result Image Errno)
     → is_too_long program.args program.env ≡ false
-    → run (parts k) (walk_of (name_in_path program.path)) ≡ record { draws = draws; image = image }
-    → run (parts k) (execve_of program given)
-    ≡ run (parts k) (by_walk (name_in_path program.path) given (record { draws = draws; image = image }))
+    → outcome_in (parts k) (walk_of (name_in_path program.path)) ≡ record { draws = draws; image = image }
+    → outcome_in (parts k) (execve_of program given)
+    ≡ outcome_in (parts k) (by_walk (name_in_path program.path) given (record { draws = draws; image = image }))
 execve_is k program given draws image short walks =
-    ap (λ b. run (parts k) (cond b (by_walk (name_in_path program.path) given unwalked)
+    ap (λ b. outcome_in (parts k) (cond b (by_walk (name_in_path program.path) given unwalked)
     (execve (name_in_path program.path) given))) short
-    ∙ run_bind (parts k) (walk_of (name_in_path program.path)) (by_walk (name_in_path program.path) given)
-    ∙ ap (λ w. run (parts k) (by_walk (name_in_path program.path) given w)) walks
+    ∙ outcome-bind (parts k) (walk_of (name_in_path program.path)) (by_walk (name_in_path program.path) given)
+    ∙ ap (λ w. outcome_in (parts k) (by_walk (name_in_path program.path) given w)) walks
 
 -- one that is refused before does as if it had walked to nothing
 pub execve_long : (k : Kernel) (program : Program) (given : Given) → is_too_long program.args program.env ≡ true
-    → run (parts k) (execve_of program given) ≡ run (parts k) (by_walk (name_in_path program.path) given unwalked)
+    → outcome_in (parts k) (execve_of program given)
+    ≡ outcome_in (parts k) (by_walk (name_in_path program.path) given unwalked)
 execve_long k program given long =
-    ap (λ b. run (parts k) (cond b (by_walk (name_in_path program.path) given unwalked)
+    ap (λ b. outcome_in (parts k) (cond b (by_walk (name_in_path program.path) given unwalked)
     (execve (name_in_path program.path) given))) long
 
 module _ (k : Kernel) (name : List ℕ) (given : Given) (draws : Bool) (image : Result Image Errno) where
   -- ---- with a rise
 
   module _ (met : has_any given.rises ≡ true) (order : is_in_order given ≡ true) where
-    by_failing : run (parts k) (by_walk name given (record { draws = draws; image = image }))
-        ≡ failed_by (run (parts k) (faulted given))
+    by_failing : outcome_in (parts k) (by_walk name given (record { draws = draws; image = image }))
+        ≡ failed_by (outcome_in (parts k) (faulted given))
     by_failing =
-        ap (λ b. run (parts k)
+        ap (λ b. outcome_in (parts k)
         (cond b (cond (is_in_order given) (faulted given >>= λ changes. done (failed_by changes)) (done Unfit))
         (cond (not (draws_just draws name given.fresh)) (done Unfit)
         (cond (list_any above_last given.fresh) (done (Fails ENFILE [])) (number_all given.fresh []
         >>= λ nodes. done (by_numbers image nodes)))))) met
-        ∙ ap (λ b. run (parts k) (cond b (faulted given >>= λ changes. done (failed_by changes)) (done Unfit))) order
-        ∙ run_bind (parts k) (faulted given) (λ changes. done (failed_by changes))
+        ∙ ap (λ b. outcome_in (parts k) (cond b (faulted given >>= λ changes. done (failed_by changes)) (done Unfit)))
+        order
+        ∙ outcome-bind (parts k) (faulted given) (λ changes. done (failed_by changes))
 
-    pub rises_unfit : run (parts k) (faulted given) ≡ None
-        → run (parts k) (by_walk name given (record { draws = draws; image = image })) ≡ Unfit
+    pub rises_unfit : outcome_in (parts k) (faulted given) ≡ None
+        → outcome_in (parts k) (by_walk name given (record { draws = draws; image = image })) ≡ Unfit
     rises_unfit none = by_failing ∙ ap failed_by none
 
-    pub rises_fail : (m : Kernel) → changed_by (run (parts k) (faulted given)) k ≡ Some m
-        → (changes : List Change) × (run (parts k) (by_walk name given (record { draws = draws; image = image }))
+    pub rises_fail : (m : Kernel) → changed_by (outcome_in (parts k) (faulted given)) k ≡ Some m
+        → (changes : List Change) × (outcome_in (parts k) (by_walk name given (record { draws = draws; image = image }))
         ≡ Fails EIO changes) × (m ≡ changed changes k)
-    rises_fail m some = by (run (parts k) (faulted given)) some by_failing
+    rises_fail m some = by (outcome_in (parts k) (faulted given)) some by_failing
       where
         by : (o : Option (List Change)) → changed_by o k ≡ Some m
-            → run (parts k) (by_walk name given (record { draws = draws; image = image })) ≡ failed_by o
-            → (changes : List Change) × (run (parts k) (by_walk name given (record { draws = draws; image = image }))
+            → outcome_in (parts k) (by_walk name given (record { draws = draws; image = image })) ≡ failed_by o
+            → (changes : List Change)
+            × (outcome_in (parts k) (by_walk name given (record { draws = draws; image = image }))
             ≡ Fails EIO changes) × (m ≡ changed changes k)
         by None e is = absurd (cc e)
         by (Some cs) e is = (cs, is, cc e)
@@ -76,40 +81,41 @@ module _ (k : Kernel) (name : List ℕ) (given : Given) (draws : Bool) (image : 
 
   module _ (met : has_any given.rises ≡ false) (just : draws_just draws name given.fresh ≡ true)
       (small : list_any above_last given.fresh ≡ false) where
-    by_drawing : run (parts k) (by_walk name given (record { draws = draws; image = image }))
-        ≡ by_numbers image (run (parts k) (number_all given.fresh []))
+    by_drawing : outcome_in (parts k) (by_walk name given (record { draws = draws; image = image }))
+        ≡ by_numbers image (outcome_in (parts k) (number_all given.fresh []))
     by_drawing =
-        ap (λ b. run (parts k)
+        ap (λ b. outcome_in (parts k)
         (cond b (cond (is_in_order given) (faulted given >>= λ changes. done (failed_by changes)) (done Unfit))
         (cond (not (draws_just draws name given.fresh)) (done Unfit)
         (cond (list_any above_last given.fresh) (done (Fails ENFILE [])) (number_all given.fresh []
         >>= λ nodes. done (by_numbers image nodes)))))) met
         ∙ ap
-        (λ b. run (parts k)
+        (λ b. outcome_in (parts k)
         (cond (not b) (done Unfit) (cond (list_any above_last given.fresh) (done (Fails ENFILE []))
         (number_all given.fresh [] >>= λ nodes. done (by_numbers image nodes))))) just
-        ∙ ap (λ b. run (parts k) (cond b (done (Fails ENFILE [])) (number_all given.fresh []
+        ∙ ap (λ b. outcome_in (parts k) (cond b (done (Fails ENFILE [])) (number_all given.fresh []
         >>= λ nodes. done (by_numbers image nodes)))) small
-        ∙ run_bind (parts k) (number_all given.fresh []) (λ nodes. done (by_numbers image nodes))
+        ∙ outcome-bind (parts k) (number_all given.fresh []) (λ nodes. done (by_numbers image nodes))
 
     pub numbers_unfit : numbered given.fresh k ≡ None
-        → run (parts k) (by_walk name given (record { draws = draws; image = image })) ≡ Unfit
+        → outcome_in (parts k) (by_walk name given (record { draws = draws; image = image })) ≡ Unfit
     unfolding numbered
-    numbers_unfit none = by_drawing ∙ by (run (parts k) (number_all given.fresh [])) none
+    numbers_unfit none = by_drawing ∙ by (outcome_in (parts k) (number_all given.fresh [])) none
       where
         by : (o : Option Nodes_so_far) → option_map (λ ns. with_nodes ns k) o ≡ None → by_numbers image o ≡ Unfit
         by None e = refl
         by (Some ns) e = absurd (cc e)
 
     pub numbers_fit : (m : Kernel) → numbered given.fresh k ≡ Some m
-        → (changes : List Change) × (run (parts k) (by_walk name given (record { draws = draws; image = image }))
+        → (changes : List Change) × (outcome_in (parts k) (by_walk name given (record { draws = draws; image = image }))
         ≡ by_image image changes) × (m ≡ changed changes k)
     unfolding numbered
-    numbers_fit m some = by (run (parts k) (number_all given.fresh [])) some by_drawing
+    numbers_fit m some = by (outcome_in (parts k) (number_all given.fresh [])) some by_drawing
       where
         by : (o : Option Nodes_so_far) → option_map (λ ns. with_nodes ns k) o ≡ Some m
-            → run (parts k) (by_walk name given (record { draws = draws; image = image })) ≡ by_numbers image o
-            → (changes : List Change) × (run (parts k) (by_walk name given (record { draws = draws; image = image }))
+            → outcome_in (parts k) (by_walk name given (record { draws = draws; image = image })) ≡ by_numbers image o
+            → (changes : List Change)
+            × (outcome_in (parts k) (by_walk name given (record { draws = draws; image = image }))
             ≡ by_image image changes) × (m ≡ changed changes k)
         by None e is = absurd (cc e)
         by (Some ns) e is = (node_changes ns, is, cc e)
@@ -147,28 +153,90 @@ pub as_refused : (k after : Kernel) (program : Program) (name : List ℕ) (given
     (image : Result Image Errno) (r : Result Execved Memory) → is_too_long program.args program.env ≡ true
     → name ≡ name_in_path program.path
     → record { draws = draws; image = image } ≡ unwalked
-    → IfOk r (Executes (run (parts k) (by_walk name given (record { draws = draws; image = image }))) k after)
-    → IfOk r (Executes (run (parts k) (execve_of program given)) k after)
+    → IfOk r (Executes (outcome_in (parts k) (by_walk name given (record { draws = draws; image = image }))) k after)
+    → IfOk r (Executes (outcome_in (parts k) (execve_of program given)) k after)
 as_refused k after program name given draws image r long named walk does =
     subst (λ (d : Executed). IfOk r (Executes d k after)) (sym (execve_long k program given long))
-    (subst (λ (w : Walked). IfOk r (Executes (run (parts k) (by_walk (name_in_path program.path) given w)) k after))
+    (subst
+    (λ (w : Walked). IfOk r (Executes (outcome_in (parts k) (by_walk (name_in_path program.path) given w)) k after))
     walk
     (subst
-    (λ (n : List ℕ). IfOk r (Executes (run (parts k) (by_walk n given (record { draws = draws; image = image })))
+    (λ (n : List ℕ). IfOk r (Executes (outcome_in (parts k) (by_walk n given (record { draws = draws; image = image })))
     k after)) named does))
 
 -- and where they are not
 pub as_walked : (k after : Kernel) (program : Program) (name : List ℕ) (given : Given) (draws : Bool)
     (image : Result Image Errno) (r : Result Execved Memory) → is_too_long program.args program.env ≡ false
     → name ≡ name_in_path program.path
-    → run (parts k) (walk_of name) ≡ record { draws = draws; image = image }
-    → IfOk r (Executes (run (parts k) (by_walk name given (record { draws = draws; image = image }))) k after)
-    → IfOk r (Executes (run (parts k) (execve_of program given)) k after)
+    → outcome_in (parts k) (walk_of name) ≡ record { draws = draws; image = image }
+    → IfOk r (Executes (outcome_in (parts k) (by_walk name given (record { draws = draws; image = image }))) k after)
+    → IfOk r (Executes (outcome_in (parts k) (execve_of program given)) k after)
 as_walked k after program name given draws image r short named walks does =
     subst (λ (d : Executed). IfOk r (Executes d k after))
     (sym
-    (execve_is k program given draws image short (subst (λ (n : List ℕ). run (parts k) (walk_of n)
+    (execve_is k program given draws image short (subst (λ (n : List ℕ). outcome_in (parts k) (walk_of n)
     ≡ record { draws = draws; image = image }) named walks)))
     (subst
-    (λ (n : List ℕ). IfOk r (Executes (run (parts k) (by_walk n given (record { draws = draws; image = image })))
+    (λ (n : List ℕ). IfOk r (Executes (outcome_in (parts k) (by_walk n given (record { draws = draws; image = image })))
     k after)) named does)
+
+-- ---- what an execve that starts leaves
+
+tasks_with_nodes : (nodes : Nodes_so_far) (k : Kernel) → (with_nodes nodes k).tasks ≡ k.tasks
+tasks_with_nodes [] k = refl
+tasks_with_nodes (n ∷ ns) k = ap (λ (m : Kernel). m.tasks) (with_nodes_first n ns k) ∙ tasks_with_nodes ns k
+
+-- the changes of an execve that starts are nodes, which leave the tasks
+module _ (s : Parts) (k : Kernel) (elf : Image) (changes : List Change) where
+  started_by : (image : Result Image Errno) (o : Option Nodes_so_far) → by_numbers image o ≡ Starts elf changes
+      → (changed changes k).tasks ≡ k.tasks
+  started_by image None e = absurd (cc e)
+  started_by (Ok i) (Some nodes) e =
+      let is : changes ≡ node_changes nodes = cc e in
+      ap (λ cs. (changed cs k).tasks) is ∙ tasks_with_nodes nodes k
+  started_by (Err errno) (Some nodes) e = absurd (cc e)
+
+  failed_starts : (o : Option (List Change)) → failed_by o ≡ Starts elf changes → ⊥
+  failed_starts None e = cc e
+  failed_starts (Some cs) e = cc e
+
+  walk_starts : (name : List ℕ) (given : Given) (w : Walked) → outcome_in s (by_walk name given w) ≡ Starts elf changes
+      → (changed changes k).tasks ≡ k.tasks
+  walk_starts name given w =
+      by (has_any given.rises) (is_in_order given) (draws_just w.draws name given.fresh)
+      (list_any above_last given.fresh)
+    where
+      by : (rises order just above : Bool)
+          → outcome_in s (cond rises (cond order (faulted given >>= λ changes. done (failed_by changes)) (done Unfit))
+          (cond (not just) (done Unfit) (cond above (done (Fails ENFILE []))
+          (number_all given.fresh [] >>= λ nodes. done (by_numbers w.image nodes))))) ≡ Starts elf changes
+          → (changed changes k).tasks ≡ k.tasks
+      by true true just above e =
+          absurd (failed_starts (outcome_in s (faulted given))
+          (sym (outcome-bind s (faulted given) (λ changes. done (failed_by changes))) ∙ e))
+      by true false just above e = absurd (cc e)
+      by false order false above e = absurd (cc e)
+      by false order true true e = absurd (cc e)
+      by false order true false e =
+          started_by w.image (outcome_in s (number_all given.fresh []))
+          (sym (outcome-bind s (number_all given.fresh []) (λ nodes. done (by_numbers w.image nodes))) ∙ e)
+
+  execve_starts : (program : Program) (given : Given) → outcome_in s (execve_of program given) ≡ Starts elf changes
+      → (changed changes k).tasks ≡ k.tasks
+  execve_starts program given = by (is_too_long program.args program.env)
+    where
+      by : (long : Bool)
+          → outcome_in s (cond long (by_walk (name_in_path program.path) given unwalked)
+          (execve (name_in_path program.path) given)) ≡ Starts elf changes → (changed changes k).tasks ≡ k.tasks
+      by true e = walk_starts (name_in_path program.path) given unwalked e
+      by false e =
+          walk_starts (name_in_path program.path) given (outcome_in s (walk_of (name_in_path program.path)))
+          (sym (outcome-bind s (walk_of (name_in_path program.path)) (by_walk (name_in_path program.path) given)) ∙ e)
+
+-- so the tasks are those before, after an execve in place that starts
+pub tasks_stay : (k after : Kernel) (program : Program) (given : Given) (answer : Execved) (image : Image)
+    → answer ≡ answers.Starts image → Executes (outcome_in (parts k) (execve_of program given)) k after answer
+    → after.tasks ≡ k.tasks
+tasks_stay k after program given answer image is does =
+    let (changes, starts, left) = subst (Executes (outcome_in (parts k) (execve_of program given)) k after) is does in
+    ap (λ (m : Kernel). m.tasks) left ∙ execve_starts (parts k) k image changes program given starts

@@ -1,17 +1,18 @@
 -- Openings done in place: what an execve and an opening leave, by what they answer.
-use Rattle.std.specs.Prelude.{◌≡◌, ⊤, false, List, Result, Ok, Err}
+use Rattle.std.specs.Prelude.{◌≡◌, ◌<◌, ◌-◌, ◌^◌, ⊤, false, List, Result, Ok, Err}
 use Rattle.sn_errno.specs.declared.errno.Errno.{Errno}
 use Rattle.elf_image.specs.declared.image.Image.{Image as AnImage}
+use Rattle.task_table.specs.Table.{TaskTable, live_count}
 use Rattle.kernel_model.specs.declared.kernel.Kernel.{Kernel}
 use Rattle.plain_kernel.specs.declared.walking.Execved.{Execved}
 use Rattle.plain_kernel.specs.declared.walking.Execved.TheVariants as answers
 use Rattle.plain_kernel.specs.declared.plain.OpeningErr.{OpeningErr}
 use Rattle.plain_kernel.specs.declared.plain.OpeningErr.TheVariants.{Image, Misfit, Memory}
-use Rattle.kernel_model.specs.Parts.{Change, changed}
+use Rattle.kernel_model.specs.entries.Parts.{Change, changed}
 use Rattle.mount_file.specs.declared.mounts.Program.{Program}
-use Rattle.kernel_model.specs.Arguments.{is_too_long}
-use Rattle.kernel_model.specs.Beginnings.{HasRoom}
-use Rattle.kernel_model.specs.Opening.{Executed, Starts, Fails, Unfit, Begun, Refuses, Misfits}
+use Rattle.kernel_model.specs.opening.Arguments.{is_too_long}
+use Rattle.kernel_model.specs.laws.Beginnings.{HasRoom}
+use Rattle.kernel_model.specs.opening.Opening.{Executed, Starts, Fails, Unfit, Begun, Refuses, Misfits}
 
 -- an execve in place answers what it does, and does its changes
 -- execve(2)
@@ -50,3 +51,9 @@ abbrev pub IsRefusedBy : Begun → OpeningErr → Type 0
 IsRefusedBy begun (Image task errno) = (k : Kernel) × (begun ≡ Refuses k task errno)
 IsRefusedBy begun (Misfit task) = begun ≡ Misfits task
 IsRefusedBy begun Memory = ⊤
+
+-- a task more may be made: fewer live than may live at once, and there is a number for it
+-- profile
+pub record IsRoomFor (list : TaskTable) : Type 0 where
+  pub few : live_count list < 256
+  pub next : list.last < 2 ^ 31 - 1

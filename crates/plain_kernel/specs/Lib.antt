@@ -1,2 +1,3 @@
 -- What contracts of this crate say, by subject.
 pub mod Beginnings
+pub mod Doing

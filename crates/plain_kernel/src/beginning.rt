@@ -1,23 +1,28 @@
 //! The kernel before its first task, and its opening tasks in order.
 
 ghost use Rattle.std.specs.Prelude.{◌≡◌, ◌+◌, ◌<◌, ◌≤◌, ◌^◌, false, length, IfOk, OnOk, IfErr};
+ghost use Rattle.task_table.specs.Clones.{opened as with_opened};
+ghost use Rattle.task_table.specs.Table.{no_tasks};
 ghost use Rattle.kernel_model.specs.declared.kernel.Kernel.{Kernel as AKernel};
-ghost use Rattle.kernel_model.specs.Opening.{Begun, Opens, rooted, bare, with_task, execve_of, task_begun, tasks_begun};
-ghost use Rattle.kernel_model.specs.Arguments.{is_too_long};
-ghost use Rattle.kernel_model.specs.Parts.{parts, run as outcome};
-ghost use Rattle.kernel_model.specs.Beginnings.{HasRoom};
-ghost use Rattle.plain_kernel.specs.Beginnings.{IsRefusedBy};
+ghost use Rattle.kernel_model.specs.opening.Opening.{Begun, Opens, rooted, bare, made_by, with_task, execve_of, task_begun};
+ghost use Rattle.kernel_model.specs.opening.Opening.{tasks_begun};
+ghost use Rattle.kernel_model.specs.opening.Arguments.{is_too_long};
+ghost use Rattle.kernel_model.specs.entries.Parts.{parts, outcome_in as outcome};
+ghost use Rattle.kernel_model.specs.laws.Beginnings.{HasRoom};
+ghost use Rattle.plain_kernel.specs.Beginnings.{IsRefusedBy, IsRoomFor};
 
 use crate::OpeningErr;
+use crate::mounts::copy_mounts;
 use crate::nodes::root_node;
-use crate::walking::{Execved, execve};
+use crate::walking::{Execved, ROOT, execve};
 use elf_image::Image;
 use host_node::Tree;
-use kernel_calls::opened;
-use kernel_model::{Given, Kernel, Node, Opened, Running};
-use mount_file::Program;
+use kernel_calls::{Beginning, opened};
+use kernel_model::{Given, Kernel, Named, Node, Opened};
+use mount_file::{Mounts, Program};
 use sn_base::{List, Map, Memory};
 use std::alloc::Global;
+use task_table::{CloneErr, Made, Tasks};
 
 /// The nodes of the roots, numbered in order of the mounts.
 fn number_roots(alloc: Global, trees: &[Tree]) -> Result<Map<Node>, Memory>
@@ -33,16 +38,21 @@ fn number_roots(alloc: Global, trees: &[Tree]) -> Result<Map<Node>, Memory>
 }
 
 /// The kernel before its first task.
-pub(crate) fn bare(alloc: Global, trees: &[Tree]) -> Result<Kernel, Memory>
-    ensures { IfOk result (λ k. k ≡ bare trees.now) }
+pub(crate) fn bare(alloc: Global, mounts: &Mounts, trees: &[Tree]) -> Result<Kernel, Memory>
+    ensures { IfOk result (λ k. k ≡ bare mounts.now trees.now) }
 {
     let nodes = number_roots(alloc, trees)?;
+    let seed = List::from_slice(alloc, mounts.seed.as_slice())?;
+    let mounts = copy_mounts(alloc, mounts.mounts.as_slice())?;
     Ok(Kernel {
-        tasks: Map::new(alloc),
-        spaces: Map::new(alloc),
+        tasks: Tasks::new(alloc),
+        registers: Map::new(alloc),
+        spaces: Named::new(alloc),
         nodes,
         console: List::new(alloc),
         failed: Map::new(alloc),
+        mounts,
+        seed,
         entries: 0,
     })
 }
@@ -51,20 +61,20 @@ pub(crate) fn bare(alloc: Global, trees: &[Tree]) -> Result<Kernel, Memory>
 pub(crate) fn begin_tasks(
     alloc: Global,
     kernel: &mut Kernel,
-    seed: &[u8],
     programs: &[Program],
     opened: &[Opened],
 ) -> Result<(), OpeningErr>
-    requires { length programs.now ≤ 2 ^ 31 }
-    ensures ok { OnOk result (tasks_begun seed.now 1 programs.now opened.now kernel.old ≡ Opens kernel.new) }
-    ensures refused { IfErr result (IsRefusedBy (tasks_begun seed.now 1 programs.now opened.now kernel.old)) }
+    requires few { length programs.now ≤ 64 }
+    requires none { kernel.old.tasks ≡ no_tasks }
+    ensures ok { OnOk result (tasks_begun 1 programs.now opened.now kernel.old ≡ Opens kernel.new) }
+    ensures refused { IfErr result (IsRefusedBy (tasks_begun 1 programs.now opened.now kernel.old)) }
 {
     for index in 0..programs.len() {
         let number = index as u32 + 1;
         let Some(one) = opened.get(index) else {
             return Err(OpeningErr::Misfit { task: number });
         };
-        begin_task(alloc, kernel, seed, number, &programs[index], &one.given)?;
+        begin_task(alloc, kernel, number, &programs[index], &one.given)?;
     }
     Ok(())
 }
@@ -73,21 +83,22 @@ pub(crate) fn begin_tasks(
 fn begin_task(
     alloc: Global,
     kernel: &mut Kernel,
-    seed: &[u8],
     number: u32,
     program: &Program,
     given: &Given,
 ) -> Result<(), OpeningErr>
+    requires { IsRoomFor kernel.old.tasks }
     ensures ok { OnOk result ((rest : AKernel → Begun) →
-        task_begun rest (with_task seed.now number program.now) number kernel.old
+        task_begun rest (with_task number program.now) number kernel.old
         (outcome (parts kernel.old) (execve_of program.now given.now)) ≡ rest kernel.new) }
+    ensures tasks { OnOk result (kernel.new.tasks ≡ with_opened kernel.old.tasks (made_by number) (made_by number) 1) }
     ensures refused { IfErr result (λ e. (rest : AKernel → Begun) →
-        IsRefusedBy (task_begun rest (with_task seed.now number program.now) number kernel.old
+        IsRefusedBy (task_begun rest (with_task number program.now) number kernel.old
         (outcome (parts kernel.old) (execve_of program.now given.now))) e) }
 {
     match execve(alloc, kernel, program, given)? {
         Execved::Starts(image) => {
-            add_task(alloc, kernel, seed, number, program, &image)?;
+            add_task(alloc, kernel, number, program, &image)?;
             Ok(())
         }
         Execved::Fails(errno) => Err(OpeningErr::Image {
@@ -102,18 +113,39 @@ fn begin_task(
 fn add_task(
     alloc: Global,
     kernel: &mut Kernel,
-    seed: &[u8],
     number: u32,
     program: &Program,
     image: &Image,
 ) -> Result<(), Memory>
     requires short { is_too_long program.now.args program.now.env ≡ false }
     requires pages { HasRoom image.now }
-    ensures { OnOk result (kernel.new ≡ with_task seed.now number program.now image.now kernel.old) }
+    requires room { IsRoomFor kernel.old.tasks }
+    ensures { OnOk result (kernel.new ≡ with_task number program.now image.now kernel.old) }
 {
-    let key = u64::from(number);
-    let Running { task, space } = opened(alloc, seed, number, program, image)?;
-    kernel.tasks.insert(key, task)?;
-    kernel.spaces.insert(key, space)?;
-    Ok(())
+    let Beginning { registers, space } = opened(
+        alloc,
+        kernel.seed.as_slice(),
+        number,
+        program,
+        image,
+    )?;
+    open_task(&mut kernel.tasks, number)?;
+    kernel.registers.insert(u64::from(number), registers)?;
+    kernel.spaces.insert(alloc, 0, number, space)
+}
+
+/// Opens a task, whose memory and descriptor table are named by its number.
+fn open_task(tasks: &mut Tasks, number: u32) -> Result<(), Memory>
+    requires { IsRoomFor tasks.old }
+    ensures { OnOk result (tasks.new ≡ with_opened tasks.old (made_by number) (made_by number) 1) }
+{
+    let name = Made {
+        place: 0,
+        index: number,
+    };
+    match tasks.open(name, name, ROOT) {
+        Ok(_) => Ok(()),
+        Err(CloneErr::Memory) => Err(Memory),
+        Err(CloneErr::Full) => unreachable!(),
+    }
 }

@@ -1,115 +1,102 @@
-//! The rows of the entries that change their task alone.
+//! The entries that call nothing: runs, and ends by a signal; and a task that goes on behind its call.
 
-ghost use Rattle.std.specs.Prelude.{◌≡◌, ℕ, pos, IfOk, IfSome};
-ghost use Rattle.std.specs.Ordering.{int_eq};
-ghost use Rattle.kernel_model.specs.Parts.{Parts, run as run_in};
-ghost use Rattle.kernel_model.specs.Step.{run_row, end_row, answered, same_args, with_registers, ended};
-ghost use Rattle.kernel_model.specs.Registers.{replied};
-ghost use Rattle.kernel_model.specs.InPlace.{one_run, one_task};
+ghost use Rattle.std.specs.Prelude.{◌≡◌, Some, IsTrue};
+ghost use Rattle.std.specs.FinMap as map;
+ghost use Rattle.kernel_model.specs.Names.{has_named};
+ghost use Rattle.kernel_model.specs.declared.kernel.Part.TheVariants.{OfSpace, OfTask};
+ghost use Rattle.kernel_model.specs.entries.Parts.{outcome_in, parts, put};
+ghost use Rattle.kernel_model.specs.entries.Steps.{end_row, run_row, same_args};
+ghost use Rattle.kernel_model.specs.machine.Registers.{replied};
+ghost use Rattle.plain_kernel.specs.Doing.{Does, IsThere};
 
 use kernel_calls::{next, reply, run};
-use kernel_model::{Args, Life, Next, Outcome, Running, Task};
+use kernel_model::{Args, Caller, GuestSpace, Kernel, Next};
+use rv_table::Regs;
 use sn_base::Memory;
 use std::alloc::Global;
+use task_table::{Made, Status};
 
 /// The most instructions of one entry.
 const QUANTUM: u32 = 10_000;
 
 /// Runs a task's next instructions, if so many of them neither trap nor call.
-#[tactic(auto, using(kernel_calls::proofs::Runs::row_ran, kernel_calls::proofs::Runs::row_short))]
-pub(crate) fn run_row(
+pub(crate) fn run_task(
     alloc: Global,
-    number: u32,
-    running: Running,
+    kernel: &mut Kernel,
+    caller: Caller,
     n: u32,
-) -> Result<Option<Running>, Memory>
-    ensures row { IfOk result (λ after. run_row number n running ≡ one_run number after) }
-    ensures place { IfOk result (λ after. IfSome after (λ a. a.task.space ≡ running.task.space)) }
+) -> Result<bool, Memory>
+    requires { IsThere caller kernel.old }
+    ensures { Does (outcome_in (parts kernel.old) (run_row n caller)) kernel.old kernel.new result }
 {
     if n < 1 || QUANTUM < n {
-        return Ok(None);
+        return Ok(false);
     }
-    let Running {
-        mut task,
+    let Caller {
+        task,
+        memory,
+        mut registers,
         mut space,
-    } = running;
-    let ran = run(alloc, number, &mut task.registers, &mut space, n)?;
-    if ran.count == n {
-        Ok(Some(Running { task, space }))
-    } else {
-        Ok(None)
+        ..
+    } = caller;
+    let ran = run(alloc, task, &mut registers, &mut space, n)?;
+    if ran.count != n {
+        return Ok(false);
     }
+    put_run(kernel, task, memory, registers, space);
+    Ok(true)
 }
 
-/// Ends a task whose next instruction traps with that signal.
-pub(crate) fn end_row(
+/// Puts what a run has left in the place of its task's registers and its memory.
+fn put_run(kernel: &mut Kernel, task: u32, memory: Made, registers: Regs, space: GuestSpace)
+    requires task { IsTrue (map.contains_key kernel.old.registers task) }
+    requires space { IsTrue (has_named kernel.old.spaces memory.place memory.index) }
+    ensures { kernel.new ≡ put (OfTask task) (Some registers) (put (OfSpace memory) (Some space) kernel.old) }
+{
+    kernel.spaces.replace(memory.place, memory.index, space);
+    kernel.registers.replace(u64::from(task), registers);
+}
+
+/// Ends the thread group of a task whose next instruction traps with that signal.
+pub(crate) fn end_task(
     alloc: Global,
-    number: u32,
-    running: Running,
+    kernel: &mut Kernel,
+    caller: Caller,
     signal: u8,
-) -> Result<Option<Task>, Memory>
-    ensures { IfOk result (λ after. end_row number signal running ≡ one_task number after) }
+) -> Result<bool, Memory>
+    requires { IsThere caller kernel.old }
+    ensures { Does (outcome_in (parts kernel.old) (end_row signal caller)) kernel.old kernel.new result }
 {
-    let Running { task, mut space } = running;
-    match next(alloc, number, &task.registers, &mut space)? {
+    let Caller {
+        task,
+        group,
+        registers,
+        mut space,
+        ..
+    } = caller;
+    match next(alloc, task, &registers, &mut space)? {
         Next::Traps(trap) => {
-            if trap == signal {
-                Ok(Some(ended(task, Life::Killed(signal))))
-            } else {
-                Ok(None)
+            if trap != signal {
+                return Ok(false);
             }
+            kernel
+                .tasks
+                .end_group(alloc, group, Status::Killed(signal))?;
+            Ok(true)
         }
-        Next::Goes => Ok(None),
-        Next::Calls => Ok(None),
+        Next::Goes => Ok(false),
+        Next::Calls => Ok(false),
     }
 }
 
-/// A task after a call that returns a value, if that is the reply.
-pub(crate) fn returned(task: Task, reply: i64, value: i64) -> Option<Task>
-    ensures { (number : ℕ) (s : Parts) →
-        run_in s (answered number task reply (Outcome.Returns value)) ≡ one_task number result }
+/// Lets a task go on behind its call, with a reply.
+pub(crate) fn go_on(kernel: &mut Kernel, task: u32, registers: Regs, value: i64)
+    requires { IsTrue (map.contains_key kernel.old.registers task) }
+    ensures { kernel.new ≡ put (OfTask task) (Some (replied registers value)) kernel.old }
 {
-    if reply == value {
-        Some(replied(task, value))
-    } else {
-        None
-    }
-}
-
-/// A task whose group exits with a code, if the reply is 0.
-pub(crate) fn exited(task: Task, reply: i64, code: u8) -> Option<Task>
-    ensures { (number : ℕ) (s : Parts) →
-        run_in s (answered number task reply (Outcome.Exits code)) ≡ one_task number result }
-{
-    if reply == 0 {
-        Some(ended(task, Life::Exited(code)))
-    } else {
-        None
-    }
-}
-
-/// Whether a reply is that number of bytes.
-pub(crate) fn is_count(reply: i64, count: usize) -> bool
-    ensures { result ≡ int_eq reply (pos count) }
-{
-    0 <= reply && reply.cast_unsigned() == count as u64
-}
-
-/// A task that goes on behind its call.
-pub(crate) fn replied(task: Task, value: i64) -> Task
-    ensures { result ≡ with_registers task (replied task.registers value) }
-{
-    let mut after = task;
-    reply(&mut after.registers, value);
-    after
-}
-
-fn ended(task: Task, life: Life) -> Task
-    ensures { result ≡ ended task life }
-{
-    let mut after = task;
-    after.life = life;
-    after
+    let mut after = registers;
+    reply(&mut after, value);
+    kernel.registers.replace(u64::from(task), after);
 }
 
 /// Whether two calls have the same arguments.

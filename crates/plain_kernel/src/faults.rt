@@ -2,29 +2,24 @@
 
 ghost use Rattle.std.specs.Prelude.{◌≡◌, [], nat_lt, is_some, unwrap_or, IsTrue, IfOk, OnOk, OnErr, if◌then◌else◌};
 ghost use Rattle.std.specs.FinMap as map;
-ghost use Rattle.std.specs.List.{list_all};
-ghost use Rattle.kernel_model.specs.Faulted.{ascend_from, numbers_of, nodes_of, is_in_order, all_known, risen, faulted};
-ghost use Rattle.kernel_model.specs.Parts.{parts, run as outcome, set_at};
-ghost use Rattle.kernel_model.specs.InPlace.{changed_by, is_quiet};
+ghost use Rattle.std.specs.List.{list_all, list_any};
+ghost use Rattle.kernel_model.specs.entries.Given.{ascend_from, numbers_of, same_child, are_apart, nodes_of, is_in_order};
+ghost use Rattle.kernel_model.specs.entries.Given.{all_known, risen, faulted};
+ghost use Rattle.kernel_model.specs.entries.Parts.{parts, outcome_in as outcome, set_at};
+ghost use Rattle.kernel_model.specs.laws.InPlace.{changed_by};
 
 use crate::numbering::{number_all, unnumber_all};
 use kernel_model::{Fresh, Given, Kernel, Rise};
 use sn_base::{Map, Memory, capped_add};
 use std::alloc::Global;
 
-/// Whether a call drew nothing and met nothing.
-pub(crate) fn is_quiet(given: &Given) -> bool
-    ensures { result ≡ is_quiet given.now }
-{
-    given.rises.is_empty() && given.fresh.is_empty()
-}
-
-/// Whether fresh numbers ascend, rises ascend by node, and each rise is of at least 1.
+/// Whether fresh numbers ascend, each of another child, rises ascend by node, and each rise is of at least 1.
 pub(crate) fn is_in_order(given: &Given) -> bool
     ensures { result ≡ is_in_order given.now }
 {
+    let fresh = given.fresh.as_slice();
     let rises = given.rises.as_slice();
-    numbers_ascend(given.fresh.as_slice()) && nodes_ascend(rises) && are_rises(rises)
+    numbers_ascend(fresh) && are_apart(fresh) && nodes_ascend(rises) && are_rises(rises)
 }
 
 fn numbers_ascend(fresh: &[Fresh]) -> bool
@@ -38,6 +33,31 @@ fn numbers_ascend(fresh: &[Fresh]) -> bool
         last = one.ino;
     }
     true
+}
+
+/// Whether each child has one number at most. It compares each fresh number with those behind it.
+fn are_apart(fresh: &[Fresh]) -> bool
+    ensures { result ≡ are_apart fresh.now }
+{
+    for index in 0..fresh.len() {
+        if is_among(&fresh[index], &fresh[index + 1..]) {
+            return false;
+        }
+    }
+    true
+}
+
+/// Whether one of these fresh numbers is of the same child.
+fn is_among(one: &Fresh, fresh: &[Fresh]) -> bool
+    ensures { result ≡ list_any (same_child one.now) fresh.now }
+{
+    fresh.iter().any(|other| same_child(one, other))
+}
+
+fn same_child(a: &Fresh, b: &Fresh) -> bool
+    ensures { result ≡ same_child a.now b.now }
+{
+    a.dir == b.dir && a.name.is(b.name.as_bytes())
 }
 
 fn nodes_ascend(rises: &[Rise]) -> bool

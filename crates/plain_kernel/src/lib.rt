@@ -14,8 +14,10 @@
 #![tactic(auto)]
 
 mod beginning;
+mod callers;
 mod entries;
 mod faults;
+mod mounts;
 mod nodes;
 mod numbering;
 mod opened;

@@ -2,7 +2,7 @@
 
 ghost use Rattle.std.specs.Prelude.{◌≡◌, ℕ, Some, IsSome, IfOk, OnOk, OnErr};
 ghost use Rattle.host_node.specs.Tree.{child_of};
-ghost use Rattle.kernel_model.specs.FileTree.{number_in, root_node, child_node, numbered_in};
+ghost use Rattle.kernel_model.specs.files.FileTree.{number_in, root_node, child_node, numbered_in};
 ghost use Rattle.kernel_model.specs.declared.kernel.Node.{Node as ANode};
 
 use host_node::Tree;

@@ -4,7 +4,7 @@ ghost use Rattle.std.specs.Prelude.{◌≡◌, ◌≤◌, [], ◌∷◌, Some, N
 ghost use Rattle.std.specs.Bool.{OnTrue, OnFalse};
 ghost use Rattle.std.specs.FinMap as map;
 ghost use Rattle.kernel_model.specs.declared.kernel.Kernel.{Kernel as AKernel};
-ghost use Rattle.kernel_model.specs.InPlace.{numbered, Waits};
+ghost use Rattle.kernel_model.specs.laws.InPlace.{numbered, Waits};
 
 use crate::nodes::{child_node, number_child, number_of, take_back};
 use host_node::{Kind, Tree};

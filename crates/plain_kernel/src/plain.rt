@@ -1,9 +1,9 @@
 //! The plain kernel.
 
-ghost use Rattle.std.specs.Prelude.{◌≡◌, ◌<◌, ◌≤◌, ◌^◌, length, is_some, unwrap_or, IfOk, IfErr, OnOk, OnErr};
-ghost use Rattle.kernel_model.specs.Opening.{opening_of, Opens};
+ghost use Rattle.std.specs.Prelude.{◌≡◌, ◌<◌, ◌≤◌, length, is_some, unwrap_or, IfOk, IfErr, OnOk, OnErr};
+ghost use Rattle.kernel_model.specs.opening.Opening.{opening_of, Opens};
 ghost use Rattle.plain_kernel.specs.Beginnings.{IsRefusedBy};
-ghost use Rattle.kernel_model.specs.Step.{step};
+ghost use Rattle.kernel_model.specs.entries.Steps.{step};
 
 use crate::beginning::{bare, begin_tasks};
 use crate::opened::is_of;
@@ -51,18 +51,17 @@ impl Plain {
         trees: &List<Tree>,
         opened: &Opening,
     ) -> Result<Plain, OpeningErr>
-        requires { length mounts.now.tasks ≤ 2 ^ 31 }
+        requires { length mounts.now.tasks ≤ 64 }
         ensures ok { IfOk result (λ p. opening_of mounts.now trees.now opened.now ≡ Opens p.kernel) }
         ensures refused { IfErr result (IsRefusedBy (opening_of mounts.now trees.now opened.now)) }
     {
         if !is_of(opened, mounts) {
             return Err(OpeningErr::Misfit { task: 0 });
         }
-        let mut kernel = bare(alloc, trees.as_slice())?;
+        let mut kernel = bare(alloc, mounts, trees.as_slice())?;
         begin_tasks(
             alloc,
             &mut kernel,
-            mounts.seed.as_slice(),
             mounts.tasks.as_slice(),
             opened.tasks.as_slice(),
         )?;

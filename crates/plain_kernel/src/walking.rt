@@ -3,12 +3,12 @@
 ghost use Rattle.std.specs.Prelude.{◌≡◌, true, false, IfOk};
 ghost use Rattle.std.specs.FinMap as map;
 ghost use Rattle.std.specs.List.{list_any};
-ghost use Rattle.kernel_model.specs.FileTree.{owner_executes};
-ghost use Rattle.kernel_model.specs.Faulted.{has_any};
-ghost use Rattle.kernel_model.specs.Opening.{image_in, executed, numbered_image, walk_of, draws_just, above_last};
-ghost use Rattle.kernel_model.specs.Opening.{by_walk, name_in_path, execve_of};
-ghost use Rattle.kernel_model.specs.Parts.{parts, run as outcome};
-ghost use Rattle.kernel_model.specs.Beginnings.{fits};
+ghost use Rattle.kernel_model.specs.files.FileTree.{owner_executes};
+ghost use Rattle.kernel_model.specs.entries.Given.{has_any, above_last};
+ghost use Rattle.kernel_model.specs.opening.Opening.{image_in, executed, numbered_image, walk_of, draws_just};
+ghost use Rattle.kernel_model.specs.opening.Opening.{by_walk, name_in_path, execve_of};
+ghost use Rattle.kernel_model.specs.entries.Parts.{parts, outcome_in as outcome};
+ghost use Rattle.kernel_model.specs.laws.Beginnings.{fits};
 ghost use Rattle.plain_kernel.specs.Beginnings.{Executes, IsFrom, MayStart};
 
 use crate::faults::{faulted, is_in_order};
@@ -28,7 +28,7 @@ use std::alloc::Global;
 const LONGEST_IMAGE: usize = 67_108_864;
 
 /// The number of the root of the mount at `/`.
-const ROOT: u64 = 1;
+pub(crate) const ROOT: u64 = 1;
 
 /// What a walk comes to: whether it is to a child without a number, and its image or error.
 #[derive(Drop)]

@@ -10,6 +10,8 @@
 #[cfg(test)]
 mod guests;
 #[cfg(test)]
+mod numbers;
+#[cfg(test)]
 mod openings;
 #[cfg(test)]
 mod plain;

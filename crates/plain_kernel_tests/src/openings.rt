@@ -1,18 +1,19 @@
 //! The opening of two tasks of one image.
 
-ghost use Rattle.std.specs.Prelude.{◌≡◌, ◌≤◌, ◌^◌, length, IfOk};
+ghost use Rattle.std.specs.Prelude.{◌≡◌, ◌≤◌, length, IfOk};
 
 use crate::guests::{expect_bytes, expect_register, program};
 use crate::records::{drawn, guest, mounts_of, open_at, opened_task, record_of, root_of};
 use host_node::Tree;
-use kernel_model::{Given, GuestSpace, Life, Opened, Opening, Task};
+use kernel_model::{Given, GuestSpace, Opened, Opening};
 use mount_file::{Mounts, Program};
 use plain_kernel::Plain;
-use rv_table::Reg;
+use rv_table::{Reg, Regs};
 use sn_base::List;
 use std::alloc::Global;
 use std::process::Abort;
 use std::test::Fail;
+use task_table::{Made, Tasks};
 
 /// Two programs `/init`, whose arguments are `a` and `second one`.
 fn programs(alloc: Global) -> Result<List<Program>, Fail>
@@ -60,7 +61,7 @@ fn record(alloc: Global) -> Result<Opening, Fail> {
 
 /// The opening of these mounts over these trees.
 fn open_over(alloc: Global, mounts: &Mounts, trees: &List<Tree>) -> Result<Plain, Fail>
-    requires { length mounts.now.tasks ≤ 2 ^ 31 }
+    requires { length mounts.now.tasks ≤ 64 }
 {
     let record = record(alloc)?;
     Ok(open_at(alloc, mounts, trees, &record)?)
@@ -68,7 +69,7 @@ fn open_over(alloc: Global, mounts: &Mounts, trees: &List<Tree>) -> Result<Plain
 
 /// The opening of these mounts.
 fn open_under(alloc: Global, mounts: &Mounts) -> Result<Plain, Fail>
-    requires { length mounts.now.tasks ≤ 2 ^ 31 }
+    requires { length mounts.now.tasks ≤ 64 }
 {
     let trees = root_of(alloc, guest(alloc)?)?;
     open_over(alloc, mounts, &trees)
@@ -98,11 +99,25 @@ const STACKS: [Stack; 2] = [
     Stack { number: 2, sp: 0x3f_ffff_ff50, at: 0x3f_ffff_ffe5, argument: b"second one\0", first: 0xb2 },
 ];
 
-/// That a task lives, and has its own address space and stack pointer.
-fn expect_task(rt: &impl Abort, task: &Task, stack: &Stack) {
-    assert_eq!(rt; task.space, u64::from(stack.number));
-    assert_eq!(rt; task.life, Life::Live);
-    expect_register(rt, &task.registers, Reg::new(2), stack.sp);
+/// That a task lives, and that its thread group has its own address space.
+fn expect_task(rt: &impl Abort, tasks: &Tasks, number: u32) -> Result<(), Fail> {
+    let task = tasks.task(number).copied().ok_or("no task")?;
+    assert!(rt; task.live);
+    let group = tasks.group(task.group).copied().ok_or("no group")?;
+    assert_eq!(rt;
+        group.memory,
+        Made {
+            place: 0,
+            index: number
+        }
+    );
+    assert_eq!(rt; group.ended, None);
+    Ok(())
+}
+
+/// That its stack pointer is that.
+fn expect_pointer(rt: &impl Abort, registers: &Regs, stack: &Stack) {
+    expect_register(rt, registers, Reg::new(2), stack.sp);
 }
 
 /// That its stack has that: one argument, its pointer, the argument, and a random byte at the end.
@@ -119,18 +134,25 @@ fn expect_stack(
     expect_bytes(rt, alloc, space, 0x3f_ffff_fff0, &[stack.first])
 }
 
-/// That the task of the stack's number has both.
+/// That the task of the stack's number has all of it.
 fn expect_opened(rt: &impl Abort, alloc: Global, plain: &Plain, stack: &Stack) -> Result<(), Fail> {
-    let number = u64::from(stack.number);
-    let task = plain.kernel.tasks.get(number).ok_or("no task")?;
-    expect_task(rt, task, stack);
-    let space = plain.kernel.spaces.get(number).ok_or("no space")?;
+    let number = stack.number;
+    expect_task(rt, &plain.kernel.tasks, number)?;
+    let registers = plain
+        .kernel
+        .registers
+        .get(u64::from(number))
+        .ok_or("no registers")?;
+    expect_pointer(rt, registers, stack);
+    let space = plain.kernel.spaces.get(0, number).ok_or("no space")?;
     expect_stack(rt, alloc, space, stack)
 }
 
-/// That there are two tasks, and each has both.
+/// That there are two tasks, and each has all of it.
 fn expect_two(rt: &impl Abort, alloc: Global, plain: &Plain) -> Result<(), Fail> {
-    assert_eq!(rt; plain.kernel.tasks.len(), 2);
+    assert_eq!(rt; plain.kernel.registers.len(), 2);
+    assert_eq!(rt; plain.kernel.tasks.live(), 2);
+    assert_eq!(rt; plain.kernel.tasks.last(), 2);
     for stack in &STACKS {
         expect_opened(rt, alloc, plain, stack)?;
     }

@@ -1,14 +1,16 @@
 //! A plain kernel, by entries that fit and others that do not.
 
-ghost use Rattle.std.specs.Prelude.{◌≡◌, ◌≤◌, ◌^◌, length, IfOk};
+ghost use Rattle.std.specs.Prelude.{◌≡◌, ◌≤◌, length, IfOk};
 
+use crate::guests::expect_register;
 use crate::records::{
     drawn, guest, mounts_of, open_at, opened_task, record_of, risen, root_of, words_of,
 };
 use host_node::Tree;
-use kernel_model::{Args, Entry, Fresh, Given, Life, Opening, locality};
+use kernel_model::{Args, Entry, Fresh, Given, Opening, locality};
 use mount_file::{Mounts, Program};
 use plain_kernel::{OpeningErr, Plain};
+use rv_table::{Reg, Regs};
 use sn_base::List;
 use sn_errno::Errno;
 use sn_text::Text;
@@ -16,6 +18,7 @@ use sn_vectors::images::GUEST;
 use std::alloc::Global;
 use std::process::Abort;
 use std::test::Fail;
+use task_table::{Status, Tasks};
 
 /// What an opening record has beside the mounts and the task's words.
 #[derive(Clone, Copy)]
@@ -86,7 +89,7 @@ fn open_over(
     trees: &List<Tree>,
     drawn: Drawn,
 ) -> Result<Result<Plain, OpeningErr>, Fail>
-    requires { length mounts.now.tasks ≤ 2 ^ 31 }
+    requires { length mounts.now.tasks ≤ 64 }
 {
     let record = record(alloc, drawn)?;
     Ok(open_at(alloc, mounts, trees, &record))
@@ -99,7 +102,7 @@ fn open_under(
     child: Option<Tree>,
     drawn: Drawn,
 ) -> Result<Result<Plain, OpeningErr>, Fail>
-    requires { length mounts.now.tasks ≤ 2 ^ 31 }
+    requires { length mounts.now.tasks ≤ 64 }
 {
     let trees = root_of(alloc, child)?;
     open_over(alloc, mounts, &trees, drawn)
@@ -258,11 +261,27 @@ fn expect_moves(rt: &impl Abort, alloc: Global, plain: &mut Plain) -> Result<(),
     Ok(())
 }
 
+/// That the task has ended, and its group exited with 0.
+fn expect_ended(rt: &impl Abort, tasks: &Tasks) -> Result<(), Fail> {
+    let task = tasks.task(1).copied().ok_or("no task")?;
+    assert!(rt; !task.live);
+    let group = tasks.group(task.group).copied().ok_or("no group")?;
+    assert_eq!(rt; group.ended, Some(Status::Exited(0)));
+    Ok(())
+}
+
+/// That its last call replied 0, and that it stands behind it, at the image's end.
+fn expect_behind(rt: &impl Abort, registers: &Regs) {
+    expect_register(rt, registers, Reg::new(10), 0);
+    assert_eq!(rt; registers.pc, 65_536 + 152);
+}
+
 /// That the kernel has done four entries, and that the task has exited with 0.
 fn expect_exited(rt: &impl Abort, plain: &Plain) -> Result<(), Fail> {
     assert_eq!(rt; plain.kernel.entries, 4);
-    let task = plain.kernel.tasks.get(1).ok_or("no task")?;
-    assert_eq!(rt; task.life, Life::Exited(0));
+    expect_ended(rt, &plain.kernel.tasks)?;
+    let registers = plain.kernel.registers.get(1).ok_or("no registers")?;
+    expect_behind(rt, registers);
     Ok(())
 }
 

@@ -1,6 +1,6 @@
 //! What a plain kernel is opened with: mounts, trees, and the record of what the opening drew.
 
-ghost use Rattle.std.specs.Prelude.{◌≡◌, ◌≤◌, ◌^◌, length, IfOk};
+ghost use Rattle.std.specs.Prelude.{◌≡◌, ◌≤◌, length, IfOk};
 
 use host_node::Tree;
 use kernel_model::{Fresh, Given, Opened, Opening, Rise};
@@ -127,7 +127,7 @@ pub fn open_at(
     trees: &List<Tree>,
     record: &Opening,
 ) -> Result<Plain, OpeningErr>
-    requires { length mounts.now.tasks ≤ 2 ^ 31 }
+    requires { length mounts.now.tasks ≤ 64 }
 {
     Plain::opening(alloc, mounts, trees, record)
 }

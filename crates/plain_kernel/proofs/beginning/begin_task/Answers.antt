@@ -1,12 +1,31 @@
--- An opening execve that fails refuses the opening.
-use Rattle.kernel_model.specs.Opening.{execve_of, with_task}
-use Rattle.kernel_model.specs.Parts.{parts, run}
+-- An opening execve that fails refuses the opening, and one that starts leaves the tasks.
+use Rattle.std.proofs.Common.{ap, ◌∙◌}
+use Rattle.task_table.specs.Clones.{opened}
+use Rattle.task_table.specs.Table.{TaskTable}
+use Rattle.kernel_model.specs.declared.kernel.Kernel.{Kernel}
+use Rattle.kernel_model.specs.opening.Opening.{made_by}
+use Rattle.kernel_model.specs.opening.Opening.{execve_of, with_task}
+use Rattle.kernel_model.specs.entries.Parts.{parts, outcome_in}
 use Rattle.plain_kernel.proofs.BeginLemmas.{fails_refused}
+use Rattle.plain_kernel.proofs.OpenedTasks.{room_still}
+use Rattle.plain_kernel.proofs.WalkLemmas.{tasks_stay}
 use Rattle.plain_kernel.proofs.beginning.begin_task.Goals as goal
 
 pub returns-in-Fails-clause-refused : goal.returns-in-Fails-clause-refused
 returns-in-Fails-clause-refused c = λ rest.
-    fails_refused (run (parts c.args.kernel.now) (execve_of c.args.program.now c.args.given.now)) c.args.kernel.now
-    c.execve.new.kernel c.in_ok-image.field-0 c.in-Fails.errno rest
-    (with_task c.args.seed.now c.args.number c.args.program.now) c.args.number
-    c.in_ok-image.ensures.does c.in-Fails.is
+    fails_refused (outcome_in (parts c.args.kernel.now) (execve_of c.args.program.now c.args.given.now))
+    c.args.kernel.now c.execve.new.kernel c.in_ok-image.field-0 c.in-Fails.errno rest
+    (with_task c.args.number c.args.program.now) c.args.number c.in_ok-image.ensures.does c.in-Fails.is
+
+pub add_task-requires-clause-room : goal.add_task-requires-clause-room
+add_task-requires-clause-room c =
+    room_still c.args.kernel.now.tasks c.execve.new.kernel.tasks
+    (tasks_stay c.args.kernel.now c.execve.new.kernel c.args.program.now c.args.given.now c.in_ok-image.field-0
+    c.in-Starts.image c.in-Starts.is c.in_ok-image.ensures.does) c.requires
+
+pub returns-in_ok-add_task-in-Starts-clause-tasks : goal.returns-in_ok-add_task-in-Starts-clause-tasks
+returns-in_ok-add_task-in-Starts-clause-tasks c =
+    ap (λ (k : Kernel). k.tasks) c.in_ok-add_task-in-Starts.ensures
+    ∙ ap (λ (list : TaskTable). opened list (made_by c.args.number) (made_by c.args.number) 1)
+    (tasks_stay c.args.kernel.now c.execve.new.kernel c.args.program.now c.args.given.now c.in_ok-image.field-0
+    c.in-Starts.image c.in-Starts.is c.in_ok-image.ensures.does)

@@ -1,6 +1,6 @@
 -- The roots from a tree on have their numbers.
 use Rattle.std.proofs.Common.{◌≡◌, ◌+◌, drop}
-use Rattle.kernel_model.specs.Opening.{rooted}
+use Rattle.kernel_model.specs.opening.Opening.{rooted}
 use Rattle.plain_kernel.proofs.beginning.number_roots.Given as goal
 
 abbrev pub invariant-loop-index : goal.invariant-loop-index

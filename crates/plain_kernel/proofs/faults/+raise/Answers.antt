@@ -3,7 +3,7 @@ use Rattle.std.proofs.Common.{ℕ, ap, ◌∙◌}
 use Rattle.std.specs.Prelude.{is_some, slice_index_or}
 use Rattle.std.specs.FinMap as map
 use Rattle.sn_base.proofs.Maps.{get-insert_same}
-use Rattle.kernel_model.specs.Parts.{set_at}
+use Rattle.kernel_model.specs.entries.Parts.{set_at}
 use Rattle.plain_kernel.proofs.FaultLemmas.{count_restored}
 use Rattle.plain_kernel.proofs.faults.+raise.Goals as goal
 

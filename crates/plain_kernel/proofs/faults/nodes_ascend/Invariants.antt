@@ -1,6 +1,6 @@
 -- The nodes of rises ascend as far as those that are left do.
 use Rattle.std.proofs.Common.{◌≡◌, drop}
-use Rattle.kernel_model.specs.Faulted.{ascend_from, nodes_of}
+use Rattle.kernel_model.specs.entries.Given.{ascend_from, nodes_of}
 use Rattle.plain_kernel.proofs.faults.nodes_ascend.Given as goal
 
 abbrev pub invariant-loop-rise : goal.invariant-loop-rise

@@ -1,6 +1,6 @@
 -- Fresh numbers ascend as far as those that are left do.
 use Rattle.std.proofs.Common.{◌≡◌, drop}
-use Rattle.kernel_model.specs.Faulted.{ascend_from, numbers_of}
+use Rattle.kernel_model.specs.entries.Given.{ascend_from, numbers_of}
 use Rattle.plain_kernel.proofs.faults.numbers_ascend.Given as goal
 
 abbrev pub invariant-loop-one : goal.invariant-loop-one

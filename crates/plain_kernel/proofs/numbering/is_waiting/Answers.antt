@@ -2,7 +2,7 @@
 use Rattle.std.proofs.Common.{◌≡◌, Some, ap, sym, ◌∙◌}
 use Rattle.std.specs.Prelude.{is_none, not}
 use Rattle.std.specs.FinMap as map
-use Rattle.kernel_model.specs.FileTree.{number_in}
+use Rattle.kernel_model.specs.files.FileTree.{number_in}
 use Rattle.std.proofs.lemmas.Bool.{OnFalse_from}
 use Rattle.plain_kernel.proofs.OptionLemmas.{found, not_found, is_some-found}
 use Rattle.plain_kernel.proofs.Numberings.{taken_number, has_number, is_missing, no_directory}

@@ -1,7 +1,7 @@
 -- Fresh numbers are given one after the other, and taken back where one cannot be.
 use Rattle.std.proofs.Common.{◌≡◌, [], ◌∷◌, ap, sym, ◌∙◌, Some, None, is_some, unwrap_or}
 use Rattle.kernel_model.specs.declared.kernel.Kernel.{Kernel}
-use Rattle.kernel_model.specs.InPlace.{numbered}
+use Rattle.kernel_model.specs.laws.InPlace.{numbered}
 use Rattle.plain_kernel.proofs.Numberings.{numbered_none}
 use Rattle.plain_kernel.proofs.NumberRuns.{numbered_step, numbered_refused, taken_by, refused_by}
 use Rattle.plain_kernel.proofs.numbering.number_all.Goals as goal

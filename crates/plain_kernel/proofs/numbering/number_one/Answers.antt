@@ -1,7 +1,7 @@
 -- A fresh number above the last is drawn and given to no node.
 use Rattle.std.proofs.Common.{◌≡◌, [], ◌∷◌, Some, ap, sym, unwrap_or}
 use Rattle.std.specs.Prelude.{is_some}
-use Rattle.kernel_model.specs.InPlace.{numbered}
+use Rattle.kernel_model.specs.laws.InPlace.{numbered}
 use Rattle.plain_kernel.proofs.Numberings.{waits_spent}
 use Rattle.plain_kernel.proofs.numbering.number_one.Goals as goal
 

@@ -1,7 +1,7 @@
 -- Fresh numbers are taken back, the last first.
 use Rattle.std.proofs.Common.{◌≡◌, ◌-◌, [], ◌∷◌, take, ap, sym, ◌∙◌, Some}
 use Rattle.kernel_model.specs.declared.kernel.Kernel.{Kernel}
-use Rattle.kernel_model.specs.InPlace.{numbered}
+use Rattle.kernel_model.specs.laws.InPlace.{numbered}
 use Rattle.plain_kernel.proofs.NumberRuns.{last_of, none_left}
 use Rattle.plain_kernel.proofs.numbering.unnumber_all.Goals as goal
 

@@ -1,7 +1,7 @@
 -- The fresh numbers that are left stand as over the kernel before them.
 use Rattle.std.proofs.Common.{◌≡◌, Some, take}
 use Rattle.kernel_model.specs.declared.kernel.Kernel.{Kernel}
-use Rattle.kernel_model.specs.InPlace.{numbered}
+use Rattle.kernel_model.specs.laws.InPlace.{numbered}
 use Rattle.plain_kernel.proofs.numbering.unnumber_all.Given as goal
 
 abbrev pub invariant-loop-index : goal.invariant-loop-index

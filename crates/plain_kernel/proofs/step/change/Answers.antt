@@ -1,79 +1,54 @@
 -- A call does its row where it met nothing, and else leaves what it met and fails.
 use mir.Val.{SFits, to_z, of_z}
 use mir.Syntax.{w64}
-use Rattle.std.proofs.Common.{◌≡◌, Option, List, sym, ◌∙◌, subst, is_some, unwrap_or, rules}
+use Rattle.std.proofs.Common.{ap, sym, refl, ◌∙◌, rules}
+use Rattle.std.specs.Prelude.{not}
 use Rattle.std.proofs.Math.Facts.{to_z-of_z}
-use Rattle.std.specs.Prelude.{IfOk, OnOk}
-use Rattle.kernel_model.specs.declared.kernel.Kernel.{Kernel}
-use Rattle.kernel_model.specs.Step.{by_given, answered}
-use Rattle.kernel_model.specs.Parts.{parts, Change}
-use Rattle.kernel_model.specs.Parts.{run as outcome_in}
-use Rattle.kernel_model.specs.InPlace.{changed_by}
-use Rattle.plain_kernel.proofs.StepLemmas.{row_given, row_quiet}
+use Rattle.kernel_calls.specs.Prepared.{changes_of}
+use Rattle.kernel_model.specs.calls.Callers.{context_of}
+use Rattle.kernel_model.specs.entries.Parts.{parts}
+use Rattle.plain_kernel.proofs.StepLemmas.{entry_failing, entry_drawing, entry_quiet, has_any_not}
 use Rattle.plain_kernel.proofs.step.change.Goals as goal
 
-pub returns-then-is_quiet-clause-fits : goal.returns-then-is_quiet-clause-fits
-returns-then-is_quiet-clause-fits c =
+pub returns-then-not-is_empty : goal.returns-then-not-is_empty
+returns-then-not-is_empty c =
     let fits : SFits w64 c.in-Call.reply = search rules in
-    let row =
-    row_quiet c.args.kernel.now c.live.new.kernel c.args.entry.now c.task-number.result c.in-Call.task c.in-Call.no
-    c.in-Call.args c.in-Call.given c.in-Call.reply (to_z w64 (of_z w64 c.in-Call.reply)) c.in-Some.running
-    c.live.ensures.kept c.task-number.ensures (c.in_ok-running.ensures.running ∙ c.in-Some.is) c.in-Call.is
-    (to_z-of_z fits) (sym c.in_ok-stands-in-Call.ensures.stands ∙ c.if-not-stands.false)
-    c.stands_at.new.space c.in_ok-outcome-in-Call.outcome (c.in_ok-stands-in-Call.ensures.kept c.if-not-stands.false)
-    (sym c.is_quiet.ensures ∙ c.if-is_quiet.true)
-    (c.in_ok-outcome-in-Call.ensures.row (parts c.live.new.kernel) (sym c.len.ensures)) in
-    let P : Option (List Change) → Type 0 = λ o. IfOk c.answer.result (λ b. b ≡ is_some o) in
-    subst P (sym row) c.answer.ensures.fits
+    entry_failing c.args.kernel.now c.caller.new.kernel c.args.entry.now c.task-number.result c.in-Some.caller
+    c.stands_at.new.caller c.caller.ensures.kept c.task-number.ensures (c.in_ok-caller.ensures.caller ∙ c.in-Some.is)
+    (c.in_ok-stands-in-Call.ensures.kept c.if-not-stands.false) c.in-Call.task c.in-Call.no c.in-Call.args
+    c.in-Call.given c.in-Call.reply (to_z w64 (of_z w64 c.in-Call.reply)) c.in-Call.is (to_z-of_z fits)
+    (sym c.in_ok-stands-in-Call.ensures.stands ∙ c.if-not-stands.false)
+    (sym c.is_in_order.ensures ∙ c.if-not-is_in_order.false)
+    (has_any_not c.in-Call.given.rises c.is_empty.result c.is_empty.ensures ∙ ap not c.if-not-is_empty.true)
+    c.failing.new.kernel c.failing.result c.failing.ensures
 
-pub returns-then-is_quiet-clause-ok : goal.returns-then-is_quiet-clause-ok
-returns-then-is_quiet-clause-ok c =
-    let fits : SFits w64 c.in-Call.reply = search rules in
-    let row =
-    row_quiet c.args.kernel.now c.live.new.kernel c.args.entry.now c.task-number.result c.in-Call.task c.in-Call.no
-    c.in-Call.args c.in-Call.given c.in-Call.reply (to_z w64 (of_z w64 c.in-Call.reply)) c.in-Some.running
-    c.live.ensures.kept c.task-number.ensures (c.in_ok-running.ensures.running ∙ c.in-Some.is) c.in-Call.is
-    (to_z-of_z fits) (sym c.in_ok-stands-in-Call.ensures.stands ∙ c.if-not-stands.false)
-    c.stands_at.new.space c.in_ok-outcome-in-Call.outcome (c.in_ok-stands-in-Call.ensures.kept c.if-not-stands.false)
-    (sym c.is_quiet.ensures ∙ c.if-is_quiet.true)
-    (c.in_ok-outcome-in-Call.ensures.row (parts c.live.new.kernel) (sym c.len.ensures)) in
-    let P : Option (List Change) → Type 0 =
-    λ o. OnOk c.answer.result (c.answer.new.kernel ≡ unwrap_or (changed_by o c.args.kernel.now) c.args.kernel.now) in
-    subst P (sym row)
-    (subst (λ (k : Kernel). OnOk c.answer.result (c.answer.new.kernel
-    ≡ unwrap_or
-    (changed_by
-    (outcome_in (parts c.live.new.kernel) (answered c.task-number.result c.in-Some.running.task
-    (to_z w64 (of_z w64 c.in-Call.reply)) c.in_ok-outcome-in-Call.outcome)) k) k)) c.live.ensures.kept
-    c.answer.ensures.ok)
+pub returns-then-not-is_empty-2 : goal.returns-then-not-is_empty-2
+returns-then-not-is_empty-2 c =
+    entry_drawing c.args.kernel.now c.caller.new.kernel c.args.entry.now c.task-number.result c.in-Some.caller
+    c.stands_at.new.caller c.caller.ensures.kept c.task-number.ensures (c.in_ok-caller.ensures.caller ∙ c.in-Some.is)
+    (c.in_ok-stands-in-Call.ensures.kept c.if-not-stands.false) c.in-Call.task c.in-Call.no c.in-Call.args
+    c.in-Call.given c.in-Call.reply c.in-Call.reply c.in-Call.is refl
+    (sym c.in_ok-stands-in-Call.ensures.stands ∙ c.if-not-stands.false)
+    c.in_ok-prepared-in-Call.prepared.reply
+    (changes_of c.in_ok-prepared-in-Call.prepared.effect c.stands_at.new.caller.group (parts c.caller.new.kernel))
+    (c.in_ok-prepared-in-Call.ensures.row (context_of c.caller.new.kernel) c.stands_at.new.caller
+    (parts c.caller.new.kernel) refl (sym c.len.ensures))
+    (has_any_not c.in-Call.given.rises c.is_empty.result c.is_empty.ensures ∙ ap not c.if-not-is_empty.false)
+    (has_any_not c.in-Call.given.fresh c.is_empty-in-Call.result c.is_empty-in-Call.ensures
+    ∙ ap not c.if-not-is_empty-2.true)
 
-pub returns-else-is_quiet-clause-fits : goal.returns-else-is_quiet-clause-fits
-returns-else-is_quiet-clause-fits c =
+pub returns-else-not-is_empty-2 : goal.returns-else-not-is_empty-2
+returns-else-not-is_empty-2 c =
     let fits : SFits w64 c.in-Call.reply = search rules in
-    let row =
-    row_given c.args.kernel.now c.live.new.kernel c.args.entry.now c.task-number.result c.in-Call.task c.in-Call.no
-    c.in-Call.args c.in-Call.given c.in-Call.reply (to_z w64 (of_z w64 c.in-Call.reply)) c.in-Some.running
-    c.live.ensures.kept c.task-number.ensures (c.in_ok-running.ensures.running ∙ c.in-Some.is) c.in-Call.is
-    (to_z-of_z fits) (sym c.in_ok-stands-in-Call.ensures.stands ∙ c.if-not-stands.false) in
-    let P : Option (List Change) → Type 0 = λ o. IfOk c.by_given.result (λ b. b ≡ is_some o) in
-    subst P (sym row) (c.by_given.ensures.fits c.in-Some.running.space c.in-Call.no c.in-Call.args)
-
-pub returns-else-is_quiet-clause-ok : goal.returns-else-is_quiet-clause-ok
-returns-else-is_quiet-clause-ok c =
-    let fits : SFits w64 c.in-Call.reply = search rules in
-    let row =
-    row_given c.args.kernel.now c.live.new.kernel c.args.entry.now c.task-number.result c.in-Call.task c.in-Call.no
-    c.in-Call.args c.in-Call.given c.in-Call.reply (to_z w64 (of_z w64 c.in-Call.reply)) c.in-Some.running
-    c.live.ensures.kept c.task-number.ensures (c.in_ok-running.ensures.running ∙ c.in-Some.is) c.in-Call.is
-    (to_z-of_z fits) (sym c.in_ok-stands-in-Call.ensures.stands ∙ c.if-not-stands.false) in
-    let P : Option (List Change) → Type 0 =
-    λ o. OnOk c.by_given.result
-    (c.by_given.new.kernel ≡ unwrap_or (changed_by o c.args.kernel.now) c.args.kernel.now) in
-    subst P (sym row)
-    (subst (λ (k : Kernel). OnOk c.by_given.result (c.by_given.new.kernel
-    ≡ unwrap_or
-    (changed_by
-    (outcome_in (parts c.live.new.kernel)
-    (by_given c.task-number.result c.in-Some.running.task c.in-Some.running.space c.in-Call.no c.in-Call.args
-    (to_z w64 (of_z w64 c.in-Call.reply)) c.in-Call.given)) k) k)) c.live.ensures.kept
-    (c.by_given.ensures.ok c.in-Some.running.space c.in-Call.no c.in-Call.args))
+    entry_quiet c.args.kernel.now c.caller.new.kernel c.args.entry.now c.task-number.result c.in-Some.caller
+    c.stands_at.new.caller c.caller.ensures.kept c.task-number.ensures (c.in_ok-caller.ensures.caller ∙ c.in-Some.is)
+    (c.in_ok-stands-in-Call.ensures.kept c.if-not-stands.false) c.in-Call.task c.in-Call.no c.in-Call.args
+    c.in-Call.given c.in-Call.reply (to_z w64 (of_z w64 c.in-Call.reply)) c.in-Call.is (to_z-of_z fits)
+    (sym c.in_ok-stands-in-Call.ensures.stands ∙ c.if-not-stands.false)
+    c.in_ok-prepared-in-Call.prepared.reply
+    (changes_of c.in_ok-prepared-in-Call.prepared.effect c.stands_at.new.caller.group (parts c.caller.new.kernel))
+    (c.in_ok-prepared-in-Call.ensures.row (context_of c.caller.new.kernel) c.stands_at.new.caller
+    (parts c.caller.new.kernel) refl (sym c.len.ensures))
+    (has_any_not c.in-Call.given.rises c.is_empty.result c.is_empty.ensures ∙ ap not c.if-not-is_empty.false)
+    (has_any_not c.in-Call.given.fresh c.is_empty-in-Call.result c.is_empty-in-Call.ensures
+    ∙ ap not c.if-not-is_empty-2.false) c.answer.new.kernel c.answer.result c.answer.ensures

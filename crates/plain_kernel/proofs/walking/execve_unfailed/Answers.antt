@@ -1,10 +1,11 @@
 -- An execve that met no rise has its image where the numbers are just those that its walk draws.
 use Rattle.std.proofs.Common.{ap, sym, ◌∙◌}
 use Rattle.std.specs.List.{list_any}
-use Rattle.kernel_model.specs.Opening.{draws_just, above_last, by_walk}
-use Rattle.kernel_model.specs.Parts.{parts}
-use Rattle.kernel_model.specs.Parts.{run as outcome}
-use Rattle.kernel_model.specs.InPlace.{numbered}
+use Rattle.kernel_model.specs.entries.Given.{above_last}
+use Rattle.kernel_model.specs.opening.Opening.{draws_just, by_walk}
+use Rattle.kernel_model.specs.entries.Parts.{parts}
+use Rattle.kernel_model.specs.entries.Parts.{outcome_in as outcome}
+use Rattle.kernel_model.specs.laws.InPlace.{numbered}
 use Rattle.plain_kernel.proofs.NumberRuns.{taken_by, refused_by}
 use Rattle.plain_kernel.proofs.WalkLemmas.{numbers_unfit, numbers_fit, executes_by}
 use Rattle.plain_kernel.proofs.walking.execve_unfailed.Goals as goal

@@ -1,9 +1,9 @@
 -- An execve that walked there answers EIO where it met a rise, and goes on where it met none.
 use Rattle.std.proofs.Common.{ap, sym, ◌∙◌}
 use Rattle.std.specs.Prelude.{not}
-use Rattle.kernel_model.specs.Faulted.{faulted}
-use Rattle.kernel_model.specs.Parts.{parts}
-use Rattle.kernel_model.specs.Parts.{run as outcome}
+use Rattle.kernel_model.specs.entries.Given.{faulted}
+use Rattle.kernel_model.specs.entries.Parts.{parts}
+use Rattle.kernel_model.specs.entries.Parts.{outcome_in as outcome}
 use Rattle.plain_kernel.proofs.StepLemmas.{has_any_not, done_all, done_nothing}
 use Rattle.plain_kernel.proofs.WalkLemmas.{rises_unfit, rises_fail}
 use Rattle.plain_kernel.proofs.walking.execve_walked.Goals as goal

@@ -1,32 +1,28 @@
 -- An entry that fits is one more, and one that misfits changes nothing.
 use Rattle.std.proofs.Common.{◌≡◌, arith}
-use Rattle.kernel_model.specs.Step.{entry_row}
-use Rattle.kernel_model.specs.Parts.{parts}
-use Rattle.kernel_model.specs.Parts.{run as outcome}
 use Rattle.plain_kernel.proofs.StepLemmas.{step_fits, step_taken, step_refused, entries_by}
 use Rattle.plain_kernel.proofs.plain.Plain.step.Goals as goal
 
 pub overflow_add-self : goal.overflow_add-self
 overflow_add-self c =
     let same : c.change.new.kernel.entries ≡ c.args.self.now.kernel.entries =
-    entries_by (outcome (parts c.args.self.now.kernel) (entry_row c.args.entry.now)) c.args.self.now.kernel
-    c.change.new.kernel c.in_ok-fits.ensures.ok in
+    entries_by c.args.self.now.kernel c.change.new.kernel c.args.entry.now c.in_ok-fits.fits c.in_ok-fits.ensures in
     record { fits = omega (arith, same) }
 
 pub returns-then-fits-clause-fits : goal.returns-then-fits-clause-fits
 returns-then-fits-clause-fits c =
-    step_fits c.args.self.now.kernel c.args.entry.now c.in_ok-fits.fits c.in_ok-fits.ensures.fits
+    step_fits c.args.self.now.kernel c.change.new.kernel c.args.entry.now c.in_ok-fits.fits c.in_ok-fits.ensures
 
 pub returns-then-fits-clause-ok : goal.returns-then-fits-clause-ok
 returns-then-fits-clause-ok c =
-    step_taken c.args.self.now.kernel c.args.entry.now c.in_ok-fits.fits c.change.new.kernel c.in_ok-fits.ensures.fits
-    c.in_ok-fits.ensures.ok c.if-fits.true
+    step_taken c.args.self.now.kernel c.change.new.kernel c.args.entry.now c.in_ok-fits.fits c.in_ok-fits.ensures
+    c.if-fits.true
 
 pub returns-else-fits-clause-fits : goal.returns-else-fits-clause-fits
 returns-else-fits-clause-fits c =
-    step_fits c.args.self.now.kernel c.args.entry.now c.in_ok-fits.fits c.in_ok-fits.ensures.fits
+    step_fits c.args.self.now.kernel c.change.new.kernel c.args.entry.now c.in_ok-fits.fits c.in_ok-fits.ensures
 
 pub returns-else-fits-clause-ok : goal.returns-else-fits-clause-ok
 returns-else-fits-clause-ok c =
-    step_refused c.args.self.now.kernel c.args.entry.now c.in_ok-fits.fits c.change.new.kernel c.in_ok-fits.ensures.fits
-    c.in_ok-fits.ensures.ok c.if-fits.false
+    step_refused c.args.self.now.kernel c.change.new.kernel c.args.entry.now c.in_ok-fits.fits c.in_ok-fits.ensures
+    c.if-fits.false

@@ -1,0 +1,61 @@
+//! Who calls: the live task of a number, as an entry of it finds it.
+
+ghost use Rattle.std.specs.Prelude.{◌≡◌, IfOk, IfSome, OnSome};
+ghost use Rattle.kernel_model.specs.Names.{get_named};
+ghost use Rattle.kernel_model.specs.calls.Callers.{caller_of};
+ghost use Rattle.kernel_model.specs.entries.Parts.{outcome_in, parts};
+ghost use Rattle.plain_kernel.specs.Doing.{IsThere};
+
+use kernel_model::{Caller, GuestSpace, Kernel};
+use sn_base::Memory;
+use std::alloc::Global;
+use task_table::Made;
+
+/// The live task of a number, with a copy of its address space. The kernel stays as it is.
+pub(crate) fn caller(
+    alloc: Global,
+    kernel: &mut Kernel,
+    number: u32,
+) -> Result<Option<Caller>, Memory>
+    ensures caller { IfOk result (λ found. outcome_in (parts kernel.old) (caller_of number) ≡ found) }
+    ensures there { IfOk result (λ found. IfSome found (λ one. IsThere one kernel.old)) }
+    ensures kept { kernel.new ≡ kernel.old }
+{
+    let Some(task) = kernel.tasks.task(number).copied() else {
+        return Ok(None);
+    };
+    if !task.live {
+        return Ok(None);
+    }
+    let Some(group) = kernel.tasks.group(task.group).copied() else {
+        return Ok(None);
+    };
+    let Some(registers) = kernel.registers.get(u64::from(number)).copied() else {
+        return Ok(None);
+    };
+    let Some(space) = copied_space(alloc, kernel, group.memory)? else {
+        return Ok(None);
+    };
+    Ok(Some(Caller {
+        task: number,
+        group: task.group,
+        memory: group.memory,
+        registers,
+        space,
+    }))
+}
+
+/// A copy of the address space of a name.
+fn copied_space(
+    alloc: Global,
+    kernel: &mut Kernel,
+    name: Made,
+) -> Result<Option<GuestSpace>, Memory>
+    ensures copied { IfOk result (λ copy. copy ≡ get_named kernel.old.spaces name.place name.index) }
+    ensures kept { kernel.new ≡ kernel.old }
+{
+    match kernel.spaces.get_mut(name.place, name.index) {
+        Some(space) => Ok(Some(space.copy(alloc)?)),
+        None => Ok(None),
+    }
+}
