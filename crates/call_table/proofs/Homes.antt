@@ -85,7 +85,7 @@ first_live made task live = elim (same_or_other 1 task) [
   | inr apart ↦ absurd (cc (
     live,
     ap (λ o. option_map_or (λ (c : Task). c.live) o false)
-    (get-insert_other map.empty 1 task (record { group = 1; clear = 0; live = true }) apart ∙ get_of_empty task),
+        (get-insert_other map.empty 1 task (record { group = 1; clear = 0; live = true }) apart ∙ get_of_empty task),
   ))
 ]
 

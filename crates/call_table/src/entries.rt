@@ -126,7 +126,10 @@ impl Processes {
         let no = call_of(&standing.registers);
         let args = args_of(&standing.registers);
         let console = self.console.len();
-        let Some(space) = self.spaces.get(standing.memory.place, standing.memory.index) else {
+        let Some(space) = self
+            .spaces
+            .get(standing.memory.place, standing.memory.index)
+        else {
             unreachable!()
         };
         let Prepared {

@@ -9,8 +9,8 @@ use crate::opening_random;
 use elf_image::Image;
 use image_load::{LoadErr, load};
 use kernel_model::GuestSpace;
-use rv_table::Regs;
 use mount_file::Program;
+use rv_table::Regs;
 use sn_base::Memory;
 use std::alloc::Global;
 

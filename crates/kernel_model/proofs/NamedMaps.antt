@@ -171,8 +171,8 @@ module _ {V : Type 0} where
   set_alike_by n q None a b (inl same) e =
       let is : n ≡ q = same_made n q same.0 same.1 in
       let gone : (m : NamedMap V) → get_named (set_named n None m) q.place q.index ≡ None
-          = λ m. ap (λ (x : Made). get_named (set_named n None m) x.place x.index) (sym is)
-          ∙ get-without_same m n.place n.index in
+      = λ m. ap (λ (x : Made). get_named (set_named n None m) x.place x.index) (sym is)
+      ∙ get-without_same m n.place n.index in
       gone a ∙ sym (gone b)
   set_alike_by n q None a b (inr apart) e =
       get-without_other a n.place n.index q.place q.index apart ∙ e

@@ -9,6 +9,7 @@ use Rattle.host_node.specs.declared.kind.Kind.TheVariants.{Dir}
 use Rattle.host_node.specs.Routes.{directory_at, put_subtree}
 use Rattle.host_node.proofs.RouteLemmas.{put-put_subtree, subtree-directory_at}
 use Rattle.sn_errno.specs.declared.errno.Errno.{Errno}
+use Rattle.task_table.specs.Table.{TaskTable}
 use Rattle.kernel_model.specs.declared.entry.Entry.{Entry}
 use Rattle.kernel_model.specs.declared.kernel.Kernel.{Kernel}
 use Rattle.mount_file.specs.declared.mounts.Mounts.{Mounts}
@@ -54,7 +55,7 @@ fits_file m ts o no_misfit = by (is_of m o) refl
     by : (b : Bool) → is_of m o ≡ b → is_of m o ≡ true
     by true e = e
     by false e =
-        absurd (no_misfit (ap (λ b. if b then tasks_begun m.seed 1 m.tasks o.tasks (bare ts) else Misfits 0) e))
+        absurd (no_misfit (ap (λ b. if b then tasks_begun 1 m.tasks o.tasks (bare m ts) else Misfits 0) e))
 
 opens_fits : (m : Mounts) (ts : List Shape) (o : Opening) (k : Kernel) → opening_of m ts o ≡ Opens k → is_of m o ≡ true
 opens_fits m ts o k e = fits_file m ts o (λ f. let g : Opens k ≡ Misfits 0 = sym e ∙ f in cc)
@@ -185,9 +186,9 @@ refused x t tree errno e h put failed = record {
 printed_same : (state kernel : Kernel) (trace : List Entry) (flag : Bool) → SameText state kernel
     → printed kernel trace flag ≡ printed state trace flag
 printed_same state kernel trace flag same =
-    ap (λ c. console_text c ++ groups_text (map.entries kernel.tasks) ++ (if flag then trace_text 1 trace else []))
+    ap (λ c. console_text c ++ groups_text (map.entries kernel.tasks.groups) ++ (if flag then trace_text 1 trace else []))
     (sym same.console)
-    ∙ ap (λ ts. console_text state.console ++ groups_text (map.entries ts) ++ (if flag then trace_text 1 trace else []))
+    ∙ ap (λ (ts : TaskTable). console_text state.console ++ groups_text (map.entries ts.groups) ++ (if flag then trace_text 1 trace else []))
     (sym same.tasks)
 
 writes_same : (x : Session) (p : Output) (state kernel : Kernel) (whole fault : Fault) → SameText state kernel

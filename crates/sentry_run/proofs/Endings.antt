@@ -19,7 +19,7 @@ use Rattle.mount_file.specs.declared.mounts.Mounts.{Mounts}
 use Rattle.mount_file.specs.declared.mounts.Program.{Program}
 use Rattle.kernel_model.specs.declared.opening.Opening.{Opening}
 use Rattle.kernel_model.specs.declared.opening.Given.{Given}
-use Rattle.kernel_model.specs.entries.Parts.{changed, run}
+use Rattle.kernel_model.specs.entries.Parts.{changed, outcome_in}
 use Rattle.kernel_model.specs.files.FileTree.{Nodes, owner_executes, root_node, child_node, numbered_in}
 use Rattle.kernel_model.specs.entries.Given.{node_changes}
 use Rattle.kernel_model.specs.opening.Opening.{opening_of, Opens, Refuses, Executed, Fails, executed, by_image, bare, execve}
@@ -29,7 +29,7 @@ use Rattle.sn_errno.specs.declared.errno.Errno.TheVariants.{E2BIG}
 use Rattle.kernel_model.specs.entries.History.{replay, each_whole}
 use Rattle.kernel_model.specs.files.Settled.{tree_now, count_now}
 use Rattle.kernel_model.specs.files.Numbers.{IsGapless, numbers_opened, count_up}
-use Rattle.kernel_model.proofs.OneRoot.{one, root_of, drawn_nodes, execve_short, execve_long, execve_nothing}
+use Rattle.kernel_model.proofs.OneRoot.{one, nothing_mounted, root_of, drawn_nodes, execve_short, execve_long, execve_nothing}
 use Rattle.kernel_model.proofs.OneRoot.{execve_drawn, execve_root_failed, execve_child_failed}
 use Rattle.kernel_model.proofs.OneTask.{opening_by, plain_root, plain_child}
 use Rattle.sentry_run.specs.declared.walk.Met.{Met}
@@ -37,10 +37,11 @@ use Rattle.sentry_run.specs.declared.walk.Met.TheVariants.{Nothing, RootFailed, 
 use Rattle.sentry_run.specs.declared.walk.Answer.TheVariants as answers
 use Rattle.sentry_run.specs.declared.play.End.{End}
 use Rattle.sentry_run.specs.declared.play.End.TheVariants as ends
-use Rattle.sentry_run.specs.Machine.{kernel_opened, Leaves}
+use Rattle.call_table.specs.Turns.{Leaves}
 use Rattle.sentry_run.specs.Walk.{given_by, faulted_by}
 use Rattle.sentry_run.specs.Played.{no_left, NamesTask, first_is_too_long, record_of, Fits, FitsFor, given_back, Runs}
-use Rattle.sentry_run.specs.Played.{Failed, Ended, RanFrom, over, nothing_opened}
+use Rattle.sentry_run.specs.Played.{Failed, Ended, RanFrom, over, nothing_opened, beside_of}
+use Rattle.sentry_run.specs.Played.{kernel_opened}
 
 -- ---- counts
 
@@ -71,7 +72,7 @@ faults-children entries (lent kind) = refl
 -- ---- the nodes after a number is drawn
 
 abbrev pub nodes_drawn : Shape → List ℕ → Shape → Nodes
-nodes_drawn t name s = (changed (node_changes (drawn_nodes t name s)) (bare (t ∷ []))).nodes
+nodes_drawn t name s = (changed (node_changes (drawn_nodes t name s)) (bare nothing_mounted (t ∷ []))).nodes
 
 drawn_root : (t : Shape) (name : List ℕ) (s : Shape)
     → map.get (nodes_drawn t name s) 1 ≡ Some (numbered_in (root_node 1 t) name 2)
@@ -132,36 +133,36 @@ tree_child_failed k t name s d e f h =
     (lend_child name t)))) (count_rose k 2 (faults_of s) d second)
     ∙ ap (λ (x : Shape). Some (with_child name (faulted_by d s) x)) (lend_still k t name first h)
 
-pub tree_bare : (t : Shape) → faults_of t < 2 ^ 64 → tree_now (bare (t ∷ [])) no_left 1 ≡ Some t
-tree_bare t h =
-    plain_root 65536 (count_now (bare (t ∷ [])) no_left) (rooted 1 (t ∷ [])) t (root_of t)
-    ∙ ap Some (own_faults _ t (count_still (bare (t ∷ [])) 1 (faults_of t) (get_of_empty 1) h))
+pub tree_bare : (m : Mounts) (t : Shape) → faults_of t < 2 ^ 64 → tree_now (bare m (t ∷ [])) no_left 1 ≡ Some t
+tree_bare m t h =
+    plain_root 65536 (count_now (bare m (t ∷ [])) no_left) (rooted 1 (t ∷ [])) t (root_of t)
+    ∙ ap Some (own_faults _ t (count_still (bare m (t ∷ [])) 1 (faults_of t) (get_of_empty 1) h))
 
-abbrev root_risen : Shape → ℕ → Kernel
-root_risen t d = record (bare (t ∷ [])) { failed = map.insert map.empty 1 (capped (0 + d)) }
+abbrev root_risen : Mounts → Shape → ℕ → Kernel
+root_risen m t d = record (bare m (t ∷ [])) { failed = map.insert map.empty 1 (capped (0 + d)) }
 
-pub tree_root_failed : (t : Shape) (d : ℕ) → tree_now (root_risen t d) no_left 1 ≡ Some (faulted_by d t)
-tree_root_failed t d =
-    plain_root 65536 (count_now (root_risen t d) no_left) (rooted 1 (t ∷ [])) t (root_of t)
+pub tree_root_failed : (m : Mounts) (t : Shape) (d : ℕ) → tree_now (root_risen m t d) no_left 1 ≡ Some (faulted_by d t)
+tree_root_failed m t d =
+    plain_root 65536 (count_now (root_risen m t d) no_left) (rooted 1 (t ∷ [])) t (root_of t)
     ∙ ap (λ n. Some (with_faults n t))
-    (count_rose (root_risen t d) 1 (faults_of t) d (get-insert_same map.empty 1 (capped (0 + d))))
+    (count_rose (root_risen m t d) 1 (faults_of t) d (get-insert_same map.empty 1 (capped (0 + d))))
 
 -- ---- the opening
 
 opened_by : (m : Mounts) (t : Shape) (name : List ℕ) (met : Met) (opening : Opening) (e : Executed)
     → (n : NamesTask m name) → opening ≡ record_of m n.program (given_by name met)
-    → run (one t) (execve_of n.program (given_by name met)) ≡ e
-    → opening_of m (t ∷ []) opening ≡ task_begun (λ k. Opens k) (with_task m.seed 1 n.program) 1 (bare (t ∷ [])) e
+    → outcome_in (one t) (execve_of n.program (given_by name met)) ≡ e
+    → opening_of m (t ∷ []) opening ≡ task_begun (λ k. Opens k) (with_task 1 n.program) 1 (bare m (t ∷ [])) e
 opened_by m t name met opening e n o x =
     ap (opening_of m (t ∷ [])) o
     ∙ opening_by m t n.program (given_by name met) n.one_mount n.tasks
-    ∙ ap (task_begun (λ k. Opens k) (with_task m.seed 1 n.program) 1 (bare (t ∷ []))) x
+    ∙ ap (task_begun (λ k. Opens k) (with_task 1 n.program) 1 (bare m (t ∷ []))) x
 
 -- an execve that walks, by the name in its path
 walked_by_name : (t : Shape) (p : Program) (name : List ℕ) (given : Given) → is_too_long p.args p.env ≡ false
-    → p.path ≡ 47 ∷ name → run (one t) (execve_of p given) ≡ run (one t) (execve name given)
+    → p.path ≡ 47 ∷ name → outcome_in (one t) (execve_of p given) ≡ outcome_in (one t) (execve name given)
 walked_by_name t p name given short path =
-    execve_short t p given short ∙ ap (λ (ns : List ℕ). run (one t) (execve (name_in_path ns) given)) path
+    execve_short t p given short ∙ ap (λ (ns : List ℕ). outcome_in (one t) (execve (name_in_path ns) given)) path
 
 short_task : (m : Mounts) (p : Program) (b : Bool) → m.tasks ≡ p ∷ [] → first_is_too_long m.tasks ≡ b
     → is_too_long p.args p.env ≡ b
@@ -169,15 +170,15 @@ short_task m p b tasks is = sym (ap first_is_too_long tasks) ∙ is
 
 opened_walking : (m : Mounts) (t : Shape) (name : List ℕ) (met : Met) (opening : Opening) (e : Executed)
     → (n : NamesTask m name) → first_is_too_long m.tasks ≡ false → opening ≡ record_of m n.program (given_by name met)
-    → run (one t) (execve name (given_by name met)) ≡ e
-    → opening_of m (t ∷ []) opening ≡ task_begun (λ k. Opens k) (with_task m.seed 1 n.program) 1 (bare (t ∷ [])) e
+    → outcome_in (one t) (execve name (given_by name met)) ≡ e
+    → opening_of m (t ∷ []) opening ≡ task_begun (λ k. Opens k) (with_task 1 n.program) 1 (bare m (t ∷ [])) e
 opened_walking m t name met opening e n short o x =
     opened_by m t name met opening e n o (walked_by_name t n.program name (given_by name met)
     (short_task m n.program false n.tasks short) n.path ∙ x)
 
 -- the kernel that an image's opening starts
 abbrev pub started : Mounts → Program → Shape → List ℕ → Shape → Image → Kernel
-started m p t name s image = kernel_opened m.seed p image (nodes_drawn t name s)
+started m p t name s image = kernel_opened m p image (nodes_drawn t name s)
 
 pub opens_image : (m : Mounts) (t : Shape) (name : List ℕ) (s : Shape) (image : Image) (opening : Opening)
     → (n : NamesTask m name) → first_is_too_long m.tasks ≡ false → opening ≡ record_of m n.program (given_by name Drawn)
@@ -194,7 +195,7 @@ pub ended_starts : (m : Mounts) (t : Shape) (name : List ℕ) (met : Met) (image
     (trace : List Entry) (end : End)
     → (n : NamesTask m name) → first_is_too_long m.tasks ≡ false → opening ≡ record_of m n.program (given_by name met)
     → faults_of t < 2 ^ 64 → Fits t name met (answers.Starts image)
-    → ((nodes : Nodes) → RanFrom nodes (kernel_opened m.seed n.program image nodes) m.entries end trace)
+    → ((nodes : Nodes) → RanFrom m nodes (kernel_opened m n.program image nodes) end trace)
     → Ended m t (given_back t name met) opening trace end
 ended_starts m t name Nothing image opening trace end n short o h f ran = absurd f
 ended_starts m t name (RootFailed d) image opening trace end n short o h f ran = absurd f
@@ -213,22 +214,22 @@ ended_starts m t name Drawn image opening trace end n short o h f ran = by_end e
     }
 
     left : (o : Option Kernel) → replay (started m n.program t name f.0 image) trace ≡ o
-        → Leaves (nodes_drawn t name f.0) map.empty o → each_whole (started m n.program t name f.0 image) trace ≡ true
+        → Leaves (beside_of m (nodes_drawn t name f.0)) o → each_whole (started m n.program t name f.0 image) trace ≡ true
         → (state : Kernel) × Runs m t t opening trace state
     left None e l w = absurd l
     left (Some state) e l w = (state, runs state e w l.0 l.1)
 
-    by_end : (end : End) → RanFrom (nodes_drawn t name f.0) (started m n.program t name f.0 image) m.entries end trace
+    by_end : (end : End) → RanFrom m (nodes_drawn t name f.0) (started m n.program t name f.0 image) end trace
         → Ended m t t opening trace end
     by_end (ends.Done k) r = (
-      over (nodes_drawn t name f.0) k,
-      runs (over (nodes_drawn t name f.0) k) r.0 r.1 refl refl,
+      over m (nodes_drawn t name f.0) k,
+      runs (over m (nodes_drawn t name f.0) k) r.0 r.1 refl refl,
       record { tasks = refl; console = refl },
       r.2,
     )
     by_end (ends.Full k) r = (
-      over (nodes_drawn t name f.0) k,
-      runs (over (nodes_drawn t name f.0) k) r.0 r.1 refl refl,
+      over m (nodes_drawn t name f.0) k,
+      runs (over m (nodes_drawn t name f.0) k) r.0 r.1 refl refl,
       record { tasks = refl; console = refl },
       r.2,
       r.3,
@@ -243,27 +244,27 @@ pub failed_refuses : (m : Mounts) (t : Shape) (name : List ℕ) (met : Met) (err
     → (n : NamesTask m name) → first_is_too_long m.tasks ≡ false → opening ≡ record_of m n.program (given_by name met)
     → faults_of t < 2 ^ 64 → Fits t name met (answers.Refuses errno) → Failed m t (given_back t name met) opening errno
 failed_refuses m t name Nothing errno opening n short o h f = record {
-  left = bare (t ∷ []);
+  left = bare m (t ∷ []);
   refuses = opened_walking m t name Nothing opening (Fails errno []) n short o (execve_nothing t name (Err errno) f);
-  settles = tree_bare t h;
+  settles = tree_bare m t h;
 }
 failed_refuses m t name (RootFailed d) errno opening n short o h f = record {
-  left = root_risen t d;
+  left = root_risen m t d;
   refuses =
       opened_walking m t name (RootFailed d) opening _ n short o (execve_root_failed t name d f.1)
-      ∙ ap (Refuses (root_risen t d) 1) (sym f.0);
-  settles = tree_root_failed t d;
+      ∙ ap (Refuses (root_risen m t d) 1) (sym f.0);
+  settles = tree_root_failed m t d;
 }
 failed_refuses m t name Drawn errno opening n short o h f = record {
-  left = changed (node_changes (drawn_nodes t name f.0)) (bare (t ∷ []));
+  left = changed (node_changes (drawn_nodes t name f.0)) (bare m (t ∷ []));
   refuses =
       opened_walking m t name Drawn opening (by_image (Err errno) (node_changes (drawn_nodes t name f.0))) n short o
       (execve_drawn t name f.0 f.1 f.2 ∙ ap (λ r. by_image r (node_changes (drawn_nodes t name f.0))) f.3);
-  settles = tree_drawn (changed (node_changes (drawn_nodes t name f.0)) (bare (t ∷ []))) t name f.0 refl refl f.2 h f.4;
+  settles = tree_drawn (changed (node_changes (drawn_nodes t name f.0)) (bare m (t ∷ []))) t name f.0 refl refl f.2 h f.4;
 }
 failed_refuses m t name (ChildFailed d) errno opening n short o h f =
     let k : Kernel =
-    record (changed (node_changes (drawn_nodes t name f.0)) (bare (t ∷ [])))
+    record (changed (node_changes (drawn_nodes t name f.0)) (bare m (t ∷ [])))
     { failed = map.insert map.empty 2 (capped (0 + d)) } in
     record {
       left = k;
@@ -280,11 +281,11 @@ long_refuses : (m : Mounts) (t : Shape) (name : List ℕ) (opening : Opening) �
     → first_is_too_long m.tasks ≡ true → opening ≡ record_of m n.program (given_by name Nothing) → faults_of t < 2 ^ 64
     → Failed m t t opening E2BIG
 long_refuses m t name opening n long o h = record {
-  left = bare (t ∷ []);
+  left = bare m (t ∷ []);
   refuses =
       opened_by m t name Nothing opening (Fails E2BIG []) n o
       (execve_long t n.program (short_task m n.program true n.tasks long));
-  settles = tree_bare t h;
+  settles = tree_bare m t h;
 }
 
 -- ---- the same, whether the strings are too long or not
@@ -293,7 +294,7 @@ pub starts_for : (b : Bool) (m : Mounts) (t : Shape) (name : List ℕ) (met : Me
     (trace : List Entry) (end : End)
     → (n : NamesTask m name) → first_is_too_long m.tasks ≡ b → opening ≡ record_of m n.program (given_by name met)
     → faults_of t < 2 ^ 64 → FitsFor b t name met (answers.Starts image)
-    → ((nodes : Nodes) → RanFrom nodes (kernel_opened m.seed n.program image nodes) m.entries end trace)
+    → ((nodes : Nodes) → RanFrom m nodes (kernel_opened m n.program image nodes) end trace)
     → Ended m t (given_back t name met) opening trace end
 starts_for true m t name met image opening trace end n is o h f ran = absurd (let e = f.1 in cc)
 starts_for false m t name met image opening trace end n is o h f ran =

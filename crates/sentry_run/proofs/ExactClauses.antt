@@ -68,7 +68,7 @@ nothing_begun : (m : Mounts) (trees : Option (List Shape)) → length m.mounts �
 unfolding opening_of
 nothing_begun m None e = refl
 nothing_begun m (Some trees) e =
-    ap (λ b. if b then tasks_begun m.seed 1 m.tasks [] (bare trees) else Misfits 0) (nothing_unlike m e)
+    ap (λ b. if b then tasks_begun 1 m.tasks [] (bare m trees) else Misfits 0) (nothing_unlike m e)
 
 -- an opening of nothing is a misfit
 pub unopened : (x : Session) → length x.mounts.mounts ≡ 1 → x.outcome.opening ≡ nothing_opened

@@ -32,7 +32,7 @@ use Rattle.sentry_run.specs.Walk.{faulted_by, Loads, Walked, came_to, LendsNothi
 use Rattle.sentry_run.specs.Walk.{Execves}
 use Rattle.sentry_run.proofs.Endings.{first_long}
 use Rattle.sentry_run.specs.Played.{Fits, FitsFor, given_back, Ended, first_is_too_long}
-use Rattle.sentry_run.specs.PlayedMachine.{IsInner}
+use Rattle.sentry_run.specs.Stopped.{IsInner}
 use Rattle.sn_base.specs.Faults.{HasCause}
 use Rattle.sentry_run.specs.Causes.{is_grant_failed}
 use Rattle.sentry_run.specs.Granted.{PlaysRoot, IsUngranted, first_names, Untouched, PlaysAs, PlaysIn, PlaysOver}

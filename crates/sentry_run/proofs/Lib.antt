@@ -1,11 +1,9 @@
 -- Lemmas of a run, by subject.
-pub mod MachineRows
 pub mod Walks
-pub mod Histories
 pub mod Closed
 pub mod Groups
 pub mod Lines
-pub mod RunsOfMachines
+pub mod RunsOfTurns
 pub mod Counts
 pub mod Endings
 pub mod GivenBack

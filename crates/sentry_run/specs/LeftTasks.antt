@@ -1,17 +1,15 @@
 -- Whose calls may have met a fault, or drawn a number, that no entry of the trace has.
 use Rattle.std.specs.Prelude.{◌≡◌, ◌≢◌, ◌⊎◌, ℕ, List, ◌∷◌, ◌++◌, length, Bool, true, false, Option, Some, None}
-use Rattle.std.specs.FinMap as map
 use Rattle.kernel_model.specs.declared.entry.Entry.{Entry}
+use Rattle.task_table.specs.Table.{is_live}
+use Rattle.kernel_model.specs.declared.caller.Caller.{Caller}
 use Rattle.kernel_model.specs.declared.kernel.Kernel.{Kernel}
-use Rattle.kernel_model.specs.declared.kernel.Task.{Task}
-use Rattle.kernel_model.specs.declared.running.Running.{Running}
 use Rattle.kernel_model.specs.declared.traps.Next.{Next}
 use Rattle.kernel_model.specs.declared.traps.Next.TheVariants.{Goes, Calls, Traps}
-use Rattle.kernel_model.specs.machine.Spaces.{acting_in}
-use Rattle.kernel_model.specs.machine.Instructions.{next_of}
-use Rattle.kernel_model.specs.entries.History.{replay, is_live}
-use Rattle.kernel_model.specs.entries.Parts.{parts, run}
-use Rattle.kernel_model.specs.entries.Steps.{live, step, task_of}
+use Rattle.kernel_model.specs.calls.Callers.{caller_of}
+use Rattle.kernel_model.specs.entries.History.{replay}
+use Rattle.kernel_model.specs.entries.Parts.{parts, outcome_in}
+use Rattle.kernel_model.specs.entries.Steps.{next_in, step, task_of}
 
 -- the next instruction is a system call
 -- RISC-V Unprivileged ISA 20191213, 2.8, ECALL
@@ -20,20 +18,14 @@ is_call Calls = true
 is_call Goes = false
 is_call (Traps signal) = false
 
-abbrev pub calls_next : ℕ → Option Running → Bool
-calls_next task None = false
-calls_next task (Some r) = is_call (next_of (acting_in task r.space) r.task.registers)
+abbrev pub calls_next : Option Caller → Bool
+calls_next None = false
+calls_next (Some c) = is_call (next_in c)
 
 -- a task lives and stands at a system call
 -- RISC-V Unprivileged ISA 20191213, 2.8, ECALL
 abbrev pub stands_at_call : Kernel → ℕ → Bool
-stands_at_call k task = calls_next task (run (parts k) (live task))
-
--- a task of that number is there, and lives
--- profile
-abbrev pub lives : Option Task → Bool
-lives None = false
-lives (Some task) = is_live task.life
+stands_at_call k task = calls_next (outcome_in (parts k) (caller_of task))
 
 -- an entry of another task ended a task that stood at a system call, or took it from that call
 -- exit_group(2); profile
@@ -55,4 +47,4 @@ pub record IsTaken (start : Kernel) (trace : List Entry) (task : ℕ) : Type 0 w
 -- profile
 abbrev pub MayBeLeft : (entries : ℕ) → (start : Kernel) → List Entry → (state : Kernel) → ℕ → Type 0
 MayBeLeft entries start trace state task =
-    IsTaken start trace task ⊎ ((length trace ≡ entries) × (lives (map.get state.tasks task) ≡ true))
+    IsTaken start trace task ⊎ ((length trace ≡ entries) × (is_live state.tasks.tasks task ≡ true))

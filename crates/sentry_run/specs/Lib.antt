@@ -1,10 +1,8 @@
 -- What contracts of this crate say, by subject.
-pub mod Machine
-pub mod MachineKernel
 pub mod Walk
 pub mod Command
 pub mod Played
-pub mod PlayedMachine
+pub mod Stopped
 pub mod Granted
 pub mod ErrorLine
 pub mod Causes

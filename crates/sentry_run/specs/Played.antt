@@ -4,6 +4,8 @@ use Rattle.std.specs.Option.{option_map_or}
 use Rattle.std.specs.FinMap as map
 use Rattle.host_node.specs.Tree.{Shape, faults_of, child_of, with_child, lend_child}
 use Rattle.sn_errno.specs.declared.errno.Errno.{Errno}
+use Rattle.elf_image.specs.declared.image.Image.{Image}
+use Rattle.task_table.specs.Table.{no_tasks}
 use Rattle.sn_errno.specs.declared.errno.Errno.TheVariants.{EIO, E2BIG}
 use Rattle.kernel_model.specs.declared.entry.Entry.{Entry}
 use Rattle.kernel_model.specs.declared.kernel.Kernel.{Kernel}
@@ -14,7 +16,7 @@ use Rattle.kernel_model.specs.declared.opening.Given.{Given}
 use Rattle.kernel_model.specs.declared.opening.Left.{Left}
 use Rattle.kernel_model.specs.opening.Arguments.{is_too_long}
 use Rattle.kernel_model.specs.files.FileTree.{Nodes, owner_executes}
-use Rattle.kernel_model.specs.opening.Opening.{opening_of, Opens, Refuses, executed}
+use Rattle.kernel_model.specs.opening.Opening.{opening_of, Opens, Refuses, executed, with_task}
 use Rattle.kernel_model.specs.entries.History.{replay, each_whole, any_live}
 use Rattle.kernel_model.specs.files.Settled.{tree_now}
 use Rattle.kernel_model.specs.laws.WalkedIn.{walked_in}
@@ -25,7 +27,8 @@ use Rattle.sentry_run.specs.declared.walk.Answer.TheVariants as answers
 use Rattle.sentry_run.specs.declared.play.End.{End}
 use Rattle.sentry_run.specs.declared.play.End.TheVariants as ends
 use Rattle.sentry_run.specs.Counts.{HasRisen}
-use Rattle.sentry_run.specs.Machine.{Leaves}
+use Rattle.call_table.specs.Beside.{Beside, kernel_with}
+use Rattle.call_table.specs.Turns.{Leaves}
 use Rattle.sentry_run.specs.Walk.{faulted_by}
 
 -- nothing is left beside the trace
@@ -136,20 +139,31 @@ TraceOf entries _ trace = trace ≡ []
 abbrev pub nothing_opened : Opening
 nothing_opened = record { mounts = []; roots = []; tasks = [] }
 
--- a kernel with other nodes, and no counts of faults
+-- what stands beside the processes of a run, with these nodes and no rise of a count
 -- profile
-abbrev pub over : Nodes → Kernel → Kernel
-over nodes k = record k { nodes = nodes; failed = map.empty }
+abbrev pub beside_of : Mounts → Nodes → Beside
+beside_of m nodes = record { nodes = nodes; failed = map.empty; mounts = m.mounts; seed = m.seed }
+
+-- the kernel whose one task begins an image, with the strings of its program
+-- execve(2)
+abbrev pub kernel_opened : Mounts → Program → Image → Nodes → Kernel
+kernel_opened m program image nodes =
+    with_task 1 program image (kernel_with no_tasks map.empty map.empty [] (beside_of m nodes) 0)
+
+-- a kernel with that beside its processes
+-- profile
+abbrev pub over : Mounts → Nodes → Kernel → Kernel
+over m nodes k = record k { nodes = nodes; failed = map.empty; mounts = m.mounts; seed = m.seed }
 
 -- how a run from a kernel ended, with these nodes beside it
 -- profile
-abbrev pub RanFrom : Nodes → Kernel → ℕ → End → List Entry → Type 0
-RanFrom nodes start entries (ends.Done kernel) trace =
-    (replay start trace ≡ Some (over nodes kernel)) × (each_whole start trace ≡ true)
-    × (any_live (over nodes kernel) ≡ false)
-RanFrom nodes start entries (ends.Full kernel) trace =
-    (replay start trace ≡ Some (over nodes kernel)) × (each_whole start trace ≡ true)
-    × (any_live (over nodes kernel) ≡ true) × (length trace ≡ entries)
-RanFrom nodes start entries ends.Memory trace =
-    Leaves nodes map.empty (replay start trace) × (each_whole start trace ≡ true)
-RanFrom nodes start entries _ trace = ⊥
+abbrev pub RanFrom : Mounts → Nodes → Kernel → End → List Entry → Type 0
+RanFrom m nodes start (ends.Done kernel) trace =
+    (replay start trace ≡ Some (over m nodes kernel)) × (each_whole start trace ≡ true)
+    × (any_live (over m nodes kernel) ≡ false)
+RanFrom m nodes start (ends.Full kernel) trace =
+    (replay start trace ≡ Some (over m nodes kernel)) × (each_whole start trace ≡ true)
+    × (any_live (over m nodes kernel) ≡ true) × (length trace ≡ m.entries)
+RanFrom m nodes start ends.Memory trace =
+    Leaves (beside_of m nodes) (replay start trace) × (each_whole start trace ≡ true)
+RanFrom m nodes start _ trace = ⊥

@@ -8,7 +8,7 @@ ghost use Rattle.kernel_model.specs.files.Numbers.{IsGapless, numbers_opened, nu
 ghost use Rattle.mount_file.specs.Form.{HasOneTask};
 ghost use Rattle.sentry_run.specs.Causes.{is_grant_failed};
 ghost use Rattle.sentry_run.specs.Played.{NamesTask, TraceOf};
-ghost use Rattle.sentry_run.specs.PlayedMachine.{IsInner};
+ghost use Rattle.sentry_run.specs.Stopped.{IsInner};
 ghost use Rattle.sentry_run.specs.Granted.{PlaysRoot, IsUngranted, PlaysIn};
 
 use crate::play::{End, Played, play_loaded, stopped};

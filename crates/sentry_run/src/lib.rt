@@ -20,10 +20,8 @@
 #![tactic(auto)]
 
 mod conclude;
-mod engine;
 mod error_line;
 mod grants;
-mod machine;
 mod outcome;
 mod play;
 mod run;

@@ -8,16 +8,14 @@ ghost use Rattle.kernel_model.specs.files.FileTree.{Nodes};
 ghost use Rattle.kernel_model.specs.opening.Arguments.{is_too_long};
 ghost use Rattle.kernel_model.specs.laws.Beginnings.{HasRoom};
 ghost use Rattle.kernel_model.specs.files.Numbers.{IsGapless, numbers_opened, numbers_in};
-ghost use Rattle.sentry_run.specs.Machine.{kernel_opened};
 ghost use Rattle.sn_errno.specs.declared.errno.Errno.TheVariants.{E2BIG};
 ghost use Rattle.sentry_run.specs.Walk.{given_by};
 ghost use Rattle.sentry_run.specs.Played.{nothing_opened, record_of, NamesTask, first_is_too_long, FitsFor, given_back};
-ghost use Rattle.sentry_run.specs.Played.{Ended, RanFrom, TraceOf};
-ghost use Rattle.sentry_run.specs.PlayedMachine.{EndsAs, FinishesAs, IsInner};
+ghost use Rattle.sentry_run.specs.Played.{Ended, RanFrom, TraceOf, kernel_opened};
+ghost use Rattle.sentry_run.specs.Stopped.{EndsAs, FinishesAs, IsInner};
 
-use crate::engine::{Ran, run_machine};
-use crate::machine::Machine;
 use crate::walk::{Answer, Loaded, Met, given};
+use call_table::{Processes, Ran, run_turns};
 use elf_image::Image;
 use kernel_model::{Kernel, Opened, Opening, Trace};
 use mount_file::{Mount, Mounts, Program};
@@ -140,16 +138,16 @@ fn run_image(
 ) -> Played
     requires short { is_too_long program.now.args program.now.env ≡ false }
     requires pages { HasRoom image.now }
-    ensures ran { (nodes : Nodes) → RanFrom nodes (kernel_opened mounts.now.seed program.now image.now nodes)
-        mounts.now.entries result.end result.trace }
+    ensures ran { (nodes : Nodes) → RanFrom mounts.now nodes
+        (kernel_opened mounts.now program.now image.now nodes) result.end result.trace }
     ensures opening { result.opening ≡ opening }
     ensures drawn { flat_map numbers_in result.trace ≡ [] }
     ensures inner { IsInner result.end }
     ensures trace { TraceOf mounts.now.entries result.end result.trace }
     ensures bound { length result.trace ≤ mounts.now.entries }
 {
-    let machine = match Machine::start(alloc, mounts.seed.as_slice(), program, image) {
-        Ok(machine) => machine,
+    let processes = match Processes::start(alloc, mounts.seed.as_slice(), program, image) {
+        Ok(processes) => processes,
         Err(Memory) => {
             return Played {
                 end: End::Memory,
@@ -158,19 +156,19 @@ fn run_image(
             };
         }
     };
-    finished(alloc, run_machine(alloc, machine, mounts.entries), opening)
+    finished(alloc, run_turns(alloc, processes, mounts.entries), opening)
 }
 
 /// How a run has ended.
 fn finished(alloc: Global, ran: Ran, opening: Opening) -> Played
-    ensures end { FinishesAs ran.machine (length ran.trace) result.end }
+    ensures end { FinishesAs ran.processes (length ran.trace) result.end }
     ensures inner { IsInner result.end }
     ensures trace { result.trace ≡ ran.trace }
     ensures opening { result.opening ≡ opening }
 {
-    let Ran { machine, trace } = ran;
-    let end = match machine {
-        Some(machine) => ended(alloc, machine, trace.len() as u64),
+    let Ran { processes, trace } = ran;
+    let end = match processes {
+        Some(processes) => ended(alloc, processes, trace.len() as u64),
         None => End::Memory,
     };
     Played {
@@ -180,21 +178,17 @@ fn finished(alloc: Global, ran: Ran, opening: Opening) -> Played
     }
 }
 
-/// How a machine that stopped there has ended.
-fn ended(alloc: Global, machine: Machine, entries: u64) -> End
-    ensures as_stands { EndsAs machine entries result }
+/// How processes that stopped there have ended.
+fn ended(alloc: Global, processes: Processes, entries: u64) -> End
+    ensures as_stands { EndsAs processes entries result }
     ensures inner { IsInner result }
 {
-    let live = machine.is_live();
-    match machine.into_kernel(alloc, entries) {
-        Err(Memory) => End::Memory,
-        Ok(kernel) => {
-            if live {
-                End::Full(kernel)
-            } else {
-                End::Done(kernel)
-            }
-        }
+    let live = processes.any_live();
+    let kernel = processes.into_kernel(alloc, entries);
+    if live {
+        End::Full(kernel)
+    } else {
+        End::Done(kernel)
     }
 }
 

@@ -13,7 +13,7 @@ use std::alloc::Global;
 use std::io;
 
 /// The text that a run prints: the console's bytes, closed by a newline; a line for each thread group, ascending by
-/// its first task; and where `flag` asks for it a line for each call and each end of the trace, under its place.
+/// its number; and where `flag` asks for it a line for each call and each end of the trace, under its place.
 pub fn printed_text(
     alloc: Global,
     kernel: &Kernel,
@@ -23,7 +23,7 @@ pub fn printed_text(
     ensures { IfOk result (λ t. t ≡ printed kernel.now trace.now flag) }
 {
     let mut out = console_text(alloc, kernel.console.as_slice())?;
-    groups::push_groups(alloc, &mut out, &kernel.tasks)?;
+    groups::push_groups(alloc, &mut out, kernel.tasks.groups())?;
     if flag {
         trace::push_trace(&mut out, trace.as_slice())?;
     }

@@ -1,32 +1,50 @@
 //! The text of a state: the console, the groups, and the lines of a trace.
 
-use kernel_model::{Args, Entry, Given, Kernel, Life, Task};
-use rv_table::Regs;
+use kernel_model::{Args, Entry, Given, Kernel, Named};
 use sentry_run::printed_text;
 use sn_base::{List, Map, Memory};
 use std::alloc::Global;
 use std::test::Fail;
+use task_table::{Made, Status, Tasks};
 
-fn kernel(alloc: Global, console: &[u8], lives: &[Life]) -> Result<Kernel, Memory> {
-    let mut tasks = Map::new(alloc);
-    let mut number = 0;
-    for life in lives {
-        let registers = Regs { pc: 0, x: [0; 32] };
-        let task = Task {
-            group: number,
-            space: 0,
-            registers,
-            life: *life,
-        };
-        tasks.insert(u64::from(number), task)?;
-        number = number.wrapping_add(1);
+/// Makes a thread group, which ends so.
+fn add_group(alloc: Global, tasks: &mut Tasks, ended: Option<Status>) -> Result<(), Fail> {
+    if tasks.last() > 1000 {
+        return Err(Fail::new("too many groups"));
     }
+    let made = Made { place: 0, index: 0 };
+    let number = tasks.open(made, made, 1)?;
+    let Some(status) = ended else {
+        return Ok(());
+    };
+    let Some(group) = tasks.group(number) else {
+        return Err(Fail::new("no group"));
+    };
+    if group.ended.is_some() {
+        return Err(Fail::new("it has ended"));
+    }
+    tasks.end_group(alloc, number, status)?;
+    Ok(())
+}
+
+fn tasks(alloc: Global, groups: &[Option<Status>]) -> Result<Tasks, Fail> {
+    let mut tasks = Tasks::new(alloc);
+    for ended in groups {
+        add_group(alloc, &mut tasks, *ended)?;
+    }
+    Ok(tasks)
+}
+
+fn kernel(alloc: Global, console: &[u8], tasks: Tasks) -> Result<Kernel, Memory> {
     Ok(Kernel {
         tasks,
-        spaces: Map::new(alloc),
+        registers: Map::new(alloc),
+        spaces: Named::new(alloc),
         nodes: Map::new(alloc),
         console: List::from_slice(alloc, console)?,
         failed: Map::new(alloc),
+        mounts: List::new(alloc),
+        seed: List::new(alloc),
         entries: 0,
     })
 }
@@ -54,10 +72,10 @@ fn call(alloc: Global, no: u64, first: u64, reply: i64) -> Entry {
 #[test]
 fn groups_stand_behind_a_closed_console(rt: HostRuntime) -> Result<(), Fail> {
     let alloc = rt.alloc();
-    let lives = [Life::Exited(3), Life::Killed(9), Life::Live];
-    let want = b"ab\ngroup 0 exit 3\ngroup 1 signal 9\ngroup 2 live\n";
+    let groups = [Some(Status::Exited(3)), Some(Status::Killed(9)), None];
+    let want = b"ab\ngroup 1 exit 3\ngroup 2 signal 9\ngroup 3 live\n";
     for console in ["ab", "ab\n"] {
-        let kernel = kernel(alloc, console.as_bytes(), &lives)?;
+        let kernel = kernel(alloc, console.as_bytes(), tasks(alloc, &groups)?)?;
         let text = printed_text(alloc, &kernel, &List::new(alloc), true)?;
         assert_eq!(rt; text.as_slice(), want.as_slice());
     }
@@ -67,7 +85,7 @@ fn groups_stand_behind_a_closed_console(rt: HostRuntime) -> Result<(), Fail> {
 #[test]
 fn calls_and_ends_have_lines_under_their_places(rt: HostRuntime) -> Result<(), Fail> {
     let alloc = rt.alloc();
-    let kernel = kernel(alloc, &[], &[])?;
+    let kernel = kernel(alloc, &[], Tasks::new(alloc))?;
     let trace = List::from_vec(vec![in alloc;
         Entry::Run { task: 1, n: 5 },
         call(alloc, 64, 1, 0),

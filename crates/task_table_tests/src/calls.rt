@@ -133,5 +133,6 @@ fn expect_groups(rt: &impl Abort, table: &Tasks, expected: &[(u32, u32, Option<S
     for &(number, parent, ended) in expected {
         let found = table.group(number).map(|group| (group.parent, group.ended));
         assert_eq!(rt; found, Some((parent, ended)), "group {number}");
+        assert!(rt; table.groups().get(u64::from(number)) == table.group(number));
     }
 }

@@ -5,31 +5,31 @@ ghost use Rattle.std.specs.FinMap as map;
 ghost use Rattle.kernel_model.specs.printed.Printed.{group_text, groups_text};
 
 use super::written;
-use kernel_model::{Life, Task};
 use sn_base::{Map, Memory};
 use std::alloc::Global;
 use std::io::Write;
+use task_table::{Group, Status};
 
 /// Adds a line for each group, ascending by its number.
-pub fn push_groups(alloc: Global, out: &mut Vec<u8>, tasks: &Map<Task>) -> Result<(), Memory>
-    ensures { OnOk result (out.new.items ≡ out.old.items ++ groups_text (map.entries tasks.now)) }
+pub fn push_groups(alloc: Global, out: &mut Vec<u8>, groups: &Map<Group>) -> Result<(), Memory>
+    ensures { OnOk result (out.new.items ≡ out.old.items ++ groups_text (map.entries groups.now)) }
 {
-    let numbers = tasks.keys(alloc)?;
+    let numbers = groups.keys(alloc)?;
     for number in numbers.as_slice() {
-        if let Some(task) = tasks.get(*number) {
-            push_group(out, *number, task)?;
+        if let Some(group) = groups.get(*number) {
+            push_group(out, *number, group)?;
         }
     }
     Ok(())
 }
 
-/// Adds the line of a group: its number, and how its first task stands.
-fn push_group(out: &mut Vec<u8>, number: u64, task: &Task) -> Result<(), Memory>
-    ensures { OnOk result (out.new.items ≡ out.old.items ++ group_text (number, task.now)) }
+/// Adds the line of a group: its number, and how it stands.
+fn push_group(out: &mut Vec<u8>, number: u64, group: &Group) -> Result<(), Memory>
+    ensures { OnOk result (out.new.items ≡ out.old.items ++ group_text (number, group.now)) }
 {
-    match task.life {
-        Life::Live => written(writeln!(out, "group {number} live")),
-        Life::Exited(code) => written(writeln!(out, "group {number} exit {code}")),
-        Life::Killed(signal) => written(writeln!(out, "group {number} signal {signal}")),
+    match group.ended {
+        None => written(writeln!(out, "group {number} live")),
+        Some(Status::Exited(code)) => written(writeln!(out, "group {number} exit {code}")),
+        Some(Status::Killed(signal)) => written(writeln!(out, "group {number} signal {signal}")),
     }
 }

@@ -9,6 +9,7 @@ use super::calls::push_name;
 use super::written;
 use kernel_model::{Args, Entry};
 use sn_base::Memory;
+use sn_errno::CallNo;
 use std::io::Write;
 
 /// Adds the lines of a trace, the first of whose entries has place 1.
@@ -84,13 +85,13 @@ fn push_argument(out: &mut Vec<u8>, argument: u64) -> Result<(), Memory>
     written(write!(out, " {signed}"))
 }
 
-/// Adds the reply of a call, and ends its line. exit (93) and exit_group (94) have no reply.
+/// Adds the reply of a call, and ends its line. exit and exit_group have no reply.
 fn push_reply(out: &mut Vec<u8>, number: u64, reply: i64) -> Result<(), Memory>
     ensures { OnOk result (out.new.items ≡ out.old.items ++
         (codes " = " ++ reply_text number reply ++ codes "\n")) }
 {
-    match number {
-        93 | 94 => written(writeln!(out, " = ?")),
+    match CallNo::of(number) {
+        Some(CallNo::Exit | CallNo::ExitGroup) => written(writeln!(out, " = ?")),
         _ => written(writeln!(out, " = {reply}")),
     }
 }

@@ -6,8 +6,7 @@ use Rattle.elf_image.specs.declared.image.Image.{Image}
 use Rattle.sn_errno.specs.declared.errno.Errno.{Errno}
 use Rattle.sentry_run.specs.Walk.{is_roomy, given_by}
 use Rattle.mount_file.specs.declared.mounts.Program.{Program}
-use Rattle.sentry_run.specs.Machine.{kernel_opened}
-use Rattle.sentry_run.specs.Played.{FitsFor, RanFrom, first_is_too_long}
+use Rattle.sentry_run.specs.Played.{FitsFor, RanFrom, first_is_too_long, kernel_opened}
 use Rattle.sentry_run.proofs.Endings.{starts_for, refuses_for, gapless, gapless_nothing, first_program, first_task}
 use Rattle.sentry_run.proofs.Endings.{first_long}
 use Rattle.sentry_run.specs.declared.play.End.{End}
@@ -43,8 +42,8 @@ returns-in-Starts-clause-ended c = λ t small fits.
     starts_for (first_is_too_long c.args.mounts.now.tasks) c.args.mounts.now t c.args.name.now c.args.loaded.met
     c.in-Starts.image c.run_image.result.opening c.run_image.result.trace c.run_image.result.end
     c.requires.named refl (c.run_image.ensures.opening ∙ opening) small fits_image
-    (λ nodes. subst (λ (p : Program). RanFrom nodes (kernel_opened c.args.mounts.now.seed p c.in-Starts.image nodes)
-    c.args.mounts.now.entries c.run_image.result.end c.run_image.result.trace)
+    (λ nodes. subst (λ (p : Program). RanFrom c.args.mounts.now nodes
+    (kernel_opened c.args.mounts.now p c.in-Starts.image nodes) c.run_image.result.end c.run_image.result.trace)
     (sym (first_program c.args.mounts.now c.args.name.now c.at-program.result.now c.requires.named
     c.at-program.ensures)) (c.run_image.ensures.ran nodes))
 

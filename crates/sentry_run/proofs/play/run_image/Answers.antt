@@ -1,46 +1,54 @@
--- A machine that began an image runs from the kernel that opens with that image.
-use Rattle.std.proofs.Common.{ℕ, List, sym, subst}
-use Rattle.elf_image.specs.declared.image.Image.{Image}
-use Rattle.mount_file.specs.declared.mounts.Program.{Program}
+-- Processes that began an image run from the kernel that opens with that image.
+use Rattle.std.proofs.Common.{◌≡◌, List, length, sym, subst}
+use Rattle.std.specs.Prelude.{Option, Some, None, IfSome}
 use Rattle.std.specs.FinMap as map
-use Rattle.kernel_model.specs.declared.kernel.Kernel.{Kernel}
+use Rattle.mount_file.specs.declared.mounts.Mounts.{Mounts}
 use Rattle.kernel_model.specs.declared.entry.Entry.{Entry}
-use Rattle.kernel_model.specs.opening.Opening.{space_opened, task_opened}
-use Rattle.sentry_run.specs.Machine.{kernel_opened}
-use Rattle.sentry_run.specs.MachineKernel.{kernel_of}
-use Rattle.sentry_run.specs.Played.{RanFrom, TraceOf}
-use Rattle.sentry_run.proofs.RunsOfMachines.{ran_from, ran_trace, started_same, each_state}
+use Rattle.kernel_model.specs.declared.kernel.Kernel.{Kernel}
+use Rattle.kernel_model.specs.files.FileTree.{Nodes}
+use Rattle.kernel_model.specs.entries.History.{replay}
+use Rattle.call_table.specs.declared.processes.Processes.{Processes}
+use Rattle.call_table.specs.Beside.{Beside}
+use Rattle.call_table.specs.Processes.{kernel_of}
+use Rattle.sentry_run.specs.Played.{RanFrom, TraceOf, beside_of, kernel_opened}
+use Rattle.sentry_run.proofs.RunsOfTurns.{ran_from, ran_trace}
 use Rattle.sentry_run.proofs.play.run_image.Goals as goal
+
+-- what a run left, with these nodes beside it
+state_with : (m : Mounts) (o : Option Processes) (first : Processes) (trace : List Entry) (nodes : Nodes)
+    → IfSome o (λ p. (beside : Beside)
+    → replay (kernel_of first beside 0) trace ≡ Some (kernel_of p beside (length trace)))
+    → IfSome o (λ p. replay (kernel_of first (beside_of m nodes) 0) trace
+    ≡ Some (kernel_of p (beside_of m nodes) (length trace)))
+state_with m None first trace nodes h = tt
+state_with m (Some p) first trace nodes h = h (beside_of m nodes)
 
 pub returns-clause-ran : goal.returns-clause-ran
 returns-clause-ran c = λ nodes.
-    let seed : List ℕ = c.as_slice.result.now in
-    let program : Program = c.args.program.now in
-    let image : Image = c.args.image.now in
-    let e = c.run_machine.ensures in
-    let same =
-    started_same c.in-Ok.machine (task_opened seed 1 program image) (space_opened seed 1 program image)
-    nodes 0 c.in-Ok.ensures.task c.in-Ok.ensures.space c.in-Ok.ensures.console in
+    let m : Mounts = c.args.mounts.now in
+    let e = c.run_turns.ensures in
+    let first = c.in-Ok.processes in
+    let same : kernel_of first (beside_of m nodes) 0 ≡ kernel_opened m c.args.program.now c.args.image.now nodes =
+    c.in-Ok.ensures.begun (beside_of m nodes) 0 (sym c.as_slice.ensures) in
     let ran =
-    ran_from c.run_machine.result.machine c.run_machine.result.trace c.finished.result.end c.args.mounts.now.entries
-    nodes (kernel_of c.in-Ok.machine nodes map.empty 0)
-    (e.history nodes map.empty) (each_state c.run_machine.result.machine c.in-Ok.machine c.run_machine.result.trace
-    nodes e.state) (e.whole nodes map.empty) e.ended c.finished.ensures.end in
-    subst (λ (es : List Entry). RanFrom nodes (kernel_opened c.args.mounts.now.seed program image nodes)
-    c.args.mounts.now.entries c.finished.result.end es) (sym c.finished.ensures.trace)
-    (subst (λ (bytes : List ℕ). RanFrom nodes (kernel_opened bytes program image nodes) c.args.mounts.now.entries
-    c.finished.result.end c.run_machine.result.trace) c.as_slice.ensures
-    (subst (λ (k : Kernel). RanFrom nodes k c.args.mounts.now.entries c.finished.result.end c.run_machine.result.trace)
-    same ran))
+    ran_from m c.run_turns.result.processes c.run_turns.result.trace c.finished.result.end nodes
+    (kernel_of first (beside_of m nodes) 0) (e.history (beside_of m nodes))
+    (state_with m c.run_turns.result.processes first c.run_turns.result.trace nodes e.state)
+    (e.whole (beside_of m nodes)) e.ended c.finished.ensures.end in
+    subst (λ (es : List Entry). RanFrom m nodes (kernel_opened m c.args.program.now c.args.image.now nodes)
+    c.finished.result.end es) (sym c.finished.ensures.trace)
+    (subst (λ (k : Kernel). RanFrom m nodes k c.finished.result.end c.run_turns.result.trace) same ran)
 
 pub returns-clause-trace : goal.returns-clause-trace
 returns-clause-trace c =
-    let e = c.run_machine.ensures in
+    let m : Mounts = c.args.mounts.now in
+    let e = c.run_turns.ensures in
+    let first = c.in-Ok.processes in
+    let start : Kernel = kernel_of first (beside_of m map.empty) 0 in
     let ran =
-    ran_from c.run_machine.result.machine c.run_machine.result.trace c.finished.result.end c.args.mounts.now.entries
-    map.empty (kernel_of c.in-Ok.machine map.empty map.empty 0)
-    (e.history map.empty map.empty) (each_state c.run_machine.result.machine c.in-Ok.machine c.run_machine.result.trace
-    map.empty e.state) (e.whole map.empty map.empty) e.ended c.finished.ensures.end in
-    subst (λ (es : List Entry). TraceOf c.args.mounts.now.entries c.finished.result.end es)
-    (sym c.finished.ensures.trace) (ran_trace map.empty (kernel_of c.in-Ok.machine map.empty map.empty 0)
-    c.args.mounts.now.entries c.finished.result.end c.run_machine.result.trace ran)
+    ran_from m c.run_turns.result.processes c.run_turns.result.trace c.finished.result.end map.empty start
+    (e.history (beside_of m map.empty))
+    (state_with m c.run_turns.result.processes first c.run_turns.result.trace map.empty e.state)
+    (e.whole (beside_of m map.empty)) e.ended c.finished.ensures.end in
+    subst (λ (es : List Entry). TraceOf m.entries c.finished.result.end es) (sym c.finished.ensures.trace)
+    (ran_trace m map.empty start c.finished.result.end c.run_turns.result.trace ran)

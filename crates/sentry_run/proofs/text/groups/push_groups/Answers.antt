@@ -1,4 +1,4 @@
--- Each round adds the line of the next group, and the numbers are those of all tasks.
+-- Each round adds the line of the next group, and the numbers are those of all groups.
 use Rattle.std.proofs.Common.{◌≡◌, ◌++◌, get_or, ap, sym, ◌∙◌, take}
 use Rattle.std.proofs.lemmas.List.{append-nil, take_all}
 use Rattle.std.specs.Option.{option_copied}
@@ -11,7 +11,7 @@ use Rattle.sentry_run.proofs.text.groups.push_groups.Goals.{in-Some+in_ok-push_g
 
 pub loop-number-preserved : goal.loop-number-preserved
 loop-number-preserved c =
-    let tasks = c.args.tasks.now in
+    let tasks = c.args.groups.now in
     let numbers = c.as_slice-number-items.result.now in
     let number = get_or numbers c.loop-number.number-index 0 in
     let next = flat_map_next (line_at tasks) numbers c.loop-number.number-index 0 c.loop-number-test.true in
@@ -33,6 +33,6 @@ pub returns : goal.returns
 returns c =
     let numbers = c.as_slice-number-items.result.now in
     let all : take c.loop-number.number-index numbers ≡ numbers = take_all _ numbers c.loop-number-test.false in
-    let keys : numbers ≡ map.keys c.args.tasks.now = c.as_slice-number-items.ensures ∙ c.in_ok-numbers.ensures in
-    c.loop-number.invariant ∙ ap (λ ns. c.args.out.now.items ++ flat_map (line_at c.args.tasks.now) ns) (all ∙ keys)
-    ∙ ap (λ text. c.args.out.now.items ++ text) (lines_of_keys c.args.tasks.now)
+    let keys : numbers ≡ map.keys c.args.groups.now = c.as_slice-number-items.ensures ∙ c.in_ok-numbers.ensures in
+    c.loop-number.invariant ∙ ap (λ ns. c.args.out.now.items ++ flat_map (line_at c.args.groups.now) ns) (all ∙ keys)
+    ∙ ap (λ text. c.args.out.now.items ++ text) (lines_of_keys c.args.groups.now)

@@ -7,4 +7,4 @@ use Rattle.sentry_run.proofs.text.groups.push_groups.Given as goal
 -- the lines of the numbers so far are there
 abbrev pub invariant-loop-number : goal.invariant-loop-number
 invariant-loop-number l =
-    l.out.items ≡ l.initial.out.items ++ flat_map (line_at l.tasks) (take l.number-index l.number-items)
+    l.out.items ≡ l.initial.out.items ++ flat_map (line_at l.groups) (take l.number-index l.number-items)

@@ -1,0 +1,187 @@
+//! Guests in turns: which entries they make, what they leave on the console, and whether they live then.
+
+ghost use Rattle.std.specs.Prelude.{IsTrue};
+ghost use Rattle.task_table.specs.Table.{is_live};
+
+use crate::guests::processes_of;
+use call_table::{Processes, Ran, run_turns};
+use kernel_model::Entry;
+use sn_base::List;
+use sn_vectors::programs::{STORES, WRITES_NOTHING};
+use sn_vectors::words::{EBREAK, JUMP_TO_ITSELF};
+use std::alloc::Global;
+use std::process::Abort;
+use std::test::Fail;
+
+/// An entry: its kind, and of a run how many instructions, of a call its number, of an end the signal; and the reply.
+#[derive(Clone, Copy, Debug, PartialEq, Eq)]
+struct Line {
+    kind: &'static str,
+    number: u64,
+    reply: i64,
+}
+
+const RUN_4: Line = Line {
+    kind: "run",
+    number: 4,
+    reply: 0,
+};
+
+const RUN_2: Line = Line {
+    kind: "run",
+    number: 2,
+    reply: 0,
+};
+
+const RUN_ALL: Line = Line {
+    kind: "run",
+    number: 10_000,
+    reply: 0,
+};
+
+const WRITE_0: Line = Line {
+    kind: "call",
+    number: 64,
+    reply: 0,
+};
+
+const EXIT_GROUP: Line = Line {
+    kind: "call",
+    number: 94,
+    reply: 0,
+};
+
+const BREAKPOINT: Line = Line {
+    kind: "end",
+    number: 5,
+    reply: 0,
+};
+
+/// What came of a run of turns.
+#[derive(Drop)]
+struct Told {
+    lines: List<Line>,
+    lives: bool,
+    console: List<u8>,
+    entries: u64,
+}
+
+fn line_of(entry: &Entry) -> Line {
+    match entry {
+        Entry::Run { n, .. } => Line {
+            kind: "run",
+            number: u64::from(*n),
+            reply: 0,
+        },
+        Entry::Call { no, reply, .. } => Line {
+            kind: "call",
+            number: *no,
+            reply: *reply,
+        },
+        Entry::Sleep { .. } => Line {
+            kind: "sleep",
+            number: 0,
+            reply: 0,
+        },
+        Entry::End { signal, .. } => Line {
+            kind: "end",
+            number: u64::from(*signal),
+            reply: 0,
+        },
+    }
+}
+
+fn lines_of(alloc: Global, trace: &[Entry]) -> Result<List<Line>, Fail> {
+    let mut lines = List::new(alloc);
+    for entry in trace {
+        lines.push(line_of(entry))?;
+    }
+    Ok(lines)
+}
+
+/// Has a guest of these words make at most so many entries.
+fn turns(alloc: Global, words: &[u32], entries: u64) -> Result<Told, Fail> {
+    let processes = processes_of(alloc, words)?;
+    let Ran { processes, trace } = run_turns(alloc, processes, entries);
+    let Some(processes) = processes else {
+        return Err(Fail::new("memory"));
+    };
+    let lines = lines_of(alloc, trace.as_slice())?;
+    let lives = processes.any_live();
+    let kernel = processes.into_kernel(alloc, trace.len() as u64);
+    Ok(Told {
+        lines,
+        lives,
+        console: kernel.console,
+        entries: kernel.entries,
+    })
+}
+
+fn expect_lines(rt: &impl Abort, told: &Told, lines: &[Line]) {
+    assert!(rt; told.lines.as_slice() == lines);
+    assert!(rt; told.entries == lines.len() as u64);
+}
+
+fn expect_end(rt: &impl Abort, told: &Told, lives: bool, console: &[u8]) {
+    assert!(rt; told.lives == lives);
+    assert!(rt; told.console.as_slice() == console);
+}
+
+#[test]
+fn a_write_and_an_exit_make_four_entries(rt: HostRuntime) -> Result<(), Fail> {
+    let told = turns(rt.alloc(), WRITES_NOTHING.words, 4096)?;
+    expect_lines(&rt, &told, &[RUN_4, WRITE_0, RUN_2, EXIT_GROUP]);
+    expect_end(&rt, &told, false, b"");
+    Ok(())
+}
+
+#[test]
+fn a_full_trace_leaves_the_task_alive(rt: HostRuntime) -> Result<(), Fail> {
+    let told = turns(rt.alloc(), WRITES_NOTHING.words, 1)?;
+    expect_lines(&rt, &told, &[RUN_4]);
+    expect_end(&rt, &told, true, b"");
+    Ok(())
+}
+
+#[test]
+fn a_loop_runs_ten_thousand_instructions_a_turn(rt: HostRuntime) -> Result<(), Fail> {
+    let told = turns(rt.alloc(), &[JUMP_TO_ITSELF], 2)?;
+    expect_lines(&rt, &told, &[RUN_ALL, RUN_ALL]);
+    expect_end(&rt, &told, true, b"");
+    Ok(())
+}
+
+#[test]
+fn a_breakpoint_ends_the_group_by_signal_5(rt: HostRuntime) -> Result<(), Fail> {
+    let told = turns(rt.alloc(), &[EBREAK], 4096)?;
+    expect_lines(&rt, &told, &[BREAKPOINT]);
+    expect_end(&rt, &told, false, b"");
+    Ok(())
+}
+
+#[test]
+fn what_is_written_comes_to_the_console(rt: HostRuntime) -> Result<(), Fail> {
+    let told = turns(rt.alloc(), STORES.words, 4096)?;
+    expect_end(&rt, &told, false, STORES.writes);
+    Ok(())
+}
+
+/// Aborts unless a task lives.
+fn expect_live(rt: &impl Abort, processes: &Processes, number: u32)
+    ensures { IsTrue (is_live processes.now.tasks.tasks number) }
+{
+    let live = match processes.tasks.task(number) {
+        Some(task) => task.live,
+        None => false,
+    };
+    assert!(rt; live);
+}
+
+#[test]
+fn a_live_task_advances_by_one_entry(rt: HostRuntime) -> Result<(), Fail> {
+    let mut processes = processes_of(rt.alloc(), WRITES_NOTHING.words)?;
+    expect_live(&rt, &processes, 1);
+    let entry = processes.advance(rt.alloc(), 1)?;
+    assert!(rt; line_of(&entry) == RUN_4);
+    Ok(())
+}

@@ -1,0 +1,31 @@
+-- How processes that stopped have ended.
+use Rattle.std.specs.Prelude.{◌≡◌, ℕ, true, false, Option, Some, None}
+use Rattle.task_table.specs.Table.{live_numbers}
+use Rattle.kernel_model.specs.entries.Given.{has_any}
+use Rattle.call_table.specs.declared.processes.Processes.{Processes}
+use Rattle.call_table.specs.Beside.{nothing_beside}
+use Rattle.call_table.specs.Processes.{kernel_of}
+use Rattle.sentry_run.specs.declared.play.End.{End}
+use Rattle.sentry_run.specs.declared.play.End.TheVariants as ends
+
+-- processes end as their tasks stand
+-- profile
+abbrev pub EndsAs : Processes → ℕ → End → Type 0
+EndsAs p entries (ends.Done kernel) =
+    (has_any (live_numbers p.tasks.tasks) ≡ false) × (kernel ≡ kernel_of p nothing_beside entries)
+EndsAs p entries (ends.Full kernel) =
+    (has_any (live_numbers p.tasks.tasks) ≡ true) × (kernel ≡ kernel_of p nothing_beside entries)
+EndsAs p entries _ = ⊥
+
+-- a run ends as its processes do, or for want of memory
+-- profile
+abbrev pub FinishesAs : Option Processes → ℕ → End → Type 0
+FinishesAs None entries end = end ≡ ends.Memory
+FinishesAs (Some p) entries end = EndsAs p entries end
+
+-- an end after a grant
+-- profile
+abbrev pub IsInner : End → Type 0
+IsInner ends.HostFault = ⊥
+IsInner ends.Grant = ⊥
+IsInner _ = Unit {0}
