@@ -1,8 +1,11 @@
 //! Loads and fetches.
 
-use crate::fixture::{FIRST, SECOND, area, load, space};
+use crate::fixture::{FIRST, SECOND, area, guest};
+use crate::guest::{Guest, expect_same};
 use mm_space::Handed;
-use rv_table::MemErr;
+use rv_table::{Area, MemErr};
+use std::alloc::Global;
+use std::process::Abort;
 use std::test::Fail;
 
 #[rattlefmt::skip]
@@ -29,19 +32,19 @@ const LOADS: [(u64, u8, Result<u64, MemErr>); 20] = [
     (u64::MAX, 2, Err(MemErr::Fault { addr: u64::MAX })),
 ];
 
+/// That loads are answered so.
+fn expect_loads(rt: &impl Abort, guest: &Guest, rows: &[(u64, u8, Result<u64, MemErr>)]) {
+    for (at, width, expected) in rows {
+        guest.expect_load(rt, *at, *width, *expected);
+    }
+}
+
 #[test]
 fn a_load_gives_the_bytes_lowest_first_or_the_first_that_may_not_be_read(
     rt: HostRuntime,
 ) -> Result<(), Fail> {
-    let space = space(rt.alloc())?;
-    let none = Handed::none(rt.alloc());
-    for (at, width, expected) in LOADS {
-        assert_eq!(rt;
-            load(&space, &none, at, width),
-            expected,
-            "{width} bytes at {at:x}"
-        );
-    }
+    let guest = guest(rt.alloc())?;
+    expect_loads(&rt, &guest, &LOADS);
     Ok(())
 }
 
@@ -57,13 +60,43 @@ const FETCHES: [(u64, Result<u32, MemErr>); 8] = [
     (0x1_8000, Err(MemErr::Shared(SECOND))),
 ];
 
+/// That fetches are answered so.
+fn expect_fetches(rt: &impl Abort, guest: &Guest, rows: &[(u64, Result<u32, MemErr>)]) {
+    for (at, expected) in rows {
+        guest.expect_fetch(rt, *at, *expected);
+    }
+}
+
 #[test]
 fn a_fetch_needs_the_right_to_execute(rt: HostRuntime) -> Result<(), Fail> {
-    let space = space(rt.alloc())?;
-    let none = Handed::none(rt.alloc());
-    for (at, expected) in FETCHES {
-        assert_eq!(rt; space.fetch(&none, at), expected, "at {at:x}");
-    }
+    let guest = guest(rt.alloc())?;
+    expect_fetches(&rt, &guest, &FETCHES);
+    Ok(())
+}
+
+/// Loads where `FIRST` alone is in hand.
+#[rattlefmt::skip]
+const WITH_ONE: [(u64, u8, Result<u64, MemErr>); 3] = [
+    (0x1_4000, 2, Ok(0x11)),
+    (0x1_5ffe, 2, Ok(0x2200)),
+    (0x1_5ffe, 4, Err(MemErr::Shared(SECOND))),
+];
+
+/// Loads where both are.
+#[rattlefmt::skip]
+const WITH_BOTH: [(u64, u8, Result<u64, MemErr>); 3] = [
+    (0x1_5ffe, 4, Ok(0x0033_2200)),
+    (0x1_6fff, 1, Ok(0x44)),
+    (0x1_6fff, 2, Err(MemErr::Fault { addr: 0x1_7000 })),
+];
+
+/// Hands both in, one after the other.
+fn expect_handed(rt: &impl Abort, guest: &mut Guest) -> Result<(), Fail> {
+    guest.hand(area(guest.alloc, FIRST, 2, 0x11, 0x22)?)?;
+    expect_loads(rt, guest, &WITH_ONE);
+    guest.hand(area(guest.alloc, SECOND, 1, 0x33, 0x44)?)?;
+    expect_loads(rt, guest, &WITH_BOTH);
+    guest.expect_fetch(rt, 0x1_8000, Ok(0x33));
     Ok(())
 }
 
@@ -71,34 +104,29 @@ fn a_fetch_needs_the_right_to_execute(rt: HostRuntime) -> Result<(), Fail> {
 fn areas_in_hand_are_read_and_the_first_that_is_not_is_asked_for(
     rt: HostRuntime,
 ) -> Result<(), Fail> {
-    let space = space(rt.alloc())?;
-    let mut handed = Handed::none(rt.alloc());
-    handed.push(area(rt.alloc(), FIRST, 2, 0x11, 0x22)?)?;
-    assert_eq!(rt; load(&space, &handed, 0x1_4000, 2), Ok(0x11));
-    assert_eq!(rt; load(&space, &handed, 0x1_5ffe, 2), Ok(0x2200));
-    assert_eq!(rt;
-        load(&space, &handed, 0x1_5ffe, 4),
-        Err(MemErr::Shared(SECOND))
-    );
-    handed.push(area(rt.alloc(), SECOND, 1, 0x33, 0x44)?)?;
-    assert_eq!(rt; load(&space, &handed, 0x1_5ffe, 4), Ok(0x0033_2200));
-    assert_eq!(rt; load(&space, &handed, 0x1_6fff, 1), Ok(0x44));
-    assert_eq!(rt; space.fetch(&handed, 0x1_8000), Ok(0x33));
-    assert_eq!(rt;
-        load(&space, &handed, 0x1_6fff, 2),
-        Err(MemErr::Fault { addr: 0x1_7000 })
-    );
+    let mut guest = guest(rt.alloc())?;
+    expect_handed(&rt, &mut guest)
+}
+
+/// That the area in hand by a name has so many pages, or there is none.
+fn expect_area(rt: &impl Abort, handed: &Handed, name: Area, pages: Option<usize>) {
+    let told = handed.get(name).map(|area| area.frames.len());
+    expect_same(rt, told, pages, u64::from(name.index));
+}
+
+/// Hands in two areas of one name.
+fn hand_two(alloc: Global, handed: &mut Handed) -> Result<(), Fail> {
+    handed.push(area(alloc, FIRST, 1, 1, 2)?)?;
+    handed.push(area(alloc, FIRST, 3, 3, 4)?)?;
     Ok(())
 }
 
 #[test]
 fn of_two_areas_of_one_name_the_first_counts(rt: HostRuntime) -> Result<(), Fail> {
     let mut handed = Handed::none(rt.alloc());
-    assert!(rt; handed.get(FIRST).is_none());
-    handed.push(area(rt.alloc(), FIRST, 1, 1, 2)?)?;
-    handed.push(area(rt.alloc(), FIRST, 3, 3, 4)?)?;
-    assert!(rt; handed.get(SECOND).is_none());
-    let pages = handed.get(FIRST).map(|area| area.frames.len());
-    assert_eq!(rt; pages, Some(1));
+    expect_area(&rt, &handed, FIRST, None);
+    hand_two(rt.alloc(), &mut handed)?;
+    expect_area(&rt, &handed, SECOND, None);
+    expect_area(&rt, &handed, FIRST, Some(1));
     Ok(())
 }

@@ -9,11 +9,11 @@
 //! | 22 | read | the page 0 of `SECOND` |
 //! | 24 | read, execute | the page 0 of `SECOND` |
 
+use crate::guest::{Guest, area_of, areas_of};
 use mm_areas::{Areas, Backing, Rights};
 use mm_frames::Frames;
-use mm_space::{Handed, HandedArea, SharedArea, Space};
-use rv_atomic::AreaReservations;
-use rv_table::{Area, MemErr};
+use mm_space::HandedArea;
+use rv_table::Area;
 use std::alloc::Global;
 use std::test::Fail;
 
@@ -21,33 +21,25 @@ pub(crate) const FIRST: Area = Area { place: 3, index: 0 };
 
 pub(crate) const SECOND: Area = Area { place: 3, index: 1 };
 
-pub(crate) fn space(alloc: Global) -> Result<Space, Fail> {
-    let mut areas = Areas::new(alloc, 4096);
+/// What is mapped.
+fn areas(alloc: Global) -> Result<Areas, Fail> {
     let code = Rights::READ | Rights::EXECUTE;
-    areas.map(alloc, Some(0x1_0000), 4096, code, Backing::Zeros)?;
-    areas.map(
+    let both = Rights::READ | Rights::WRITE;
+    areas_of(
         alloc,
-        Some(0x1_1000),
-        4096,
-        Rights::READ | Rights::WRITE,
-        Backing::Zeros,
-    )?;
-    areas.map(alloc, Some(0x1_2000), 4096, Rights::EXECUTE, Backing::Zeros)?;
-    areas.map(
-        alloc,
-        Some(0x1_4000),
-        8192,
-        Rights::READ,
-        Backing::Of(FIRST),
-    )?;
-    areas.map(
-        alloc,
-        Some(0x1_6000),
-        4096,
-        Rights::READ,
-        Backing::Of(SECOND),
-    )?;
-    areas.map(alloc, Some(0x1_8000), 4096, code, Backing::Of(SECOND))?;
+        &[
+            (0x1_0000, 4096, code, Backing::Zeros),
+            (0x1_1000, 4096, both, Backing::Zeros),
+            (0x1_2000, 4096, Rights::EXECUTE, Backing::Zeros),
+            (0x1_4000, 8192, Rights::READ, Backing::Of(FIRST)),
+            (0x1_6000, 4096, Rights::READ, Backing::Of(SECOND)),
+            (0x1_8000, 4096, code, Backing::Of(SECOND)),
+        ],
+    )
+}
+
+/// Puts the bytes 1 to 16 there.
+fn fill(alloc: Global, areas: &mut Areas) -> Result<(), Fail> {
     areas.own(alloc, 16)?;
     areas.own(alloc, 17)?;
     let first = areas.put_bytes(16, 4088, &[1, 2, 3, 4, 5, 6, 7, 8]);
@@ -55,7 +47,14 @@ pub(crate) fn space(alloc: Global) -> Result<Space, Fail> {
     if !first || !second {
         return Err(Fail::from("the bytes stand"));
     }
-    Ok(Space::of(alloc, areas))
+    Ok(())
+}
+
+/// A guest with that space, and no area in hand.
+pub(crate) fn guest(alloc: Global) -> Result<Guest, Fail> {
+    let mut areas = areas(alloc)?;
+    fill(alloc, &mut areas)?;
+    Ok(Guest::of(alloc, areas))
 }
 
 /// An area of so many pages, of which the first holds `head` at its begin and the last `tail` at its end.
@@ -67,56 +66,28 @@ pub(crate) fn area(
     tail: u8,
 ) -> Result<HandedArea, Fail> {
     let mut frames = Frames::zeros(alloc, pages)?;
+    mark(alloc, &mut frames, head, tail)?;
+    Ok(area_of(alloc, name, frames))
+}
+
+fn mark(alloc: Global, frames: &mut Frames, head: u8, tail: u8) -> Result<(), Fail> {
     if frames.len() == 0 {
         return Err(Fail::from("there are pages"));
     }
     let last = frames.len() - 1;
-    frames.write_byte(alloc, 0, 0, head)?;
-    if last < frames.len() {
-        frames.write_byte(alloc, last, 4095, tail)?;
-    }
-    let reservations = AreaReservations::new(alloc);
-    Ok(HandedArea {
-        name,
-        area: SharedArea {
-            frames,
-            reservations,
-        },
-    })
+    put_byte(alloc, frames, (0, 0), head)?;
+    put_byte(alloc, frames, (last, 4095), tail)
 }
 
-/// A load of so many bytes, of a width that an access has.
-pub(crate) fn load(space: &Space, handed: &Handed, at: u64, width: u8) -> Result<u64, MemErr> {
-    match width {
-        1 => space.load(handed, at, 1),
-        2 => space.load(handed, at, 2),
-        4 => space.load(handed, at, 4),
-        _ => space.load(handed, at, 8),
+/// Puts a byte into a page, where there is that page.
+fn put_byte(
+    alloc: Global,
+    frames: &mut Frames,
+    (page, offset): (usize, usize),
+    byte: u8,
+) -> Result<(), Fail> {
+    if page < frames.len() && offset < 4096 {
+        frames.write_byte(alloc, page, offset, byte)?;
     }
-}
-
-/// A store of so many of a number's bytes, of a width that an access has, by a task.
-#[derive(Clone, Copy, Debug)]
-pub(crate) struct Put {
-    pub(crate) task: u32,
-    pub(crate) at: u64,
-    pub(crate) width: u8,
-    pub(crate) value: u64,
-}
-
-impl Put {
-    pub(crate) fn make(
-        self,
-        alloc: Global,
-        space: &mut Space,
-        handed: &mut Handed,
-    ) -> Result<(), MemErr> {
-        let (task, at, value) = (self.task, self.at, self.value);
-        match self.width {
-            1 => space.store(alloc, handed, task, at, 1, value),
-            2 => space.store(alloc, handed, task, at, 2, value),
-            4 => space.store(alloc, handed, task, at, 4, value),
-            _ => space.store(alloc, handed, task, at, 8, value),
-        }
-    }
+    Ok(())
 }

@@ -25,6 +25,10 @@ mod fixture;
 #[cfg(test)]
 mod forks;
 #[cfg(test)]
+mod guest;
+#[cfg(test)]
+mod lost_reservations;
+#[cfg(test)]
 mod near;
 #[cfg(test)]
 mod pair;
@@ -36,6 +40,8 @@ mod reservations;
 mod run_fixture;
 #[cfg(test)]
 mod shared_areas;
+#[cfg(test)]
+mod spaces;
 #[cfg(test)]
 mod stores;
 #[cfg(test)]

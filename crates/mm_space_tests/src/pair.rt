@@ -10,11 +10,11 @@
 //! two pages, and `SHORT`, of one; `SECOND` isn't handed in. The tasks 1 and 2 have reserved the first page's last
 //! eight bytes, the task 3 the second page's first eight, and the task 4 the first eight at 0x1_4000.
 
-use crate::fixture::{FIRST, Put, SECOND};
+use crate::fixture::{FIRST, SECOND};
+use crate::guest::{Guest, area_of, map_range, reserved};
 use mm_areas::{Areas, Backing, Rights};
 use mm_frames::Frames;
-use mm_space::{Handed, HandedArea, SharedArea, Space};
-use rv_atomic::AreaReservations;
+use mm_space::Space;
 use rv_table::{Area, MemErr};
 use std::alloc::Global;
 use std::process::Abort;
@@ -39,66 +39,55 @@ pub(crate) enum Side {
     Of(Area),
 }
 
-#[derive(Drop)]
-pub(crate) struct Pair {
-    pub(crate) alloc: Global,
-    pub(crate) space: Space,
-    pub(crate) handed: Handed,
+/// A guest with two such pages.
+pub(crate) fn pair(alloc: Global, first: Side, second: Side) -> Result<Guest, Fail> {
+    let mut guest = Guest::of(alloc, areas(alloc, first, second)?);
+    hand_areas(&mut guest)?;
+    if has_reserved_four(&mut guest) {
+        Ok(guest)
+    } else {
+        Err(Fail::from("they reserve"))
+    }
 }
 
-impl Pair {
-    pub(crate) fn of(alloc: Global, first: Side, second: Side) -> Result<Pair, Fail> {
-        let mut areas = Areas::new(alloc, 4096);
-        lay(alloc, &mut areas, 0x1_0000, 8192, second)?;
-        lay(alloc, &mut areas, 0x1_0000, 4096, first)?;
-        lay(alloc, &mut areas, 0x1_4000, 4096, Side::Private)?;
-        areas.own(alloc, 16)?;
-        areas.own(alloc, 17)?;
-        let _ = areas.put_bytes(16, 4088, &LOW.to_le_bytes());
-        let _ = areas.put_bytes(17, 0, &HIGH.to_le_bytes());
-        let mut handed = Handed::none(alloc);
-        handed.push(area_of(alloc, FIRST, 2)?)?;
-        handed.push(area_of(alloc, SHORT, 1)?)?;
-        handed.push(area_of(alloc, THIRD, 2)?)?;
-        let mut space = Space::of(alloc, areas);
-        for (task, at) in [(1, 0x1_0ff8), (2, 0x1_0ff8), (3, 0x1_1000), (4, 0x1_4000)] {
-            space.reserve(&mut handed, task, at, 8)?;
-        }
-        Ok(Pair {
-            alloc,
-            space,
-            handed,
-        })
-    }
+/// The pages and their bytes.
+fn areas(alloc: Global, first: Side, second: Side) -> Result<Areas, Fail> {
+    let mut areas = Areas::new(alloc, 4096);
+    lay_pages(alloc, &mut areas, first, second)?;
+    put_bytes(alloc, &mut areas)?;
+    Ok(areas)
+}
 
-    pub(crate) fn store(
-        &mut self,
-        task: u32,
-        at: u64,
-        width: u8,
-        value: u64,
-    ) -> Result<(), MemErr> {
-        let put = Put {
-            task,
-            at,
-            width,
-            value,
-        };
-        put.make(self.alloc, &mut self.space, &mut self.handed)
-    }
+fn lay_pages(alloc: Global, areas: &mut Areas, first: Side, second: Side) -> Result<(), Fail> {
+    lay(alloc, areas, 0x1_0000, 8192, second)?;
+    lay(alloc, areas, 0x1_0000, 4096, first)?;
+    lay(alloc, areas, 0x1_4000, 4096, Side::Private)
+}
 
-    pub(crate) fn writable(&mut self, at: u64, width: u8) -> Result<(), MemErr> {
-        self.space.writable(self.alloc, &mut self.handed, at, width)
-    }
+/// Puts the bytes of private pages.
+fn put_bytes(alloc: Global, areas: &mut Areas) -> Result<(), Fail> {
+    areas.own(alloc, 16)?;
+    areas.own(alloc, 17)?;
+    let _ = areas.put_bytes(16, 4088, &LOW.to_le_bytes());
+    let _ = areas.put_bytes(17, 0, &HIGH.to_le_bytes());
+    Ok(())
+}
 
-    pub(crate) fn load(&self, at: u64) -> Result<u64, MemErr> {
-        self.space.load(&self.handed, at, 8)
-    }
+fn hand_areas(guest: &mut Guest) -> Result<(), Fail> {
+    hand(guest, FIRST, 2)?;
+    hand(guest, SHORT, 1)?;
+    hand(guest, THIRD, 2)
+}
 
-    pub(crate) fn take(&mut self, task: u32, at: u64) -> bool {
-        self.space.take(&mut self.handed, task, at, 8)
-    }
+/// Whether the four tasks could reserve.
+fn has_reserved_four(guest: &mut Guest) -> bool {
+    guest.has_reserved(reserved(1, 0x1_0ff8, 8))
+        && guest.has_reserved(reserved(2, 0x1_0ff8, 8))
+        && guest.has_reserved(reserved(3, 0x1_1000, 8))
+        && guest.has_reserved(reserved(4, 0x1_4000, 8))
+}
 
+impl Guest {
     /// The two pages' bytes are as expected where they meet, and zeros behind and before; those beside are zeros.
     pub(crate) fn expect_bytes(
         &self,
@@ -106,25 +95,33 @@ impl Pair {
         first: Result<u64, MemErr>,
         second: Result<u64, MemErr>,
     ) {
-        assert_eq!(rt; self.load(0x1_0ff8), first);
-        assert_eq!(rt; self.load(0x1_1000), second);
-        assert_eq!(rt; self.load(0x1_4000), Ok(0));
-        if first.is_ok() {
-            assert_eq!(rt; self.load(0x1_0ff0), Ok(0));
-            assert_eq!(rt; self.load(0x1_0000), Ok(0));
-        }
-        if second.is_ok() {
-            assert_eq!(rt; self.load(0x1_1008), Ok(0));
-            assert_eq!(rt; self.load(0x1_1ff8), Ok(0));
+        self.expect_load(rt, 0x1_0ff8, 8, first);
+        self.expect_load(rt, 0x1_1000, 8, second);
+        self.expect_load(rt, 0x1_4000, 8, Ok(0));
+        self.expect_zeros(rt, first.is_ok(), 0x1_0ff0, 0x1_0000);
+        self.expect_zeros(rt, second.is_ok(), 0x1_1008, 0x1_1ff8);
+    }
+
+    /// That eight bytes at each of two addresses are zeros, if they may be read.
+    fn expect_zeros(&self, rt: &impl Abort, is_readable: bool, one: u64, other: u64) {
+        if is_readable {
+            self.expect_load(rt, one, 8, Ok(0));
+            self.expect_load(rt, other, 8, Ok(0));
         }
     }
 
     /// Whether the tasks 1, 2 and 3 still have what they reserved, each as expected; the task 4 has.
     pub(crate) fn expect_held(&mut self, rt: &impl Abort, held: [bool; 3]) {
-        assert_eq!(rt; self.take(1, 0x1_0ff8), held[0]);
-        assert_eq!(rt; self.take(2, 0x1_0ff8), held[1]);
-        assert_eq!(rt; self.take(3, 0x1_1000), held[2]);
-        assert!(rt; self.take(4, 0x1_4000));
+        self.expect_taken(rt, reserved(1, 0x1_0ff8, 8), held[0]);
+        self.expect_taken(rt, reserved(2, 0x1_0ff8, 8), held[1]);
+        self.expect_taken(rt, reserved(3, 0x1_1000, 8), held[2]);
+        self.expect_taken(rt, reserved(4, 0x1_4000, 8), true);
+    }
+
+    /// That another space over the same areas has those bytes where the pages meet.
+    pub(crate) fn expect_bytes_of(&self, rt: &impl Abort, other: &Space, first: u64, second: u64) {
+        self.expect_load_of(rt, other, 0x1_0ff8, Ok(first));
+        self.expect_load_of(rt, other, 0x1_1000, Ok(second));
     }
 }
 
@@ -171,33 +168,39 @@ fn lay(
     side: Side,
 ) -> Result<(), Fail> {
     let both = Rights::READ | Rights::WRITE;
-    match side {
-        Side::Private => areas.map(alloc, Some(address), length, both, Backing::Zeros)?,
-        Side::ReadOnly => areas.map(alloc, Some(address), length, Rights::READ, Backing::Zeros)?,
-        Side::Of(area) => areas.map(alloc, Some(address), length, both, Backing::Of(area))?,
-        Side::Missing => {
-            areas.unmap(address, length)?;
-            address
-        }
+    let (rights, backing) = match side {
+        Side::Private => (both, Backing::Zeros),
+        Side::ReadOnly => (Rights::READ, Backing::Zeros),
+        Side::Of(area) => (both, Backing::Of(area)),
+        Side::Missing => return unmap(areas, address, length),
     };
+    map_range(alloc, areas, (address, length, rights, backing))
+}
+
+fn unmap(areas: &mut Areas, address: u64, length: u64) -> Result<(), Fail> {
+    areas.unmap(address, length)?;
     Ok(())
 }
 
-/// An area of so many pages: the first ends with the bytes 0xa1 to 0xa8, and the second begins with 0xb1 to 0xb8.
-fn area_of(alloc: Global, name: Area, pages: usize) -> Result<HandedArea, Fail> {
+/// Hands in an area of so many pages: the first ends with the bytes 0xa1 to 0xa8, and the second begins with 0xb1 to
+/// 0xb8.
+fn hand(guest: &mut Guest, name: Area, pages: usize) -> Result<(), Fail> {
+    let frames = frames(guest.alloc, pages)?;
+    guest.hand(area_of(guest.alloc, name, frames))
+}
+
+fn frames(alloc: Global, pages: usize) -> Result<Frames, Fail> {
     let mut frames = Frames::zeros(alloc, pages)?;
+    fill(alloc, &mut frames)?;
+    Ok(frames)
+}
+
+fn fill(alloc: Global, frames: &mut Frames) -> Result<(), Fail> {
     if frames.len() > 0 {
         frames.write_bytes(alloc, 0, 4088, &LOW.to_le_bytes())?;
     }
     if frames.len() > 1 {
         frames.write_bytes(alloc, 1, 0, &HIGH.to_le_bytes())?;
     }
-    let reservations = AreaReservations::new(alloc);
-    Ok(HandedArea {
-        name,
-        area: SharedArea {
-            frames,
-            reservations,
-        },
-    })
+    Ok(())
 }

@@ -1,10 +1,11 @@
 //! Runs of bytes: whether all of them may be accessed, and what they are.
 
 use crate::fixture::{FIRST, SECOND};
-use crate::run_fixture::{both_in_hand, first_in_hand, pattern, space};
+use crate::guest::{Guest, expect_same};
+use crate::run_fixture::{Hand, guest, pattern};
 use mm_areas::Rights;
-use mm_space::Handed;
-use rv_table::MemErr;
+use rv_table::{Area, MemErr};
+use std::process::Abort;
 use std::test::Fail;
 
 /// The first byte that isn't the pattern's.
@@ -15,6 +16,33 @@ fn difference(at: u64, bytes: &[u8]) -> Option<usize> {
         }
     }
     None
+}
+
+/// What a run came to: whether it may be read, what reading it is answered, the first byte read that isn't the
+/// pattern's, and whether each byte is still what it was before.
+#[derive(Clone, Copy)]
+struct Told {
+    allowed: Result<(), MemErr>,
+    read: Result<(), MemErr>,
+    differs: Option<usize>,
+    is_untouched: bool,
+}
+
+/// Reads a run of so many bytes.
+fn read(guest: &Guest, at: u64, count: usize) -> Result<Told, Fail> {
+    let mut buffer = vec![in guest.alloc; 0xee; count]?;
+    let allowed = allowed(guest, Rights::READ, at, count);
+    let read = guest.space.read(&guest.handed, at, &mut buffer);
+    Ok(Told {
+        allowed,
+        read,
+        differs: difference(at, &buffer),
+        is_untouched: buffer.iter().all(|byte| *byte == 0xee),
+    })
+}
+
+fn allowed(guest: &Guest, right: Rights, at: u64, count: usize) -> Result<(), MemErr> {
+    guest.space.allowed(&guest.handed, right, at, count)
 }
 
 #[rattlefmt::skip]
@@ -28,25 +56,21 @@ const WHOLE: [(u64, usize); 27] = [
     (0x1f_f800, 65_536),
 ];
 
-#[test]
-fn a_run_is_the_bytes_that_lie_there_one_behind_another(rt: HostRuntime) -> Result<(), Fail> {
-    let space = space(rt.alloc())?;
-    let both = both_in_hand(rt.alloc())?;
-    for (at, count) in WHOLE {
-        let mut buffer = vec![in rt.alloc(); 0xee; count]?;
-        assert_eq!(rt;
-            space.allowed(&both, Rights::READ, at, count),
-            Ok(()),
-            "{count} bytes at {at:x}"
-        );
-        assert_eq!(rt;
-            space.read(&both, at, &mut buffer),
-            Ok(()),
-            "{count} bytes at {at:x}"
-        );
-        assert_eq!(rt; difference(at, &buffer), None, "{count} bytes at {at:x}");
+/// That each of these runs may be read, and is the pattern's.
+fn expect_whole(rt: &impl Abort, guest: &Guest) -> Result<(), Fail> {
+    for &(at, count) in &WHOLE {
+        let told = read(guest, at, count)?;
+        expect_same(rt, told.allowed, Ok(()), at);
+        expect_same(rt, told.read, Ok(()), at);
+        expect_same(rt, told.differs, None, at);
     }
     Ok(())
+}
+
+#[test]
+fn a_run_is_the_bytes_that_lie_there_one_behind_another(rt: HostRuntime) -> Result<(), Fail> {
+    let guest = guest(rt.alloc(), Hand::Both)?;
+    expect_whole(&rt, &guest)
 }
 
 #[rattlefmt::skip]
@@ -73,44 +97,35 @@ const REFUSED: [(u64, usize, MemErr); 17] = [
     (0x1f_efff, 2, MemErr::Fault { addr: 0x1f_efff }),
 ];
 
-#[test]
-fn a_run_that_is_refused_moves_nothing(rt: HostRuntime) -> Result<(), Fail> {
-    let space = space(rt.alloc())?;
-    let first = first_in_hand(rt.alloc())?;
-    for (at, count, expected) in REFUSED {
-        let mut buffer = vec![in rt.alloc(); 0xee; count]?;
-        assert_eq!(rt;
-            space.allowed(&first, Rights::READ, at, count),
-            Err(expected),
-            "{count} bytes at {at:x}"
-        );
-        assert_eq!(rt;
-            space.read(&first, at, &mut buffer),
-            Err(expected),
-            "{count} bytes at {at:x}"
-        );
-        assert!(rt;
-            buffer.iter().all(|byte| *byte == 0xee),
-            "{count} bytes at {at:x}"
-        );
+/// That each of these runs is refused so.
+fn expect_refused(rt: &impl Abort, guest: &Guest) -> Result<(), Fail> {
+    for &(at, count, expected) in &REFUSED {
+        let told = read(guest, at, count)?;
+        expect_same(rt, told.allowed, Err(expected), at);
+        expect_same(rt, told.read, Err(expected), at);
+        expect_same(rt, told.is_untouched, true, at);
     }
     Ok(())
 }
 
 #[test]
-fn of_two_areas_the_first_is_asked_for(rt: HostRuntime) -> Result<(), Fail> {
-    let space = space(rt.alloc())?;
-    let none = Handed::none(rt.alloc());
-    let mut buffer = vec![in rt.alloc(); 0xee; 0x1_2001]?;
-    assert_eq!(rt;
-        space.read(&none, 0x1f_ffff, &mut buffer),
-        Err(MemErr::Shared(SECOND))
-    );
-    assert_eq!(rt;
-        space.read(&none, 0x20_0000, &mut buffer),
-        Err(MemErr::Shared(FIRST))
-    );
+fn a_run_that_is_refused_moves_nothing(rt: HostRuntime) -> Result<(), Fail> {
+    let guest = guest(rt.alloc(), Hand::First)?;
+    expect_refused(&rt, &guest)
+}
+
+/// That a run of 0x1_2001 bytes needs an area that isn't in hand.
+fn expect_asked(rt: &impl Abort, guest: &Guest, at: u64, area: Area) -> Result<(), Fail> {
+    let told = read(guest, at, 0x1_2001)?;
+    expect_same(rt, told.read, Err(MemErr::Shared(area)), at);
     Ok(())
+}
+
+#[test]
+fn of_two_areas_the_first_is_asked_for(rt: HostRuntime) -> Result<(), Fail> {
+    let guest = guest(rt.alloc(), Hand::Nothing)?;
+    expect_asked(&rt, &guest, 0x1f_ffff, SECOND)?;
+    expect_asked(&rt, &guest, 0x20_0000, FIRST)
 }
 
 #[rattlefmt::skip]
@@ -126,16 +141,16 @@ const BY_RIGHT: [(Rights, u64, usize, Result<(), MemErr>); 9] = [
     (Rights::READ, u64::MAX, 0, Ok(())),
 ];
 
+/// That each of these questions is answered so.
+fn expect_by_right(rt: &impl Abort, guest: &Guest) {
+    for &(right, at, count, expected) in &BY_RIGHT {
+        expect_same(rt, allowed(guest, right, at, count), expected, at);
+    }
+}
+
 #[test]
 fn a_run_needs_the_right_that_is_asked(rt: HostRuntime) -> Result<(), Fail> {
-    let space = space(rt.alloc())?;
-    let first = first_in_hand(rt.alloc())?;
-    for (right, at, count, expected) in BY_RIGHT {
-        assert_eq!(rt;
-            space.allowed(&first, right, at, count),
-            expected,
-            "{count} bytes at {at:x}"
-        );
-    }
+    let guest = guest(rt.alloc(), Hand::First)?;
+    expect_by_right(&rt, &guest);
     Ok(())
 }

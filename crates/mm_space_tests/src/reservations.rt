@@ -1,31 +1,15 @@
-//! Reservations: what ends them, and what a store-conditional is told.
+//! Reservations: which stores end them, and what a store-conditional is told.
 
-use crate::fixture::{FIRST, Put, SECOND, area};
-use crate::pair::{Pair, Side, THIRD};
-use mm_areas::{Areas, Backing, Rights};
-use mm_space::{Handed, Space};
+use crate::fixture::FIRST;
+use crate::guest::{Guest, Put, expect_same, has_reserved, reserved, take};
+use crate::pair::{Side, THIRD, pair};
+use crate::spaces::{Spaces, guest};
+use mm_space::Handed;
 use rv_atomic::Reservation;
+use rv_table::Area;
 use std::alloc::Global;
 use std::process::Abort;
 use std::test::Fail;
-
-/// An address space of six pages to be read and written: two of its own at 0x1_0000, and `FIRST`'s two at 0x4_0000 and
-/// once more at 0x7_0000.
-fn space_of(alloc: Global) -> Result<Space, Fail> {
-    let mut areas = Areas::new(alloc, 4096);
-    let rights = Rights::READ | Rights::WRITE;
-    areas.map(alloc, Some(0x1_0000), 8192, rights, Backing::Zeros)?;
-    areas.map(alloc, Some(0x4_0000), 8192, rights, Backing::Of(FIRST))?;
-    areas.map(alloc, Some(0x7_0000), 8192, rights, Backing::Of(FIRST))?;
-    Ok(Space::of(alloc, areas))
-}
-
-fn hand_of(alloc: Global) -> Result<Handed, Fail> {
-    let mut handed = Handed::none(alloc);
-    handed.push(area(alloc, SECOND, 2, 0, 0)?)?;
-    handed.push(area(alloc, FIRST, 2, 0, 0)?)?;
-    Ok(handed)
-}
 
 /// Stores about the granule of the eight bytes from 8 on: where each begins, of how many bytes, and whether another
 /// task's reservation of the granule stays.
@@ -69,70 +53,17 @@ const PAGES: [(u64, u64); 6] = [
     (0x7_1000, 0x7_1000),
 ];
 
-/// An address space and another of the same area, with what both reach.
-#[derive(Drop)]
-struct Spaces {
-    alloc: Global,
-    space: Space,
-    other: Space,
-    handed: Handed,
-}
-
-impl Spaces {
-    fn of(alloc: Global) -> Result<Spaces, Fail> {
-        Ok(Spaces {
-            alloc,
-            space: space_of(alloc)?,
-            other: space_of(alloc)?,
-            handed: hand_of(alloc)?,
-        })
-    }
-
-    /// Whether a reservation that is made anew outlives a store in the same space.
-    fn outlives_here(&mut self, reserved: Reservation, put: Put) -> Result<bool, Fail> {
-        let (task, at, width) = (reserved.task, reserved.address, reserved.width);
-        self.space.reserve(&mut self.handed, task, at, width)?;
-        put.make(self.alloc, &mut self.space, &mut self.handed)?;
-        Ok(self.space.take(&mut self.handed, task, at, width))
-    }
-
-    /// Whether it outlives one in the other.
-    fn outlives_there(&mut self, reserved: Reservation, put: Put) -> Result<bool, Fail> {
-        let (task, at, width) = (reserved.task, reserved.address, reserved.width);
-        self.space.reserve(&mut self.handed, task, at, width)?;
-        put.make(self.alloc, &mut self.other, &mut self.handed)?;
-        Ok(self.space.take(&mut self.handed, task, at, width))
-    }
-}
-
-#[test]
-fn another_tasks_store_to_any_byte_of_the_granule_ends_a_reservation(
-    rt: HostRuntime,
-) -> Result<(), Fail> {
-    let mut spaces = Spaces::of(rt.alloc())?;
-    for (at, width, stays) in ABOUT_A_GRANULE {
-        for reserved in WITHIN_A_GRANULE {
-            expect_outlived(&rt, &mut spaces, reserved, (at, width), stays)?;
-        }
-    }
-    Ok(())
-}
-
 /// In private pages and in an area's, another task's store ends it or not as expected, from the other space in the area
 /// alone; the task's own ends none.
-fn expect_outlived(
+fn expect_each_page(
     rt: &impl Abort,
     spaces: &mut Spaces,
     (from, count): (u8, u8),
     (at, width): (u8, u8),
     stays: bool,
-) -> Result<(), Fail> {
+) {
     for (page, stored) in PAGES {
-        let reserved = Reservation {
-            task: 1,
-            address: page + u64::from(from),
-            width: count,
-        };
+        let reserved = reserved(1, page + u64::from(from), count);
         let put = Put {
             task: 2,
             at: stored + u64::from(at),
@@ -141,42 +72,61 @@ fn expect_outlived(
         };
         let own = Put { task: 1, ..put };
         let apart = page < 0x4_0000;
-        assert_eq!(rt;
-            spaces.outlives_here(reserved, put)?,
-            stays,
-            "{width} bytes at {at:x}"
-        );
-        assert_eq!(rt;
-            spaces.outlives_there(reserved, put)?,
-            stays || apart,
-            "{width} bytes at {at:x}"
-        );
-        assert!(rt;
-            spaces.outlives_here(reserved, own)?,
-            "{width} bytes at {at:x}"
-        );
+        spaces.expect_here(rt, reserved, put, stays);
+        spaces.expect_there(rt, reserved, put, stays || apart);
+        spaces.expect_here(rt, reserved, own, true);
     }
+}
+
+/// The same for each of these loads and stores.
+fn expect_about(rt: &impl Abort, spaces: &mut Spaces) {
+    for (at, width, stays) in ABOUT_A_GRANULE {
+        for reserved in WITHIN_A_GRANULE {
+            expect_each_page(rt, spaces, reserved, (at, width), stays);
+        }
+    }
+}
+
+#[test]
+fn another_tasks_store_to_any_byte_of_the_granule_ends_a_reservation(
+    rt: HostRuntime,
+) -> Result<(), Fail> {
+    let mut spaces = Spaces::of(rt.alloc())?;
+    expect_about(&rt, &mut spaces);
     Ok(())
+}
+
+/// Reserves on both sides of a page's end, and beside.
+fn reserve_about(rt: &impl Abort, guest: &mut Guest, base: u64) {
+    guest.expect_reserved(rt, reserved(1, base.wrapping_add(0xff8), 8));
+    guest.expect_reserved(rt, reserved(2, base.wrapping_add(0x1000), 4));
+    guest.expect_reserved(rt, reserved(3, base.wrapping_add(0xff0), 8));
+    guest.expect_reserved(rt, reserved(4, base.wrapping_add(0x1008), 8));
+}
+
+/// That a store over that page's end ends those on both sides.
+fn expect_over_the_end(rt: &impl Abort, guest: &mut Guest, base: u64) {
+    reserve_about(rt, guest, base);
+    let put = Put {
+        task: 5,
+        at: base.wrapping_add(0xfff),
+        width: 2,
+        value: 0,
+    };
+    guest.expect_store(rt, put, Ok(()));
+    guest.expect_taken(rt, reserved(1, base.wrapping_add(0xff8), 8), false);
+    guest.expect_taken(rt, reserved(2, base.wrapping_add(0x1000), 4), false);
+    guest.expect_taken(rt, reserved(3, base.wrapping_add(0xff0), 8), true);
+    guest.expect_taken(rt, reserved(4, base.wrapping_add(0x1008), 8), true);
 }
 
 #[test]
 fn a_store_over_a_pages_end_ends_the_reservations_on_both_sides(
     rt: HostRuntime,
 ) -> Result<(), Fail> {
-    let alloc = rt.alloc();
-    let mut handed = hand_of(alloc)?;
-    let mut space = space_of(alloc)?;
-    for base in [0x1_0000, 0x4_0000] {
-        space.reserve(&mut handed, 1, base + 0xff8, 8)?;
-        space.reserve(&mut handed, 2, base + 0x1000, 4)?;
-        space.reserve(&mut handed, 3, base + 0xff0, 8)?;
-        space.reserve(&mut handed, 4, base + 0x1008, 8)?;
-        space.store(alloc, &mut handed, 5, base + 0xfff, 2, 0)?;
-        assert!(rt; !space.take(&mut handed, 1, base + 0xff8, 8));
-        assert!(rt; !space.take(&mut handed, 2, base + 0x1000, 4));
-        assert!(rt; space.take(&mut handed, 3, base + 0xff0, 8));
-        assert!(rt; space.take(&mut handed, 4, base + 0x1008, 8));
-    }
+    let mut guest = guest(rt.alloc())?;
+    expect_over_the_end(&rt, &mut guest, 0x1_0000);
+    expect_over_the_end(&rt, &mut guest, 0x4_0000);
     Ok(())
 }
 
@@ -191,27 +141,37 @@ const CONDITIONALS: [(u64, u8, bool); 6] = [
     (0x10, 8, false),
 ];
 
+/// That a store-conditional is told that, from a base on.
+fn expect_told(rt: &impl Abort, guest: &mut Guest, base: u64, (at, width): (u64, u8), told: bool) {
+    let at = base.wrapping_add(at);
+    let held = base.wrapping_add(8);
+    guest.expect_reserved(rt, reserved(1, held, 8));
+    guest.expect_taken(rt, reserved(2, at, width), false);
+    guest.expect_taken(rt, reserved(1, at, width), told);
+    guest.expect_taken(rt, reserved(1, held, 8), false);
+}
+
+fn expect_conditionals(rt: &impl Abort, guest: &mut Guest) {
+    for (at, width, told) in CONDITIONALS {
+        for base in [0x1_0000, 0x4_0000, 0x7_1000] {
+            expect_told(rt, guest, base, (at, width), told);
+        }
+    }
+}
+
+/// That so many reservations are left in an area.
+fn expect_left(rt: &impl Abort, handed: &Handed, name: Area, count: usize) {
+    let left = handed.get(name).map(|area| area.reservations.len());
+    expect_same(rt, left, Some(count), u64::from(name.index));
+}
+
 #[test]
 fn a_reservation_is_of_just_its_address_and_width_and_serves_once(
     rt: HostRuntime,
 ) -> Result<(), Fail> {
-    let alloc = rt.alloc();
-    let mut handed = hand_of(alloc)?;
-    let mut space = space_of(alloc)?;
-    for (at, width, told) in CONDITIONALS {
-        for base in [0x1_0000, 0x4_0000, 0x7_1000] {
-            space.reserve(&mut handed, 1, base + 8, 8)?;
-            assert!(rt; !space.take(&mut handed, 2, base + at, width));
-            assert_eq!(rt;
-                space.take(&mut handed, 1, base + at, width),
-                told,
-                "{width} at {at:x}"
-            );
-            assert!(rt; !space.take(&mut handed, 1, base + 8, 8));
-        }
-    }
-    let left = handed.get(FIRST).map(|area| area.reservations.len());
-    assert_eq!(rt; left, Some(0));
+    let mut guest = guest(rt.alloc())?;
+    expect_conditionals(&rt, &mut guest);
+    expect_left(&rt, &guest.handed, FIRST, 0);
     Ok(())
 }
 
@@ -228,184 +188,143 @@ const IN_TURN: [(u64, u64); 9] = [
     (0x4_0ff8, 0x4_1000),
 ];
 
+/// Reserves four bytes at each of some addresses in turn, by task 1.
+fn reserve_in_turn(rt: &impl Abort, guest: &mut Guest, places: &[u64]) {
+    for at in places {
+        guest.expect_reserved(rt, reserved(1, *at, 4));
+    }
+}
+
+/// That the last of two, and of three, counts.
+fn expect_last(rt: &impl Abort, guest: &mut Guest, (first, second): (u64, u64)) {
+    reserve_in_turn(rt, guest, &[first, second]);
+    guest.expect_taken(rt, reserved(1, first, 4), false);
+    reserve_in_turn(rt, guest, &[first, second]);
+    guest.expect_taken(rt, reserved(1, second, 4), true);
+    reserve_in_turn(rt, guest, &[first, second, first]);
+    guest.expect_taken(rt, reserved(1, first, 4), true);
+}
+
+fn expect_each_last(rt: &impl Abort, guest: &mut Guest) {
+    for places in IN_TURN {
+        expect_last(rt, guest, places);
+    }
+}
+
 #[test]
 fn a_second_reservation_stands_in_the_place_of_the_first(rt: HostRuntime) -> Result<(), Fail> {
-    let alloc = rt.alloc();
-    let mut handed = hand_of(alloc)?;
-    let mut space = space_of(alloc)?;
-    for (first, second) in IN_TURN {
-        space.reserve(&mut handed, 1, first, 4)?;
-        space.reserve(&mut handed, 1, second, 4)?;
-        assert!(rt;
-            !space.take(&mut handed, 1, first, 4),
-            "{first:x} then {second:x}"
-        );
-        space.reserve(&mut handed, 1, first, 4)?;
-        space.reserve(&mut handed, 1, second, 4)?;
-        assert!(rt;
-            space.take(&mut handed, 1, second, 4),
-            "{first:x} then {second:x}"
-        );
-        space.reserve(&mut handed, 1, first, 4)?;
-        space.reserve(&mut handed, 1, second, 4)?;
-        space.reserve(&mut handed, 1, first, 4)?;
-        assert!(rt; space.take(&mut handed, 1, first, 4), "back to {first:x}");
-    }
+    let mut guest = guest(rt.alloc())?;
+    expect_each_last(&rt, &mut guest);
     Ok(())
+}
+
+/// A task's store of eight bytes.
+fn put_of(task: u32, at: u64, value: u64) -> Put {
+    Put {
+        task,
+        at,
+        width: 8,
+        value,
+    }
+}
+
+/// Tasks 1 and 2 in one space, in a private page.
+fn expect_first_of_two(rt: &impl Abort, guest: &mut Guest) {
+    guest.expect_reserved(rt, reserved(1, 0x1_0008, 8));
+    guest.expect_reserved(rt, reserved(2, 0x1_0008, 8));
+    guest.expect_taken(rt, reserved(2, 0x1_0008, 8), true);
+    guest.expect_store(rt, put_of(2, 0x1_0008, 7), Ok(()));
+    guest.expect_taken(rt, reserved(1, 0x1_0008, 8), false);
+}
+
+/// Task 1 here and task 2 there, in an area.
+fn expect_first_of_both(rt: &impl Abort, spaces: &mut Spaces) {
+    spaces.guest.expect_reserved(rt, reserved(1, 0x4_0008, 8));
+    spaces.expect_reserved_there(rt, reserved(2, 0x4_0008, 8));
+    spaces
+        .guest
+        .expect_taken(rt, reserved(1, 0x4_0008, 8), true);
+    let put = put_of(1, 0x4_0008, 7);
+    spaces.guest.expect_store(rt, put, Ok(()));
+    spaces.expect_taken_there(rt, reserved(2, 0x4_0008, 8), false);
 }
 
 #[test]
 fn two_tasks_reserve_one_granule_and_the_first_to_store_wins(rt: HostRuntime) -> Result<(), Fail> {
-    let alloc = rt.alloc();
-    let mut handed = hand_of(alloc)?;
-    let mut space = space_of(alloc)?;
-    let mut other = space.fork(alloc)?;
-    space.reserve(&mut handed, 1, 0x1_0008, 8)?;
-    space.reserve(&mut handed, 2, 0x1_0008, 8)?;
-    assert!(rt; space.take(&mut handed, 2, 0x1_0008, 8));
-    space.store(alloc, &mut handed, 2, 0x1_0008, 8, 7)?;
-    assert!(rt; !space.take(&mut handed, 1, 0x1_0008, 8));
-    space.reserve(&mut handed, 1, 0x4_0008, 8)?;
-    other.reserve(&mut handed, 2, 0x4_0008, 8)?;
-    assert!(rt; space.take(&mut handed, 1, 0x4_0008, 8));
-    space.store(alloc, &mut handed, 1, 0x4_0008, 8, 7)?;
-    assert!(rt; !other.take(&mut handed, 2, 0x4_0008, 8));
+    let mut spaces = Spaces::forked(rt.alloc())?;
+    expect_first_of_two(&rt, &mut spaces.guest);
+    expect_first_of_both(&rt, &mut spaces);
     Ok(())
+}
+
+/// Two pages, and a child.
+fn pair_and_child(alloc: Global) -> Result<Spaces, Fail> {
+    let mut guest = pair(alloc, Side::Private, Side::Of(THIRD))?;
+    let other = guest.child()?;
+    Ok(Spaces { guest, other })
+}
+
+/// The child stores, and then reserves while its parent stores.
+fn expect_apart(rt: &impl Abort, spaces: &mut Spaces) {
+    spaces.expect_taken_there(rt, reserved(1, 0x1_0ff8, 8), false);
+    spaces.expect_store_there(rt, put_of(9, 0x1_0ff8, 0));
+    spaces.expect_store_there(rt, put_of(9, 0x1_4000, 0));
+    spaces.guest.expect_held(rt, [true, true, true]);
+    spaces.expect_reserved_there(rt, reserved(9, 0x1_0ff8, 8));
+    let put = put_of(1, 0x1_0ff8, 0);
+    spaces.guest.expect_store(rt, put, Ok(()));
+    spaces.expect_taken_there(rt, reserved(9, 0x1_0ff8, 8), true);
 }
 
 #[test]
 fn a_child_has_no_reservations_and_its_stores_end_none_of_its_parents(
     rt: HostRuntime,
 ) -> Result<(), Fail> {
-    let mut pair = Pair::of(rt.alloc(), Side::Private, Side::Of(THIRD))?;
-    let mut child = pair.space.fork(rt.alloc())?;
-    assert!(rt; !child.take(&mut pair.handed, 1, 0x1_0ff8, 8));
-    child.store(rt.alloc(), &mut pair.handed, 9, 0x1_0ff8, 8, 0)?;
-    child.store(rt.alloc(), &mut pair.handed, 9, 0x1_4000, 8, 0)?;
-    pair.expect_held(&rt, [true, true, true]);
-    child.reserve(&mut pair.handed, 9, 0x1_0ff8, 8)?;
-    pair.store(1, 0x1_0ff8, 8, 0)?;
-    assert!(rt; child.take(&mut pair.handed, 9, 0x1_0ff8, 8));
+    let mut spaces = pair_and_child(rt.alloc())?;
+    expect_apart(&rt, &mut spaces);
     Ok(())
+}
+
+/// That something is reserved, or not, where no area is in hand.
+fn expect_taken_without(
+    rt: &impl Abort,
+    guest: &mut Guest,
+    none: &mut Handed,
+    reserved: Reservation,
+    is_held: bool,
+) {
+    let told = take(&mut guest.space, none, reserved);
+    expect_same(rt, told, is_held, reserved.address);
+}
+
+/// That something can be reserved where no area is in hand.
+fn expect_reserved_without(
+    rt: &impl Abort,
+    guest: &mut Guest,
+    none: &mut Handed,
+    reserved: Reservation,
+) {
+    let told = has_reserved(&mut guest.space, none, reserved);
+    expect_same(rt, told, true, reserved.address);
+}
+
+/// Reserves with the areas in hand and takes without them, and the other way round.
+fn expect_in_hand(rt: &impl Abort, guest: &mut Guest, none: &mut Handed) {
+    guest.expect_reserved(rt, reserved(1, 0x4_0008, 8));
+    expect_taken_without(rt, guest, none, reserved(1, 0x4_0008, 8), false);
+    guest.expect_taken(rt, reserved(1, 0x4_0008, 8), false);
+    expect_reserved_without(rt, guest, none, reserved(1, 0x4_0008, 8));
+    guest.expect_taken(rt, reserved(1, 0x4_0008, 8), false);
+    expect_reserved_without(rt, guest, none, reserved(1, 0x1_0008, 8));
+    expect_taken_without(rt, guest, none, reserved(1, 0x1_0008, 8), true);
 }
 
 #[test]
 fn a_reservation_in_an_area_counts_only_where_the_area_is_in_hand_at_both_ends(
     rt: HostRuntime,
 ) -> Result<(), Fail> {
-    let alloc = rt.alloc();
-    let mut handed = hand_of(alloc)?;
-    let mut none = Handed::none(alloc);
-    let mut space = space_of(alloc)?;
-    space.reserve(&mut handed, 1, 0x4_0008, 8)?;
-    assert!(rt; !space.take(&mut none, 1, 0x4_0008, 8));
-    assert!(rt; !space.take(&mut handed, 1, 0x4_0008, 8));
-    space.reserve(&mut none, 1, 0x4_0008, 8)?;
-    assert!(rt; !space.take(&mut handed, 1, 0x4_0008, 8));
-    space.reserve(&mut none, 1, 0x1_0008, 8)?;
-    assert!(rt; space.take(&mut none, 1, 0x1_0008, 8));
-    Ok(())
-}
-
-/// What is done to the page at 0x1_1000.
-#[derive(Clone, Copy, Debug)]
-enum Change {
-    Unmap,
-    Protect,
-    Map(Backing),
-}
-
-const CHANGES: [Change; 4] = [
-    Change::Unmap,
-    Change::Protect,
-    Change::Map(Backing::Zeros),
-    Change::Map(Backing::Of(FIRST)),
-];
-
-#[test]
-fn a_reservation_is_lost_with_its_page_and_stays_beside(rt: HostRuntime) -> Result<(), Fail> {
-    for change in CHANGES {
-        each_loses_its_page(&rt, rt.alloc(), change)?;
-    }
-    Ok(())
-}
-
-/// Five tasks reserve the first and the last eight bytes of the page, the eight before it and behind it, and eight in
-/// an area.
-fn each_loses_its_page(rt: &impl Abort, alloc: Global, change: Change) -> Result<(), Fail> {
-    let both = Rights::READ | Rights::WRITE;
-    let mut handed = hand_of(alloc)?;
-    let mut space = space_of(alloc)?;
-    space.map(alloc, Some(0x1_2000), 4096, both, Backing::Zeros)?;
-    let reserved = [
-        (1, 0x1_1000, false),
-        (2, 0x1_1ff8, false),
-        (3, 0x1_0ff8, true),
-        (4, 0x1_2000, true),
-        (5, 0x4_1000, true),
-    ];
-    for (task, at, _) in reserved {
-        space.reserve(&mut handed, task, at, 8)?;
-    }
-    match change {
-        Change::Unmap => space.unmap(0x1_1000, 1)?,
-        Change::Protect => space.protect(0x1_1000, 4096, Rights::READ)?,
-        Change::Map(backing) => {
-            space.map(alloc, Some(0x1_1000), 1, both, backing)?;
-        }
-    }
-    for (task, at, stays) in reserved {
-        let told = space.take(&mut handed, task, at, 8);
-        assert_eq!(rt; told, stays, "task {task} after {change:?}");
-    }
-    Ok(())
-}
-
-#[test]
-fn a_shared_page_that_is_unmapped_takes_its_spaces_reservations_alone(
-    rt: HostRuntime,
-) -> Result<(), Fail> {
-    let alloc = rt.alloc();
-    let mut handed = hand_of(alloc)?;
-    let mut space = space_of(alloc)?;
-    let mut other = space.fork(alloc)?;
-    space.reserve(&mut handed, 1, 0x4_0008, 8)?;
-    other.reserve(&mut handed, 2, 0x4_0008, 8)?;
-    space.unmap(0x4_0000, 4096)?;
-    let again = space.map(
-        alloc,
-        Some(0x4_0000),
-        4096,
-        Rights::READ,
-        Backing::Of(FIRST),
-    );
-    assert_eq!(rt; again, Ok(0x4_0000));
-    assert!(rt; !space.take(&mut handed, 1, 0x4_0008, 8));
-    assert!(rt; other.take(&mut handed, 2, 0x4_0008, 8));
-    Ok(())
-}
-
-#[test]
-fn a_refused_change_and_a_moved_break_keep_each_reservation(rt: HostRuntime) -> Result<(), Fail> {
-    let alloc = rt.alloc();
-    let mut handed = hand_of(alloc)?;
-    let mut space = space_of(alloc)?;
-    assert_eq!(rt; space.brk(alloc, 12_288)?, 12_288);
-    space.reserve(&mut handed, 1, 0x1008, 8)?;
-    space.reserve(&mut handed, 2, 0x2008, 8)?;
-    space.reserve(&mut handed, 3, 0x1_0008, 8)?;
-    assert!(rt; space.unmap(0x1001, 4096).is_err());
-    assert!(rt; space.protect(0x1000, 1 << 20, Rights::READ).is_err());
-    assert!(rt;
-        space
-            .map(alloc, Some(0x1000), 0, Rights::READ, Backing::Zeros)
-            .is_err()
-    );
-    assert_eq!(rt; space.brk(alloc, 16_384)?, 16_384);
-    assert_eq!(rt; space.brk(alloc, 8192)?, 8192);
-    assert_eq!(rt; space.brk(alloc, 0)?, 8192);
-    assert!(rt; space.take(&mut handed, 1, 0x1008, 8));
-    assert!(rt; space.take(&mut handed, 2, 0x2008, 8));
-    assert!(rt; space.take(&mut handed, 3, 0x1_0008, 8));
+    let mut guest = guest(rt.alloc())?;
+    let mut none = Handed::none(rt.alloc());
+    expect_in_hand(&rt, &mut guest, &mut none);
     Ok(())
 }

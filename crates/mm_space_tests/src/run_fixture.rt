@@ -13,10 +13,9 @@
 //! | 21_9000 to 21_9fff | read, write | the page 0 of `SECOND` once more |
 
 use crate::fixture::{FIRST, SECOND};
+use crate::guest::{Guest, area_of, areas_of};
 use mm_areas::{Areas, Backing, Rights};
 use mm_frames::Frames;
-use mm_space::{Handed, HandedArea, SharedArea, Space};
-use rv_atomic::AreaReservations;
 use rv_table::Area;
 use std::alloc::Global;
 use std::test::Fail;
@@ -45,58 +44,78 @@ fn fill(alloc: Global, areas: &mut Areas, page: u64) -> Result<(), Fail> {
     }
 }
 
-pub(crate) fn space(alloc: Global) -> Result<Space, Fail> {
-    let mut areas = Areas::new(alloc, 4096);
+/// What is mapped.
+fn mapped(alloc: Global) -> Result<Areas, Fail> {
     let both = Rights::READ | Rights::WRITE;
-    for (at, length, rights, backing) in [
-        (0x1f_f000, 4096, Rights::READ, Backing::Of(SECOND)),
-        (0x20_0000, 0x1_1000, both, Backing::Zeros),
-        (0x21_1000, 0x3000, both, Backing::Of(FIRST)),
-        (0x21_5000, 4096, both, Backing::Of(SECOND)),
-        (0x21_6000, 4096, both, Backing::Zeros),
-        (0x21_7000, 4096, Rights::WRITE, Backing::Zeros),
-        (0x21_8000, 4096, both, Backing::Of(SECOND)),
-        (0x21_9000, 4096, both, Backing::Of(SECOND)),
-    ] {
-        areas.map(alloc, Some(at), length, rights, backing)?;
-    }
-    for page in 0x200..0x211 {
-        fill(alloc, &mut areas, page)?;
-    }
-    fill(alloc, &mut areas, 0x216)?;
-    fill(alloc, &mut areas, 0x217)?;
-    Ok(Space::of(alloc, areas))
+    areas_of(
+        alloc,
+        &[
+            (0x1f_f000, 4096, Rights::READ, Backing::Of(SECOND)),
+            (0x20_0000, 0x1_1000, both, Backing::Zeros),
+            (0x21_1000, 0x3000, both, Backing::Of(FIRST)),
+            (0x21_5000, 4096, both, Backing::Of(SECOND)),
+            (0x21_6000, 4096, both, Backing::Zeros),
+            (0x21_7000, 4096, Rights::WRITE, Backing::Zeros),
+            (0x21_8000, 4096, both, Backing::Of(SECOND)),
+            (0x21_9000, 4096, both, Backing::Of(SECOND)),
+        ],
+    )
 }
 
-/// An area of so many pages with the pattern from an address on.
-fn area(alloc: Global, name: Area, pages: usize, at: u64) -> Result<HandedArea, Fail> {
+/// Puts the pattern into each private page.
+fn fill_each(alloc: Global, areas: &mut Areas) -> Result<(), Fail> {
+    for page in 0x200..0x211 {
+        fill(alloc, areas, page)?;
+    }
+    fill(alloc, areas, 0x216)?;
+    fill(alloc, areas, 0x217)
+}
+
+/// Which areas are in hand.
+#[derive(Clone, Copy, Debug, PartialEq, Eq)]
+pub(crate) enum Hand {
+    Nothing,
+    First,
+    Both,
+}
+
+/// A guest with that space, and these areas in hand.
+pub(crate) fn guest(alloc: Global, hand: Hand) -> Result<Guest, Fail> {
+    let mut areas = mapped(alloc)?;
+    fill_each(alloc, &mut areas)?;
+    let mut guest = Guest::of(alloc, areas);
+    hand_in(&mut guest, hand)?;
+    Ok(guest)
+}
+
+fn hand_in(guest: &mut Guest, hand: Hand) -> Result<(), Fail> {
+    if hand != Hand::Nothing {
+        hand_area(guest, FIRST, 2, 0x21_1000)?;
+    }
+    if hand == Hand::Both {
+        hand_area(guest, SECOND, 1, 0x1f_f000)?;
+    }
+    Ok(())
+}
+
+/// Hands in an area of so many pages with the pattern from an address on.
+fn hand_area(guest: &mut Guest, name: Area, pages: usize, at: u64) -> Result<(), Fail> {
+    let frames = frames(guest.alloc, pages, at)?;
+    guest.hand(area_of(guest.alloc, name, frames))
+}
+
+fn frames(alloc: Global, pages: usize, at: u64) -> Result<Frames, Fail> {
     let mut frames = Frames::zeros(alloc, pages)?;
-    for page in 0..pages {
+    fill_frames(alloc, &mut frames, at)?;
+    Ok(frames)
+}
+
+fn fill_frames(alloc: Global, frames: &mut Frames, at: u64) -> Result<(), Fail> {
+    for page in 0..frames.len() {
         if page < frames.len() {
             let address = at.wrapping_add((page as u64).wrapping_mul(4096));
             frames.write_bytes(alloc, page, 0, &page_bytes(address))?;
         }
     }
-    let reservations = AreaReservations::new(alloc);
-    Ok(HandedArea {
-        name,
-        area: SharedArea {
-            frames,
-            reservations,
-        },
-    })
-}
-
-/// `FIRST` in hand.
-pub(crate) fn first_in_hand(alloc: Global) -> Result<Handed, Fail> {
-    let mut handed = Handed::none(alloc);
-    handed.push(area(alloc, FIRST, 2, 0x21_1000)?)?;
-    Ok(handed)
-}
-
-/// Both areas in hand.
-pub(crate) fn both_in_hand(alloc: Global) -> Result<Handed, Fail> {
-    let mut handed = first_in_hand(alloc)?;
-    handed.push(area(alloc, SECOND, 1, 0x1f_f000)?)?;
-    Ok(handed)
+    Ok(())
 }

@@ -1,7 +1,9 @@
 //! Stores, over the end of a page and within one, and whether they may be made.
 
 use crate::fixture::{FIRST, SECOND};
-use crate::pair::{HIGH, LOW, Pair, SHORT, Side, THIRD, first_bytes, second_bytes};
+use crate::guest::{Guest, Put, expect_same, put_of};
+use crate::pair::{HIGH, LOW, SHORT, Side, THIRD, first_bytes, pair, second_bytes};
+use mm_space::Space;
 use rv_table::MemErr;
 use std::alloc::Global;
 use std::process::Abort;
@@ -9,6 +11,12 @@ use std::test::Fail;
 
 /// The bytes 0x11, 0x22 to 0x88, lowest first.
 const VALUE: u64 = 0x8877_6655_4433_2211;
+
+/// The two pages of a guest.
+type Sides = (Side, Side);
+
+/// A store, and the last eight bytes of the first page and the first eight of the second after it.
+type Stored = (Put, u64, u64);
 
 /// Each store over the end of the first page, with that page's last eight bytes and the second's first eight after it.
 #[rattlefmt::skip]
@@ -27,7 +35,7 @@ const OVER_THE_END: [(u64, u8, u64, u64); 11] = [
 ];
 
 /// Pairs of pages that may both be written: of their own, of one area, of two, and of both sorts.
-const WRITABLE: [(Side, Side); 6] = [
+const WRITABLE: [Sides; 6] = [
     (Side::Private, Side::Private),
     (Side::Private, Side::Of(FIRST)),
     (Side::Of(FIRST), Side::Private),
@@ -40,25 +48,31 @@ const WRITABLE: [(Side, Side); 6] = [
 fn a_store_over_a_pages_end_puts_its_bytes_on_both_pages_lowest_first(
     rt: HostRuntime,
 ) -> Result<(), Fail> {
-    for (first, second) in WRITABLE {
-        each_puts_its_bytes(&rt, rt.alloc(), first, second)?;
+    for sides in WRITABLE {
+        each_puts_its_bytes(&rt, rt.alloc(), sides)?;
     }
     Ok(())
 }
 
-fn each_puts_its_bytes(
+fn each_puts_its_bytes(rt: &impl Abort, alloc: Global, sides: Sides) -> Result<(), Fail> {
+    for (at, width, low, high) in OVER_THE_END {
+        let stored = (put_of(at, width, VALUE), low, high);
+        expect_put(rt, alloc, sides, stored)?;
+    }
+    Ok(())
+}
+
+/// That a store over the end is made, and ends the reservations that it meets.
+fn expect_put(
     rt: &impl Abort,
     alloc: Global,
-    first: Side,
-    second: Side,
+    (first, second): Sides,
+    (put, low, high): Stored,
 ) -> Result<(), Fail> {
-    for (at, width, low, high) in OVER_THE_END {
-        let mut pair = Pair::of(alloc, first, second)?;
-        let stored = pair.store(1, at, width, VALUE);
-        assert_eq!(rt; stored, Ok(()), "{width} bytes at {at:x}");
-        pair.expect_bytes(rt, Ok(low), Ok(high));
-        pair.expect_held(rt, [true, false, false]);
-    }
+    let mut guest = pair(alloc, first, second)?;
+    guest.expect_store(rt, put, Ok(()));
+    guest.expect_bytes(rt, Ok(low), Ok(high));
+    guest.expect_held(rt, [true, false, false]);
     Ok(())
 }
 
@@ -87,13 +101,13 @@ fn where_the_second_page_may_not_be_written_its_first_byte_is_the_fault_and_noth
     rt: HostRuntime,
 ) -> Result<(), Fail> {
     for (first, second, refusal) in REFUSED {
-        each_is_refused(&rt, rt.alloc(), first, second, Some(refusal))?;
+        each_is_refused(&rt, rt.alloc(), (first, second), Some(refusal))?;
     }
     Ok(())
 }
 
 /// Pairs of which the first page may not be written.
-const BARRED: [(Side, Side); 6] = [
+const BARRED: [Sides; 6] = [
     (Side::Missing, Side::Private),
     (Side::Missing, Side::Missing),
     (Side::Missing, Side::Of(SECOND)),
@@ -106,8 +120,8 @@ const BARRED: [(Side, Side); 6] = [
 fn where_the_first_page_may_not_be_written_the_stores_address_is_the_fault_and_nothing_changes(
     rt: HostRuntime,
 ) -> Result<(), Fail> {
-    for (first, second) in BARRED {
-        each_is_refused(&rt, rt.alloc(), first, second, None)?;
+    for sides in BARRED {
+        each_is_refused(&rt, rt.alloc(), sides, None)?;
     }
     Ok(())
 }
@@ -116,22 +130,31 @@ fn where_the_first_page_may_not_be_written_the_stores_address_is_the_fault_and_n
 fn each_is_refused(
     rt: &impl Abort,
     alloc: Global,
-    first: Side,
-    second: Side,
+    sides: Sides,
     refusal: Option<MemErr>,
 ) -> Result<(), Fail> {
     for (at, width, _, _) in OVER_THE_END {
-        let expected = Err(refusal.unwrap_or(MemErr::Fault { addr: at }));
-        let mut pair = Pair::of(alloc, first, second)?;
-        let answer = pair.writable(at, width);
-        assert_eq!(rt; answer, expected, "{width} bytes at {at:x}");
-        pair.expect_bytes(rt, first_bytes(first), second_bytes(second));
-        let stored = pair.store(1, at, width, VALUE);
-        assert_eq!(rt; stored, expected, "{width} bytes at {at:x}");
-        pair.expect_bytes(rt, first_bytes(first), second_bytes(second));
-        let (one, other) = (first != Side::Of(SECOND), second != Side::Of(SECOND));
-        pair.expect_held(rt, [one, one, other]);
+        let refusal = refusal.unwrap_or(MemErr::Fault { addr: at });
+        expect_refused(rt, alloc, sides, put_of(at, width, VALUE), refusal)?;
     }
+    Ok(())
+}
+
+/// That a store is refused so, and the question, and nothing changes.
+fn expect_refused(
+    rt: &impl Abort,
+    alloc: Global,
+    (first, second): Sides,
+    put: Put,
+    refusal: MemErr,
+) -> Result<(), Fail> {
+    let mut guest = pair(alloc, first, second)?;
+    guest.expect_writable(rt, put.at, put.width, Err(refusal));
+    guest.expect_bytes(rt, first_bytes(first), second_bytes(second));
+    guest.expect_store(rt, put, Err(refusal));
+    guest.expect_bytes(rt, first_bytes(first), second_bytes(second));
+    let (one, other) = (first != Side::Of(SECOND), second != Side::Of(SECOND));
+    guest.expect_held(rt, [one, one, other]);
     Ok(())
 }
 
@@ -139,38 +162,70 @@ fn each_is_refused(
 fn what_may_be_written_has_its_bytes_for_itself_once_that_was_asked(
     rt: HostRuntime,
 ) -> Result<(), Fail> {
-    for (first, second) in WRITABLE {
-        each_may_be_written(&rt, rt.alloc(), first, second)?;
+    for sides in WRITABLE {
+        each_may_be_written(&rt, rt.alloc(), sides)?;
     }
     Ok(())
 }
 
-fn each_may_be_written(
-    rt: &impl Abort,
-    alloc: Global,
-    first: Side,
-    second: Side,
-) -> Result<(), Fail> {
-    let private = (first == Side::Private, second == Side::Private);
+fn each_may_be_written(rt: &impl Abort, alloc: Global, sides: Sides) -> Result<(), Fail> {
     for (at, width, low, high) in OVER_THE_END {
-        let mut pair = Pair::of(alloc, first, second)?;
-        let child = pair.space.fork(alloc)?;
-        assert!(rt; !pair.space.areas().is_own(16) && !pair.space.areas().is_own(17));
-        let answer = pair.writable(at, width);
-        assert_eq!(rt; answer, Ok(()), "{width} bytes at {at:x}");
-        assert_eq!(rt; pair.space.areas().is_own(16), private.0);
-        assert_eq!(rt; pair.space.areas().is_own(17), private.1);
-        assert!(rt; !child.areas().is_own(16) && !child.areas().is_own(17));
-        pair.expect_bytes(rt, Ok(LOW), Ok(HIGH));
-        pair.expect_held(rt, [true, true, true]);
-        assert_eq!(rt; pair.store(1, at, width, VALUE), Ok(()));
-        pair.expect_bytes(rt, Ok(low), Ok(high));
-        let seen = if private.0 { LOW } else { low };
-        assert_eq!(rt; child.load(&pair.handed, 0x1_0ff8, 8), Ok(seen));
-        let seen = if private.1 { HIGH } else { high };
-        assert_eq!(rt; child.load(&pair.handed, 0x1_1000, 8), Ok(seen));
+        let stored = (put_of(at, width, VALUE), low, high);
+        expect_own_then(rt, alloc, sides, stored)?;
     }
     Ok(())
+}
+
+/// That a space has the bytes of the first page for itself, or not, and those of the second.
+fn expect_own(rt: &impl Abort, space: &Space, (first, second): (bool, bool)) {
+    expect_same(rt, space.areas().is_own(16), first, 16);
+    expect_same(rt, space.areas().is_own(17), second, 17);
+}
+
+/// That a store may be made, which then has the bytes of both pages for itself, if they are private.
+fn expect_own_then(
+    rt: &impl Abort,
+    alloc: Global,
+    (first, second): Sides,
+    stored: Stored,
+) -> Result<(), Fail> {
+    let mut guest = pair(alloc, first, second)?;
+    let child = guest.child()?;
+    let private = (first == Side::Private, second == Side::Private);
+    expect_asked(rt, &mut guest, &child, private, stored.0);
+    expect_stored_beside(rt, &mut guest, &child, private, stored);
+    Ok(())
+}
+
+/// Asks for it.
+fn expect_asked(
+    rt: &impl Abort,
+    guest: &mut Guest,
+    child: &Space,
+    private: (bool, bool),
+    put: Put,
+) {
+    expect_own(rt, &guest.space, (false, false));
+    guest.expect_writable(rt, put.at, put.width, Ok(()));
+    expect_own(rt, &guest.space, private);
+    expect_own(rt, child, (false, false));
+    guest.expect_bytes(rt, Ok(LOW), Ok(HIGH));
+    guest.expect_held(rt, [true, true, true]);
+}
+
+/// Makes it: a child's private pages stay as they were.
+fn expect_stored_beside(
+    rt: &impl Abort,
+    guest: &mut Guest,
+    child: &Space,
+    private: (bool, bool),
+    (put, low, high): Stored,
+) {
+    guest.expect_store(rt, put, Ok(()));
+    guest.expect_bytes(rt, Ok(low), Ok(high));
+    let first = if private.0 { LOW } else { low };
+    let second = if private.1 { HIGH } else { high };
+    guest.expect_bytes_of(rt, child, first, second);
 }
 
 /// Stores within a page: of how many of a number's bytes, and the same eight bytes of the two pages after each.
@@ -198,37 +253,53 @@ const WITHIN: [(u64, u8, u64, u64, u64); 18] = [
 
 #[test]
 fn a_store_within_a_page_leaves_the_bytes_beside(rt: HostRuntime) -> Result<(), Fail> {
-    for (first, second) in WRITABLE {
-        each_leaves_the_bytes_beside(&rt, rt.alloc(), first, second)?;
+    for sides in WRITABLE {
+        each_leaves_the_bytes_beside(&rt, rt.alloc(), sides)?;
     }
     Ok(())
 }
 
 /// Stores within a page, once where it has its bytes for itself, and once where it shares them with a child's. The
 /// other tasks' reservations of eight bytes are lost where those have changed.
-fn each_leaves_the_bytes_beside(
+fn each_leaves_the_bytes_beside(rt: &impl Abort, alloc: Global, sides: Sides) -> Result<(), Fail> {
+    for (at, width, value, low, high) in WITHIN {
+        let stored = (put_of(at, width, value), low, high);
+        expect_within(rt, alloc, sides, stored)?;
+        expect_within_parent(rt, alloc, sides, stored)?;
+    }
+    Ok(())
+}
+
+/// That a store is made, and the reservations of what it changes are lost.
+fn expect_changed(rt: &impl Abort, guest: &mut Guest, (put, low, high): Stored) {
+    guest.expect_store(rt, put, Ok(()));
+    guest.expect_bytes(rt, Ok(low), Ok(high));
+    guest.expect_held(rt, [true, low == LOW, high == HIGH]);
+}
+
+fn expect_within(
     rt: &impl Abort,
     alloc: Global,
-    first: Side,
-    second: Side,
+    (first, second): Sides,
+    stored: Stored,
 ) -> Result<(), Fail> {
-    for (at, width, value, low, high) in WITHIN {
-        let mut pair = Pair::of(alloc, first, second)?;
-        let stored = pair.store(1, at, width, value);
-        assert_eq!(rt; stored, Ok(()), "{width} bytes at {at:x}");
-        pair.expect_bytes(rt, Ok(low), Ok(high));
-        pair.expect_held(rt, [true, low == LOW, high == HIGH]);
-        let mut parent = Pair::of(alloc, first, second)?;
-        let child = parent.space.fork(alloc)?;
-        let stored = parent.store(1, at, width, value);
-        assert_eq!(rt; stored, Ok(()), "{width} bytes at {at:x}");
-        parent.expect_bytes(rt, Ok(low), Ok(high));
-        parent.expect_held(rt, [true, low == LOW, high == HIGH]);
-        let seen = if first == Side::Private { LOW } else { low };
-        assert_eq!(rt; child.load(&parent.handed, 0x1_0ff8, 8), Ok(seen));
-        let seen = if second == Side::Private { HIGH } else { high };
-        assert_eq!(rt; child.load(&parent.handed, 0x1_1000, 8), Ok(seen));
-    }
+    let mut guest = pair(alloc, first, second)?;
+    expect_changed(rt, &mut guest, stored);
+    Ok(())
+}
+
+fn expect_within_parent(
+    rt: &impl Abort,
+    alloc: Global,
+    (first, second): Sides,
+    (put, low, high): Stored,
+) -> Result<(), Fail> {
+    let mut guest = pair(alloc, first, second)?;
+    let child = guest.child()?;
+    expect_changed(rt, &mut guest, (put, low, high));
+    let first = if first == Side::Private { LOW } else { low };
+    let second = if second == Side::Private { HIGH } else { high };
+    guest.expect_bytes_of(rt, &child, first, second);
     Ok(())
 }
 
@@ -244,20 +315,21 @@ const AROUND: [(u64, u8, u64); 8] = [
     (0, 8, 0),
 ];
 
-#[test]
-fn a_store_over_the_end_of_all_addresses_is_a_fault(rt: HostRuntime) -> Result<(), Fail> {
-    let mut pair = Pair::of(rt.alloc(), Side::Private, Side::Private)?;
+/// That each store is refused so, and the question.
+fn expect_around(rt: &impl Abort, guest: &mut Guest) {
     for (at, width, addr) in AROUND {
         let fault = Err(MemErr::Fault { addr });
-        assert_eq!(rt;
-            pair.store(1, at, width, VALUE),
-            fault,
-            "{width} bytes at {at:x}"
-        );
-        assert_eq!(rt; pair.writable(at, width), fault, "{width} bytes at {at:x}");
+        guest.expect_store(rt, put_of(at, width, VALUE), fault);
+        guest.expect_writable(rt, at, width, fault);
     }
-    pair.expect_bytes(&rt, Ok(LOW), Ok(HIGH));
-    pair.expect_held(&rt, [true, true, true]);
+    guest.expect_bytes(rt, Ok(LOW), Ok(HIGH));
+    guest.expect_held(rt, [true, true, true]);
+}
+
+#[test]
+fn a_store_over_the_end_of_all_addresses_is_a_fault(rt: HostRuntime) -> Result<(), Fail> {
+    let mut guest = pair(rt.alloc(), Side::Private, Side::Private)?;
+    expect_around(&rt, &mut guest);
     Ok(())
 }
 
@@ -272,17 +344,18 @@ const COUNTS: [(u64, u8, Result<(), MemErr>); 7] = [
     (0x0_fff0, 255, Err(MemErr::Fault { addr: 0x0_fff0 })),
 ];
 
+/// That each question is answered so.
+fn expect_counts(rt: &impl Abort, guest: &mut Guest) {
+    for (at, count, expected) in COUNTS {
+        guest.expect_writable(rt, at, count, expected);
+    }
+    guest.expect_bytes(rt, Ok(LOW), Ok(HIGH));
+}
+
 #[test]
 fn each_of_so_many_bytes_is_asked_for(rt: HostRuntime) -> Result<(), Fail> {
-    let mut pair = Pair::of(rt.alloc(), Side::Private, Side::Of(FIRST))?;
-    for (at, count, expected) in COUNTS {
-        assert_eq!(rt;
-            pair.writable(at, count),
-            expected,
-            "{count} bytes at {at:x}"
-        );
-    }
-    pair.expect_bytes(&rt, Ok(LOW), Ok(HIGH));
+    let mut guest = pair(rt.alloc(), Side::Private, Side::Of(FIRST))?;
+    expect_counts(&rt, &mut guest);
     Ok(())
 }
 
@@ -302,6 +375,30 @@ fn within(side: Side, at: u64) -> Result<(), MemErr> {
     }
 }
 
+/// Questions of the first page.
+#[rattlefmt::skip]
+const WITHIN_THE_FIRST: [(u64, u8); 6] = [
+    (0x1_0000, 8), (0x1_0ff8, 8), (0x1_0ffc, 4), (0x1_0ffe, 2), (0x1_0fff, 1), (0x1_0001, 3),
+];
+
+/// That each is answered by what the page is, twice.
+fn expect_by_right(rt: &impl Abort, guest: &mut Guest, side: Side) {
+    for (at, width) in WITHIN_THE_FIRST {
+        guest.expect_writable(rt, at, width, within(side, at));
+        // now the page has its bytes for itself at any rate
+        guest.expect_writable(rt, at, width, within(side, at));
+    }
+}
+
+/// The same where the first page is that.
+fn expect_of_side(rt: &impl Abort, alloc: Global, side: Side) -> Result<(), Fail> {
+    let mut guest = pair(alloc, side, Side::Private)?;
+    expect_by_right(rt, &mut guest, side);
+    guest.expect_writable(rt, 0x1_1ff8, 8, Ok(()));
+    guest.expect_bytes(rt, first_bytes(side), Ok(HIGH));
+    Ok(())
+}
+
 #[test]
 fn a_page_that_has_its_bytes_for_itself_may_be_written_by_its_right(
     rt: HostRuntime,
@@ -313,26 +410,7 @@ fn a_page_that_has_its_bytes_for_itself_may_be_written_by_its_right(
         Side::Of(FIRST),
         Side::Of(SECOND),
     ] {
-        let mut pair = Pair::of(rt.alloc(), side, Side::Private)?;
-        for (at, width) in [
-            (0x1_0000, 8),
-            (0x1_0ff8, 8),
-            (0x1_0ffc, 4),
-            (0x1_0ffe, 2),
-            (0x1_0fff, 1),
-            (0x1_0001, 3),
-        ] {
-            // the second time the page has its bytes for itself at any rate
-            for _turn in 0..2 {
-                assert_eq!(rt;
-                    pair.writable(at, width),
-                    within(side, at),
-                    "{width} bytes at {at:x} of {side:?}"
-                );
-            }
-        }
-        assert_eq!(rt; pair.writable(0x1_1ff8, 8), Ok(()));
-        pair.expect_bytes(&rt, first_bytes(side), Ok(HIGH));
+        expect_of_side(&rt, rt.alloc(), side)?;
     }
     Ok(())
 }

@@ -7,6 +7,7 @@ use memory::{Memory, Reserved, Small};
 use operations::OPERATIONS;
 use rv_exec::{Step, step};
 use rv_table::{Area, Regs};
+use std::fmt::Debug;
 use std::process::Abort;
 
 mod branches;
@@ -99,6 +100,39 @@ fn memory_of(at: u64, word: u32, data: Run<16>) -> Memory {
     }
 }
 
+/// Does the instruction at which a task stands. It is `step` without its contract, which no test's proof has then.
+fn once<const C: usize>(regs: &mut Regs, memory: &mut Small<C>) -> Step {
+    step(regs, memory)
+}
+
+/// That what is told of a word's instruction is what it should be.
+fn expect_same<T: Copy + Debug + PartialEq>(rt: &impl Abort, told: T, wanted: T, word: u32) {
+    assert_eq!(rt; told, wanted, "{word:08x}");
+}
+
+/// That the step of a word comes to what it should.
+fn expect_step(rt: &impl Abort, told: Step, wanted: Step, word: u32) {
+    expect_same(rt, told, wanted, word);
+}
+
+/// That it leaves the registers that it should.
+fn expect_regs(rt: &impl Abort, told: &Regs, wanted: &Regs, word: u32) {
+    expect_same(rt, *told, *wanted, word);
+}
+
+/// That it leaves the memory that it should, but for how many calls that has answered.
+fn expect_memory(rt: &impl Abort, told: &Memory, wanted: &Memory, word: u32) {
+    let mut left = *told;
+    left.accesses = wanted.accesses;
+    left.ready = wanted.ready;
+    expect_same(rt, left, *wanted, word);
+}
+
+/// The word at which a task stands.
+fn word_of(memory: &Memory) -> u32 {
+    u32::from_le_bytes(memory.code.bytes)
+}
+
 /// That a step comes to what it should, and leaves the registers and the memory that it should.
 fn expect_written(
     rt: &impl Abort,
@@ -110,12 +144,10 @@ fn expect_written(
 ) {
     let mut regs = before;
     let mut left = memory;
-    let word = u32::from_le_bytes(memory.code.bytes);
-    assert_eq!(rt; step(&mut regs, &mut left), step_wanted, "{word:08x}");
-    assert_eq!(rt; regs, after, "{word:08x}");
-    left.accesses = written.accesses;
-    left.ready = written.ready;
-    assert_eq!(rt; left, written, "{word:08x}");
+    let word = word_of(&memory);
+    expect_step(rt, once(&mut regs, &mut left), step_wanted, word);
+    expect_regs(rt, &regs, &after, word);
+    expect_memory(rt, &left, &written, word);
 }
 
 /// That a step comes to what it should, leaves the registers that it should, and changes nothing in memory.

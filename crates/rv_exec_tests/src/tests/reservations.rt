@@ -41,54 +41,102 @@ impl Task {
         self.memory.code.from = self.regs.pc;
         self.memory.code.bytes = word.to_le_bytes();
         self.memory.accesses = 4;
-        step(&mut self.regs, &mut self.memory)
+        once(&mut self.regs, &mut self.memory)
+    }
+
+    /// The word of the last instruction.
+    fn word(&self) -> u32 {
+        word_of(&self.memory)
     }
 
     /// Does the instruction of a word, which moves on to the next.
     fn go(&mut self, rt: &impl Abort, word: u32) {
-        assert_eq!(rt; self.run(word), Step::Next, "{word:08x}");
+        expect_step(rt, self.run(word), Step::Next, word);
+    }
+
+    /// Does the instruction of a word at an address in x6.
+    fn go_at(&mut self, rt: &impl Abort, address: u64, word: u32) {
+        self.regs.x[6] = address;
+        self.go(rt, word);
+    }
+
+    /// That a register holds that.
+    fn expect_register(&self, rt: &impl Abort, register: usize, number: u64) {
+        let told = self.regs.x.get(register).copied();
+        expect_same(rt, told, Some(number), self.word());
+    }
+
+    /// That the sixteen bytes are those.
+    fn expect_bytes(&self, rt: &impl Abort, bytes: &[u8; 16]) {
+        expect_same(rt, self.memory.data.bytes, *bytes, self.word());
+    }
+
+    /// That the byte at an address is that.
+    fn expect_byte(&self, rt: &impl Abort, at: usize, byte: u8) {
+        let told = self.memory.data.bytes.get(at).copied();
+        expect_same(rt, told, Some(byte), self.word());
+    }
+
+    /// That the task has that reservation, or none.
+    fn expect_reserved(&self, rt: &impl Abort, reserved: Option<Reserved>) {
+        expect_same(rt, self.memory.reserved, reserved, self.word());
     }
 
     /// That a store-conditional told x5 that it stored, and stored so many bytes of x7 at an address.
     fn expect_stored(&self, rt: &impl Abort, at: usize, width: usize) {
-        assert!(rt; at <= 16 && width <= 8 && at + width <= 16);
-        let mut bytes = LOW.bytes;
-        let low = VALUE.to_le_bytes();
-        for place in 0..width {
-            bytes[at + place] = low[place];
-        }
-        assert_eq!(rt; self.regs.x[5], 0);
-        assert_eq!(rt; self.memory.data.bytes, bytes);
-        assert_eq!(rt; self.memory.reserved, None);
+        self.expect_register(rt, 5, 0);
+        self.expect_bytes(rt, &stored(rt, at, width));
+        self.expect_reserved(rt, None);
     }
 
     /// That a store-conditional told x5 that it did not store, and stored nothing.
     fn expect_failed(&self, rt: &impl Abort) {
-        assert_eq!(rt; self.regs.x[5], 1);
-        assert_eq!(rt; self.memory.data.bytes, LOW.bytes);
-        assert_eq!(rt; self.memory.reserved, None);
+        self.expect_register(rt, 5, 1);
+        self.expect_bytes(rt, &LOW.bytes);
+        self.expect_reserved(rt, None);
     }
 
     /// That the instruction of a word traps, and changes nothing.
     fn expect_trap(&mut self, rt: &impl Abort, word: u32, signal: u8) {
         let before = *self;
-        assert_eq!(rt; self.run(word), Step::Trap(signal), "{word:08x}");
-        assert_eq!(rt; self.regs, before.regs, "{word:08x}");
-        assert_eq!(rt; self.memory.data, before.memory.data, "{word:08x}");
-        assert_eq!(rt; self.memory.reserved, before.memory.reserved, "{word:08x}");
+        expect_step(rt, self.run(word), Step::Trap(signal), word);
+        expect_regs(rt, &self.regs, &before.regs, word);
+        expect_data(rt, &self.memory.data, &before.memory.data, word);
+        self.expect_reserved(rt, before.memory.reserved);
     }
+}
+
+/// That the sixteen bytes and where they lie are the same.
+fn expect_data(rt: &impl Abort, told: &Run<16>, wanted: &Run<16>, word: u32) {
+    expect_same(rt, *told, *wanted, word);
+}
+
+/// Those bytes once so many bytes of x7 were stored at an address.
+fn stored(rt: &impl Abort, at: usize, width: usize) -> [u8; 16] {
+    assert!(rt; at <= 16 && width <= 8 && at + width <= 16);
+    let mut bytes = LOW.bytes;
+    let low = VALUE.to_le_bytes();
+    for place in 0..width {
+        bytes[at + place] = low[place];
+    }
+    bytes
+}
+
+/// A reservation of so many bytes at an address.
+fn held(address: u64, width: u8) -> Option<Reserved> {
+    Some(Reserved { address, width })
 }
 
 #[test]
 fn a_store_conditional_stores_what_is_reserved(rt: HostRuntime) {
     let mut word = Task::at(4);
     word.go(&rt, LR_W);
-    assert_eq!(rt; word.regs.x[5], 0x5555_5555);
+    word.expect_register(&rt, 5, 0x5555_5555);
     word.go(&rt, SC_W);
     word.expect_stored(&rt, 4, 4);
     let mut double = Task::at(8);
     double.go(&rt, LR_D);
-    assert_eq!(rt; double.regs.x[5], 0x5555_5555_5555_5555);
+    double.expect_register(&rt, 5, 0x5555_5555_5555_5555);
     double.go(&rt, SC_D);
     double.expect_stored(&rt, 8, 8);
 }
@@ -99,7 +147,7 @@ fn an_own_store_keeps_the_reservation(rt: HostRuntime) {
     let mut task = Task::at(4);
     task.go(&rt, LR_W);
     task.go(&rt, sb_x0_1_x6);
-    assert_eq!(rt; task.memory.data.bytes[5], 0);
+    task.expect_byte(&rt, 5, 0);
     task.go(&rt, SC_W);
     task.expect_stored(&rt, 4, 4);
 }
@@ -110,7 +158,7 @@ fn an_own_atomic_memory_operation_keeps_the_reservation(rt: HostRuntime) {
     let mut task = Task::at(4);
     task.go(&rt, LR_W);
     task.go(&rt, amoswap_w_x8_x0_x6);
-    assert_eq!(rt; task.regs.x[8], 0x5555_5555);
+    task.expect_register(&rt, 8, 0x5555_5555);
     task.go(&rt, SC_W);
     task.expect_stored(&rt, 4, 4);
 }
@@ -128,8 +176,7 @@ fn a_store_conditional_without_a_reservation_fails(rt: HostRuntime) {
 fn a_store_conditional_to_another_address_fails(rt: HostRuntime) {
     let mut task = Task::at(4);
     task.go(&rt, LR_W);
-    task.regs.x[6] = 0;
-    task.go(&rt, SC_W);
+    task.go_at(&rt, 0, SC_W);
     task.expect_failed(&rt);
 }
 
@@ -152,7 +199,7 @@ fn a_second_store_conditional_fails(rt: HostRuntime) {
     task.go(&rt, LR_W);
     task.go(&rt, SC_W);
     task.go(&rt, sc_w_x8_x0_x6);
-    assert_eq!(rt; task.regs.x[8], 1);
+    task.expect_register(&rt, 8, 1);
     task.expect_stored(&rt, 4, 4);
 }
 
@@ -160,10 +207,8 @@ fn a_second_store_conditional_fails(rt: HostRuntime) {
 fn a_store_conditional_that_fails_ends_the_reservation(rt: HostRuntime) {
     let mut task = Task::at(4);
     task.go(&rt, LR_W);
-    task.regs.x[6] = 0;
-    task.go(&rt, SC_W);
-    task.regs.x[6] = 4;
-    task.go(&rt, SC_W);
+    task.go_at(&rt, 0, SC_W);
+    task.go_at(&rt, 4, SC_W);
     task.expect_failed(&rt);
 }
 
@@ -176,13 +221,7 @@ fn a_store_conditional_that_would_fail_needs_the_right_to_write(rt: HostRuntime)
         task.go(&rt, LR_W);
         task.regs.x[6] = 0;
         task.expect_trap(&rt, word, 11);
-        assert_eq!(rt;
-            task.memory.reserved,
-            Some(Reserved {
-                address: 8,
-                width: 4
-            })
-        );
+        task.expect_reserved(&rt, held(8, 4));
     }
 }
 
@@ -193,13 +232,7 @@ fn a_store_conditional_that_would_fail_needs_alignment(rt: HostRuntime) {
         task.go(&rt, LR_W);
         task.regs.x[6] = 2;
         task.expect_trap(&rt, word, 7);
-        assert_eq!(rt;
-            task.memory.reserved,
-            Some(Reserved {
-                address: 8,
-                width: 4
-            })
-        );
+        task.expect_reserved(&rt, held(8, 4));
     }
 }
 
@@ -218,11 +251,9 @@ fn a_store_conditional_that_traps_keeps_the_reservation(rt: HostRuntime) {
 fn a_load_reserved_takes_the_place_of_the_one_before(rt: HostRuntime) {
     let mut task = Task::at(4);
     task.go(&rt, LR_W);
-    task.regs.x[6] = 8;
-    task.go(&rt, LR_D);
+    task.go_at(&rt, 8, LR_D);
     let mut first = task;
-    first.regs.x[6] = 4;
-    first.go(&rt, SC_W);
+    first.go_at(&rt, 4, SC_W);
     first.expect_failed(&rt);
     task.go(&rt, SC_D);
     task.expect_stored(&rt, 8, 8);
@@ -248,13 +279,7 @@ fn a_load_reserved_needs_no_right_to_write(rt: HostRuntime) {
     let mut task = Task::at(4);
     task.memory.writable = Right::NONE;
     task.go(&rt, LR_W);
-    assert_eq!(rt;
-        task.memory.reserved,
-        Some(Reserved {
-            address: 4,
-            width: 4
-        })
-    );
+    task.expect_reserved(&rt, held(4, 4));
 }
 
 #[test]
@@ -293,16 +318,10 @@ fn what_goes_into_x0_is_let_go(rt: HostRuntime) {
     let mut task = Task::at(4);
     let x5 = task.regs.x[5];
     task.go(&rt, lr_w_x0_x6);
-    assert_eq!(rt;
-        task.memory.reserved,
-        Some(Reserved {
-            address: 4,
-            width: 4
-        })
-    );
+    task.expect_reserved(&rt, held(4, 4));
     task.go(&rt, sc_w_x0_x7_x6);
-    assert_eq!(rt; task.regs.x[0], 0);
-    assert_eq!(rt; task.regs.x[5], x5);
+    task.expect_register(&rt, 0, 0);
+    task.expect_register(&rt, 5, x5);
     task.regs.x[5] = 0;
     task.expect_stored(&rt, 4, 4);
 }
@@ -314,24 +333,18 @@ fn a_register_that_is_read_may_be_written(rt: HostRuntime) {
     let sc_w_x7_x7_x6 = 0x1873_23af;
     let mut load = Task::at(4);
     load.go(&rt, lr_w_x6_x6);
-    assert_eq!(rt; load.regs.x[6], 0x5555_5555);
-    assert_eq!(rt;
-        load.memory.reserved,
-        Some(Reserved {
-            address: 4,
-            width: 4
-        })
-    );
+    load.expect_register(&rt, 6, 0x5555_5555);
+    load.expect_reserved(&rt, held(4, 4));
     let mut address = Task::at(4);
     address.go(&rt, LR_W);
     address.regs.x[5] = 0;
     address.go(&rt, sc_w_x6_x7_x6);
-    assert_eq!(rt; address.regs.x[6], 0);
+    address.expect_register(&rt, 6, 0);
     address.expect_stored(&rt, 4, 4);
     let mut value = Task::at(4);
     value.go(&rt, LR_W);
     value.regs.x[5] = 0;
     value.go(&rt, sc_w_x7_x7_x6);
-    assert_eq!(rt; value.regs.x[7], 0);
+    value.expect_register(&rt, 7, 0);
     value.expect_stored(&rt, 4, 4);
 }

@@ -1,5 +1,7 @@
 //! Runs of a page's decoded words: how many instructions each does, where it ends, and what it leaves. As many steps
 //! as a run did instructions leave the same.
+ghost use Rattle.std.specs.Prelude.{◌<◌, ◌^◌};
+
 use super::*;
 use pages::{Paged, page_of, row_of};
 use rv_exec::{Flow, RowRun, run_row};
@@ -55,13 +57,43 @@ fn run(alloc: Global, task: &mut Task, most: u32) -> Result<RowRun, Fail> {
     }
 }
 
-/// That two tasks have the same registers and the same memory, but for the accesses that it has answered.
-fn expect_same(rt: &impl Abort, told: &Task, wanted: &Task) {
+/// That two tasks have the same registers.
+fn expect_same_regs(rt: &impl Abort, told: &Task, wanted: &Task) {
+    expect_regs(rt, &told.regs, &wanted.regs, 0);
+}
+
+/// That they have the same memory, but for the accesses that it has answered.
+fn expect_same_memory(rt: &impl Abort, told: &Task, wanted: &Task) {
     let mut memory = told.memory;
     memory.accesses = wanted.memory.accesses;
     memory.ready = wanted.memory.ready;
-    assert_eq!(rt; told.regs, wanted.regs);
     assert!(rt; memory == wanted.memory);
+}
+
+/// That they have both.
+fn expect_task(rt: &impl Abort, told: &Task, wanted: &Task) {
+    expect_same_regs(rt, told, wanted);
+    expect_same_memory(rt, told, wanted);
+}
+
+/// That a run has done so many instructions and ended so.
+fn expect_run(rt: &impl Abort, told: RowRun, count: u32, flow: Flow) {
+    expect_same(rt, told, RowRun { count, flow }, count);
+}
+
+/// Does a step, which moves on.
+fn go(rt: &impl Abort, task: &mut Task) {
+    let told = once(&mut task.regs, &mut task.memory);
+    expect_step(rt, told, Step::Next, 0);
+}
+
+/// A task after so many steps.
+fn stepped(rt: &impl Abort, task: &Task, count: u32) -> Task {
+    let mut stepped = *task;
+    for _ in 0..count {
+        go(rt, &mut stepped);
+    }
+    stepped
 }
 
 /// The task after a run that does so many instructions and ends so, which are those of as many steps.
@@ -70,17 +102,61 @@ fn ran(
     alloc: Global,
     task: &Task,
     most: u32,
-    count: u32,
-    flow: Flow,
+    (count, flow): (u32, Flow),
 ) -> Result<Task, Fail> {
     let mut told = *task;
-    assert_eq!(rt; run(alloc, &mut told, most)?, RowRun { count, flow });
-    let mut stepped = *task;
-    for _ in 0..count {
-        assert_eq!(rt; step(&mut stepped.regs, &mut stepped.memory), Step::Next);
-    }
-    expect_same(rt, &told, &stepped);
+    expect_run(rt, run(alloc, &mut told, most)?, count, flow);
+    expect_task(rt, &told, &stepped(rt, task, count));
     Ok(told)
+}
+
+/// That such a run leaves that task.
+fn expect_ran(
+    rt: &impl Abort,
+    alloc: Global,
+    (task, most): (&Task, u32),
+    end: (u32, Flow),
+    wanted: &Task,
+) -> Result<(), Fail> {
+    let told = ran(rt, alloc, task, most, end)?;
+    expect_task(rt, &told, wanted);
+    Ok(())
+}
+
+/// That a task stands there.
+fn expect_pc(rt: &impl Abort, task: &Task, pc: u64) {
+    expect_same(rt, task.regs.pc, pc, 0);
+}
+
+/// That its x5 holds that.
+fn expect_x5(rt: &impl Abort, task: &Task, number: u64) {
+    expect_same(rt, task.regs.x[5], number, 0);
+}
+
+/// That its first byte that can be written is that.
+fn expect_byte(rt: &impl Abort, task: &Task, byte: u8) {
+    expect_same(rt, task.memory.data.bytes[0], byte, 0);
+}
+
+/// The same task at another place.
+fn at(task: &Task, pc: u64) -> Task {
+    let mut task = *task;
+    task.regs.pc = pc;
+    task
+}
+
+/// The same task with an address in x6.
+fn with_address(task: &Task, address: u64) -> Task {
+    let mut task = *task;
+    task.regs.x[6] = address;
+    task
+}
+
+/// The same task with the sixteen bytes at an address, which is in x6.
+fn with_data_at(task: &Task, address: u64) -> Task {
+    let mut task = with_address(task, address);
+    task.memory.data.from = address;
+    task
 }
 
 /// Adds up x8, four times, which is read from memory, made greater by 3 and written; then jumps over a breakpoint and
@@ -105,7 +181,7 @@ const SUM: [u32; 12] = [
 fn a_run_ends_at_its_limit(rt: HostRuntime) -> Result<(), Fail> {
     let task = task_of(&SUM);
     for most in 0..29 {
-        ran(&rt, rt.alloc(), &task, most, most, Flow::Next)?;
+        ran(&rt, rt.alloc(), &task, most, (most, Flow::Next))?;
     }
     Ok(())
 }
@@ -114,39 +190,46 @@ fn a_run_ends_at_its_limit(rt: HostRuntime) -> Result<(), Fail> {
 fn a_run_of_no_instruction_ends_before_it_looks_at_one(rt: HostRuntime) -> Result<(), Fail> {
     for word in [ECALL, 0x0010_0073, 0, 0x0020_006f] {
         let task = task_of(&[word]);
-        let told = ran(&rt, rt.alloc(), &task, 0, 0, Flow::Next)?;
-        expect_same(&rt, &told, &task);
+        expect_ran(&rt, rt.alloc(), (&task, 0), (0, Flow::Next), &task)?;
     }
     Ok(())
+}
+
+/// A task after the sum, at the call.
+fn summed(task: &Task) -> Task {
+    let mut wanted = at(task, 0x4_002c);
+    wanted.regs.x[1] = 0x4_0024;
+    wanted.regs.x[5] = 0;
+    wanted.regs.x[7] = 22; // 1 + 4 + 7 + 10
+    wanted.regs.x[8] = 13;
+    wanted.regs.x[9] = 0x4_0028;
+    wanted.memory.data.bytes[0] = 13;
+    wanted
 }
 
 #[test]
 fn a_run_ends_at_a_call(rt: HostRuntime) -> Result<(), Fail> {
     let task = task_of(&SUM);
+    let wanted = summed(&task);
     for most in [29, 30, u32::MAX] {
-        let told = ran(&rt, rt.alloc(), &task, most, 28, Flow::Call)?;
-        let mut wanted = task;
-        wanted.regs.pc = 0x4_002c;
-        wanted.regs.x[1] = 0x4_0024;
-        wanted.regs.x[5] = 0;
-        wanted.regs.x[7] = 22; // 1 + 4 + 7 + 10
-        wanted.regs.x[8] = 13;
-        wanted.regs.x[9] = 0x4_0028;
-        wanted.memory.data.bytes[0] = 13;
-        expect_same(&rt, &told, &wanted);
+        expect_ran(&rt, rt.alloc(), (&task, most), (28, Flow::Call), &wanted)?;
     }
     Ok(())
+}
+
+/// That a run of so many instructions and one of the others leave what one of all does.
+fn expect_goes_on(rt: &impl Abort, alloc: Global, task: &Task, most: u32) -> Result<(), Fail> {
+    let first = ran(rt, alloc, task, most, (most, Flow::Next))?;
+    let rest = 28_u32.wrapping_sub(most);
+    let whole = ran(rt, alloc, task, 1000, (28, Flow::Call))?;
+    expect_ran(rt, alloc, (&first, 1000), (rest, Flow::Call), &whole)
 }
 
 #[test]
 fn a_run_that_ended_at_its_limit_goes_on_where_it_stands(rt: HostRuntime) -> Result<(), Fail> {
     let task = task_of(&SUM);
     for most in 1..28 {
-        let first = ran(&rt, rt.alloc(), &task, most, most, Flow::Next)?;
-        let rest = 28_u32.wrapping_sub(most);
-        let told = ran(&rt, rt.alloc(), &first, 1000, rest, Flow::Call)?;
-        let whole = ran(&rt, rt.alloc(), &task, 1000, 28, Flow::Call)?;
-        expect_same(&rt, &told, &whole);
+        expect_goes_on(&rt, rt.alloc(), &task, most)?;
     }
     Ok(())
 }
@@ -166,20 +249,35 @@ const TRAPS: [(u32, u8); 10] = [
     (0x0073_22af, 7), // amoadd.w x5, x7, (x6)
 ];
 
+/// A task whose third word is that, with 8 in x5.
+fn task_before(word: u32) -> Task {
+    let mut task = with_address(&task_of(&[NOP, COUNT, word]), DATA + 2);
+    task.regs.x[5] = 8;
+    task
+}
+
+/// The same after two instructions.
+fn task_behind(task: &Task) -> Task {
+    let mut wanted = at(task, PC + 8);
+    wanted.regs.x[5] = 9;
+    wanted
+}
+
+/// That a run of more than two ends at the trap of a word, and one of two before.
+fn expect_trap(rt: &impl Abort, alloc: Global, word: u32, signal: u8) -> Result<(), Fail> {
+    let task = task_before(word);
+    let wanted = task_behind(&task);
+    for most in [3, 4, 1000] {
+        expect_ran(rt, alloc, (&task, most), (2, Flow::Trap(signal)), &wanted)?;
+    }
+    ran(rt, alloc, &task, 2, (2, Flow::Next))?;
+    Ok(())
+}
+
 #[test]
 fn a_run_ends_at_a_trap_which_is_no_instruction_of_it(rt: HostRuntime) -> Result<(), Fail> {
     for (word, signal) in TRAPS {
-        let mut task = task_of(&[NOP, COUNT, word]);
-        task.regs.x[5] = 8;
-        task.regs.x[6] = DATA + 2;
-        for most in [3, 4, 1000] {
-            let told = ran(&rt, rt.alloc(), &task, most, 2, Flow::Trap(signal))?;
-            let mut wanted = task;
-            wanted.regs.pc = PC + 8;
-            wanted.regs.x[5] = 9;
-            expect_same(&rt, &told, &wanted);
-        }
-        ran(&rt, rt.alloc(), &task, 2, 2, Flow::Next)?;
+        expect_trap(&rt, rt.alloc(), word, signal)?;
     }
     Ok(())
 }
@@ -193,12 +291,18 @@ const JUMPS: [(u32, u64); 4] = [
     (0xfe00_0ce3, 0x3_fffc), // beq x0, x0, .-8
 ];
 
+/// That a run of a task's whole page does two instructions, behind which the task stands there.
+fn expect_two(rt: &impl Abort, alloc: Global, task: &Task, pc: u64) -> Result<(), Fail> {
+    let told = ran(rt, alloc, task, 1000, (2, Flow::Next))?;
+    expect_pc(rt, &told, pc);
+    Ok(())
+}
+
 #[test]
 fn a_run_ends_where_a_jump_leaves_the_page(rt: HostRuntime) -> Result<(), Fail> {
     for (word, target) in JUMPS {
         let task = task_of(&[COUNT, word, ECALL]);
-        let told = ran(&rt, rt.alloc(), &task, 1000, 2, Flow::Next)?;
-        assert_eq!(rt; told.regs.pc, target, "{word:08x}");
+        expect_two(&rt, rt.alloc(), &task, target)?;
     }
     Ok(())
 }
@@ -208,8 +312,7 @@ fn a_run_ends_where_the_page_does(rt: HostRuntime) -> Result<(), Fail> {
     let last_page = 0xffff_ffff_ffff_f000;
     for (page, behind) in [(PC, PC + 4096), (0, 4096), (last_page, 0)] {
         let task = task_at(page, 1022, &[COUNT, NOP]);
-        let told = ran(&rt, rt.alloc(), &task, 1000, 2, Flow::Next)?;
-        assert_eq!(rt; told.regs.pc, behind);
+        expect_two(&rt, rt.alloc(), &task, behind)?;
     }
     Ok(())
 }
@@ -217,19 +320,18 @@ fn a_run_ends_where_the_page_does(rt: HostRuntime) -> Result<(), Fail> {
 #[test]
 fn a_run_does_a_whole_page(rt: HostRuntime) -> Result<(), Fail> {
     let task = task_of(&[COUNT; 1024]);
-    let told = ran(&rt, rt.alloc(), &task, 1025, 1024, Flow::Next)?;
-    assert_eq!(rt; told.regs.pc, PC + 4096);
-    assert_eq!(rt; told.regs.x[5], task.regs.x[5].wrapping_add(1024));
+    let told = ran(&rt, rt.alloc(), &task, 1025, (1024, Flow::Next))?;
+    expect_pc(&rt, &told, PC + 4096);
+    expect_x5(&rt, &told, task.regs.x[5].wrapping_add(1024));
     Ok(())
 }
 
 #[test]
 fn a_run_does_nothing_inside_an_instruction(rt: HostRuntime) -> Result<(), Fail> {
-    for offset in [1, 2, 3] {
-        let mut task = task_of(&[NOP, NOP, ECALL]);
-        task.regs.pc = PC + offset;
-        let told = ran(&rt, rt.alloc(), &task, 1000, 0, Flow::Next)?;
-        expect_same(&rt, &told, &task);
+    let task = task_of(&[NOP, NOP, ECALL]);
+    for pc in [PC + 1, PC + 2, PC + 3] {
+        let task = at(&task, pc);
+        expect_ran(&rt, rt.alloc(), (&task, 1000), (0, Flow::Next), &task)?;
     }
     Ok(())
 }
@@ -249,47 +351,78 @@ const CONDITIONAL: u32 = 0x1873_22af;
 
 /// That a run ends at the second word, which is refused, and leaves the task there.
 fn expect_refused(rt: &impl Abort, alloc: Global, task: &Task) -> Result<(), Fail> {
+    let wanted = at(task, PC + 4);
     for most in [2, 3, 1000] {
-        let told = ran(rt, alloc, task, most, 1, Flow::Refused)?;
-        let mut wanted = *task;
-        wanted.regs.pc = PC + 4;
-        expect_same(rt, &told, &wanted);
+        expect_ran(rt, alloc, (task, most), (1, Flow::Refused), &wanted)?;
+    }
+    Ok(())
+}
+
+/// A task whose second word is that.
+fn task_with(word: u32) -> Task {
+    task_of(&[NOP, word, ECALL])
+}
+
+/// The same, where no byte lies at the address in x6; where an area does; and without a right.
+fn refused_tasks(word: u32) -> [Task; 3] {
+    let task = task_with(word);
+    let outside = with_address(&task, DATA + 16);
+    let mut area = task;
+    area.memory.data.area = Some(AREA);
+    let mut without = task;
+    without.memory.readable = Right::NONE;
+    without.memory.writable = Right::NONE;
+    [outside, area, without]
+}
+
+/// That a run ends at each of these words, for each of these reasons.
+fn expect_each_refused(rt: &impl Abort, alloc: Global, words: &[u32]) -> Result<(), Fail> {
+    for &word in words {
+        let [outside, area, without] = refused_tasks(word);
+        expect_refused(rt, alloc, &outside)?;
+        expect_refused(rt, alloc, &area)?;
+        expect_refused(rt, alloc, &without)?;
     }
     Ok(())
 }
 
 #[test]
 fn a_run_ends_at_an_access_without_its_right_or_in_an_area(rt: HostRuntime) -> Result<(), Fail> {
-    for words in [&LOADS[..], &STORES[..], &[CONDITIONAL]] {
-        for &word in words {
-            let mut outside = task_of(&[NOP, word, ECALL]);
-            outside.regs.x[6] = DATA + 16;
-            expect_refused(&rt, rt.alloc(), &outside)?;
-            let mut area = task_of(&[NOP, word, ECALL]);
-            area.memory.data.area = Some(AREA);
-            expect_refused(&rt, rt.alloc(), &area)?;
-            let mut without = task_of(&[NOP, word, ECALL]);
-            without.memory.readable = Right::NONE;
-            without.memory.writable = Right::NONE;
-            expect_refused(&rt, rt.alloc(), &without)?;
-        }
+    expect_each_refused(&rt, rt.alloc(), &LOADS)?;
+    expect_each_refused(&rt, rt.alloc(), &STORES)?;
+    expect_each_refused(&rt, rt.alloc(), &[CONDITIONAL])
+}
+
+/// The same task where its bytes are not at hand.
+fn far(task: &Task) -> Task {
+    let mut task = *task;
+    task.memory.is_near = false;
+    task
+}
+
+/// That a run goes over a word, but ends at it where the bytes are not at hand; a step does it there too.
+fn expect_far(rt: &impl Abort, alloc: Global, word: u32) -> Result<(), Fail> {
+    let task = task_with(word);
+    ran(rt, alloc, &task, 1000, (2, Flow::Call))?;
+    let task = far(&task);
+    expect_refused(rt, alloc, &task)?;
+    go(rt, &mut at(&task, PC + 4));
+    Ok(())
+}
+
+/// The same of each of these words.
+fn expect_each_far(rt: &impl Abort, alloc: Global, words: &[u32]) -> Result<(), Fail> {
+    for &word in words {
+        expect_far(rt, alloc, word)?;
     }
     Ok(())
 }
 
 #[test]
 fn a_run_ends_at_an_access_that_is_not_at_hand(rt: HostRuntime) -> Result<(), Fail> {
-    for words in [&LOADS[..], &STORES[..], &[CONDITIONAL]] {
-        for &word in words {
-            let mut task = task_of(&[NOP, word, ECALL]);
-            ran(&rt, rt.alloc(), &task, 1000, 2, Flow::Call)?;
-            task.memory.is_near = false;
-            expect_refused(&rt, rt.alloc(), &task)?;
-            task.regs.pc = PC + 4;
-            assert_eq!(rt; step(&mut task.regs, &mut task.memory), Step::Next);
-        }
-    }
-    Ok(())
+    expect_each_far(&rt, rt.alloc(), &LOADS)?;
+    expect_each_far(&rt, rt.alloc(), &STORES)?;
+    expect_each_far(&rt, rt.alloc(), &[CONDITIONAL])
 }
 
 /// The word before a store-conditional, the task's reservation before that word, what x5 is told and which byte stands
@@ -302,97 +435,137 @@ const CONDITIONALS: [(u32, Option<Reserved>, u64, u8); 4] = [
     (RESERVING, None, 0, 3),
 ];
 
+/// A task with that reservation.
+fn with_reservation(task: &Task, reserved: Option<Reserved>) -> Task {
+    let mut task = *task;
+    task.memory.reserved = reserved;
+    task
+}
+
+/// A task behind a store-conditional that told that, with that first byte.
+fn told_task(task: &Task, told: u64, byte: u8) -> Task {
+    let mut wanted = with_reservation(&at(task, PC + 12), None);
+    wanted.regs.x[5] = told;
+    wanted.memory.data.bytes[0] = byte;
+    wanted
+}
+
 #[test]
 fn a_run_goes_on_behind_a_store_conditional(rt: HostRuntime) -> Result<(), Fail> {
     for (before, reserved, told, byte) in CONDITIONALS {
-        let mut task = task_of(&[before, CONDITIONAL, NOP, ECALL]);
-        task.memory.reserved = reserved;
-        let left = ran(&rt, rt.alloc(), &task, 1000, 3, Flow::Call)?;
-        let mut wanted = task;
-        wanted.regs.pc = PC + 12;
-        wanted.regs.x[5] = told;
-        wanted.memory.data.bytes[0] = byte;
-        wanted.memory.reserved = None;
-        expect_same(&rt, &left, &wanted);
+        let task = task_of(&[before, CONDITIONAL, NOP, ECALL]);
+        let task = with_reservation(&task, reserved);
+        let wanted = told_task(&task, told, byte);
+        expect_ran(&rt, rt.alloc(), (&task, 1000), (3, Flow::Call), &wanted)?;
     }
     Ok(())
 }
 
+/// That a run ends at a store-conditional to an address, with a reservation there and without.
+fn expect_conditional_refused(rt: &impl Abort, alloc: Global, address: u64) -> Result<(), Fail> {
+    let task = with_data_at(&task_with(CONDITIONAL), address);
+    let held = Some(Reserved { address, width: 4 });
+    expect_refused(rt, alloc, &with_reservation(&task, held))?;
+    expect_refused(rt, alloc, &with_reservation(&task, None))
+}
+
 #[test]
 fn a_run_ends_at_a_store_conditional_into_its_own_page(rt: HostRuntime) -> Result<(), Fail> {
-    for at in [PC + 16, PC + 4080] {
-        let held = Some(Reserved {
-            address: at,
-            width: 4,
-        });
-        for reserved in [held, None] {
-            let mut task = task_of(&[NOP, CONDITIONAL, ECALL]);
-            task.memory.data.from = at;
-            task.memory.reserved = reserved;
-            task.regs.x[6] = at;
-            expect_refused(&rt, rt.alloc(), &task)?;
-        }
-    }
-    Ok(())
+    expect_conditional_refused(&rt, rt.alloc(), PC + 16)?;
+    expect_conditional_refused(&rt, rt.alloc(), PC + 4080)
 }
 
 #[test]
 fn a_run_ends_at_a_store_into_its_own_page(rt: HostRuntime) -> Result<(), Fail> {
     for word in STORES {
-        for at in [PC + 16, PC + 0x800, PC + 4080] {
-            let mut task = task_of(&[NOP, word, ECALL]);
-            task.memory.data.from = at;
-            task.regs.x[6] = at;
+        for address in [PC + 16, PC + 0x800, PC + 4080] {
+            let task = with_data_at(&task_with(word), address);
             expect_refused(&rt, rt.alloc(), &task)?;
         }
+    }
+    Ok(())
+}
+
+/// The task after a run of its page, which calls behind the second word.
+fn called(rt: &impl Abort, alloc: Global, word: u32, address: u64) -> Result<Task, Fail> {
+    let task = with_data_at(&task_with(word), address);
+    ran(rt, alloc, &task, 1000, (2, Flow::Call))
+}
+
+/// That each load from its own page goes on.
+fn expect_loads(rt: &impl Abort, alloc: Global) -> Result<(), Fail> {
+    for word in LOADS {
+        let told = called(rt, alloc, word, PC + 0x800)?;
+        expect_x5(rt, &told, 1);
+    }
+    Ok(())
+}
+
+/// That each store to an address does.
+fn expect_stores(rt: &impl Abort, alloc: Global, address: u64) -> Result<(), Fail> {
+    for word in STORES {
+        let told = called(rt, alloc, word, address)?;
+        expect_byte(rt, &told, 3);
     }
     Ok(())
 }
 
 #[test]
 fn a_run_loads_from_its_own_page_and_stores_into_those_beside(rt: HostRuntime) -> Result<(), Fail> {
-    for word in LOADS {
-        let mut task = task_of(&[NOP, word, ECALL]);
-        task.memory.data.from = PC + 0x800;
-        task.regs.x[6] = PC + 0x800;
-        let told = ran(&rt, rt.alloc(), &task, 1000, 2, Flow::Call)?;
-        assert_eq!(rt; told.regs.x[5], 1);
-    }
-    for word in STORES {
-        for at in [PC - 16, PC + 4096] {
-            let mut task = task_of(&[NOP, word, ECALL]);
-            task.memory.data.from = at;
-            task.regs.x[6] = at;
-            let told = ran(&rt, rt.alloc(), &task, 1000, 2, Flow::Call)?;
-            assert_eq!(rt; told.memory.data.bytes[0], 3);
-        }
-    }
-    Ok(())
+    expect_loads(&rt, rt.alloc())?;
+    expect_stores(&rt, rt.alloc(), PC - 16)?;
+    expect_stores(&rt, rt.alloc(), PC + 4096)
+}
+
+/// A task whose second word stores `addi x5, x0, 77` over its third.
+fn task_that_stores() -> Task {
+    let sw_x7_0_x6 = 0x0073_2023;
+    let addi_x5_x0_77 = 0x04d0_0293;
+    let task = task_of(&[NOP, sw_x7_0_x6, NOP, ECALL]);
+    let mut task = with_data_at(&task, PC + 8);
+    task.memory.data.bytes[0] = 0x13;
+    task.memory.data.bytes[4] = 0x73;
+    task.regs.x[7] = addi_x5_x0_77;
+    task
 }
 
 #[test]
 fn a_word_that_a_step_stores_into_the_page_is_run_next(rt: HostRuntime) -> Result<(), Fail> {
-    let sw_x7_0_x6 = 0x0073_2023;
-    let addi_x5_x0_77 = 0x04d0_0293;
-    let mut task = task_of(&[NOP, sw_x7_0_x6, NOP, ECALL]);
-    task.memory.data.from = PC + 8;
-    task.memory.data.bytes[0] = 0x13;
-    task.memory.data.bytes[4] = 0x73;
-    task.regs.x[6] = PC + 8;
-    task.regs.x[7] = addi_x5_x0_77;
-    let mut task = ran(&rt, rt.alloc(), &task, 1000, 1, Flow::Refused)?;
-    assert_eq!(rt; step(&mut task.regs, &mut task.memory), Step::Next);
-    let told = ran(&rt, rt.alloc(), &task, 1000, 1, Flow::Call)?;
-    assert_eq!(rt; told.regs.x[5], 77);
-    assert_eq!(rt; told.regs.pc, PC + 12);
+    let alloc = rt.alloc();
+    let mut task = ran(&rt, alloc, &task_that_stores(), 1000, (1, Flow::Refused))?;
+    go(&rt, &mut task);
+    let told = ran(&rt, alloc, &task, 1000, (1, Flow::Call))?;
+    expect_x5(&rt, &told, 77);
+    expect_pc(&rt, &told, PC + 12);
     Ok(())
+}
+
+/// That a page has its row, or none.
+fn expect_row<const N: usize>(
+    rt: &impl Abort,
+    alloc: Global,
+    code: &Run<N>,
+    page: u64,
+    is_there: bool,
+) -> Result<(), Fail>
+    requires { page < 2 ^ 52 }
+{
+    expect_same(rt, has_row(alloc, code, page)?, is_there, 0);
+    Ok(())
+}
+
+fn has_row<const N: usize>(alloc: Global, code: &Run<N>, page: u64) -> Result<bool, Fail>
+    requires { page < 2 ^ 52 }
+{
+    Ok(row_of(alloc, code, page)?.is_some())
 }
 
 #[test]
 fn a_page_of_which_a_word_may_not_be_executed_has_no_row(rt: HostRuntime) -> Result<(), Fail> {
+    let alloc = rt.alloc();
     let memory = task_of(&[NOP]).memory;
-    assert!(rt; row_of(rt.alloc(), &memory.code, PC / 4096)?.is_some());
-    assert!(rt; row_of(rt.alloc(), &memory.code, PC / 4096 + 1)?.is_none());
-    assert!(rt; row_of(rt.alloc(), &memory_of(PC, NOP, ZEROS).code, PC / 4096)?.is_none());
-    Ok(())
+    expect_row(&rt, alloc, &memory.code, PC / 4096, true)?;
+    expect_row(&rt, alloc, &memory.code, PC / 4096 + 1, false)?;
+    let word = memory_of(PC, NOP, ZEROS);
+    expect_row(&rt, alloc, &word.code, PC / 4096, false)
 }

@@ -222,6 +222,16 @@ fn a_byte_that_may_not_be_written_goes_before_a_shared_area(rt: HostRuntime) {
     expect_unmoved(&rt, regs_with(DATA - 1, VALUE), memory, Step::Trap(11));
 }
 
+/// Does the instruction at which a task stands, which moves on.
+fn go(rt: &impl Abort, regs: &mut Regs, memory: &mut Memory) {
+    expect_step(rt, once(regs, memory), Step::Next, word_of(memory));
+}
+
+/// That x5 holds that.
+fn expect_x5(rt: &impl Abort, regs: &Regs, number: u64) {
+    expect_same(rt, regs.x[5], number, 0);
+}
+
 #[test]
 fn a_word_that_is_stored_is_what_is_fetched_next(rt: HostRuntime) {
     let sw_x7_0_x6 = 0x0073_2023;
@@ -230,10 +240,10 @@ fn a_word_that_is_stored_is_what_is_fetched_next(rt: HostRuntime) {
     here.from = PC;
     let mut regs = regs_with(PC, addi_x5_x0_77);
     let mut memory = memory_of(PC, sw_x7_0_x6, here);
-    assert_eq!(rt; step(&mut regs, &mut memory), Step::Next);
+    go(&rt, &mut regs, &mut memory);
     regs.pc = PC;
-    assert_eq!(rt; step(&mut regs, &mut memory), Step::Next);
-    assert_eq!(rt; regs.x[5], 77);
+    go(&rt, &mut regs, &mut memory);
+    expect_x5(&rt, &regs, 77);
 }
 
 /// That stores of x7 leave the bytes that they should.

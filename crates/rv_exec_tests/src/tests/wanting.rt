@@ -107,15 +107,30 @@ fn what_makes_no_access_wants_no_memory(rt: HostRuntime) {
     }
 }
 
+/// A store of 1 by a task, behind so many calls of its memory that are answered: that it comes to a step.
+fn expect_store(
+    rt: &impl Abort,
+    regs: &mut Regs,
+    memory: &mut Memory,
+    accesses: u64,
+    wanted: Step,
+) {
+    memory.accesses = accesses;
+    expect_step(rt, once(regs, memory), wanted, SW);
+}
+
+/// That the first byte is that.
+fn expect_byte(rt: &impl Abort, memory: &Memory, byte: u8) {
+    expect_same(rt, memory.data.bytes[0], byte, SW);
+}
+
 #[test]
 fn what_wanted_memory_is_done_where_there_is_some(rt: HostRuntime) {
     let before = regs_with(DATA, 1);
     let mut regs = before;
     let mut memory = memory_of(PC, SW, ZEROS);
-    memory.accesses = 1;
-    assert_eq!(rt; step(&mut regs, &mut memory), Step::Memory);
-    memory.accesses = 2;
-    assert_eq!(rt; step(&mut regs, &mut memory), Step::Next);
-    assert_eq!(rt; regs, gone_on(before));
-    assert_eq!(rt; memory.data.bytes[0], 1);
+    expect_store(&rt, &mut regs, &mut memory, 1, Step::Memory);
+    expect_store(&rt, &mut regs, &mut memory, 2, Step::Next);
+    expect_regs(&rt, &regs, &gone_on(before), SW);
+    expect_byte(&rt, &memory, 1);
 }
