@@ -52,6 +52,7 @@ impl Acting {
                     Turn { count, stop: None }
                 }
             }
+            Flow::Jump => unreachable!(),
             Flow::Refused => self.step_after(regs, count),
         }
     }

@@ -1,11 +1,14 @@
 -- Instructions one after another: none, and so many behind others.
-use Rattle.std.proofs.Common.{◌≡◌, ℕ, zero, suc, ◌+◌, Option, Some, None, refl, ap, sym, ◌∙◌, arith}
+use Rattle.std.proofs.Common.{◌≡◌, ℕ, zero, suc, ◌+◌, ◌-◌, ◌≤◌, Option, Some, None, refl, ap, sym, ◌∙◌, arith}
 use Rattle.std.specs.Prelude.{option_and_then}
 use Rattle.std.proofs.lemmas.Option.{none-some}
 use Rattle.rv_table.specs.declared.regs.Regs.{Regs}
 use Rattle.rv_table.specs.Bytes.{Memory}
-use Rattle.rv_exec.specs.Courses.{Going, going, one_more, ran}
+use Rattle.rv_exec.specs.Courses.{EndsBy, Going, going, one_more, ran}
+use Rattle.rv_exec.specs.Execution.{Done}
 use Rattle.rv_exec.specs.Writes.{Write}
+use Rattle.rv_exec.specs.declared.flow.Flow.{Flow}
+use Rattle.rv_exec.specs.declared.flow.Flow.TheVariants as flows
 
 module _ {State : Type 0} (seen : State → Memory) (write : Write → State → State) where
   pub ran_zero : (start : Going State) → ran seen write zero start ≡ Some start
@@ -43,3 +46,12 @@ module _ {State : Type 0} (seen : State → Memory) (write : Write → State →
   ran_still n r old new is same =
       ap (λ k. ran seen write k (going old r)) is ∙ ran_zero (going old r)
       ∙ ap (λ (s : State). Some (going s r)) (sym same)
+
+-- a run behind others ends as all of them do
+pub ends_behind : (done : Done) (n m most : ℕ) (flow : Flow) → n ≤ most → EndsBy done m (most - n) flow
+    → EndsBy done (n + m) most flow
+ends_behind done n m most flows.Next before end = tt
+ends_behind done n m most flows.Jump before end = end
+ends_behind done n m most flows.Call before end = (omega (arith, before, end.0), end.1)
+ends_behind done n m most (flows.Trap signal) before end = (omega (arith, before, end.0), end.1)
+ends_behind done n m most flows.Refused before end = omega (arith, before, end)

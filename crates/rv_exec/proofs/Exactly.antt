@@ -15,6 +15,7 @@ pub step_done : {State : Type 0} → (write : Write → State → State) → (wh
     → FlowsAs write true why done before after old new flow
     → StepsAs write done before after old new (outcome_of flow why)
 step_done write why (Goes r ws) before after old new flows.Next h = h
+step_done write why (Goes r ws) before after old new flows.Jump h = h
 step_done write why (Goes r ws) before after old new flows.Call h = elim h [ ]
 step_done write why (Goes r ws) before after old new (flows.Trap told) h = elim h [ ]
 step_done write steps.Next (Goes r ws) before after old new flows.Refused h = elim (h.2 refl) [ ]
@@ -23,6 +24,7 @@ step_done write (steps.Trap cause) (Goes r ws) before after old new flows.Refuse
 step_done write (steps.Shared cause) (Goes r ws) before after old new flows.Refused h = elim (h.2 refl) [ ]
 step_done write steps.Memory (Goes r ws) before after old new flows.Refused h = (h.0, h.1)
 step_done write why Calls before after old new flows.Next h = elim h [ ]
+step_done write why Calls before after old new flows.Jump h = elim h [ ]
 step_done write why Calls before after old new flows.Call h = h
 step_done write why Calls before after old new (flows.Trap told) h = elim h [ ]
 step_done write steps.Next Calls before after old new flows.Refused h = elim (h.2 refl) [ ]
@@ -31,6 +33,7 @@ step_done write (steps.Trap cause) Calls before after old new flows.Refused h = 
 step_done write (steps.Shared cause) Calls before after old new flows.Refused h = elim (h.2 refl) [ ]
 step_done write steps.Memory Calls before after old new flows.Refused h = (h.0, h.1)
 step_done write why (Traps signal) before after old new flows.Next h = elim h [ ]
+step_done write why (Traps signal) before after old new flows.Jump h = elim h [ ]
 step_done write why (Traps signal) before after old new flows.Call h = elim h [ ]
 step_done write why (Traps signal) before after old new (flows.Trap told) h = h
 step_done write steps.Next (Traps signal) before after old new flows.Refused h = elim (h.2 refl) [ ]
@@ -39,6 +42,7 @@ step_done write (steps.Trap cause) (Traps signal) before after old new flows.Ref
 step_done write (steps.Shared cause) (Traps signal) before after old new flows.Refused h = elim (h.2 refl) [ ]
 step_done write steps.Memory (Traps signal) before after old new flows.Refused h = (h.0, h.1)
 step_done write why (Touches area) before after old new flows.Next h = elim h [ ]
+step_done write why (Touches area) before after old new flows.Jump h = elim h [ ]
 step_done write why (Touches area) before after old new flows.Call h = elim h [ ]
 step_done write why (Touches area) before after old new (flows.Trap told) h = elim h [ ]
 step_done write steps.Next (Touches area) before after old new flows.Refused h = elim (h.2 refl) [ ]
@@ -57,6 +61,7 @@ is_want steps.Memory = true
 
 pub step_lean : (flow : Flow) → (why : Step) → why ≢ steps.Memory → outcome_of flow why ≢ steps.Memory
 step_lean flows.Next why h = λ e. false≢true (ap is_want e)
+step_lean flows.Jump why h = λ e. false≢true (ap is_want e)
 step_lean flows.Call why h = λ e. false≢true (ap is_want e)
 step_lean (flows.Trap told) why h = λ e. false≢true (ap is_want e)
 step_lean flows.Refused why h = h

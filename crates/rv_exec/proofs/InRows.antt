@@ -61,31 +61,59 @@ went_next write why Calls r after old new h = absurd h
 went_next write why (Traps signal) r after old new h = absurd h
 went_next write why (Touches area) r after old new h = absurd h
 
+went_jump : {State : Type 0} → (write : Write → State → State) → (why : Step) → (done : Done)
+    → (r after : Regs) → (old new : State)
+    → FlowsAs write false why done r after old new flows.Jump → went_by write old done ≡ Some (going new after)
+went_jump write why (Goes q ws) r after old new h = λ i. Some (going (sym h.1 i) (sym h.0 i))
+went_jump write why Calls r after old new h = absurd h
+went_jump write why (Traps signal) r after old new h = absurd h
+went_jump write why (Touches area) r after old new h = absurd h
+
+one_more_by : {State : Type 0} → (seen : State → Memory) → (write : Write → State → State)
+    → (n : ℕ) (start : Going State) (r : Regs) (old : State) (end : Going State)
+    → ran seen write n start ≡ Some (going old r)
+    → went_by write old (exec (seen old) r) ≡ Some end
+    → ran seen write (n + 1) start ≡ Some end
+one_more_by seen write n start r old end before went =
+    ap (λ m. ran seen write m start) (add-one n)
+    ∙ ran_suc seen write n start
+    ∙ ap (option_and_then (one_more seen write)) before
+    ∙ went
+
 pub one_more_ran : {State : Type 0} → (seen : State → Memory) → (write : Write → State → State) → (why : Step)
     → (n : ℕ) (start : Going State) (r after : Regs) (old new : State) (flow : Flow)
     → ran seen write n start ≡ Some (going old r)
     → FlowsAs write false why (exec (seen old) r) r after old new flow → flow ≡ flows.Next
     → ran seen write (n + 1) start ≡ Some (going new after)
 one_more_ran seen write why n start r after old new flow before did next =
-    ap (λ m. ran seen write m start) (add-one n)
-    ∙ ran_suc seen write n start
-    ∙ ap (option_and_then (one_more seen write)) before
-    ∙ went_next write why (exec (seen old) r) r after old new
-    (subst (λ (f : Flow). FlowsAs write false why (exec (seen old) r) r after old new f) next did)
+    one_more_by seen write n start r old (going new after) before
+    (went_next write why (exec (seen old) r) r after old new
+    (subst (λ (f : Flow). FlowsAs write false why (exec (seen old) r) r after old new f) next did))
+
+pub one_more_jumped : {State : Type 0} → (seen : State → Memory) → (write : Write → State → State) → (why : Step)
+    → (n : ℕ) (start : Going State) (r after : Regs) (old new : State) (flow : Flow)
+    → ran seen write n start ≡ Some (going old r)
+    → FlowsAs write false why (exec (seen old) r) r after old new flow → flow ≡ flows.Jump
+    → ran seen write (n + 1) start ≡ Some (going new after)
+one_more_jumped seen write why n start r after old new flow before did jumped =
+    one_more_by seen write n start r old (going new after) before
+    (went_jump write why (exec (seen old) r) r after old new
+    (subst (λ (f : Flow). FlowsAs write false why (exec (seen old) r) r after old new f) jumped did))
 
 -- a run that ends before its limit has not changed what the next instruction does
 pub ended : {State : Type 0} → (write : Write → State → State) → (why : Step) → (done next : Done) → (r after : Regs)
     → (old new : State) → (flow : Flow) → (n most : ℕ)
-    → FlowsAs write false why done r after old new flow → (flow ≡ flows.Next → ⊥)
+    → FlowsAs write false why done r after old new flow → (flow ≡ flows.Next → ⊥) → (flow ≡ flows.Jump → ⊥)
     → (after ≡ r → new ≡ old → next ≡ done) → n < most → EndsBy next n most flow
-ended write why done next r after old new flows.Next n most h apart same few = absurd (apart refl)
-ended write why Calls next r after old new flows.Call n most h apart same few = (few, same h.0 h.1)
-ended write why (Goes q ws) next r after old new flows.Call n most h apart same few = absurd h
-ended write why (Traps signal) next r after old new flows.Call n most h apart same few = absurd h
-ended write why (Touches area) next r after old new flows.Call n most h apart same few = absurd h
-ended write why (Traps signal) next r after old new (flows.Trap told) n most h apart same few =
+ended write why done next r after old new flows.Next n most h apart straight same few = absurd (apart refl)
+ended write why done next r after old new flows.Jump n most h apart straight same few = absurd (straight refl)
+ended write why Calls next r after old new flows.Call n most h apart straight same few = (few, same h.0 h.1)
+ended write why (Goes q ws) next r after old new flows.Call n most h apart straight same few = absurd h
+ended write why (Traps signal) next r after old new flows.Call n most h apart straight same few = absurd h
+ended write why (Touches area) next r after old new flows.Call n most h apart straight same few = absurd h
+ended write why (Traps signal) next r after old new (flows.Trap told) n most h apart straight same few =
     (few, same h.1 h.2 ∙ ap Traps (sym h.0))
-ended write why (Goes q ws) next r after old new (flows.Trap told) n most h apart same few = absurd h
-ended write why Calls next r after old new (flows.Trap told) n most h apart same few = absurd h
-ended write why (Touches area) next r after old new (flows.Trap told) n most h apart same few = absurd h
-ended write why done next r after old new flows.Refused n most h apart same few = few
+ended write why (Goes q ws) next r after old new (flows.Trap told) n most h apart straight same few = absurd h
+ended write why Calls next r after old new (flows.Trap told) n most h apart straight same few = absurd h
+ended write why (Touches area) next r after old new (flows.Trap told) n most h apart straight same few = absurd h
+ended write why done next r after old new flows.Refused n most h apart straight same few = few

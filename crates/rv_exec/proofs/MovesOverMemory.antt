@@ -12,22 +12,27 @@ pub moved : {State : Type 0} → (write : Write → State → State) → (is_exa
     → (before after : Regs) → (old new : State) → (flow : Flow) → MovesAs done before after flow → new ≡ old
     → FlowsAs write is_exact why done before after old new flow
 moved write is_exact why (Goes r []) before after old new flows.Next h same = (h, same)
+moved write is_exact why (Goes r []) before after old new flows.Jump h same = (h, same)
 moved write is_exact why (Goes r []) before after old new flows.Call h same = elim h [ ]
 moved write is_exact why (Goes r []) before after old new (flows.Trap told) h same = elim h [ ]
 moved write is_exact why (Goes r []) before after old new flows.Refused h same = elim h [ ]
 moved write is_exact why (Goes r (w ∷ ws)) before after old new flows.Next h same = elim h [ ]
+moved write is_exact why (Goes r (w ∷ ws)) before after old new flows.Jump h same = elim h [ ]
 moved write is_exact why (Goes r (w ∷ ws)) before after old new flows.Call h same = elim h [ ]
 moved write is_exact why (Goes r (w ∷ ws)) before after old new (flows.Trap told) h same = elim h [ ]
 moved write is_exact why (Goes r (w ∷ ws)) before after old new flows.Refused h same = elim h [ ]
 moved write is_exact why Calls before after old new flows.Next h same = elim h [ ]
+moved write is_exact why Calls before after old new flows.Jump h same = elim h [ ]
 moved write is_exact why Calls before after old new flows.Call h same = (h, same)
 moved write is_exact why Calls before after old new (flows.Trap told) h same = elim h [ ]
 moved write is_exact why Calls before after old new flows.Refused h same = elim h [ ]
 moved write is_exact why (Traps signal) before after old new flows.Next h same = elim h [ ]
+moved write is_exact why (Traps signal) before after old new flows.Jump h same = elim h [ ]
 moved write is_exact why (Traps signal) before after old new flows.Call h same = elim h [ ]
 moved write is_exact why (Traps signal) before after old new (flows.Trap told) h same = (h.0, h.1, same)
 moved write is_exact why (Traps signal) before after old new flows.Refused h same = elim h [ ]
 moved write is_exact why (Touches area) before after old new flows.Next h same = elim h [ ]
+moved write is_exact why (Touches area) before after old new flows.Jump h same = elim h [ ]
 moved write is_exact why (Touches area) before after old new flows.Call h same = elim h [ ]
 moved write is_exact why (Touches area) before after old new (flows.Trap told) h same = elim h [ ]
 moved write is_exact why (Touches area) before after old new flows.Refused h same = elim h [ ]

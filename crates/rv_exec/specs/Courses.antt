@@ -36,10 +36,11 @@ ran seen write zero g = Some g
 ran seen write (suc n) g = option_and_then (one_more seen write) (ran seen write n g)
 
 -- a run of fewer than so many instructions ends where the next one calls, traps or is refused; of another nothing is
--- told here
+-- told here. None ends by a jump
 -- profile
 abbrev pub EndsBy : (done : Done) → (count most : ℕ) → Flow → Type 0
 EndsBy done count most flows.Next = ⊤
+EndsBy done count most flows.Jump = ⊥
 EndsBy done count most flows.Call = (count < most) × (done ≡ Calls)
 EndsBy done count most (flows.Trap signal) = (count < most) × (done ≡ Traps signal)
 EndsBy done count most flows.Refused = count < most

@@ -43,6 +43,7 @@ IsCause _ _ = ⊥
 -- RISC-V Unprivileged ISA 20191213, 1.6
 abbrev pub MovesAs : Done → (before after : Regs) → Flow → Type 0
 MovesAs (Goes r []) before after flows.Next = after ≡ r
+MovesAs (Goes r []) before after flows.Jump = after ≡ r
 MovesAs Calls before after flows.Call = after ≡ before
 MovesAs (Traps signal) before after (flows.Trap told) = (told ≡ signal) × (after ≡ before)
 MovesAs done before after _ = ⊥
@@ -53,6 +54,7 @@ MovesAs done before after _ = ⊥
 abbrev pub FlowsAs : {State : Type 0} → (Write → State → State) → (is_exact : Bool) → (why : Step) → Done
     → (before after : Regs) → (old new : State) → Flow → Type 0
 FlowsAs write is_exact why (Goes r ws) before after old new flows.Next = (after ≡ r) × (new ≡ all_after write ws old)
+FlowsAs write is_exact why (Goes r ws) before after old new flows.Jump = (after ≡ r) × (new ≡ all_after write ws old)
 FlowsAs write is_exact why Calls before after old new flows.Call = (after ≡ before) × (new ≡ old)
 FlowsAs write is_exact why (Traps signal) before after old new (flows.Trap told) =
     (told ≡ signal) × (after ≡ before) × (new ≡ old)
@@ -64,6 +66,7 @@ FlowsAs write is_exact why done before after old new _ = ⊥
 -- profile
 abbrev pub outcome_of : Flow → (why : Step) → Step
 outcome_of flows.Next why = steps.Next
+outcome_of flows.Jump why = steps.Next
 outcome_of flows.Call why = steps.Call
 outcome_of (flows.Trap signal) why = steps.Trap signal
 outcome_of flows.Refused why = why

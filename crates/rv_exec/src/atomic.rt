@@ -2,6 +2,7 @@
 
 ghost use Rattle.std.specs.Prelude.{◌≡◌, ◌≢◌, ◌%◌, false};
 ghost use Rattle.rv_table.specs.Registers.{reg};
+ghost use Rattle.rv_table.specs.Words.{sum};
 ghost use Rattle.rv_exec.specs.Execution.{load_reserved, operates, store_conditional};
 ghost use Rattle.rv_exec.specs.Flows.{FlowsAs};
 ghost use Rattle.rv_exec.specs.Loads.{width_of, extend_of};
@@ -31,6 +32,7 @@ pub(crate) fn load_reserved<M: Mem, A: Access>(
         M.instrs (M.told mem.new) (A.page access.old) ≡ M.instrs (M.told mem.old) (A.page access.old) }
     ensures page { A.page access.new ≡ A.page access.old }
     ensures aligned { regs.old.pc % 4 ≡ 0 → regs.new.pc % 4 ≡ 0 }
+    ensures straight { result ≡ Flow.Next → regs.new.pc ≡ sum regs.old.pc 4 }
 {
     let at = regs.read(rs1);
     if !kind.is_aligned(at) {
@@ -66,6 +68,7 @@ pub(crate) fn store_conditional<M: Mem, A: Access>(
         M.instrs (M.told mem.new) (A.page access.old) ≡ M.instrs (M.told mem.old) (A.page access.old) }
     ensures page { A.page access.new ≡ A.page access.old }
     ensures aligned { regs.old.pc % 4 ≡ 0 → regs.new.pc % 4 ≡ 0 }
+    ensures straight { result ≡ Flow.Next → regs.new.pc ≡ sum regs.old.pc 4 }
 {
     let at = regs.read(rs1);
     if !kind.is_aligned(at) {
@@ -99,6 +102,7 @@ pub(crate) fn operate<M: Mem, A: Access>(
         M.instrs (M.told mem.new) (A.page access.old) ≡ M.instrs (M.told mem.old) (A.page access.old) }
     ensures page { A.page access.new ≡ A.page access.old }
     ensures aligned { regs.old.pc % 4 ≡ 0 → regs.new.pc % 4 ≡ 0 }
+    ensures straight { result ≡ Flow.Next → regs.new.pc ≡ sum regs.old.pc 4 }
 {
     let at = regs.read(rs1);
     let width = kind.width();

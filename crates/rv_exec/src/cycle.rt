@@ -51,7 +51,7 @@ fn outcome(flow: Flow, why: Step) -> Step
     ensures { result ≡ outcome_of flow why }
 {
     match flow {
-        Flow::Next => Step::Next,
+        Flow::Next | Flow::Jump => Step::Next,
         Flow::Call => Step::Call,
         Flow::Trap(signal) => Step::Trap(signal),
         Flow::Refused => why,

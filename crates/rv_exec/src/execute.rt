@@ -1,6 +1,7 @@
 //! What each instruction does: a row a line.
 
 ghost use Rattle.std.specs.Prelude.{◌≡◌, ◌≢◌, ◌%◌, false};
+ghost use Rattle.rv_table.specs.Words.{sum};
 ghost use Rattle.rv_exec.specs.Execution.{done_by};
 ghost use Rattle.rv_exec.specs.Flows.{FlowsAs};
 ghost use Rattle.rv_exec.specs.declared.outcome.Step.TheVariants as Step;
@@ -26,6 +27,7 @@ pub(crate) fn execute<M: Mem, A: Access>(regs: &mut Regs, mem: &mut M, access: &
         M.instrs (M.told mem.new) (A.page access.old) ≡ M.instrs (M.told mem.old) (A.page access.old) }
     ensures page { A.page access.new ≡ A.page access.old }
     ensures aligned { regs.old.pc % 4 ≡ 0 → regs.new.pc % 4 ≡ 0 }
+    ensures straight { result ≡ Flow.Next → regs.new.pc ≡ sum regs.old.pc 4 }
 {
     match *instr {
         Instr::Lui { rd, .. } => put(regs, rd, alu(instr, 0, 0)),

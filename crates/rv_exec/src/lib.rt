@@ -4,7 +4,8 @@
 //! A caller hands in registers (`Regs`) and a memory (`Mem`), which has the task's reservation too. Contracts see a
 //! memory as what each byte is to a fetch, to a load and to a store: it holds a number, may not be accessed so, or lies
 //! in a shared area that is not handed in; and as what the task has reserved, by address and width. An instruction
-//! comes to a `Step`, in a run to a `Flow`, which has no cause of a refusal; all but `Next` change nothing.
+//! comes to a `Step`, in a run to a `Flow`, which has no cause of a refusal and tells a jump (`Jump`) from what goes on
+//! to the instruction behind (`Next`); all but these change nothing.
 //!
 //! Proved over every memory. `step`: registers, answer and what is told of memory are as the definition `exec` says of
 //! the bytes at pc (`done`); where no call of the memory answers want of memory, a step doesn't either (`lean`).

@@ -18,6 +18,7 @@ pub(crate) fn put(regs: &mut Regs, rd: Reg, value: u64) -> Flow
     ensures next { result ≡ Flow.Next }
     ensures regs { regs.new ≡ gone_on (with_reg regs.old rd value) }
     ensures aligned { regs.old.pc % 4 ≡ 0 → regs.new.pc % 4 ≡ 0 }
+    ensures straight { result ≡ Flow.Next → regs.new.pc ≡ sum regs.old.pc 4 }
 {
     regs.write(rd, value);
     go_on(regs)
@@ -29,6 +30,7 @@ pub(crate) fn go_on(regs: &mut Regs) -> Flow
     ensures next { result ≡ Flow.Next }
     ensures regs { regs.new ≡ gone_on regs.old }
     ensures aligned { regs.old.pc % 4 ≡ 0 → regs.new.pc % 4 ≡ 0 }
+    ensures straight { result ≡ Flow.Next → regs.new.pc ≡ sum regs.old.pc 4 }
 {
     regs.go_on();
     Flow::Next
@@ -39,6 +41,7 @@ pub(crate) fn go_on(regs: &mut Regs) -> Flow
 pub(crate) fn jump(regs: &mut Regs, rd: Reg, target: u64) -> Flow
     ensures done { MovesAs (jumped regs.old rd target) regs.old regs.new result }
     ensures aligned { regs.old.pc % 4 ≡ 0 → regs.new.pc % 4 ≡ 0 }
+    ensures straight { result ≡ Flow.Next → regs.new.pc ≡ sum regs.old.pc 4 }
 {
     if target % 4 != 0 {
         return Flow::Trap(7);
@@ -46,7 +49,7 @@ pub(crate) fn jump(regs: &mut Regs, rd: Reg, target: u64) -> Flow
     let link = regs.pc.wrapping_add(4);
     regs.write(rd, link);
     regs.pc = target;
-    Flow::Next
+    Flow::Jump
 }
 
 /// Jumps so far from a register's address, its lowest bit cleared.
@@ -54,6 +57,7 @@ pub(crate) fn jump(regs: &mut Regs, rd: Reg, target: u64) -> Flow
 pub(crate) fn jump_to_register(regs: &mut Regs, rd: Reg, rs1: Reg, offset: u64) -> Flow
     ensures done { MovesAs (jumped regs.old rd (even (sum (reg regs.old rs1) offset))) regs.old regs.new result }
     ensures aligned { regs.old.pc % 4 ≡ 0 → regs.new.pc % 4 ≡ 0 }
+    ensures straight { result ≡ Flow.Next → regs.new.pc ≡ sum regs.old.pc 4 }
 {
     let target = regs.read(rs1).wrapping_add(offset);
     jump(regs, rd, target - target % 2)
@@ -66,6 +70,7 @@ pub(crate) fn branch(regs: &mut Regs, instr: &Instr, rs1: Reg, rs2: Reg, offset:
         (branched regs.old (is_taken instr.now (reg regs.old rs1) (reg regs.old rs2)) (sum regs.old.pc offset))
         regs.old regs.new result }
     ensures aligned { regs.old.pc % 4 ≡ 0 → regs.new.pc % 4 ≡ 0 }
+    ensures straight { result ≡ Flow.Next → regs.new.pc ≡ sum regs.old.pc 4 }
 {
     if is_taken(instr, regs.read(rs1), regs.read(rs2)) {
         jump(regs, Reg::new(0), regs.pc.wrapping_add(offset))
@@ -80,6 +85,7 @@ pub(crate) fn compute(regs: &mut Regs, instr: &Instr, rd: Reg, rs1: Reg) -> Flow
     ensures next { result ≡ Flow.Next }
     ensures regs { regs.new ≡ gone_on (with_reg regs.old rd (value_of instr.now (reg regs.old rs1) 0)) }
     ensures aligned { regs.old.pc % 4 ≡ 0 → regs.new.pc % 4 ≡ 0 }
+    ensures straight { result ≡ Flow.Next → regs.new.pc ≡ sum regs.old.pc 4 }
 {
     let value = alu(instr, regs.read(rs1), 0);
     put(regs, rd, value)
@@ -92,6 +98,7 @@ pub(crate) fn combine(regs: &mut Regs, instr: &Instr, rd: Reg, rs1: Reg, rs2: Re
     ensures regs { regs.new ≡
         gone_on (with_reg regs.old rd (value_of instr.now (reg regs.old rs1) (reg regs.old rs2))) }
     ensures aligned { regs.old.pc % 4 ≡ 0 → regs.new.pc % 4 ≡ 0 }
+    ensures straight { result ≡ Flow.Next → regs.new.pc ≡ sum regs.old.pc 4 }
 {
     let value = alu(instr, regs.read(rs1), regs.read(rs2));
     put(regs, rd, value)

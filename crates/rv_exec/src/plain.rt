@@ -33,6 +33,7 @@ pub(crate) fn load<M: Mem, A: Access>(
         M.instrs (M.told mem.new) (A.page access.old) ≡ M.instrs (M.told mem.old) (A.page access.old) }
     ensures page { A.page access.new ≡ A.page access.old }
     ensures aligned { regs.old.pc % 4 ≡ 0 → regs.new.pc % 4 ≡ 0 }
+    ensures straight { result ≡ Flow.Next → regs.new.pc ≡ sum regs.old.pc 4 }
 {
     let at = regs.read(rs1).wrapping_add(imm);
     match access.load(mem, at, kind.width()) {
@@ -61,6 +62,7 @@ pub(crate) fn store<M: Mem, A: Access>(
         M.instrs (M.told mem.new) (A.page access.old) ≡ M.instrs (M.told mem.old) (A.page access.old) }
     ensures page { A.page access.new ≡ A.page access.old }
     ensures aligned { regs.old.pc % 4 ≡ 0 → regs.new.pc % 4 ≡ 0 }
+    ensures straight { result ≡ Flow.Next → regs.new.pc ≡ sum regs.old.pc 4 }
 {
     let at = regs.read(rs1).wrapping_add(imm);
     if access.store(mem, at, width, regs.read(rs2)) {

@@ -1,6 +1,7 @@
 //! Instructions of a page one after another, decoded before: the fast form of steps.
 
-ghost use Rattle.std.specs.Prelude.{◌≡◌, ◌/◌, ◌%◌, ◌≤◌, Some, false};
+ghost use Rattle.std.specs.Prelude.{◌≡◌, ◌/◌, ◌%◌, ◌<◌, ◌≤◌, length, Some, false};
+ghost use Rattle.rv_table.specs.Words.{sum};
 ghost use Rattle.rv_exec.specs.Courses.{EndsBy, going, ran};
 ghost use Rattle.rv_exec.specs.Execution.{exec};
 ghost use Rattle.rv_exec.specs.Flows.{FlowsAs};
@@ -43,11 +44,12 @@ pub fn run_row<M: Mem>(regs: &mut Regs, mem: &mut M, row: &[Instr], most: u32) -
     run
 }
 
-/// The same where the task stands at a word. The registers are a copy that nothing else reaches, so that the loop can
-/// keep pc in a register of the machine.
+/// The same where the task stands at a word: one piece of code without a jump behind another. The registers are a copy
+/// that nothing else reaches.
 #[inline(always)]
 fn run_aligned<M: Mem>(regs: &mut Regs, mem: &mut M, row: &[Instr], most: u32) -> RowRun
     requires row { M.instrs (M.told mem.old) (regs.old.pc / 4096) ≡ Some row.now }
+    requires whole { length row.now ≡ 1024 }
     requires aligned { regs.old.pc % 4 ≡ 0 }
     ensures ran { ran M.seen M.after result.count (going (M.told mem.old) regs.old) ≡
         Some (going (M.told mem.new) regs.new) }
@@ -59,16 +61,60 @@ fn run_aligned<M: Mem>(regs: &mut Regs, mem: &mut M, row: &[Instr], most: u32) -
 {
     let page = regs.pc / 4096;
     let mut near = Near { page };
-    for count in 0..most {
-        if regs.pc / 4096 != page {
+    let mut count = 0;
+    for _jump in 0..most {
+        if count >= most || regs.pc / 4096 != page {
             return left(count);
         }
-        match run_one(regs, mem, &mut near, row) {
+        let run = run_straight(regs, mem, &mut near, row, most - count);
+        count += run.count;
+        match run.flow {
             Flow::Next => {}
             flow => return RowRun { count, flow },
         }
     }
-    left(most)
+    left(count)
+}
+
+/// Does instructions of the page one behind the other, at most so many, up to a jump or to the page's end: of one that
+/// goes on, nothing but the end of this run is tested.
+#[inline(always)]
+fn run_straight<M: Mem>(
+    regs: &mut Regs,
+    mem: &mut M,
+    near: &mut Near,
+    row: &[Instr],
+    most: u32,
+) -> RowRun
+    requires row { M.instrs (M.told mem.old) near.old.page ≡ Some row.now }
+    requires whole { length row.now ≡ 1024 }
+    requires page { regs.old.pc / 4096 ≡ near.old.page }
+    requires aligned { regs.old.pc % 4 ≡ 0 }
+    requires some { 0 < most }
+    ensures ran { ran M.seen M.after result.count (going (M.told mem.old) regs.old) ≡
+        Some (going (M.told mem.new) regs.new) }
+    ensures some { result.flow ≡ Flow.Next → 0 < result.count }
+    ensures few { result.count ≤ most }
+    ensures ended { EndsBy (exec (M.seen (M.told mem.new)) regs.new) result.count most result.flow }
+    ensures row { M.instrs (M.told mem.new) near.new.page ≡ Some row.now }
+    ensures page { near.new.page ≡ near.old.page }
+    ensures aligned { regs.new.pc % 4 ≡ 0 }
+{
+    let first = (regs.pc % 4096 / 4) as u32;
+    let end = first + most.min(1024 - first);
+    for index in first..end {
+        match run_one(regs, mem, near, row, index) {
+            Flow::Next => {}
+            Flow::Jump => return left(index - first + 1),
+            flow => {
+                return RowRun {
+                    count: index - first,
+                    flow,
+                };
+            }
+        }
+    }
+    left(end - first)
 }
 
 /// So many instructions were done, and the task has left the page, or there may be no more.
@@ -83,20 +129,20 @@ fn left(count: u32) -> RowRun
     }
 }
 
-/// Does the instruction of a page that a task stands at.
+/// Does the instruction of a page that a task stands at, by its place in the page.
 #[inline(always)]
-fn run_one<M: Mem>(regs: &mut Regs, mem: &mut M, near: &mut Near, row: &[Instr]) -> Flow
+fn run_one<M: Mem>(regs: &mut Regs, mem: &mut M, near: &mut Near, row: &[Instr], index: u32) -> Flow
     requires row { M.instrs (M.told mem.old) near.old.page ≡ Some row.now }
     requires page { regs.old.pc / 4096 ≡ near.old.page }
     requires aligned { regs.old.pc % 4 ≡ 0 }
+    requires index { index ≡ regs.old.pc % 4096 / 4 }
+    requires within { index < length row.now }
     ensures done { FlowsAs M.after false outcomes.Next (exec (M.seen (M.told mem.old)) regs.old)
         regs.old regs.new (M.told mem.old) (M.told mem.new) result }
     ensures row { M.instrs (M.told mem.new) near.new.page ≡ Some row.now }
     ensures page { near.new.page ≡ near.old.page }
     ensures aligned { regs.new.pc % 4 ≡ 0 }
+    ensures straight { result ≡ Flow.Next → regs.new.pc ≡ sum regs.old.pc 4 }
 {
-    match row.get((regs.pc % 4096 / 4) as usize) {
-        Some(instr) => execute(regs, mem, near, instr),
-        None => Flow::Trap(4),
-    }
+    execute(regs, mem, near, &row[index as usize])
 }
