@@ -18,8 +18,8 @@ use sn_base::Memory;
 use sn_errno::{CallNo, Errno, Reply};
 use std::alloc::Global;
 
-/// The call of a number, of a task with that memory, as far as the kernel has it: `write` and `exit_group`. Any other answers
-/// ENOSYS. It reads guest memory, and of the console only how many bytes that has.
+/// The call of a number, of a task with that memory, as far as the kernel has it: `write` and `exit_group`. Any other
+/// answers ENOSYS. It reads guest memory, and of the console only how many bytes that has.
 pub fn call(
     alloc: Global,
     number: u64,

@@ -21,7 +21,8 @@ pub struct Beginning {
     pub space: GuestSpace,
 }
 
-/// What the opening task of that number begins with: the memory and the registers of its image, with its strings and with sixteen random bytes by the mount file's seed.
+/// What the opening task of that number begins with: the memory and the registers of its image, with its strings and
+/// with sixteen random bytes by the mount file's seed.
 ///
 /// execve(2).
 pub fn opened(

@@ -1,15 +1,18 @@
 //! The one-thread kernel that the Sentry is held against: its definitions, and the types that they name.
 //!
-//! A caller sees plain data: an `Opening`, a `Trace` of `Entry`s, and a `Kernel`, the state. `specs/` says what each of
-//! them means: `Image` (the image that a file is), `Spaces` (an address space of mm_space, with no shared area in
-//! hand), `Instructions` (the next one of a task; runs of them are those of `quantum`), `Random` (the random bytes of
-//! an opening task), `FileTree`, `Rows` (the system calls, as decision trees over the state's parts), `Step` (what an
-//! entry does), `History` (a list of entries each of whose steps is defined), `Opening`, `Printed` (the text of a run)
-//! and `Words` (the command line).
+//! A caller sees plain data: an `Opening`, a `Trace` of `Entry`s, and a `Kernel`, the state, with `Named`, a map of
+//! things by the entry that made them. `specs/` says what each of them means, by subject: `machine` (registers at a
+//! call, an address space of mm_space with no shared area in hand, the next instruction of a task, random bytes,
+//! images), `calls` (who calls, and a row for each call, as a decision tree over the state's parts), `entries` (the
+//! parts; what an entry does, when a task is ready, and a list of entries each of whose steps is defined), `files`
+//! (nodes with numbers, and the trees that they are), `opening`, `printed` (the text of a run), and `Words` (the command
+//! line). `laws` has words of proofs alone.
 //!
-//! Proved: an entry reads the parts that it uses and changes those that it touches, by nothing but what it reads
-//! (`locality`: `same`, `rest`, `touched`). A guest's buffer is read whole or not at all (`GuestSpace::read`: `bytes`,
-//! `len`), and a copy of its address space is the same (`copy`: `copied`, `kept`).
+//! Proved: an entry reads the parts that it uses and changes those that it touches, by nothing but what it reads, and
+//! whether a task's next step is ready is told by the parts that are looked at (`locality`: `same`, `rest`, `touched`,
+//! `ready`). A guest's buffer is read whole or not at all (`GuestSpace::read`: `bytes`, `len`), and a copy of its
+//! address space is the same (`copy`: `copied`, `kept`). `Named` has under each name what was put there, and no call on
+//! one name changes another (`value`, `ok`, `after`).
 //!
 //! Not said: time, waiting, or what a host is. No call and no step stands here: `kernel_calls` has the calls, and
 //! `plain_kernel` a kernel that obeys the definitions.
