@@ -27,8 +27,7 @@ pub struct Prepared {
 }
 
 /// Does what a call of a thread group comes to, to the parts that it changes. Want of memory leaves both.
-#[tactic(auto, using(crate::proofs::Effects::kernel_kept, crate::proofs::Effects::bytes_taken,
-    crate::proofs::Effects::group_ends))]
+#[tactic(auto, using(crate::proofs::Effects::kernel_kept, crate::proofs::Effects::bytes_taken, crate::proofs::Effects::group_ends))]
 pub fn commit(
     alloc: Global,
     effect: Effect,
