@@ -8,8 +8,9 @@
 //! and `Words` (the command line).
 //!
 //! Proved: an entry reads the parts that it uses and changes those that it touches, by nothing but what it reads
-//! (`locality`: `same`, `rest`, `touched`). A guest's buffer is read whole or not at all (`GuestSpace::read`: `bytes`,
-//! `len`), and a copy of its address space is the same (`copy`: `copied`, `kept`).
+//! (`locality`: `same`, `rest`, `touched`); a write does the same in any context (`write`); a child without an inode
+//! number stays as it is through each entry that gives it none (`unnumbered`). A guest's buffer is read whole or not at
+//! all (`GuestSpace::read`: `bytes`, `len`), and a copy of its address space is the same (`copy`: `copied`, `kept`).
 //!
 //! Not said: time, waiting, or what a host is. No call and no step stands here: `kernel_calls` has the calls, and
 //! `plain_kernel` a kernel that obeys the definitions.
