@@ -1,7 +1,10 @@
 -- Lemmas of the definitions of the one-thread kernel, by subject.
 pub mod CallLemmas
+pub mod ChildLaws
+pub mod ChildSteps
 pub mod LocalityLaws
 pub mod NamedMaps
 pub mod OneRoot
 pub mod OneTask
 pub mod Trees
+pub mod WriteLaws

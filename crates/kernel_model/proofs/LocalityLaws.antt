@@ -153,7 +153,7 @@ put_alike OfFaults OfFaults content a b e = refl
 
 -- ---- what changes leave
 
-changed_other : (changes : List Change) (k : Kernel) (p : Part) → ¬ IsIn p (parts_of changes)
+pub changed_other : (changes : List Change) (k : Kernel) (p : Part) → ¬ IsIn p (parts_of changes)
     → parts (changed changes k) p ≡ parts k p
 changed_other [] k p apart = refl
 changed_other (c ∷ changes) k p apart =

@@ -1,5 +1,5 @@
 -- Decision trees: what they come to, in states that agree on what they look at, and one behind another.
-use Rattle.std.proofs.Common.{◌≡◌, List, ◌∷◌, refl, ap, sym, ◌∙◌, inl, inr}
+use Rattle.std.proofs.Common.{◌≡◌, List, ◌∷◌, ◌++◌, refl, ap, sym, ◌∙◌, inl, inr}
 use Rattle.kernel_model.specs.declared.kernel.Part.{Part}
 use Rattle.kernel_model.specs.entries.Parts.{Holds, Parts, Prog, done, look, outcome_in, uses, ◌>>=◌, AgreeOn}
 
@@ -20,3 +20,8 @@ pub outcome-bind : {A B : Type 0} (s : Parts) (tree : Prog A) (next : A → Prog
     → outcome_in s (tree >>= next) ≡ outcome_in s (next (outcome_in s tree))
 outcome-bind s (done a) next = refl
 outcome-bind s (look part rest) next = outcome-bind s (rest (s part)) next
+
+pub uses-bind : {A B : Type 0} (s : Parts) (tree : Prog A) (next : A → Prog B)
+    → uses s (tree >>= next) ≡ uses s tree ++ uses s (next (outcome_in s tree))
+uses-bind s (done a) next = refl
+uses-bind s (look part rest) next = ap (λ (ps : List Part). part ∷ ps) (uses-bind s (rest (s part)) next)

@@ -1,13 +1,19 @@
 //! The law of locality: what an entry reads and changes.
 
-ghost use Rattle.std.specs.Prelude.{◌≡◌, ℕ, Some};
+ghost use Rattle.std.specs.FinMap as map;
+ghost use Rattle.std.specs.Prelude.{◌≡◌, ℕ, ℤ, List as Items, Some, false};
+ghost use Rattle.host_node.specs.Tree.{Shape};
+ghost use Rattle.kernel_model.specs.declared.entry.Args.{Args as AnArgs};
 ghost use Rattle.kernel_model.specs.declared.entry.Entry.{Entry as AnEntry};
+ghost use Rattle.kernel_model.specs.declared.entry.Entry.TheVariants.{Call as ACall};
 ghost use Rattle.kernel_model.specs.declared.kernel.Kernel.{Kernel as AKernel};
 ghost use Rattle.kernel_model.specs.declared.kernel.Part.{Part as APart};
+ghost use Rattle.kernel_model.specs.declared.opening.Given.{Given as AGiven};
 ghost use Rattle.kernel_model.specs.calls.Callers.{context_of};
 ghost use Rattle.kernel_model.specs.entries.Parts.{IsIn, AgreeOn, parts, outcome_in, uses};
 ghost use Rattle.kernel_model.specs.entries.Ready.{ready_row, is_ready};
 ghost use Rattle.kernel_model.specs.entries.Steps.{step, entry_row, used, touches};
+ghost use Rattle.kernel_model.specs.laws.Children.{HasUnnumbered, numbers_child};
 
 /// The law of locality, which holds of every kernel and entry. It does nothing.
 ///
@@ -16,6 +22,8 @@ ghost use Rattle.kernel_model.specs.entries.Steps.{step, entry_row, used, touche
 /// - `rest`: each part that an entry does not change holds what it held.
 /// - `touched`: what the changed parts hold after the entry depends on nothing but the parts that it reads, and these.
 /// - `ready`: whether a task's next step is ready depends on the parts that it reads, and on nothing else.
+/// - `write`: for a write (call number 64) `same` holds also of kernels with other mounts, keys and numbers of entries.
+/// - `unnumbered`: a child without an inode number stays as it is through each entry that gives it none.
 pub fn locality()
     ensures same { (a b : AKernel) (e : AnEntry) → context_of b ≡ context_of a →
         AgreeOn (used a e) (parts a) (parts b) → (used b e ≡ used a e)
@@ -28,4 +36,11 @@ pub fn locality()
     ensures ready { (a b : AKernel) (task : ℕ) →
         AgreeOn (uses (parts a) (ready_row (context_of a) task)) (parts a) (parts b) →
         is_ready b task ≡ is_ready a task }
+    ensures write { (a b : AKernel) (task : ℕ) (args : AnArgs) (given : AGiven) (reply : ℤ) →
+        let e : AnEntry = ACall task 64 args given reply in
+        AgreeOn (used a e) (parts a) (parts b) → (used b e ≡ used a e)
+        × (outcome_in (parts b) (entry_row (context_of b) e) ≡ outcome_in (parts a) (entry_row (context_of a) e)) }
+    ensures unnumbered { (k next : AKernel) (e : AnEntry) (dir : ℕ) (name : Items ℕ) (shape : Shape) →
+        step k e ≡ Some next → numbers_child e dir name ≡ false →
+        HasUnnumbered name shape (map.get k.nodes dir) → HasUnnumbered name shape (map.get next.nodes dir) }
 {}

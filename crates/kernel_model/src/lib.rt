@@ -9,10 +9,11 @@
 //! line). `laws` has words of proofs alone.
 //!
 //! Proved: an entry reads the parts that it uses and changes those that it touches, by nothing but what it reads, and
-//! whether a task's next step is ready is told by the parts that are looked at (`locality`: `same`, `rest`, `touched`,
-//! `ready`). A guest's buffer is read whole or not at all (`GuestSpace::read`: `bytes`, `len`), and a copy of its
-//! address space is the same (`copy`: `copied`, `kept`). `Named` has under each name what was put there, and no call on
-//! one name changes another (`value`, `ok`, `after`).
+//! whether a task's next step is ready is told by the parts that are looked at; a write does the same in any context; a
+//! child without an inode number stays as it is through each entry that gives it none (`locality`: `same`, `rest`,
+//! `touched`, `ready`, `write`, `unnumbered`). A guest's buffer is read whole or not at all (`GuestSpace::read`: `bytes`,
+//! `len`), and a copy of its address space is the same (`copy`: `copied`, `kept`). `Named` has under each name what was
+//! put there, and no call on one name changes another (`value`, `ok`, `after`).
 //!
 //! Not said: time, waiting, or what a host is. No call and no step stands here: `kernel_calls` has the calls, and
 //! `plain_kernel` a kernel that obeys the definitions.

@@ -1,5 +1,7 @@
 -- What an entry does depends on the parts that it uses, and is to those that it touches.
 use Rattle.kernel_model.proofs.LocalityLaws.{same_reads, rest_stays, touched_alike, ready_alike}
+use Rattle.kernel_model.proofs.ChildSteps.{child_stays}
+use Rattle.kernel_model.proofs.WriteLaws.{write_reads}
 use Rattle.kernel_model.proofs.laws.locality.Goals as goal
 
 pub returns-clause-same : goal.returns-clause-same
@@ -13,3 +15,9 @@ returns-clause-touched c = touched_alike
 
 pub returns-clause-ready : goal.returns-clause-ready
 returns-clause-ready c = ready_alike
+
+pub returns-clause-write : goal.returns-clause-write
+returns-clause-write c = write_reads
+
+pub returns-clause-unnumbered : goal.returns-clause-unnumbered
+returns-clause-unnumbered c = child_stays

@@ -1,0 +1,281 @@
+-- No row changes a node, so that a child without a number stays as it is through each step that gives it none.
+use Rattle.std.proofs.Common.{◌≡◌, ℕ, ℤ, Bool, true, false, cond, List, [], ◌∷◌, ◌++◌, length, Option, Some, None, ap}
+use Rattle.std.proofs.Common.{sym, ◌∙◌, inl, inr, subst, option_map, pos, nat_cmp}
+use Rattle.std.specs.Prelude.{nat_le, ◌+◌, ◌==◌, ◌&&◌, min}
+use Rattle.std.specs.List.{list_any}
+use Rattle.std.specs.Ordering.{int_eq}
+use Rattle.std.specs.FinMap as map
+use Rattle.sn_errno.specs.declared.errno.Errno.{Errno}
+use Rattle.sn_errno.specs.declared.errno.Errno.TheVariants.{EIO, ENFILE, EFAULT, EBADF, ENOSYS, ENOSPC}
+use Rattle.sn_errno.specs.declared.calls.CallNo.{CallNo}
+use Rattle.sn_errno.specs.declared.calls.CallNo.TheVariants.{Write, ExitGroup}
+use Rattle.sn_errno.specs.Calls.{call_of}
+use Rattle.sn_errno.specs.Errors.{reply_of}
+use Rattle.host_node.specs.Tree.{Shape}
+use Rattle.task_table.specs.declared.task.Status.TheVariants.{Killed}
+use Rattle.quantum.specs.Instructions.{Going, ran}
+use Rattle.mm_space.specs.Spaces.{AddressSpace}
+use Rattle.kernel_model.specs.declared.caller.Caller.{Caller}
+use Rattle.kernel_model.specs.declared.entry.Args.{Args}
+use Rattle.kernel_model.specs.declared.entry.Entry.{Entry}
+use Rattle.kernel_model.specs.declared.entry.Entry.TheVariants.{Run, Call, Sleep, End}
+use Rattle.kernel_model.specs.declared.kernel.Kernel.{Kernel}
+use Rattle.kernel_model.specs.declared.kernel.Part.TheVariants.{OfNode, OfConsole, OfFaults}
+use Rattle.kernel_model.specs.declared.opening.Given.{Given}
+use Rattle.kernel_model.specs.declared.traps.Next.{Next}
+use Rattle.kernel_model.specs.declared.traps.Next.TheVariants.{Goes, Calls, Traps}
+use Rattle.kernel_model.specs.machine.Spaces.{going_in, bytes_read}
+use Rattle.kernel_model.specs.calls.Answers.{Reply, Replies, NotReady, Answer, refuses, replies}
+use Rattle.kernel_model.specs.calls.Callers.{Context, context_of, caller_of}
+use Rattle.kernel_model.specs.calls.Console.{is_written_to, descriptor, to_console, appended, write_row}
+use Rattle.kernel_model.specs.calls.Ending.{exit_group_row, group_end}
+use Rattle.kernel_model.specs.calls.Table.{call_row, row_of_call, row_if_known}
+use Rattle.kernel_model.specs.entries.Given.{has_any, is_in_order, above_last, Nodes_so_far, number_all, node_changes}
+use Rattle.kernel_model.specs.entries.Given.{met, all_known_in, faulted, risen}
+use Rattle.kernel_model.specs.entries.Parts.{Parts, parts, Prog, done, outcome_in, ◌>>=◌, IsIn, Change, changed}
+use Rattle.kernel_model.specs.entries.Parts.{parts_of}
+use Rattle.kernel_model.specs.entries.Steps.{run_changes, run_row, end_at, next_in, going_on, replied_by, replied_to}
+use Rattle.kernel_model.specs.entries.Steps.{refused_with, failing, exhausted, numbering, by_answer, by_given}
+use Rattle.kernel_model.specs.entries.Steps.{are_named, are_just, row_of, if_live, task_of, entry_row, stepped}
+use Rattle.kernel_model.specs.entries.Steps.{step, stands_at}
+use Rattle.kernel_model.specs.laws.Children.{HasUnnumbered, is_given_to, numbers_child}
+use Rattle.kernel_model.proofs.Trees.{outcome-bind}
+use Rattle.kernel_model.proofs.LocalityLaws.{changed_other}
+use Rattle.kernel_model.proofs.ChildLaws.{Stays, StaysIf, all_stay, changed-append, nodes_left}
+
+-- ---- changes of which none is of a node
+
+abbrev LeavesNodes : List Change → Type 0
+LeavesNodes changes = (ino : ℕ) → ¬ IsIn (OfNode ino) (parts_of changes)
+
+leaves-append : (xs ys : List Change) → LeavesNodes xs → LeavesNodes ys → LeavesNodes (xs ++ ys)
+leaves-append [] ys none more ino is = more ino is
+leaves-append (x ∷ xs) ys none more ino (inl e) = none ino (inl e)
+leaves-append (x ∷ xs) ys none more ino (inr is) = leaves-append xs ys (λ n i. none n (inr i)) more ino is
+
+going_on_leaves : (c : Caller) (value : ℤ) → LeavesNodes (going_on c value)
+going_on_leaves c value ino (inl e) = absurd (cc e)
+going_on_leaves c value ino (inr is) = is
+
+-- ---- no call's row changes a node
+
+module _ (s : Parts) where
+  abbrev Leaves : Prog Answer → Type 0
+  Leaves row = LeavesNodes (outcome_in s row).changes
+
+  either_leaves : (b : Bool) (x y : Prog Answer) → Leaves x → Leaves y → Leaves (cond b x y)
+  either_leaves true x y here there = here
+  either_leaves false x y here there = there
+
+  refused_leaves : (errno : Errno) → Leaves (done (refuses errno))
+  refused_leaves errno ino is = is
+
+  appended_leaves : (bytes console : List ℕ) → LeavesNodes (appended bytes console).changes
+  appended_leaves bytes console = by (nat_le (length console + length bytes) 1048576)
+    where
+      by : (b : Bool) → LeavesNodes (cond b (replies (pos (length bytes)) ((OfConsole, console ++ bytes) ∷ []))
+          (refuses ENOSPC)).changes
+      by true ino (inl e) = absurd (cc e)
+      by true ino (inr is) = is
+      by false ino is = is
+
+  console_leaves : (bytes : Option (List ℕ)) → Leaves (to_console bytes)
+  console_leaves None = refused_leaves EFAULT
+  console_leaves (Some bytes) = appended_leaves bytes (s OfConsole)
+
+  write_leaves : (fd buffer count : ℕ) (space : AddressSpace) → Leaves (write_row fd buffer count space)
+  write_leaves fd buffer count space =
+      either_leaves (is_written_to (descriptor fd)) _ _
+      (either_leaves (count == 0) _ _ (λ ino is. is) (console_leaves (bytes_read space buffer (min count 65536))))
+      (refused_leaves EBADF)
+
+  exit_leaves : (status group : ℕ) → Leaves (exit_group_row status group)
+  exit_leaves status group ino (inl e) = absurd (cc e)
+  exit_leaves status group ino (inr is) = is
+
+  row_leaves : (context : Context) (c : Caller) (args : Args) (call : CallNo) → Leaves (row_of_call context c args call)
+  row_leaves context c args Write = write_leaves args.a0 args.a1 args.a2 c.space
+  row_leaves context c args ExitGroup = exit_leaves args.a0 c.group
+  row_leaves context c args _ = refused_leaves ENOSYS
+
+  known_leaves : (context : Context) (c : Caller) (args : Args) (call : Option CallNo)
+      → Leaves (row_if_known context c args call)
+  known_leaves context c args None = refused_leaves ENOSYS
+  known_leaves context c args (Some call) = row_leaves context c args call
+
+-- ---- what a step's changes leave of the child
+
+module _ (k : Kernel) (dir : ℕ) (name : List ℕ) (shape : Shape) where
+  abbrev Keeps : List Change → Type 0
+  Keeps changes = HasUnnumbered name shape (map.get (changed changes k).nodes dir)
+
+  abbrev KeepsIf : Option (List Change) → Type 0
+  KeepsIf None = Unit {0}
+  KeepsIf (Some changes) = Keeps changes
+
+  -- what a row comes to
+  abbrev Fits : Prog (Option (List Change)) → Type 0
+  Fits row = KeepsIf (outcome_in (parts k) row)
+
+  more_keep : (changes more : List Change) → LeavesNodes more → Keeps changes → Keeps (changes ++ more)
+  more_keep changes more leaves (node, found, has) = (
+    node,
+    ap (λ (m : Kernel). map.get m.nodes dir) (changed-append changes more k)
+        ∙ changed_other more (changed changes k) (OfNode dir) (leaves dir)
+        ∙ found,
+    has,
+  )
+
+  nodes_keep : (nodes : Nodes_so_far) → Stays (parts k) dir name shape nodes → Keeps (node_changes nodes)
+  nodes_keep nodes (node, found, has) = (node, nodes_left nodes k dir ∙ found, has)
+
+  either_fits : (b : Bool) (x y : Prog (Option (List Change))) → Fits x → Fits y → Fits (cond b x y)
+  either_fits true x y here there = here
+  either_fits false x y here there = there
+
+  either_keeps : (b : Bool) (x y : Option (List Change)) → KeepsIf x → KeepsIf y → KeepsIf (cond b x y)
+  either_keeps true x y here there = here
+  either_keeps false x y here there = there
+
+  -- one row behind another
+  behind : {A : Type 0} (first : Prog A) (next : A → Prog (Option (List Change)))
+      → Fits (next (outcome_in (parts k) first)) → Fits (first >>= next)
+  behind first next h = subst KeepsIf (sym (outcome-bind (parts k) first next)) h
+
+  module _ (there : HasUnnumbered name shape (map.get k.nodes dir)) where
+    untouched : (changes : List Change) → LeavesNodes changes → Keeps changes
+    untouched changes leaves = more_keep [] changes leaves there
+
+    -- instructions, and the end of a group
+    run_keeps : (c : Caller) (after : Option Going) → KeepsIf (option_map (run_changes c) after)
+    run_keeps c None = tt
+    run_keeps c (Some g) = untouched (run_changes c g) none
+      where
+        none : LeavesNodes (run_changes c g)
+        none ino (inl e) = absurd (cc e)
+        none ino (inr (inl e)) = absurd (cc e)
+        none ino (inr (inr is)) = is
+
+    run_fits : (n : ℕ) (c : Caller) → Fits (run_row n c)
+    run_fits n c =
+        either_keeps (nat_le 1 n && nat_le n 10000) _ _ (run_keeps c (ran n (going_in c.task c.space c.registers))) tt
+
+    end_fits : (signal : ℕ) (c : Caller) (next : Next) → Fits (end_at signal c next)
+    end_fits signal c Goes = tt
+    end_fits signal c Calls = tt
+    end_fits signal c (Traps t) =
+        either_fits (t == signal) _ _ (untouched (group_end c.group (Killed signal) k.tasks) none) tt
+      where
+        none : LeavesNodes (group_end c.group (Killed signal) k.tasks)
+        none ino (inl e) = absurd (cc e)
+        none ino (inr is) = is
+
+    -- ---- calls
+
+    module _ (c : Caller) (reply : ℤ) where
+      refused_keeps : (errno : Errno) (changes : Option (List Change)) → KeepsIf changes
+          → KeepsIf (refused_with c reply errno changes)
+      refused_keeps errno None h = tt
+      refused_keeps errno (Some changes) h =
+          either_keeps (int_eq reply (reply_of errno)) _ _
+          (more_keep changes (going_on c (reply_of errno)) (going_on_leaves c (reply_of errno)) h) tt
+
+      replied_keeps : (nodes : Option Nodes_so_far) (answer : Answer) → StaysIf (parts k) dir name shape nodes
+          → LeavesNodes answer.changes → KeepsIf (replied_to c reply nodes answer)
+      replied_keeps None answer h leaves = tt
+      replied_keeps (Some nodes) answer h leaves = by answer.reply
+        where
+          all : Keeps (node_changes nodes ++ answer.changes)
+          all = more_keep (node_changes nodes) answer.changes leaves (nodes_keep nodes h)
+
+          by : (r : Reply) → KeepsIf (replied_by c reply (node_changes nodes ++ answer.changes) r)
+          by NotReady = tt
+          by (Replies value) =
+              either_keeps (int_eq reply value) _ _
+              (more_keep (node_changes nodes ++ answer.changes) (going_on c value) (going_on_leaves c value) all) tt
+
+      module _ (given : Given) (apart : list_any (is_given_to dir name) given.fresh ≡ false) where
+        -- the nodes of the fresh numbers, none of which is the child's
+        numbered_stay : StaysIf (parts k) dir name shape (outcome_in (parts k) (number_all given.fresh []))
+        numbered_stay = all_stay (parts k) dir name shape given.fresh apart [] there
+
+        met_keeps : (nodes : Option Nodes_so_far) (known : Bool) (failed : map.FinMap nat_cmp ℕ)
+            → StaysIf (parts k) dir name shape nodes → KeepsIf (met given nodes known failed)
+        met_keeps None known failed h = tt
+        met_keeps (Some nodes) known failed h =
+            either_keeps known _ _ (more_keep (node_changes nodes) _ none (nodes_keep nodes h)) tt
+          where
+            none : LeavesNodes ((OfFaults, risen given.rises failed) ∷ [])
+            none ino (inl e) = absurd (cc e)
+            none ino (inr is) = is
+
+        faulted_fits : Fits (faulted given)
+        faulted_fits =
+            behind (number_all given.fresh []) _
+            (behind (all_known_in given.rises (outcome_in (parts k) (number_all given.fresh []))) _
+            (met_keeps (outcome_in (parts k) (number_all given.fresh [])) _ k.failed numbered_stay))
+
+        failing_fits : Fits (failing c reply given)
+        failing_fits = behind (faulted given) _ (refused_keeps EIO _ faulted_fits)
+
+        exhausted_keeps : (nodes : Option Nodes_so_far) → StaysIf (parts k) dir name shape nodes
+            → KeepsIf (option_map node_changes nodes)
+        exhausted_keeps None h = tt
+        exhausted_keeps (Some nodes) h = nodes_keep nodes h
+
+        exhausted_fits : Fits (exhausted c reply given)
+        exhausted_fits =
+            behind (number_all given.fresh []) _ (refused_keeps ENFILE _ (exhausted_keeps _ numbered_stay))
+
+        numbering_fits : (answer : Answer) → LeavesNodes answer.changes → Fits (numbering c reply given answer)
+        numbering_fits answer leaves =
+            behind (number_all given.fresh []) _ (replied_keeps _ answer numbered_stay leaves)
+
+        answer_fits : (answer : Answer) → LeavesNodes answer.changes → Fits (by_answer c reply given answer)
+        answer_fits answer leaves =
+            either_fits (list_any above_last given.fresh) _ _
+            (either_fits (are_named given.fresh answer.fresh) _ _ exhausted_fits tt)
+            (either_fits (are_just given.fresh answer.fresh) _ _ (numbering_fits answer leaves) tt)
+
+        call_fits : (context : Context) (call : ℕ) (args : Args) → Fits (by_given context c call args reply given)
+        call_fits context call args =
+            either_fits (is_in_order given) _ _
+            (either_fits (has_any given.rises) _ _ failing_fits
+            (behind (call_row context c call args) (by_answer c reply given)
+            (answer_fits _ (known_leaves (parts k) context c args (call_of call))))) tt
+
+    -- ---- each entry
+
+    row_fits : (context : Context) (e : Entry) (c : Caller) → numbers_child e dir name ≡ false
+        → Fits (row_of context e c)
+    row_fits context (Run task n) c apart = run_fits n c
+    row_fits context (Call task call args given reply) c apart =
+        either_fits (stands_at call args c.registers (next_in c)) _ _
+        (call_fits c reply given apart context call args) tt
+    row_fits context (Sleep task) c apart = tt
+    row_fits context (End task signal) c apart = end_fits signal c (next_in c)
+
+    live_fits : (context : Context) (e : Entry) (c : Option Caller) → numbers_child e dir name ≡ false
+        → Fits (if_live context e c)
+    live_fits context e None apart = tt
+    live_fits context e (Some c) apart = row_fits context e c apart
+
+    entry_fits : (context : Context) (e : Entry) → numbers_child e dir name ≡ false → Fits (entry_row context e)
+    entry_fits context e apart =
+        behind (caller_of (task_of e)) (if_live context e) (live_fits context e _ apart)
+
+kept_by : (k next : Kernel) (dir : ℕ) (name : List ℕ) (shape : Shape) (changes : Option (List Change))
+    → KeepsIf k dir name shape changes → option_map (stepped k) changes ≡ Some next
+    → HasUnnumbered name shape (map.get next.nodes dir)
+kept_by k next dir name shape None h e = absurd (cc e)
+kept_by k next dir name shape (Some changes) h e =
+    let is : next ≡ stepped k changes = cc e in
+    subst (λ (n : Kernel). HasUnnumbered name shape (map.get n.nodes dir)) (sym is) h
+
+pub child_stays : (k next : Kernel) (e : Entry) (dir : ℕ) (name : List ℕ) (shape : Shape) → step k e ≡ Some next
+    → numbers_child e dir name ≡ false → HasUnnumbered name shape (map.get k.nodes dir)
+    → HasUnnumbered name shape (map.get next.nodes dir)
+unfolding step
+child_stays k next e dir name shape stepping apart there =
+    kept_by k next dir name shape (outcome_in (parts k) (entry_row (context_of k) e))
+    (entry_fits k dir name shape there (context_of k) e apart) stepping

@@ -1,0 +1,71 @@
+-- A write reads no context: it comes to the same whatever the mounts, the key of the random stream and the number of
+-- entries are.
+use Rattle.std.proofs.Common.{◌≡◌, ℕ, ℤ, Option, Some, None, cond, List, ◌++◌, refl, ap, sym, ◌∙◌}
+use Rattle.sn_errno.specs.declared.calls.CallNo.TheVariants.{Write}
+use Rattle.sn_errno.specs.Calls.{call_of, row_of as row_of_number}
+use Rattle.kernel_model.specs.declared.caller.Caller.{Caller}
+use Rattle.kernel_model.specs.declared.entry.Args.{Args}
+use Rattle.kernel_model.specs.declared.entry.Entry.{Entry}
+use Rattle.kernel_model.specs.declared.entry.Entry.TheVariants.{Call}
+use Rattle.kernel_model.specs.declared.kernel.Kernel.{Kernel}
+use Rattle.kernel_model.specs.declared.opening.Given.{Given}
+use Rattle.kernel_model.specs.calls.Answers.{Answer}
+use Rattle.kernel_model.specs.calls.Callers.{Context, context_of, caller_of}
+use Rattle.kernel_model.specs.calls.Table.{call_row, row_if_known}
+use Rattle.kernel_model.specs.entries.Given.{has_any, is_in_order}
+use Rattle.kernel_model.specs.entries.Parts.{Parts, parts, Prog, done, outcome_in, uses, ◌>>=◌, AgreeOn, Change}
+use Rattle.kernel_model.specs.entries.Steps.{by_given, by_answer, failing, stands_at, next_in, if_live, entry_row, used}
+use Rattle.kernel_model.proofs.Trees.{outcome_alike, outcome-bind, uses-bind}
+
+-- 64 is the number of write
+number_of_write : call_of 64 ≡ Some Write
+unfolding call_of row_of_number
+number_of_write = refl
+
+module _ (c d : Context) (args : Args) where
+  row_alike : (caller : Caller) → call_row c caller 64 args ≡ call_row d caller 64 args
+  row_alike caller =
+      ap (row_if_known c caller args) number_of_write ∙ sym (ap (row_if_known d caller args) number_of_write)
+
+  module _ (task : ℕ) (given : Given) (reply : ℤ) where
+    abbrev entry : Entry
+    entry = Call task 64 args given reply
+
+    given_alike : (caller : Caller)
+        → by_given c caller 64 args reply given ≡ by_given d caller 64 args reply given
+    given_alike caller =
+        ap (λ (row : Prog Answer). cond (is_in_order given)
+        (cond (has_any given.rises) (failing caller reply given) (row >>= by_answer caller reply given)) (done None))
+        (row_alike caller)
+
+    if_live_alike : (caller : Option Caller) → if_live c entry caller ≡ if_live d entry caller
+    if_live_alike None = refl
+    if_live_alike (Some caller) =
+        ap (λ (row : Prog (Option (List Change))). cond (stands_at 64 args caller.registers (next_in caller)) row
+        (done None)) (given_alike caller)
+
+    -- a write looks at the same parts in one context and in another,
+    uses_alike : (s : Parts) → uses s (entry_row c entry) ≡ uses s (entry_row d entry)
+    uses_alike s =
+        uses-bind s (caller_of task) (if_live c entry)
+        ∙ ap (λ (row : Prog (Option (List Change))). uses s (caller_of task) ++ uses s row)
+        (if_live_alike (outcome_in s (caller_of task)))
+        ∙ sym (uses-bind s (caller_of task) (if_live d entry))
+
+    -- and comes to the same
+    comes_alike : (s : Parts) → outcome_in s (entry_row c entry) ≡ outcome_in s (entry_row d entry)
+    comes_alike s =
+        outcome-bind s (caller_of task) (if_live c entry)
+        ∙ ap (outcome_in s) (if_live_alike (outcome_in s (caller_of task)))
+        ∙ sym (outcome-bind s (caller_of task) (if_live d entry))
+
+pub write_reads : (a b : Kernel) (task : ℕ) (args : Args) (given : Given) (reply : ℤ) →
+    let e : Entry = Call task 64 args given reply in AgreeOn (used a e) (parts a) (parts b)
+    → (used b e ≡ used a e)
+    × (outcome_in (parts b) (entry_row (context_of b) e) ≡ outcome_in (parts a) (entry_row (context_of a) e))
+write_reads a b task args given reply same =
+    let e : Entry = Call task 64 args given reply in
+    let here = outcome_alike (parts a) (parts b) (entry_row (context_of a) e) same in (
+      uses_alike (context_of b) (context_of a) args task given reply (parts b) ∙ here.0,
+      comes_alike (context_of b) (context_of a) args task given reply (parts b) ∙ here.1,
+    )
