@@ -1,5 +1,5 @@
 -- What the end of a thread group leaves: tasks in their groups, and groups with their memories.
-use Rattle.std.proofs.Common.{◌≡◌, ℕ, Bool, true, false, cond, eqb, refl, ap, sym, ◌∙◌}
+use Rattle.std.proofs.Common.{◌≡◌, ℕ, Bool, true, false, cond, eqb, refl, ap, ◌∙◌}
 use Rattle.std.specs.Prelude.{Option, Some, None, ◌==◌}
 use Rattle.std.specs.Option.{option_map, option_map_or}
 use Rattle.std.specs.Ordering.{nat_cmp}
@@ -7,8 +7,8 @@ use Rattle.std.specs.FinMap as map
 use Rattle.task_table.specs.declared.task.Group.{Group}
 use Rattle.task_table.specs.declared.task.Status.{Status}
 use Rattle.task_table.specs.declared.task.Task.{Task}
-use Rattle.task_table.specs.Ends.{ended_if, ended_where, is_member, group_ended, groups_closed}
-use Rattle.task_table.specs.Entries.{changed_at, each_changed}
+use Rattle.task_table.specs.Ends.{ended_if, is_member, group_ended}
+use Rattle.task_table.specs.Entries.{each_changed}
 use Rattle.task_table.specs.Reaps.{orphaned}
 use Rattle.task_table.specs.Table.{TaskTable, is_live, group_of}
 use Rattle.task_table.proofs.Changes.{get-changed_at, get-each_changed}

@@ -6,7 +6,6 @@ use Rattle.std.specs.FinMap as map
 use Rattle.rv_table.specs.declared.regs.Regs.{Regs}
 use Rattle.mm_space.specs.Spaces.{AddressSpace}
 use Rattle.task_table.specs.declared.task.Group.{Group}
-use Rattle.task_table.specs.declared.task.Made.{Made}
 use Rattle.task_table.specs.Table.{TaskTable, is_live, group_of}
 use Rattle.kernel_model.specs.Names.{NamedMap, get_named}
 use Rattle.kernel_model.specs.declared.caller.Caller.{Caller}

@@ -1,12 +1,12 @@
 -- Whose turn it is: a live task, where there is one.
-use Rattle.std.proofs.Common.{◌≡◌, ℕ, ◌<◌, Bool, true, false, cond, List, [], ◌∷◌, length, refl, ap, sym, ◌∙◌}
+use Rattle.std.proofs.Common.{◌≡◌, ℕ, Bool, true, false, cond, List, [], ◌∷◌, length, refl, ap, sym, ◌∙◌}
 use Rattle.std.specs.Prelude.{Option, Some, None, nat_lt, find, filter, is_some}
 use Rattle.std.specs.Option.{option_map_or}
 use Rattle.std.specs.FinMap as map
 use Rattle.std.proofs.lemmas.Bool.{lt-ltb}
 use Rattle.task_table.specs.declared.task.Task.{Task}
 use Rattle.task_table.specs.Kept.{IsKept}
-use Rattle.task_table.specs.Table.{TaskTable, is_live, live_count, live_numbers}
+use Rattle.task_table.specs.Table.{TaskTable, is_live, live_numbers}
 use Rattle.kernel_model.specs.entries.Given.{has_any}
 
 -- what is found among those that pass a test passes it

@@ -1,7 +1,7 @@
 -- What an entry of a live task is to the kernel of its processes.
-use Rattle.std.proofs.Common.{◌≡◌, ◌⊎◌, inl, inr, ℕ, ◌+◌, ◌≤◌, Bool, true, false, cond, List, [], ◌∷◌, ◌++◌, refl, ap, sym}
+use Rattle.std.proofs.Common.{◌≡◌, ℕ, ◌+◌, ◌≤◌, Bool, true, false, cond, List, [], ◌∷◌, ◌++◌, refl, ap, sym}
 use Rattle.std.proofs.Common.{◌∙◌, arith, ℤ, option_map}
-use Rattle.std.specs.Prelude.{Option, Some, None, if◌then◌else◌, ◌&&◌, ◌||◌, not, ◌==◌, nat_eq}
+use Rattle.std.specs.Prelude.{Option, Some, None, if◌then◌else◌, ◌&&◌, ◌||◌, not, nat_eq}
 use Rattle.std.specs.Ordering.{int_eq, nat_cmp}
 use Rattle.std.specs.FinMap as map
 use Rattle.std.proofs.lemmas.Bool.Decides.{Decides-int_eq, Decides-eqb}
@@ -11,7 +11,6 @@ use Rattle.mm_space.specs.Spaces.{AddressSpace}
 use Rattle.quantum.specs.Instructions.{Going, ran}
 use Rattle.task_table.specs.declared.task.Group.{Group}
 use Rattle.task_table.specs.declared.task.Made.{Made}
-use Rattle.task_table.specs.declared.task.Status.{Status}
 use Rattle.task_table.specs.declared.task.Status.TheVariants.{Killed}
 use Rattle.task_table.specs.Ends.{group_ended}
 use Rattle.task_table.specs.Table.{TaskTable, is_live, group_of}
@@ -29,7 +28,7 @@ use Rattle.kernel_model.specs.machine.Instructions.{StopsAt, goes_on, next_of}
 use Rattle.kernel_model.specs.machine.Registers.{args_of, call_of, replied}
 use Rattle.kernel_model.specs.machine.Spaces.{acting_in, going_in}
 use Rattle.kernel_model.specs.calls.Answers.{replies}
-use Rattle.kernel_model.specs.calls.Callers.{Context, context_of, caller_of, in_memory, with_memory, in_group}
+use Rattle.kernel_model.specs.calls.Callers.{context_of, caller_of, with_memory, in_group}
 use Rattle.kernel_model.specs.calls.Ending.{group_end}
 use Rattle.kernel_model.specs.calls.Table.{call_row}
 use Rattle.kernel_model.specs.entries.History.{is_whole, goes_next}

@@ -1,5 +1,5 @@
 -- The parts of a kernel that processes are, and the parts beside them.
-use Rattle.std.specs.Prelude.{◌≡◌, ℕ, true, List, [], Option, IsTrue, is_some}
+use Rattle.std.specs.Prelude.{ℕ, List, [], Option, IsTrue, is_some}
 use Rattle.std.specs.Ordering.{nat_cmp}
 use Rattle.std.specs.FinMap as map
 use Rattle.mount_file.specs.declared.mounts.Mount.{Mount}

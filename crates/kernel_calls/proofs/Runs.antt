@@ -1,11 +1,10 @@
 -- Runs of instructions: one behind another, with no shared area in hand.
 use Rattle.std.proofs.Common.{◌≡◌, ◌≢◌, ℕ, zero, suc, ◌+◌, ◌-◌, ◌≤◌, ◌<◌, Bool, true, false, cond, List, [], ◌∷◌}
-use Rattle.std.proofs.Common.{Option, Some, None, option_map, refl, sym, ap, ◌∙◌, subst, ◌⊎◌, inl, inr, arith, add-zero}
+use Rattle.std.proofs.Common.{Option, Some, None, option_map, refl, sym, ap, ◌∙◌, arith, add-zero}
 use Rattle.std.proofs.Common.{add-one}
 use Rattle.std.specs.Prelude.{option_and_then, nat_le, ◌&&◌}
 use Rattle.std.proofs.lemmas.Bool.{le-leb}
 use Rattle.std.specs.FinMap as map
-use Rattle.rv_table.specs.declared.error.Area.{Area}
 use Rattle.rv_table.specs.declared.regs.Regs.{Regs}
 use Rattle.rv_table.specs.Bytes.{behind}
 use Rattle.rv_exec.specs.Writes.{Write, Stores, Reserves, Releases, all_after}
@@ -13,7 +12,7 @@ use Rattle.rv_exec.specs.Execution.{Done, exec}
 use Rattle.rv_exec.specs.Execution as done
 use Rattle.mm_areas.specs.Pages.{Held, Bytes, PageOf, Mapped}
 use Rattle.mm_space.specs.Accesses.{page_number, page_offset}
-use Rattle.mm_space.specs.Handing.{AreaState, InHand}
+use Rattle.mm_space.specs.Handing.{InHand}
 use Rattle.mm_space.specs.Puts.{with_area, put_in_area, put_held, put_mapped, put_byte, put_bytes}
 use Rattle.mm_space.specs.Reserves.{reserve_in_area, reserve_held, reserve_mapped, leave_in_area, leave_held}
 use Rattle.mm_space.specs.Reserves.{leave_mapped}
@@ -27,7 +26,7 @@ use Rattle.kernel_model.specs.declared.kernel.Part.TheVariants.{OfSpace}
 use Rattle.kernel_model.specs.declared.traps.Next.{Next}
 use Rattle.kernel_model.specs.declared.traps.Next.TheVariants.{Goes, Calls, Traps}
 use Rattle.kernel_model.specs.machine.Instructions.{StopsAt, next_by, next_of, goes_on}
-use Rattle.kernel_model.specs.machine.Spaces.{acting_in, going_in, reach_of}
+use Rattle.kernel_model.specs.machine.Spaces.{acting_in, going_in}
 use Rattle.kernel_model.specs.entries.Parts.{Parts, outcome_in, Change}
 use Rattle.kernel_model.specs.entries.Steps.{run_changes, run_row, task_change}
 

@@ -8,7 +8,7 @@ use Rattle.kernel_model.specs.declared.entry.Args.{Args}
 use Rattle.kernel_model.specs.declared.opening.Fresh.{Fresh}
 use Rattle.kernel_model.specs.declared.opening.Given.{Given}
 use Rattle.kernel_model.specs.declared.opening.Rise.{Rise}
-use Rattle.kernel_model.specs.calls.Answers.{Answer, replies}
+use Rattle.kernel_model.specs.calls.Answers.{replies}
 use Rattle.kernel_model.specs.calls.Callers.{Context}
 use Rattle.kernel_model.specs.calls.Table.{call_row}
 use Rattle.kernel_model.specs.entries.Given.{has_any, is_in_order, above_last}

@@ -17,7 +17,7 @@ use Rattle.kernel_model.specs.declared.kernel.Node.{Node}
 use Rattle.kernel_model.specs.declared.kernel.Part.TheVariants.{OfNode, OfFaults}
 use Rattle.kernel_model.specs.declared.opening.Given.{Given}
 use Rattle.kernel_model.specs.files.FileTree.{root_node, child_node, numbered_in, owner_executes, unnumbered}
-use Rattle.kernel_model.specs.entries.Parts.{Parts, parts, Prog, outcome_in, done, look, ◌>>=◌}
+use Rattle.kernel_model.specs.entries.Parts.{Parts, parts, outcome_in, done, look, ◌>>=◌}
 use Rattle.kernel_model.specs.declared.opening.Fresh.{Fresh}
 use Rattle.kernel_model.specs.entries.Given.{Nodes_so_far, has_any, is_in_order, number_all, number_at, number_next}
 use Rattle.kernel_model.specs.entries.Given.{given_number, met, all_known_in, faulted, node_changes, above_last}

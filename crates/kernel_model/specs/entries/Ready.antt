@@ -5,7 +5,7 @@ use Rattle.kernel_model.specs.declared.kernel.Kernel.{Kernel}
 use Rattle.kernel_model.specs.declared.traps.Next.{Next}
 use Rattle.kernel_model.specs.declared.traps.Next.TheVariants.{Goes, Calls, Traps}
 use Rattle.kernel_model.specs.machine.Registers.{args_of, call_of}
-use Rattle.kernel_model.specs.calls.Answers.{Answer, is_reply}
+use Rattle.kernel_model.specs.calls.Answers.{is_reply}
 use Rattle.kernel_model.specs.calls.Callers.{Context, context_of, caller_of}
 use Rattle.kernel_model.specs.calls.Table.{call_row}
 use Rattle.kernel_model.specs.entries.Parts.{parts, Prog, done, outcome_in, ◌>>=◌}

@@ -1,5 +1,5 @@
 -- Steps done in place: the kernel that changes leave, told without the changes.
-use Rattle.std.specs.Prelude.{◌≡◌, ℕ, List, [], Bool, ◌&&◌, Option, Some, None, option_map, not}
+use Rattle.std.specs.Prelude.{◌≡◌, List, [], Bool, ◌&&◌, Option, Some, None, option_map, not}
 use Rattle.std.specs.FinMap as map
 use Rattle.host_node.specs.Tree.{Shape, child_of}
 use Rattle.kernel_model.specs.declared.kernel.Kernel.{Kernel}

@@ -31,7 +31,7 @@ use Rattle.image_load.specs.Pages.{pages_mapped}
 use Rattle.kernel_model.specs.machine.Image.{image_of}
 use Rattle.kernel_model.specs.files.Numbers.{count_up}
 use Rattle.kernel_model.specs.machine.Random.{opening_random}
-use Rattle.kernel_model.specs.files.FileTree.{Nodes, last_number, Child, Missing, Known, Unnumbered, child_at, root_node}
+use Rattle.kernel_model.specs.files.FileTree.{Nodes, Child, Missing, Known, Unnumbered, child_at, root_node}
 use Rattle.kernel_model.specs.files.FileTree.{owner_executes}
 use Rattle.kernel_model.specs.entries.Given.{has_any, is_in_order, above_last, Nodes_so_far, number_all, node_changes}
 use Rattle.kernel_model.specs.entries.Given.{faulted}

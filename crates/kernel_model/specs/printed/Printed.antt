@@ -1,5 +1,5 @@
 -- The text of a run: the console, the groups, and where it is asked for the trace.
-use Rattle.std.specs.Prelude.{ℕ, ◌+◌, ◌==◌, ◌||◌, ℤ, List, [], ◌∷◌, ◌++◌, Bool, true, Option, Some, None, codes}
+use Rattle.std.specs.Prelude.{ℕ, ◌+◌, ◌==◌, ℤ, List, [], ◌∷◌, ◌++◌, Bool, true, Option, Some, None, codes}
 use Rattle.std.specs.Prelude.{if◌then◌else◌}
 use Rattle.std.specs.Int.{cast_signed, w64}
 use Rattle.std.specs.Fmt.{decimal, signed_decimal}

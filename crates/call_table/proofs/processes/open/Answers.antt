@@ -1,7 +1,7 @@
 -- No task lives before the first.
 use Rattle.std.proofs.Common.{◌≡◌, ◌∙◌, length, sym, ap, arith}
 use Rattle.std.specs.Prelude.{Err}
-use Rattle.task_table.specs.Table.{TaskTable, live_count, live_numbers, no_tasks}
+use Rattle.task_table.specs.Table.{live_count, no_tasks}
 use Rattle.task_table.proofs.Keeping.{sound_empty}
 use Rattle.call_table.proofs.processes.open.Goals as goal
 

@@ -1,5 +1,5 @@
 -- Where none is found, none lives.
-use Rattle.std.proofs.Common.{◌≡◌, sym, ◌∙◌}
+use Rattle.std.proofs.Common.{sym, ◌∙◌}
 use Rattle.call_table.proofs.NextTurns.{none_lives}
 use Rattle.call_table.proofs.turns.next_turn.Goals as goal
 

@@ -1,5 +1,5 @@
 -- The trace so far is a whole history, and leaves the processes.
-use Rattle.std.proofs.Common.{◌≡◌, ℕ, true, length, []}
+use Rattle.std.proofs.Common.{◌≡◌, true, length, []}
 use Rattle.std.specs.List.{flat_map}
 use Rattle.std.specs.Prelude.{Some}
 use Rattle.kernel_model.specs.entries.History.{replay, each_whole}

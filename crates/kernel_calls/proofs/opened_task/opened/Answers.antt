@@ -1,9 +1,8 @@
 -- The strings of an opening task are not too large, and its address space is the opening one.
-use Rattle.std.proofs.Common.{◌≡◌, ℕ, false, List, ap, sym, ◌∙◌}
+use Rattle.std.proofs.Common.{◌≡◌, ℕ, false, List, ap, ◌∙◌}
 use Rattle.elf_image.specs.declared.image.Image.{Image}
 use Rattle.image_load.specs.Loading.{opening_space}
 use Rattle.image_load.specs.Stacks.{IsTooBig}
-use Rattle.mm_space.specs.Spaces.{AddressSpace}
 use Rattle.kernel_model.specs.opening.Arguments.{is_too_long}
 use Rattle.kernel_calls.proofs.Strings.{not_too_big}
 use Rattle.kernel_calls.proofs.opened_task.opened.Goals as goal

@@ -1,12 +1,10 @@
 -- A call is a step of the kernel.
-use mir.Val.{SFits, to_z, of_z}
+use mir.Val.{SFits}
 use mir.Syntax.{w64}
-use Rattle.std.proofs.Common.{◌≡◌, length, ap, sym, ◌∙◌, rules, refl}
+use Rattle.std.proofs.Common.{◌≡◌, ap, sym, ◌∙◌, rules, refl}
 use Rattle.std.specs.Prelude.{Some}
 use Rattle.std.specs.FinMap as map
 use Rattle.std.proofs.Math.Facts.{to_z-of_z}
-use Rattle.task_table.specs.Table.{TaskTable}
-use Rattle.mm_space.specs.Spaces.{AddressSpace}
 use Rattle.kernel_model.specs.declared.entry.Entry.TheVariants.{Call}
 use Rattle.kernel_model.specs.declared.kernel.Kernel.{Kernel}
 use Rattle.kernel_model.specs.declared.traps.Next.TheVariants.{Calls}

@@ -1,5 +1,5 @@
 -- A run of a task's instructions is a step of the kernel, or nothing.
-use Rattle.std.proofs.Common.{◌≡◌, ℕ, ◌<◌, ◌≤◌, refl, ap, ◌∙◌, arith}
+use Rattle.std.proofs.Common.{◌≡◌, ℕ, ◌<◌, refl, ap, ◌∙◌, arith}
 use Rattle.std.specs.Prelude.{Result, Ok, Err, IfOk, OnErr}
 use Rattle.std.specs.FinMap as map
 use Rattle.rv_table.specs.declared.regs.Regs.{Regs}
@@ -9,7 +9,7 @@ use Rattle.kernel_model.specs.Names.{NamedMap, with_named}
 use Rattle.kernel_calls.specs.declared.instructions.Ran.{Ran}
 use Rattle.call_table.specs.Processes.{RunsIn, caller_with}
 use Rattle.call_table.proofs.Homes.{home_run}
-use Rattle.call_table.proofs.Steps.{step_run, whole_run, registers_left, spaces_left, next_left, left_there, stop_none}
+use Rattle.call_table.proofs.Steps.{step_run, whole_run, registers_left, spaces_left, next_left, left_there}
 use Rattle.call_table.proofs.Steps.{stop_not_on}
 use Rattle.call_table.proofs.processes.Processes.run_standing.Goals as goal
 

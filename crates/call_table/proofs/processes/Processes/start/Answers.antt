@@ -1,13 +1,11 @@
 -- The first task is at home, and begins the kernel.
-use Rattle.std.proofs.Common.{◌≡◌, ℕ, ap, sym, ◌∙◌, refl, subst}
+use Rattle.std.proofs.Common.{◌≡◌, ap, sym, ◌∙◌, subst}
 use Rattle.std.specs.FinMap as map
-use Rattle.rv_table.specs.declared.regs.Regs.{Regs}
-use Rattle.mm_space.specs.Spaces.{AddressSpace}
 use Rattle.task_table.specs.Clones.{opened}
 use Rattle.task_table.specs.Table.{TaskTable, no_tasks}
-use Rattle.kernel_model.specs.Names.{NamedMap, with_named}
+use Rattle.kernel_model.specs.Names.{with_named}
 use Rattle.kernel_model.specs.opening.Opening.{made_by, registers_opened, space_opened}
-use Rattle.call_table.specs.Beside.{AreAtHome, kernel_with}
+use Rattle.call_table.specs.Beside.{AreAtHome}
 use Rattle.call_table.proofs.Homes.{first_at_home}
 use Rattle.call_table.proofs.Steps.{same_kernel}
 use Rattle.call_table.proofs.processes.Processes.start.Goals as goal
