@@ -21,41 +21,32 @@ struct Line {
     reply: i64,
 }
 
-const RUN_4: Line = Line {
-    kind: "run",
-    number: 4,
-    reply: 0,
-};
+/// A run of so many instructions.
+fn run(number: u64) -> Line {
+    Line {
+        kind: "run",
+        number,
+        reply: 0,
+    }
+}
 
-const RUN_2: Line = Line {
-    kind: "run",
-    number: 2,
-    reply: 0,
-};
+/// A call by its number, with its reply.
+fn call(number: u64, reply: i64) -> Line {
+    Line {
+        kind: "call",
+        number,
+        reply,
+    }
+}
 
-const RUN_ALL: Line = Line {
-    kind: "run",
-    number: 10_000,
-    reply: 0,
-};
-
-const WRITE_0: Line = Line {
-    kind: "call",
-    number: 64,
-    reply: 0,
-};
-
-const EXIT_GROUP: Line = Line {
-    kind: "call",
-    number: 94,
-    reply: 0,
-};
-
-const BREAKPOINT: Line = Line {
-    kind: "end",
-    number: 5,
-    reply: 0,
-};
+/// The end of a group by a signal.
+fn end(signal: u64) -> Line {
+    Line {
+        kind: "end",
+        number: signal,
+        reply: 0,
+    }
+}
 
 /// What came of a run of turns.
 #[derive(Drop)]
@@ -68,24 +59,12 @@ struct Told {
 
 fn line_of(entry: &Entry) -> Line {
     match entry {
-        Entry::Run { n, .. } => Line {
-            kind: "run",
-            number: u64::from(*n),
-            reply: 0,
-        },
-        Entry::Call { no, reply, .. } => Line {
-            kind: "call",
-            number: *no,
-            reply: *reply,
-        },
+        Entry::Run { n, .. } => run(u64::from(*n)),
+        Entry::Call { no, reply, .. } => call(*no, *reply),
+        Entry::End { signal, .. } => end(u64::from(*signal)),
         Entry::Sleep { .. } => Line {
             kind: "sleep",
             number: 0,
-            reply: 0,
-        },
-        Entry::End { signal, .. } => Line {
-            kind: "end",
-            number: u64::from(*signal),
             reply: 0,
         },
     }
@@ -130,7 +109,7 @@ fn expect_end(rt: &impl Abort, told: &Told, lives: bool, console: &[u8]) {
 #[test]
 fn a_write_and_an_exit_make_four_entries(rt: HostRuntime) -> Result<(), Fail> {
     let told = turns(rt.alloc(), WRITES_NOTHING.words, 4096)?;
-    expect_lines(&rt, &told, &[RUN_4, WRITE_0, RUN_2, EXIT_GROUP]);
+    expect_lines(&rt, &told, &[run(4), call(64, 0), run(2), call(94, 0)]);
     expect_end(&rt, &told, false, b"");
     Ok(())
 }
@@ -138,7 +117,7 @@ fn a_write_and_an_exit_make_four_entries(rt: HostRuntime) -> Result<(), Fail> {
 #[test]
 fn a_full_trace_leaves_the_task_alive(rt: HostRuntime) -> Result<(), Fail> {
     let told = turns(rt.alloc(), WRITES_NOTHING.words, 1)?;
-    expect_lines(&rt, &told, &[RUN_4]);
+    expect_lines(&rt, &told, &[run(4)]);
     expect_end(&rt, &told, true, b"");
     Ok(())
 }
@@ -146,7 +125,7 @@ fn a_full_trace_leaves_the_task_alive(rt: HostRuntime) -> Result<(), Fail> {
 #[test]
 fn a_loop_runs_ten_thousand_instructions_a_turn(rt: HostRuntime) -> Result<(), Fail> {
     let told = turns(rt.alloc(), &[JUMP_TO_ITSELF], 2)?;
-    expect_lines(&rt, &told, &[RUN_ALL, RUN_ALL]);
+    expect_lines(&rt, &told, &[run(10_000), run(10_000)]);
     expect_end(&rt, &told, true, b"");
     Ok(())
 }
@@ -154,7 +133,7 @@ fn a_loop_runs_ten_thousand_instructions_a_turn(rt: HostRuntime) -> Result<(), F
 #[test]
 fn a_breakpoint_ends_the_group_by_signal_5(rt: HostRuntime) -> Result<(), Fail> {
     let told = turns(rt.alloc(), &[EBREAK], 4096)?;
-    expect_lines(&rt, &told, &[BREAKPOINT]);
+    expect_lines(&rt, &told, &[end(5)]);
     expect_end(&rt, &told, false, b"");
     Ok(())
 }
@@ -182,6 +161,6 @@ fn a_live_task_advances_by_one_entry(rt: HostRuntime) -> Result<(), Fail> {
     let mut processes = processes_of(rt.alloc(), WRITES_NOTHING.words)?;
     expect_live(&rt, &processes, 1);
     let entry = processes.advance(rt.alloc(), 1)?;
-    assert!(rt; line_of(&entry) == RUN_4);
+    assert!(rt; line_of(&entry) == run(4));
     Ok(())
 }

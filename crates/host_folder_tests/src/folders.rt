@@ -1,121 +1,113 @@
 //! Folders of the machine: what is listed, read, told and opened of their files.
 
-use crate::grants::{folder, granted, lent, make_folder, name, route};
+use crate::held::{Held, attr, granted, granted_by};
+use crate::made::{folder, make_folder, name};
 use host_folder::Folders;
-use host_node::{Attr, HostErr, HostNode, HostWorld, Kind, Listing};
-use sn_text::Route;
+use host_node::{HostErr, HostNode, HostWorld, Kind};
+use std::alloc::Global;
 use std::fs;
+use std::process::Abort;
 use std::test::Fail;
 
 #[test]
 fn a_folder_lists_its_entries_by_name(rt: HostRuntime) -> Result<(), Fail> {
     make_folder(rt, "folder_lists")?;
-    let mut world = Folders::new(rt);
-    let mut root = granted(&mut world, rt.alloc(), "folder_lists")?;
-    let mut out = Listing::new(rt.alloc());
-    root.list(&Route::new(rt.alloc()), &mut out)?;
-    fs::remove_dir_all(&rt, "folder_lists")?;
-    let wanted = [
+    let mut root = granted_by(rt, "folder_lists")?;
+    let entries = [
         ("again", Kind::Link),
         ("below", Kind::Dir),
         ("hello", Kind::File),
         ("out", Kind::Link),
     ];
-    assert_eq!(rt; out.len(), wanted.len());
-    for ((name, kind), entry) in wanted.iter().zip(out.entries()) {
-        assert!(rt; entry.name.is(name.as_bytes()), "{name}");
-        assert_eq!(rt; entry.kind, *kind, "{name}");
-    }
-    assert_eq!(rt; root.faults(), 0);
+    root.expect_list(&rt, Ok(()), &entries);
+    root.expect_faults(&rt, 0);
+    fs::remove_dir_all(&rt, "folder_lists")?;
+    Ok(())
+}
+
+/// That a file of `twelve bytes` is read from its middle, and not past its end.
+fn expect_reads(rt: &impl Abort, file: &mut Held<HostRuntime>) {
+    let mut buf = [0; 8];
+    file.expect_read(rt, 7, &mut buf, Ok(5));
+    file.expect_read(rt, 13, &mut buf, Ok(0));
+    assert_eq!(rt; buf.as_slice(), b"bytes\0\0\0".as_slice());
+    file.expect_faults(rt, 0);
+}
+
+/// Takes back what was lent under a name.
+fn take_back(root: Held<HostRuntime>, file: Held<HostRuntime>, text: &str) -> Result<(), Fail> {
+    let Held {
+        mut node,
+        alloc,
+        ..
+    } = root;
+    let Held { node: file, .. } = file;
+    let name = name(alloc, text)?;
+    node.take_back(&name, file);
     Ok(())
 }
 
 #[test]
 fn a_file_is_read_from_its_middle_to_its_end(rt: HostRuntime) -> Result<(), Fail> {
     make_folder(rt, "folder_reads")?;
-    let mut world = Folders::new(rt);
-    let mut root = granted(&mut world, rt.alloc(), "folder_reads")?;
-    let mut file = lent(&mut root, rt.alloc(), "hello")?;
-    file.open(&route(rt.alloc(), "hello")?, true)?;
-    let mut buf = [0; 8];
-    let middle = file.read_at(7, &mut buf)?;
-    let past = file.read_at(13, &mut buf)?;
+    let mut root = granted_by(rt, "folder_reads")?;
+    let mut file = root.lent("hello")?;
+    file.expect_open(&rt, true, Ok(()));
+    expect_reads(&rt, &mut file);
     fs::remove_dir_all(&rt, "folder_reads")?;
-    assert_eq!(rt; middle, 5);
-    assert_eq!(rt; buf.as_slice(), b"bytes\0\0\0".as_slice());
-    assert_eq!(rt; past, 0);
-    assert_eq!(rt; file.faults(), 0);
-    root.take_back(&name(rt.alloc(), "hello")?, file);
-    Ok(())
+    take_back(root, file, "hello")
 }
 
 #[test]
 fn a_file_is_for_all_to_read_and_run(rt: HostRuntime) -> Result<(), Fail> {
     make_folder(rt, "folder_file")?;
-    let there = route(rt.alloc(), "hello")?;
-    let mut world = Folders::new(rt);
-    let mut root = granted(&mut world, rt.alloc(), "folder_file")?;
-    let mut file = lent(&mut root, rt.alloc(), "hello")?;
-    let attr = file.stat(&there)?;
+    let mut file = granted_by(rt, "folder_file")?.lent("hello")?;
+    file.expect_stat(&rt, Ok(attr(Kind::File, 0o755, 12)));
+    file.expect_faults(&rt, 0);
     fs::remove_dir_all(&rt, "folder_file")?;
-    let wanted = Attr {
-        kind: Kind::File,
-        mode: 0o755,
-        size: 12,
-    };
-    assert_eq!(rt; attr, wanted);
-    assert_eq!(rt; file.faults(), 0);
-    assert_eq!(rt; file.stat(&there), Err(HostErr::Failed));
-    assert_eq!(rt; file.faults(), 1);
+    file.expect_stat(&rt, Err(HostErr::Failed));
+    file.expect_faults(&rt, 1);
     Ok(())
 }
 
 #[test]
 fn a_directory_is_opened_for_reading_alone(rt: HostRuntime) -> Result<(), Fail> {
     make_folder(rt, "folder_below")?;
-    let there = route(rt.alloc(), "below")?;
-    let mut world = Folders::new(rt);
-    let mut root = granted(&mut world, rt.alloc(), "folder_below")?;
-    let mut below = lent(&mut root, rt.alloc(), "below")?;
-    let attr = below.stat(&there)?;
-    below.open(&there, false)?;
-    let faults = below.faults();
-    let written = below.open(&there, true);
+    let mut below = granted_by(rt, "folder_below")?.lent("below")?;
+    below.expect_stat(&rt, Ok(attr(Kind::Dir, 0o755, 0)));
+    below.expect_open(&rt, false, Ok(()));
+    below.expect_faults(&rt, 0);
+    below.expect_open(&rt, true, Err(HostErr::Failed));
+    below.expect_faults(&rt, 1);
     fs::remove_dir_all(&rt, "folder_below")?;
-    let wanted = Attr {
-        kind: Kind::Dir,
-        mode: 0o755,
-        size: 0,
-    };
-    assert_eq!(rt; attr, wanted);
-    assert_eq!(rt; faults, 0);
-    assert_eq!(rt; written, Err(HostErr::Failed));
-    assert_eq!(rt; below.faults(), 1);
+    Ok(())
+}
+
+/// That nothing is granted at a path, and that no call of the host failed.
+fn expect_no_grant(
+    rt: &impl Abort,
+    alloc: Global,
+    world: &mut Folders<HostRuntime>,
+    path: &str,
+) -> Result<(), Fail> {
+    let folder = folder(alloc, path)?;
+    let node = world.grant(&folder)?;
+    assert!(rt; node.is_none());
+    assert_eq!(rt; world.faults(), 0);
     Ok(())
 }
 
 #[test]
 fn a_link_is_not_followed(rt: HostRuntime) -> Result<(), Fail> {
     make_folder(rt, "folder_links")?;
-    let there = route(rt.alloc(), "out")?;
     let mut world = Folders::new(rt);
-    let mut root = granted(&mut world, rt.alloc(), "folder_links")?;
-    let mut link = lent(&mut root, rt.alloc(), "out")?;
-    let attr = link.stat(&there)?;
-    let opened = link.open(&there, false);
-    let through = world.grant(&folder(rt.alloc(), "folder_links/again")?)?;
+    let mut link = granted(&mut world, rt.alloc(), "folder_links")?.lent("out")?;
+    link.expect_kind(&rt, Kind::Link);
+    link.expect_stat(&rt, Ok(attr(Kind::Link, 0o777, 11)));
+    link.expect_open(&rt, false, Err(HostErr::Failed));
+    link.expect_faults(&rt, 1);
+    expect_no_grant(&rt, rt.alloc(), &mut world, "folder_links/again")?;
     fs::remove_dir_all(&rt, "folder_links")?;
-    let wanted = Attr {
-        kind: Kind::Link,
-        mode: 0o777,
-        size: 11,
-    };
-    assert_eq!(rt; link.kind(), Kind::Link);
-    assert_eq!(rt; attr, wanted);
-    assert_eq!(rt; opened, Err(HostErr::Failed));
-    assert_eq!(rt; link.faults(), 1);
-    assert!(rt; through.is_none());
-    assert_eq!(rt; world.faults(), 0);
     Ok(())
 }
 
@@ -124,54 +116,59 @@ fn what_is_not_there_is_none(rt: HostRuntime) -> Result<(), Fail> {
     make_folder(rt, "folder_none")?;
     let mut world = Folders::new(rt);
     let mut root = granted(&mut world, rt.alloc(), "folder_none")?;
-    let child = root.lend(&Route::new(rt.alloc()), &name(rt.alloc(), "none")?)?;
-    let none = world.grant(&folder(rt.alloc(), "folder_none/none")?)?;
-    let file = world.grant(&folder(rt.alloc(), "folder_none/hello")?)?;
-    let under = world.grant(&folder(rt.alloc(), "folder_none/hello/under")?)?;
+    root.expect_nothing(&rt, "none")?;
+    root.expect_faults(&rt, 0);
+    for path in [
+        "folder_none/none",
+        "folder_none/hello",
+        "folder_none/hello/under",
+    ] {
+        expect_no_grant(&rt, rt.alloc(), &mut world, path)?;
+    }
     fs::remove_dir_all(&rt, "folder_none")?;
-    assert!(rt; child.is_none());
-    assert!(rt; none.is_none());
-    assert!(rt; file.is_none());
-    assert!(rt; under.is_none());
-    assert_eq!(rt; root.faults(), 0);
-    assert_eq!(rt; world.faults(), 0);
+    Ok(())
+}
+
+/// Grants the folder at a path, and settles it.
+fn settle_below(alloc: Global, world: &mut Folders<HostRuntime>, path: &str) -> Result<(), Fail> {
+    let below = folder(alloc, path)?;
+    let inner = world.grant(&below)?.ok_or("the folder below")?;
+    world.settle(&below, inner);
     Ok(())
 }
 
 #[test]
 fn a_folder_is_settled_or_its_node_buried(rt: HostRuntime) -> Result<(), Fail> {
     make_folder(rt, "folder_back")?;
-    let below = folder(rt.alloc(), "folder_back/below")?;
     let mut world = Folders::new(rt);
     let root = granted(&mut world, rt.alloc(), "folder_back")?;
-    let inner = world.grant(&below)?.ok_or("the folder below")?;
+    root.expect_kind(&rt, Kind::Dir);
+    settle_below(rt.alloc(), &mut world, "folder_back/below")?;
     fs::remove_dir_all(&rt, "folder_back")?;
-    assert_eq!(rt; root.kind(), Kind::Dir);
-    world.settle(&below, inner);
-    world.bury(root)?;
+    let Held { node, .. } = root;
+    world.bury(node)?;
     assert_eq!(rt; world.faults(), 0);
+    Ok(())
+}
+
+/// A new folder with two files, whose names begin and end with a space.
+fn make_spaces(rt: HostRuntime) -> Result<(), Fail> {
+    let _ = fs::remove_dir_all(&rt, " folder spaces ");
+    fs::create_dir(&rt, " folder spaces ")?;
+    fs::write(&rt, " folder spaces / f", "one")?;
+    fs::write(&rt, " folder spaces /f ", "three")?;
     Ok(())
 }
 
 #[test]
 fn names_keep_the_spaces_at_their_ends(rt: HostRuntime) -> Result<(), Fail> {
-    let _ = fs::remove_dir_all(&rt, " folder spaces ");
-    fs::create_dir(&rt, " folder spaces ")?;
-    fs::write(&rt, " folder spaces / f", "one")?;
-    fs::write(&rt, " folder spaces /f ", "three")?;
-    let mut world = Folders::new(rt);
-    let mut root = granted(&mut world, rt.alloc(), " folder spaces ")?;
-    let mut out = Listing::new(rt.alloc());
-    root.list(&Route::new(rt.alloc()), &mut out)?;
-    let mut behind = lent(&mut root, rt.alloc(), "f ")?;
-    let size = behind.stat(&route(rt.alloc(), "f ")?)?.size;
-    let bare = root.lend(&Route::new(rt.alloc()), &name(rt.alloc(), "f")?)?;
+    make_spaces(rt)?;
+    let mut root = granted_by(rt, " folder spaces ")?;
+    let entries = [(" f", Kind::File), ("f ", Kind::File)];
+    root.expect_list(&rt, Ok(()), &entries);
+    root.lent("f ")?
+        .expect_stat(&rt, Ok(attr(Kind::File, 0o755, 5)));
+    root.expect_nothing(&rt, "f")?;
     fs::remove_dir_all(&rt, " folder spaces ")?;
-    assert_eq!(rt; out.len(), 2);
-    for (wanted, entry) in [" f", "f "].iter().zip(out.entries()) {
-        assert!(rt; entry.name.is(wanted.as_bytes()), "{wanted}");
-    }
-    assert_eq!(rt; size, 5);
-    assert!(rt; bare.is_none());
     Ok(())
 }

@@ -1,14 +1,14 @@
 //! A system that knows which calls it is to be asked for, in order.
 
-use crate::faulty::{OneByte, refused};
+use crate::one_byte::{OneByte, refused};
 use std::alloc::{Allocator, Global};
 use std::fs::{Files, Metadata, OpenOptions};
 use std::io;
 use std::io::{Cursor, ErrorKind};
 use std::sync::atomic::{AtomicU64, Ordering};
 
-/// A call of the system. A look follows no link.
-#[derive(Clone, Copy, PartialEq, Eq)]
+/// A call of the system, and what it answers. A look follows no link.
+#[derive(Clone, Copy)]
 pub(crate) enum Call {
     /// A look, which finds a directory.
     Directory,
@@ -20,12 +20,18 @@ pub(crate) enum Call {
     Device,
     /// A look, which finds nothing.
     Nothing,
+    /// A look, which is refused.
+    Hidden,
+    /// A look, for which there is no memory.
+    Full,
     /// A file is opened for reading alone.
     Read,
     /// A file is opened for reading and writing.
     Write,
-    /// A directory is opened, which has `b`, `c` and `a`.
-    List,
+    /// A directory is opened, which has these names, each with a NUL behind it.
+    List(&'static [u8]),
+    /// A directory is opened, which is refused.
+    Locked,
 }
 
 /// A call, and the path that it is for.
@@ -37,13 +43,22 @@ const ASTRAY: u64 = 1_000_000;
 /// Files that answer the calls of a script, in its order. Any other call is refused, as is each one after it.
 #[derive(Clone, Copy)]
 pub(crate) struct Scripted<'a> {
-    pub(crate) rt: HostRuntime,
-    pub(crate) script: &'a [Line],
+    rt: HostRuntime,
+    script: &'a [Line],
     /// How many lines were met so far, or from `ASTRAY` on.
-    pub(crate) met: &'a AtomicU64,
+    met: &'a AtomicU64,
 }
 
-impl Scripted<'_> {
+/// Whether so many lines are all that were met, each in its turn.
+pub(crate) fn are_met(script: &[Line], met: &AtomicU64) -> bool {
+    met.load(Ordering::SeqCst) == script.len() as u64
+}
+
+impl<'a> Scripted<'a> {
+    pub(crate) fn new(rt: HostRuntime, script: &'a [Line], met: &'a AtomicU64) -> Scripted<'a> {
+        Scripted { rt, script, met }
+    }
+
     /// The call of the next line, where that is for this path.
     fn next(&self, path: &str) -> Option<Call> {
         let met = self.met.fetch_add(1, Ordering::SeqCst);
@@ -81,23 +96,19 @@ impl Files for Scripted<'_> {
     type Dir = Cursor<Vec<u8>>;
 
     fn open_file(&self, how: &OpenOptions, path: &str) -> io::Result<OneByte> {
-        let wanted = if how.asks_write() {
-            Call::Write
-        } else {
-            Call::Read
-        };
-        if self.next(path) == Some(wanted) && leaves_it(how) {
-            Ok(OneByte::new())
-        } else {
-            self.astray()
+        match self.next(path) {
+            Some(Call::Read) if leaves_it(how) && !how.asks_write() => Ok(OneByte::new()),
+            Some(Call::Write) if leaves_it(how) && how.asks_write() => Ok(OneByte::new()),
+            _ => self.astray(),
         }
     }
 
     fn open_dir(&self, path: &str) -> io::Result<Cursor<Vec<u8>>> {
-        if self.next(path) != Some(Call::List) {
-            return self.astray();
+        match self.next(path) {
+            Some(Call::List(names)) => Ok(Cursor::new(Vec::from_slice(self.alloc(), names)?)),
+            Some(Call::Locked) => refused(),
+            _ => self.astray(),
         }
-        Ok(Cursor::new(Vec::from_slice(self.alloc(), b"b\0.\0c\0..\0a\0")?))
     }
 
     fn symlink_metadata(&self, path: &str) -> io::Result<Metadata> {
@@ -107,6 +118,8 @@ impl Files for Scripted<'_> {
             Some(Call::Link) => Ok(Metadata::of_symlink(11)),
             Some(Call::Device) => self.rt.symlink_metadata("/dev/null"),
             Some(Call::Nothing) => Err(io::Error::from(ErrorKind::NotFound)),
+            Some(Call::Hidden) => refused(),
+            Some(Call::Full) => Err(io::Error::from(ErrorKind::OutOfMemory)),
             _ => self.astray(),
         }
     }

@@ -3,11 +3,11 @@
 ghost use Rattle.std.specs.Prelude.{◌≡◌, true, Some, IfOk};
 ghost use Rattle.host_node.specs.declared.kind.Kind.TheVariants.{Dir as Directory};
 ghost use Rattle.host_node.specs.Routes.{subtree, put_subtree};
-ghost use Rattle.host_node.specs.Tree.{file as regular, lent as away, is_directory, none_lent};
-ghost use Rattle.host_memory.specs.declared.node.Access.TheVariants.{Closed as NotOpened};
+ghost use Rattle.host_node.specs.Tree.{file as regular, lent as away, bytes_of, faults_of, is_directory, none_lent};
+ghost use Rattle.host_memory.specs.declared.node.Access.TheVariants.{Closed as NotOpened, Reading as Reads};
 
 use host_memory::{Line, MemoryNode, Op, Plan, World};
-use host_node::{HostErr, HostWorld, Tree};
+use host_node::{HostErr, HostNode, HostWorld, Tree};
 use sn_base::List;
 use sn_text::{Folder, Route, name_of};
 use std::alloc::Global;
@@ -25,28 +25,24 @@ pub(crate) fn folder_of(alloc: Global, names: &[&str]) -> Result<Folder, Fail> {
     Ok(Folder::new(false, route))
 }
 
-/// A host with a tree put where names lead.
+/// Puts a tree where a folder's names lead in a host.
 #[tactic(auto, using(host_memory::proofs::Worlds::none_lent_put))]
-pub(crate) fn put(alloc: Global, world: World, names: &[&str], tree: Tree) -> Result<World, Fail>
-    requires world { none_lent world.tree ≡ true }
+pub(crate) fn put(alloc: Global, world: &mut World, folder: &Folder, tree: Tree) -> Result<(), Fail>
+    requires world { none_lent world.old.tree ≡ true }
     requires tree { none_lent tree ≡ true }
-    ensures { IfOk result (λ world. none_lent world.tree ≡ true) }
+    ensures { IfOk result (λ _. none_lent world.new.tree ≡ true) }
 {
-    let mut world = world;
-    world.put(alloc, &folder_of(alloc, names)?, tree)?;
-    Ok(world)
+    world.put(alloc, folder, tree)?;
+    Ok(())
 }
 
-/// A host with an empty directory `d`.
-pub(crate) fn world_of(alloc: Global) -> Result<World, Fail>
+/// A host with an empty directory where a folder's names lead.
+pub(crate) fn world_of(alloc: Global, folder: &Folder) -> Result<World, Fail>
     ensures { IfOk result (λ world. none_lent world.tree ≡ true) }
 {
-    put(
-        alloc,
-        World::new(alloc),
-        &["d"],
-        Tree::directory(alloc, 0o700),
-    )
+    let mut world = World::new(alloc);
+    put(alloc, &mut world, folder, Tree::directory(alloc, 0o700))?;
+    Ok(world)
 }
 
 /// The directory where a folder's names lead, granted.
@@ -76,6 +72,16 @@ pub(crate) fn file_node(alloc: Global, bytes: &[u8], op: Op, k: u64) -> Result<M
     plan.add(alloc, Line { place, op, left: k })?;
     let tree = Tree::file(0o644, List::from_slice(alloc, bytes)?);
     Ok(MemoryNode::new(alloc, tree, Route::new(alloc), plan))
+}
+
+/// The node of a file that is open, of which a read is to fail.
+pub(crate) fn open_file(alloc: Global, bytes: &[u8], k: u64) -> Result<MemoryNode, Fail>
+    ensures file { IfOk result (λ node. node.tree ≡ regular (bytes_of node.tree) 420 (faults_of node.tree)) }
+    ensures open { IfOk result (λ node. node.access ≡ Reads) }
+{
+    let mut node = file_node(alloc, bytes, Op::ReadAt, k)?;
+    node.open(&Route::new(alloc), false)?;
+    Ok(node)
 }
 
 /// Whether a call failed on the host. Want of memory is an error of the test.

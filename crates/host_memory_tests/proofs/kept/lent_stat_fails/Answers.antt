@@ -14,8 +14,8 @@ take_back-requires c =
     lent_place c.args.name.now c.args.parent.now.tree c.lend.new.self.tree node (faults_of node) (kind_of node) told
     tells
 
-pub returns : goal.returns
-returns c =
+pub returns-in_ok-failed-in-Some : goal.returns-in_ok-failed-in-Some
+returns-in_ok-failed-in-Some c =
     let node = c.in-Some.node.tree in
     let told = rw c.in-Some.is at c.in_ok-lend.ensures.node in
     let tells = rw c.in-Some.is at c.in_ok-lend.ensures.tells in

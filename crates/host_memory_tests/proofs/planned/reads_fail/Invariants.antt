@@ -2,7 +2,7 @@
 use Rattle.std.proofs.Common.{◌≡◌}
 use Rattle.host_node.specs.Tree.{file, bytes_of, faults_of}
 use Rattle.host_memory.specs.declared.node.Access.TheVariants.{Reading}
-use Rattle.host_memory_tests.proofs.planned.read_fails_once.Given as goal
+use Rattle.host_memory_tests.proofs.planned.reads_fail.Given as goal
 
 abbrev pub invariant-loop-call : goal.invariant-loop-call
 invariant-loop-call l = record {

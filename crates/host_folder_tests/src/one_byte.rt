@@ -1,0 +1,71 @@
+//! A file of which one byte is read, and then no more.
+
+ghost use Rattle.std.specs.Prelude.{IsErr};
+
+use std::fs::{Metadata, OpenFile};
+use std::io;
+use std::io::{ErrorKind, Read, Seek, SeekFrom, Write};
+
+/// A call that is refused.
+pub(crate) fn refused<T>() -> io::Result<T>
+    ensures { IsErr result }
+{
+    Err(io::Error::from(ErrorKind::PermissionDenied))
+}
+
+/// A file of which one byte is read, and no more.
+#[derive(Drop)]
+pub(crate) struct OneByte {
+    is_read: bool,
+}
+
+impl OneByte {
+    pub(crate) fn new() -> OneByte {
+        OneByte { is_read: false }
+    }
+}
+
+impl Read for OneByte {
+    fn read(&mut self, buf: &mut [u8]) -> io::Result<usize> {
+        if self.is_read || buf.is_empty() {
+            return refused();
+        }
+        self.is_read = true;
+        buf[0] = b'x';
+        Ok(1)
+    }
+}
+
+impl Write for OneByte {
+    fn write(&mut self, _buf: &[u8]) -> io::Result<usize> {
+        refused()
+    }
+
+    fn flush(&mut self) -> io::Result<()> {
+        refused()
+    }
+}
+
+impl Seek for OneByte {
+    fn seek(&mut self, _to: SeekFrom) -> io::Result<u64> {
+        Ok(0)
+    }
+}
+
+impl OpenFile for OneByte {
+    fn metadata(&self) -> io::Result<Metadata> {
+        refused()
+    }
+
+    fn set_len(&self, _size: u64) -> io::Result<()> {
+        refused()
+    }
+
+    fn sync_all(&self) -> io::Result<()> {
+        refused()
+    }
+
+    fn sync_data(&self) -> io::Result<()> {
+        refused()
+    }
+}
