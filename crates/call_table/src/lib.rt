@@ -1,9 +1,9 @@
 //! The state of a run, and its turns: the entries that its tasks make, one after another.
 //!
-//! A caller sees `Processes`: the task list, registers by task, address spaces by name, and the console. It begins with
-//! one task (`start`) and has live tasks make entries (`advance`), or all of a run (`run_turns`): each turn is one call,
-//! one end by a signal or one run of instructions, of the least live task above that of the last turn, or else of the
-//! least. What the host gave stands beside: no entry so far reads or changes a node.
+//! A caller sees `Processes`: the task list, registers by task, address spaces by name, and the console. It begins
+//! with one task (`start`) and has live tasks make entries (`advance`), or all of a run (`run_turns`): each turn is
+//! one call, one end by a signal or one run of instructions, of the least live task above that of the last turn, or
+//! else of the least. What the host gave stands beside: no entry so far reads or changes a node.
 //!
 //! Proved: an entry is a step of the kernel that the processes are, whatever stands beside them (`step`), and each of
 //! its Runs is whole (`whole`); want of memory leaves what some whole instructions, fewer than 10,000, have left
