@@ -1,40 +1,53 @@
 -- No row changes a node, so that a child without a number stays as it is through each step that gives it none.
 use Rattle.std.proofs.Common.{◌≡◌, ℕ, ℤ, Bool, true, false, cond, List, [], ◌∷◌, ◌++◌, length, Option, Some, None, ap}
 use Rattle.std.proofs.Common.{sym, ◌∙◌, inl, inr, subst, option_map, pos, nat_cmp}
-use Rattle.std.specs.Prelude.{nat_le, ◌+◌, ◌==◌, ◌&&◌, min}
+use Rattle.std.specs.Prelude.{nat_le, nat_lt, ◌+◌, ◌==◌, ◌%◌, ◌^◌, ◌&&◌, min, not}
 use Rattle.std.specs.List.{list_any}
 use Rattle.std.specs.Ordering.{int_eq}
 use Rattle.std.specs.FinMap as map
 use Rattle.sn_errno.specs.declared.errno.Errno.{Errno}
-use Rattle.sn_errno.specs.declared.errno.Errno.TheVariants.{EIO, ENFILE, EFAULT, EBADF, ENOSYS, ENOSPC}
+use Rattle.sn_errno.specs.declared.errno.Errno.TheVariants.{EIO, ENFILE, EFAULT, EBADF, ENOSYS, ENOSPC, EINVAL}
 use Rattle.sn_errno.specs.declared.calls.CallNo.{CallNo}
-use Rattle.sn_errno.specs.declared.calls.CallNo.TheVariants.{Write, ExitGroup}
+use Rattle.sn_errno.specs.declared.calls.CallNo.TheVariants.{Write, ExitGroup, Brk, Munmap, Mmap, Mprotect}
+use Rattle.sn_errno.specs.declared.calls.CallNo.TheVariants.{Getrandom}
+use Rattle.mm_areas.specs.declared.fault.AreaErr.{AreaErr}
+use Rattle.mm_areas.specs.Mappings.{map_fault, unmap_fault, protect_fault, pages_in}
+use Rattle.mm_space.specs.Changes.{broken_in}
+use Rattle.mm_space.specs.Handing.{InHand, zero_area}
 use Rattle.sn_errno.specs.Calls.{call_of}
 use Rattle.sn_errno.specs.Errors.{reply_of}
 use Rattle.host_node.specs.Tree.{Shape}
+use Rattle.task_table.specs.declared.task.Made.{Made}
 use Rattle.task_table.specs.declared.task.Status.TheVariants.{Killed}
 use Rattle.quantum.specs.Instructions.{Going, ran}
-use Rattle.mm_space.specs.Spaces.{AddressSpace}
+use Rattle.mm_space.specs.Spaces.{AddressSpace, Reach}
 use Rattle.kernel_model.specs.declared.caller.Caller.{Caller}
 use Rattle.kernel_model.specs.declared.entry.Args.{Args}
 use Rattle.kernel_model.specs.declared.entry.Entry.{Entry}
 use Rattle.kernel_model.specs.declared.entry.Entry.TheVariants.{Run, Call, Sleep, End}
 use Rattle.kernel_model.specs.declared.kernel.Kernel.{Kernel}
-use Rattle.kernel_model.specs.declared.kernel.Part.TheVariants.{OfNode, OfConsole, OfFaults}
+use Rattle.kernel_model.specs.declared.kernel.Part.TheVariants.{OfSpace, OfArea, OfNode, OfConsole, OfFaults}
 use Rattle.kernel_model.specs.declared.opening.Given.{Given}
 use Rattle.kernel_model.specs.declared.traps.Next.{Next}
-use Rattle.kernel_model.specs.declared.traps.Next.TheVariants.{Goes, Calls, Traps}
-use Rattle.kernel_model.specs.machine.Spaces.{going_in, bytes_read}
+use Rattle.kernel_model.specs.declared.traps.Next.TheVariants.{Goes, Calls, Traps, Touches}
+use Rattle.kernel_model.specs.machine.Random.{random_at}
+use Rattle.kernel_model.specs.machine.Spaces.{going_in, going_with}
 use Rattle.kernel_model.specs.calls.Answers.{Reply, Replies, NotReady, Answer, refuses, replies}
 use Rattle.kernel_model.specs.calls.Callers.{Context, context_of, caller_of}
 use Rattle.kernel_model.specs.calls.Console.{is_written_to, descriptor, to_console, appended, write_row}
 use Rattle.kernel_model.specs.calls.Ending.{exit_group_row, group_end}
+use Rattle.kernel_model.specs.calls.Memory.{mmap_row}
+use Rattle.kernel_model.specs.calls.RandomBytes.{getrandom_row}
+use Rattle.kernel_model.specs.calls.Memory.{remaps, unless_refused, area_errno, is_no_mapping, is_no_protection}
+use Rattle.kernel_model.specs.calls.Memory.{is_anonymous, is_shared, asked_place, file_errno, area_made_at, area_made_by}
+use Rattle.kernel_model.specs.calls.RandomBytes.{put_random}
 use Rattle.kernel_model.specs.calls.Table.{call_row, row_of_call, row_if_known}
+use Rattle.kernel_model.specs.entries.Areas.{Stands, next_row, bytes_read, bytes_written, area_changes, reach_changes}
 use Rattle.kernel_model.specs.entries.Given.{has_any, is_in_order, above_last, Nodes_so_far, number_all, node_changes}
 use Rattle.kernel_model.specs.entries.Given.{met, all_known_in, faulted, risen}
 use Rattle.kernel_model.specs.entries.Parts.{Parts, parts, Prog, done, outcome_in, ◌>>=◌, IsIn, Change, changed}
 use Rattle.kernel_model.specs.entries.Parts.{parts_of}
-use Rattle.kernel_model.specs.entries.Steps.{run_changes, run_row, end_at, next_in, going_on, replied_by, replied_to}
+use Rattle.kernel_model.specs.entries.Steps.{run_changes, run_row, run_alone, or_step, step_row, step_with, end_at, call_at, going_on, replied_by, replied_to}
 use Rattle.kernel_model.specs.entries.Steps.{refused_with, failing, exhausted, numbering, by_answer, by_given}
 use Rattle.kernel_model.specs.entries.Steps.{are_named, are_just, row_of, if_live, task_of, entry_row, stepped}
 use Rattle.kernel_model.specs.entries.Steps.{step, stands_at}
@@ -57,6 +70,15 @@ going_on_leaves : (c : Caller) (value : ℤ) → LeavesNodes (going_on c value)
 going_on_leaves c value ino (inl e) = absurd (cc e)
 going_on_leaves c value ino (inr is) = is
 
+-- areas that were in hand
+areas_leave : (hand : List InHand) → LeavesNodes (area_changes hand)
+areas_leave [] ino is = is
+areas_leave (h ∷ hand) = leaves-append (area_changes hand) _ (areas_leave hand) last
+  where
+    last : LeavesNodes ((OfArea h.name, Some h.state) ∷ [])
+    last ino (inl e) = absurd (cc e)
+    last ino (inr is) = is
+
 -- ---- no call's row changes a node
 
 module _ (s : Parts) where
@@ -69,6 +91,10 @@ module _ (s : Parts) where
 
   refused_leaves : (errno : Errno) → Leaves (done (refuses errno))
   refused_leaves errno ino is = is
+
+  behind_leaves : {A : Type 0} (first : Prog A) (next : A → Prog Answer) → Leaves (next (outcome_in s first))
+      → Leaves (first >>= next)
+  behind_leaves first next h = subst (λ (a : Answer). LeavesNodes a.changes) (sym (outcome-bind s first next)) h
 
   appended_leaves : (bytes console : List ℕ) → LeavesNodes (appended bytes console).changes
   appended_leaves bytes console = by (nat_le (length console + length bytes) 1048576)
@@ -86,16 +112,76 @@ module _ (s : Parts) where
   write_leaves : (fd buffer count : ℕ) (space : AddressSpace) → Leaves (write_row fd buffer count space)
   write_leaves fd buffer count space =
       either_leaves (is_written_to (descriptor fd)) _ _
-      (either_leaves (count == 0) _ _ (λ ino is. is) (console_leaves (bytes_read space buffer (min count 65536))))
+      (either_leaves (count == 0) _ _ (λ ino is. is)
+      (behind_leaves (bytes_read space buffer (min count 65536)) to_console
+      (console_leaves (outcome_in s (bytes_read space buffer (min count 65536))))))
       (refused_leaves EBADF)
 
   exit_leaves : (status group : ℕ) → Leaves (exit_group_row status group)
   exit_leaves status group ino (inl e) = absurd (cc e)
   exit_leaves status group ino (inr is) = is
 
+  -- what is mapped changes an address space, and makes an area
+  either_answer : (b : Bool) (x y : Answer) → LeavesNodes x.changes → LeavesNodes y.changes
+      → LeavesNodes (cond b x y).changes
+  either_answer true x y here there = here
+  either_answer false x y here there = there
+
+  unless_leaves : (fault : Option AreaErr) (answer : Answer) → LeavesNodes answer.changes
+      → LeavesNodes (unless_refused fault answer).changes
+  unless_leaves None answer h = h
+  unless_leaves (Some fault) answer h = refused_leaves (area_errno fault)
+
+  remaps_leave : (c : Caller) (space : AddressSpace) (value : ℤ) (changes : List Change) → LeavesNodes changes
+      → LeavesNodes (remaps c space value changes).changes
+  remaps_leave c space value changes h ino (inl e) = absurd (cc e)
+  remaps_leave c space value changes h ino (inr is) = h ino is
+
+  none_leaves : LeavesNodes []
+  none_leaves ino is = is
+
+  made_leaves : (place length flags : ℕ) → LeavesNodes (area_made_by place length flags)
+  made_leaves place length flags = by (is_shared flags)
+    where
+      by : (b : Bool) → LeavesNodes (cond b
+          ((OfArea (area_made_at place), Some (zero_area (pages_in length))) ∷ []) [])
+      by true ino (inl e) = absurd (cc e)
+      by true ino (inr is) = is
+      by false ino is = is
+
+  mmap_leaves : (context : Context) (address length protection flags fd offset : ℕ) (c : Caller)
+      → Leaves (mmap_row context address length protection flags fd offset c)
+  mmap_leaves context address length protection flags fd offset c =
+      either_answer (is_no_mapping address length protection flags offset) _ _ (refused_leaves EINVAL)
+      (either_answer (not (is_anonymous flags)) _ _ (refused_leaves (file_errno fd))
+      (unless_leaves (map_fault c.space.mapping (asked_place address flags) length) _
+      (remaps_leave c _ _ _ (made_leaves context.place length flags))))
+
+  -- and random bytes an address space and areas
+  put_leaves : (memory : Made) (count : ℕ) (reach : Option Reach) → LeavesNodes (put_random memory count reach).changes
+  put_leaves memory count None = refused_leaves EFAULT
+  put_leaves memory count (Some reach) ino (inl e) = absurd (cc e)
+  put_leaves memory count (Some reach) ino (inr is) = areas_leave reach.hand ino is
+
+  getrandom_leaves : (context : Context) (buffer count flags : ℕ) (c : Caller)
+      → Leaves (getrandom_row context buffer count flags c)
+  getrandom_leaves context buffer count flags c =
+      either_leaves (nat_lt 7 (flags % 2 ^ 32)) _ _ (refused_leaves EINVAL)
+      (behind_leaves (bytes_written c.task c.space buffer (random_at context.seed context.place (min count 256)))
+      (λ reach. done (put_random c.memory (min count 256) reach)) (put_leaves c.memory (min count 256) (outcome_in s
+      (bytes_written c.task c.space buffer (random_at context.seed context.place (min count 256))))))
+
   row_leaves : (context : Context) (c : Caller) (args : Args) (call : CallNo) → Leaves (row_of_call context c args call)
   row_leaves context c args Write = write_leaves args.a0 args.a1 args.a2 c.space
   row_leaves context c args ExitGroup = exit_leaves args.a0 c.group
+  row_leaves context c args Brk = remaps_leave c _ _ [] none_leaves
+  row_leaves context c args Munmap =
+      unless_leaves (unmap_fault args.a0 args.a1) _ (remaps_leave c _ _ [] none_leaves)
+  row_leaves context c args Mmap = mmap_leaves context args.a0 args.a1 args.a2 args.a3 args.a4 args.a5 c
+  row_leaves context c args Mprotect =
+      either_answer (is_no_protection args.a2) _ _ (refused_leaves EINVAL)
+      (unless_leaves (protect_fault c.space.mapping args.a0 args.a1) _ (remaps_leave c _ _ [] none_leaves))
+  row_leaves context c args Getrandom = getrandom_leaves context args.a0 args.a1 args.a2 c
   row_leaves context c args _ = refused_leaves ENOSYS
 
   known_leaves : (context : Context) (c : Caller) (args : Args) (call : Option CallNo)
@@ -154,15 +240,26 @@ module _ (k : Kernel) (dir : ℕ) (name : List ℕ) (shape : Shape) where
         none : LeavesNodes (run_changes c g)
         none ino (inl e) = absurd (cc e)
         none ino (inr (inl e)) = absurd (cc e)
-        none ino (inr (inr is)) = is
+        none ino (inr (inr is)) = areas_leave g.acting.reach.hand ino is
+
+    step_fits : (c : Caller) → Fits (step_row c)
+    step_fits c =
+        behind (next_row c) (λ (x : Stands). done (step_with c x.hand))
+        (run_keeps c (ran 1 (going_with c.task c.space (outcome_in (parts k) (next_row c)).hand c.registers)))
+
+    or_step_fits : (n : ℕ) (c : Caller) (alone : Option (List Change)) → KeepsIf alone → Fits (or_step n c alone)
+    or_step_fits n c (Some changes) h = h
+    or_step_fits n c None h = either_fits (n == 1) _ _ (step_fits c) tt
 
     run_fits : (n : ℕ) (c : Caller) → Fits (run_row n c)
     run_fits n c =
-        either_keeps (nat_le 1 n && nat_le n 10000) _ _ (run_keeps c (ran n (going_in c.task c.space c.registers))) tt
+        or_step_fits n c (run_alone n c)
+        (either_keeps (nat_le 1 n && nat_le n 10000) _ _ (run_keeps c (ran n (going_in c.task c.space c.registers))) tt)
 
     end_fits : (signal : ℕ) (c : Caller) (next : Next) → Fits (end_at signal c next)
     end_fits signal c Goes = tt
     end_fits signal c Calls = tt
+    end_fits signal c (Touches area) = tt
     end_fits signal c (Traps t) =
         either_fits (t == signal) _ _ (untouched (group_end c.group (Killed signal) k.tasks) none) tt
       where
@@ -250,10 +347,13 @@ module _ (k : Kernel) (dir : ℕ) (name : List ℕ) (shape : Shape) where
         → Fits (row_of context e c)
     row_fits context (Run task n) c apart = run_fits n c
     row_fits context (Call task call args given reply) c apart =
-        either_fits (stands_at call args c.registers (next_in c)) _ _
-        (call_fits c reply given apart context call args) tt
+        behind (next_row c) (λ (x : Stands). call_at context c call args reply given x.next)
+        (either_fits (stands_at call args c.registers (outcome_in (parts k) (next_row c)).next) _ _
+        (call_fits c reply given apart context call args) tt)
     row_fits context (Sleep task) c apart = tt
-    row_fits context (End task signal) c apart = end_fits signal c (next_in c)
+    row_fits context (End task signal) c apart =
+        behind (next_row c) (λ (x : Stands). end_at signal c x.next)
+        (end_fits signal c (outcome_in (parts k) (next_row c)).next)
 
     live_fits : (context : Context) (e : Entry) (c : Option Caller) → numbers_child e dir name ≡ false
         → Fits (if_live context e c)

@@ -1,30 +1,43 @@
 -- What a step reads and changes: a decision tree comes to the same where the parts that it looks at are the same, and
 -- changes leave every other part as it was.
-use Rattle.std.proofs.Common.{◌≡◌, ◌≢◌, ℕ, List, [], ◌∷◌, Option, Some, None, cond, refl, ap, sym, ◌∙◌, ◌⊎◌}
-use Rattle.std.proofs.Common.{inl, inr, option_map}
+use Rattle.std.proofs.Common.{◌≡◌, ◌≢◌, ℕ, ◌+◌, ◌^◌, List, [], ◌∷◌, length, Bool, true, false, Option, Some, None}
+use Rattle.std.proofs.Common.{cond, refl, ap, sym, ◌∙◌, ◌⊎◌, inl, inr, option_map}
+use Rattle.std.specs.Prelude.{nat_le, nat_lt, ◌==◌, ◌%◌, min, not}
 use Rattle.std.specs.Ordering.{nat_cmp, eq_by_cmp}
 use Rattle.std.specs.Cmp.{nat_cmp_total}
 use Rattle.std.specs.FinMap as map
 use Rattle.sn_base.proofs.Maps.{get-insert_same, get-insert_other, get-remove_same, get-remove_other}
 use Rattle.sn_errno.specs.declared.calls.CallNo.{CallNo}
-use Rattle.sn_errno.specs.declared.calls.CallNo.TheVariants.{Write, ExitGroup}
+use Rattle.sn_errno.specs.declared.calls.CallNo.TheVariants.{Write, ExitGroup, Brk, Munmap, Mmap, Mprotect}
+use Rattle.sn_errno.specs.declared.calls.CallNo.TheVariants.{Getrandom}
+use Rattle.mm_areas.specs.declared.fault.AreaErr.{AreaErr}
+use Rattle.mm_areas.specs.Mappings.{map_fault, unmap_fault, protect_fault}
+use Rattle.mm_space.specs.Spaces.{Reach}
 use Rattle.sn_errno.specs.Calls.{call_of}
+use Rattle.rv_table.specs.declared.error.Area.{Area}
+use Rattle.task_table.specs.declared.task.Made.{Made}
 use Rattle.kernel_model.specs.declared.caller.Caller.{Caller}
 use Rattle.kernel_model.specs.declared.entry.Args.{Args}
 use Rattle.kernel_model.specs.declared.entry.Entry.{Entry}
 use Rattle.kernel_model.specs.declared.kernel.Kernel.{Kernel}
 use Rattle.kernel_model.specs.declared.kernel.Part.{Part}
-use Rattle.kernel_model.specs.declared.kernel.Part.TheVariants.{OfTasks, OfTask, OfSpace, OfNode, OfConsole, OfFaults}
+use Rattle.kernel_model.specs.declared.kernel.Part.TheVariants.{OfTasks, OfTask, OfSpace, OfArea, OfNode}
+use Rattle.kernel_model.specs.declared.kernel.Part.TheVariants.{OfConsole, OfFaults}
 use Rattle.kernel_model.specs.declared.traps.Next.{Next}
-use Rattle.kernel_model.specs.declared.traps.Next.TheVariants.{Goes, Calls, Traps}
+use Rattle.kernel_model.specs.declared.traps.Next.TheVariants.{Goes, Calls, Traps, Touches}
+use Rattle.kernel_model.specs.machine.Random.{random_at}
 use Rattle.kernel_model.specs.machine.Registers.{args_of, call_of as number_of}
 use Rattle.kernel_model.specs.calls.Answers.{Answer, is_reply}
 use Rattle.kernel_model.specs.calls.Callers.{Context, context_of, caller_of}
-use Rattle.kernel_model.specs.calls.Table.{row_of_call, row_if_known}
+use Rattle.kernel_model.specs.calls.Console.{is_written_to, descriptor, to_console}
+use Rattle.kernel_model.specs.calls.Memory.{unless_refused, is_no_mapping, is_no_protection, is_anonymous, asked_place}
+use Rattle.kernel_model.specs.calls.RandomBytes.{put_random}
+use Rattle.kernel_model.specs.calls.Table.{call_row, row_of_call, row_if_known}
+use Rattle.kernel_model.specs.entries.Areas.{Stands, next_row, bytes_read, bytes_written}
 use Rattle.kernel_model.specs.entries.Parts.{Holds, Parts, parts, Prog, done, outcome_in, uses, ◌>>=◌, IsIn, AgreeOn}
-use Rattle.kernel_model.specs.entries.Parts.{Change, set_at, put, changed, parts_of}
+use Rattle.kernel_model.specs.entries.Parts.{Change, set_at, area_made, put, changed, parts_of}
 use Rattle.kernel_model.specs.entries.Ready.{ready_by, ready_if_live, ready_row, is_ready}
-use Rattle.kernel_model.specs.entries.Steps.{entry_row, step, stepped, used, touched, touches, next_in}
+use Rattle.kernel_model.specs.entries.Steps.{entry_row, step, stepped, used, touched, touches}
 use Rattle.kernel_model.proofs.NamedMaps.{get-set_same, get-set_other, get-set_alike}
 use Rattle.kernel_model.proofs.Trees.{outcome_alike, outcome-bind}
 
@@ -60,11 +73,18 @@ module _ {V : Type 0} where
       map.get-remove nat_cmp_total m key q ∙ ap (cond (eq_by_cmp nat_cmp q key) None) e
       ∙ sym (map.get-remove nat_cmp_total n key q)
 
+-- areas of one name as made things are one
+same_area : (n m : Area) → area_made n ≡ area_made m → n ≡ m
+same_area n m e =
+    ap (λ p. record { place = p; index = n.index }) (ap (λ (x : Made). x.place) e)
+    ∙ ap (λ i. record { place = m.place; index = i }) (ap (λ (x : Made). x.index) e)
+
 -- a part that was put holds what was put
 put_same : (p : Part) (content : Holds p) (k : Kernel) → parts (put p content k) p ≡ content
 put_same OfTasks content k = refl
 put_same (OfTask n) content k = set_same n content k.registers
 put_same (OfSpace n) content k = get-set_same n content k.spaces
+put_same (OfArea n) content k = get-set_same (area_made n) content k.areas
 put_same (OfNode n) content k = set_same n content k.nodes
 put_same OfConsole content k = refl
 put_same OfFaults content k = refl
@@ -74,6 +94,7 @@ put_other : (q p : Part) (content : Holds q) (k : Kernel) → ¬ (p ≡ q) → p
 put_other OfTasks OfTasks content k apart = absurd (apart refl)
 put_other OfTasks (OfTask m) content k apart = refl
 put_other OfTasks (OfSpace m) content k apart = refl
+put_other OfTasks (OfArea m) content k apart = refl
 put_other OfTasks (OfNode m) content k apart = refl
 put_other OfTasks OfConsole content k apart = refl
 put_other OfTasks OfFaults content k apart = refl
@@ -81,6 +102,7 @@ put_other (OfTask n) OfTasks content k apart = refl
 put_other (OfTask n) (OfTask m) content k apart =
     set_other n m content k.registers (λ e. apart (ap (λ i. OfTask i) (sym e)))
 put_other (OfTask n) (OfSpace m) content k apart = refl
+put_other (OfTask n) (OfArea m) content k apart = refl
 put_other (OfTask n) (OfNode m) content k apart = refl
 put_other (OfTask n) OfConsole content k apart = refl
 put_other (OfTask n) OfFaults content k apart = refl
@@ -88,12 +110,22 @@ put_other (OfSpace n) OfTasks content k apart = refl
 put_other (OfSpace n) (OfTask m) content k apart = refl
 put_other (OfSpace n) (OfSpace m) content k apart =
     get-set_other n m content k.spaces (λ e. apart (ap (λ i. OfSpace i) (sym e)))
+put_other (OfSpace n) (OfArea m) content k apart = refl
 put_other (OfSpace n) (OfNode m) content k apart = refl
 put_other (OfSpace n) OfConsole content k apart = refl
 put_other (OfSpace n) OfFaults content k apart = refl
+put_other (OfArea n) OfTasks content k apart = refl
+put_other (OfArea n) (OfTask m) content k apart = refl
+put_other (OfArea n) (OfSpace m) content k apart = refl
+put_other (OfArea n) (OfArea m) content k apart =
+    get-set_other (area_made n) (area_made m) content k.areas (λ e. apart (ap (λ i. OfArea i) (sym (same_area n m e))))
+put_other (OfArea n) (OfNode m) content k apart = refl
+put_other (OfArea n) OfConsole content k apart = refl
+put_other (OfArea n) OfFaults content k apart = refl
 put_other (OfNode n) OfTasks content k apart = refl
 put_other (OfNode n) (OfTask m) content k apart = refl
 put_other (OfNode n) (OfSpace m) content k apart = refl
+put_other (OfNode n) (OfArea m) content k apart = refl
 put_other (OfNode n) (OfNode m) content k apart =
     set_other n m content k.nodes (λ e. apart (ap (λ i. OfNode i) (sym e)))
 put_other (OfNode n) OfConsole content k apart = refl
@@ -101,12 +133,14 @@ put_other (OfNode n) OfFaults content k apart = refl
 put_other OfConsole OfTasks content k apart = refl
 put_other OfConsole (OfTask m) content k apart = refl
 put_other OfConsole (OfSpace m) content k apart = refl
+put_other OfConsole (OfArea m) content k apart = refl
 put_other OfConsole (OfNode m) content k apart = refl
 put_other OfConsole OfConsole content k apart = absurd (apart refl)
 put_other OfConsole OfFaults content k apart = refl
 put_other OfFaults OfTasks content k apart = refl
 put_other OfFaults (OfTask m) content k apart = refl
 put_other OfFaults (OfSpace m) content k apart = refl
+put_other OfFaults (OfArea m) content k apart = refl
 put_other OfFaults (OfNode m) content k apart = refl
 put_other OfFaults OfConsole content k apart = refl
 put_other OfFaults OfFaults content k apart = absurd (apart refl)
@@ -117,36 +151,49 @@ put_alike : (q p : Part) (content : Holds q) (a b : Kernel) → parts a p ≡ pa
 put_alike OfTasks OfTasks content a b e = refl
 put_alike OfTasks (OfTask m) content a b e = e
 put_alike OfTasks (OfSpace m) content a b e = e
+put_alike OfTasks (OfArea m) content a b e = e
 put_alike OfTasks (OfNode m) content a b e = e
 put_alike OfTasks OfConsole content a b e = e
 put_alike OfTasks OfFaults content a b e = e
 put_alike (OfTask n) OfTasks content a b e = e
 put_alike (OfTask n) (OfTask m) content a b e = set_alike n m content a.registers b.registers e
 put_alike (OfTask n) (OfSpace m) content a b e = e
+put_alike (OfTask n) (OfArea m) content a b e = e
 put_alike (OfTask n) (OfNode m) content a b e = e
 put_alike (OfTask n) OfConsole content a b e = e
 put_alike (OfTask n) OfFaults content a b e = e
 put_alike (OfSpace n) OfTasks content a b e = e
 put_alike (OfSpace n) (OfTask m) content a b e = e
 put_alike (OfSpace n) (OfSpace m) content a b e = get-set_alike n m content a.spaces b.spaces e
+put_alike (OfSpace n) (OfArea m) content a b e = e
 put_alike (OfSpace n) (OfNode m) content a b e = e
 put_alike (OfSpace n) OfConsole content a b e = e
 put_alike (OfSpace n) OfFaults content a b e = e
+put_alike (OfArea n) OfTasks content a b e = e
+put_alike (OfArea n) (OfTask m) content a b e = e
+put_alike (OfArea n) (OfSpace m) content a b e = e
+put_alike (OfArea n) (OfArea m) content a b e = get-set_alike (area_made n) (area_made m) content a.areas b.areas e
+put_alike (OfArea n) (OfNode m) content a b e = e
+put_alike (OfArea n) OfConsole content a b e = e
+put_alike (OfArea n) OfFaults content a b e = e
 put_alike (OfNode n) OfTasks content a b e = e
 put_alike (OfNode n) (OfTask m) content a b e = e
 put_alike (OfNode n) (OfSpace m) content a b e = e
+put_alike (OfNode n) (OfArea m) content a b e = e
 put_alike (OfNode n) (OfNode m) content a b e = set_alike n m content a.nodes b.nodes e
 put_alike (OfNode n) OfConsole content a b e = e
 put_alike (OfNode n) OfFaults content a b e = e
 put_alike OfConsole OfTasks content a b e = e
 put_alike OfConsole (OfTask m) content a b e = e
 put_alike OfConsole (OfSpace m) content a b e = e
+put_alike OfConsole (OfArea m) content a b e = e
 put_alike OfConsole (OfNode m) content a b e = e
 put_alike OfConsole OfConsole content a b e = refl
 put_alike OfConsole OfFaults content a b e = e
 put_alike OfFaults OfTasks content a b e = e
 put_alike OfFaults (OfTask m) content a b e = e
 put_alike OfFaults (OfSpace m) content a b e = e
+put_alike OfFaults (OfArea m) content a b e = e
 put_alike OfFaults (OfNode m) content a b e = e
 put_alike OfFaults OfConsole content a b e = e
 put_alike OfFaults OfFaults content a b e = refl
@@ -178,6 +225,7 @@ parts_of_stepped : (k : Kernel) (changes : List Change) (p : Part)
 parts_of_stepped k changes OfTasks = refl
 parts_of_stepped k changes (OfTask n) = refl
 parts_of_stepped k changes (OfSpace n) = refl
+parts_of_stepped k changes (OfArea n) = refl
 parts_of_stepped k changes (OfNode n) = refl
 parts_of_stepped k changes OfConsole = refl
 parts_of_stepped k changes OfFaults = refl
@@ -218,34 +266,95 @@ touched_alike a b next other e context same first second =
 
 -- ---- when a step is ready
 
--- no row so far reads its context
-row_alike : (c d : Context) (caller : Caller) (args : Args) (call : CallNo)
-    → row_of_call c caller args call ≡ row_of_call d caller args call
-row_alike c d caller args Write = refl
-row_alike c d caller args ExitGroup = refl
-row_alike c d caller args _ = refl
+-- each row so far replies at once, in any state and context
+module _ (s : Parts) (context : Context) (caller : Caller) (args : Args) where
+  abbrev Answers : Prog Answer → Type 0
+  Answers row = is_reply (outcome_in s row).reply ≡ true
 
-known_alike : (c d : Context) (caller : Caller) (args : Args) (call : Option CallNo)
-    → row_if_known c caller args call ≡ row_if_known d caller args call
-known_alike c d caller args None = refl
-known_alike c d caller args (Some call) = row_alike c d caller args call
+  either_answers : (b : Bool) (x y : Prog Answer) → Answers x → Answers y → Answers (cond b x y)
+  either_answers true x y here there = here
+  either_answers false x y here there = there
 
-by_alike : (c d : Context) (caller : Caller) (next : Next) → ready_by c caller next ≡ ready_by d caller next
-by_alike c d caller Goes = refl
-by_alike c d caller (Traps signal) = refl
-by_alike c d caller Calls =
-    ap (λ (row : Prog Answer). row >>= λ answer. done (is_reply answer.reply))
-    (known_alike c d caller (args_of caller.registers) (call_of (number_of caller.registers)))
+  either_replies : (b : Bool) (x y : Answer) → is_reply x.reply ≡ true → is_reply y.reply ≡ true
+      → is_reply (cond b x y).reply ≡ true
+  either_replies true x y here there = here
+  either_replies false x y here there = there
 
-if_live_alike : (c d : Context) (caller : Option Caller) → ready_if_live c caller ≡ ready_if_live d caller
-if_live_alike c d None = refl
-if_live_alike c d (Some caller) = by_alike c d caller (next_in caller)
+  behind_answers : {A : Type 0} (first : Prog A) (next : A → Prog Answer) → Answers (next (outcome_in s first))
+      → Answers (first >>= next)
+  behind_answers first next h = ap (λ (a : Answer). is_reply a.reply) (outcome-bind s first next) ∙ h
+
+  refused_replies : (fault : Option AreaErr) (answer : Answer) → is_reply answer.reply ≡ true
+      → is_reply (unless_refused fault answer).reply ≡ true
+  refused_replies None answer h = h
+  refused_replies (Some fault) answer h = refl
+
+  console_answers : (bytes : Option (List ℕ)) → Answers (to_console bytes)
+  console_answers None = refl
+  console_answers (Some bytes) =
+      either_replies (nat_le (length (s OfConsole) + length bytes) 1048576) _ _ refl refl
+
+  put_replies : (count : ℕ) (reach : Option Reach) → is_reply (put_random caller.memory count reach).reply ≡ true
+  put_replies count None = refl
+  put_replies count (Some reach) = refl
+
+  row_answers : (call : CallNo) → Answers (row_of_call context caller args call)
+  row_answers Write =
+      either_answers (is_written_to (descriptor args.a0)) _ _
+      (either_answers (args.a2 == 0) _ _ refl
+      (behind_answers (bytes_read caller.space args.a1 (min args.a2 65536)) to_console
+      (console_answers (outcome_in s (bytes_read caller.space args.a1 (min args.a2 65536))))))
+      refl
+  row_answers ExitGroup = refl
+  row_answers Brk = refl
+  row_answers Munmap = refused_replies (unmap_fault args.a0 args.a1) _ refl
+  row_answers Mmap =
+      either_replies (is_no_mapping args.a0 args.a1 args.a2 args.a3 args.a5) _ _ refl
+      (either_replies (not (is_anonymous args.a3)) _ _ refl
+      (refused_replies (map_fault caller.space.mapping (asked_place args.a0 args.a3) args.a1) _ refl))
+  row_answers Mprotect =
+      either_replies (is_no_protection args.a2) _ _ refl
+      (refused_replies (protect_fault caller.space.mapping args.a0 args.a1) _ refl)
+  row_answers Getrandom =
+      either_answers (nat_lt 7 (args.a2 % 2 ^ 32)) _ _ refl
+      (behind_answers
+      (bytes_written caller.task caller.space args.a0 (random_at context.seed context.place (min args.a1 256)))
+      (λ reach. done (put_random caller.memory (min args.a1 256) reach))
+      (put_replies (min args.a1 256) (outcome_in s
+      (bytes_written caller.task caller.space args.a0 (random_at context.seed context.place (min args.a1 256))))))
+  row_answers _ = refl
+
+  known_answers : (call : Option CallNo) → Answers (row_if_known context caller args call)
+  known_answers None = refl
+  known_answers (Some call) = row_answers call
+
+-- so what is ready is so in any context
+by_next : (s : Parts) (c d : Context) (caller : Caller) (next : Next)
+    → outcome_in s (ready_by c caller next) ≡ outcome_in s (ready_by d caller next)
+by_next s c d caller Goes = refl
+by_next s c d caller (Traps signal) = refl
+by_next s c d caller (Touches area) = refl
+by_next s c d caller Calls = here c ∙ sym (here d)
+  where
+    here : (x : Context) → outcome_in s (ready_by x caller Calls) ≡ true
+    here x =
+        outcome-bind s (call_row x caller (number_of caller.registers) (args_of caller.registers))
+        (λ answer. done (is_reply answer.reply))
+        ∙ known_answers s x caller (args_of caller.registers) (call_of (number_of caller.registers))
+
+if_live_alike : (s : Parts) (c d : Context) (caller : Option Caller)
+    → outcome_in s (ready_if_live c caller) ≡ outcome_in s (ready_if_live d caller)
+if_live_alike s c d None = refl
+if_live_alike s c d (Some caller) =
+    outcome-bind s (next_row caller) (λ (x : Stands). ready_by c caller x.next)
+    ∙ by_next s c d caller (outcome_in s (next_row caller)).next
+    ∙ sym (outcome-bind s (next_row caller) (λ (x : Stands). ready_by d caller x.next))
 
 any_context : (s : Parts) (c d : Context) (task : ℕ)
     → outcome_in s (ready_row c task) ≡ outcome_in s (ready_row d task)
 any_context s c d task =
     outcome-bind s (caller_of task) (ready_if_live c)
-    ∙ ap (outcome_in s) (if_live_alike c d (outcome_in s (caller_of task)))
+    ∙ if_live_alike s c d (outcome_in s (caller_of task))
     ∙ sym (outcome-bind s (caller_of task) (ready_if_live d))
 
 pub ready_alike : (a b : Kernel) (task : ℕ)

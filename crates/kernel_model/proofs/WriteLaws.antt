@@ -12,9 +12,10 @@ use Rattle.kernel_model.specs.declared.opening.Given.{Given}
 use Rattle.kernel_model.specs.calls.Answers.{Answer}
 use Rattle.kernel_model.specs.calls.Callers.{Context, context_of, caller_of}
 use Rattle.kernel_model.specs.calls.Table.{call_row, row_if_known}
+use Rattle.kernel_model.specs.entries.Areas.{Stands, next_row}
 use Rattle.kernel_model.specs.entries.Given.{has_any, is_in_order}
 use Rattle.kernel_model.specs.entries.Parts.{Parts, parts, Prog, done, outcome_in, uses, ◌>>=◌, AgreeOn, Change}
-use Rattle.kernel_model.specs.entries.Steps.{by_given, by_answer, failing, stands_at, next_in, if_live, entry_row, used}
+use Rattle.kernel_model.specs.entries.Steps.{by_given, by_answer, failing, stands_at, if_live, entry_row, used}
 use Rattle.kernel_model.proofs.Trees.{outcome_alike, outcome-bind, uses-bind}
 
 -- 64 is the number of write
@@ -41,8 +42,8 @@ module _ (c d : Context) (args : Args) where
     if_live_alike : (caller : Option Caller) → if_live c entry caller ≡ if_live d entry caller
     if_live_alike None = refl
     if_live_alike (Some caller) =
-        ap (λ (row : Prog (Option (List Change))). cond (stands_at 64 args caller.registers (next_in caller)) row
-        (done None)) (given_alike caller)
+        ap (λ (row : Prog (Option (List Change))). next_row caller
+        >>= λ (x : Stands). cond (stands_at 64 args caller.registers x.next) row (done None)) (given_alike caller)
 
     -- a write looks at the same parts in one context and in another,
     uses_alike : (s : Parts) → uses s (entry_row c entry) ≡ uses s (entry_row d entry)

@@ -3,4 +3,6 @@ pub mod Answers
 pub mod Callers
 pub mod Console
 pub mod Ending
+pub mod Memory
+pub mod RandomBytes
 pub mod Table

@@ -4,4 +4,5 @@ pub mod SpaceCodes
 pub mod Spaces
 pub mod Instructions
 pub mod Random
+pub mod AreaCodes
 pub mod Image

@@ -1,10 +1,9 @@
 //! A guest's address space, as the kernel has it.
 
-ghost use Rattle.std.specs.Prelude.{◌≡◌, length, IfOk, IfSome};
-ghost use Rattle.kernel_model.specs.machine.Spaces.{bytes_read};
+ghost use Rattle.std.specs.Prelude.{◌≡◌, IfOk};
 
-use mm_space::{Handed, Space};
-use sn_base::{List, Memory};
+use mm_space::Space;
+use sn_base::Memory;
 use std::alloc::Global;
 use std::marker::Model;
 
@@ -27,23 +26,6 @@ impl Model for GuestSpace {
 }
 
 impl GuestSpace {
-    /// So many bytes from an address on, or `None` where one of them may not be read. Addresses go round at 2^64.
-    ///
-    /// write(2), EFAULT.
-    pub fn read(&self, alloc: Global, at: u64, count: u64) -> Result<Option<List<u8>>, Memory>
-        ensures bytes { IfOk result (λ bytes. bytes ≡ bytes_read self.now at count) }
-        ensures len { IfOk result (λ bytes. IfSome bytes (λ some. length some ≡ count)) }
-    {
-        let mut buffer = vec![in alloc; 0u8; count as usize]?;
-        match self
-            .space
-            .read(&Handed::none(alloc), at, buffer.as_mut_slice())
-        {
-            Ok(()) => Ok(Some(List::from_vec(buffer))),
-            Err(_) => Ok(None),
-        }
-    }
-
     /// The same address space once more. Private pages have the same bytes, which both share until one of them writes.
     /// An `Err` leaves this one as it was.
     pub fn copy(&mut self, alloc: Global) -> Result<GuestSpace, Memory>

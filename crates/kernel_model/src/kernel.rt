@@ -1,9 +1,9 @@
 //! The kernel's state, and the parts of it that a step reads and changes.
 
-use crate::{GuestSpace, Named};
+use crate::{GuestArea, GuestSpace, Named};
 use host_node::Tree;
 use mount_file::Mount;
-use rv_table::Regs;
+use rv_table::{Area, Regs};
 use sn_base::{List, Map};
 use sn_text::Name;
 use task_table::{Made, Tasks};
@@ -28,13 +28,15 @@ pub struct Node {
 
 /// The kernel's state: the task list (which tasks and thread groups there are, and how they stand), the registers of
 /// tasks by number, address spaces by the place of the entry that made them and an index (those of opening tasks by
-/// place 0 and the task's number), nodes by number, the console's bytes, by how much each node's count of faults rose,
-/// the mounts, the key of the random stream, and the number of entries so far.
+/// place 0 and the task's number), shared areas by the place of the entry that made them and an index, nodes by number,
+/// the console's bytes, by how much each node's count of faults rose, the mounts, the key of the random stream, and the
+/// number of entries so far.
 #[derive(Drop)]
 pub struct Kernel {
     pub tasks: Tasks,
     pub registers: Map<Regs>,
     pub spaces: Named<GuestSpace>,
+    pub areas: Named<GuestArea>,
     pub nodes: Map<Node>,
     pub console: List<u8>,
     pub failed: Map<u64>,
@@ -49,6 +51,7 @@ pub enum Part {
     OfTasks,
     OfTask(u32),
     OfSpace(Made),
+    OfArea(Area),
     OfNode(u64),
     OfConsole,
     OfFaults,

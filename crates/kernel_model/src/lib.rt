@@ -23,6 +23,7 @@
 
 mod caller;
 mod entry;
+mod guest_area;
 mod guest_space;
 mod kernel;
 mod laws;
@@ -32,6 +33,7 @@ mod traps;
 
 pub use caller::Caller;
 pub use entry::{Args, Entry, Trace};
+pub use guest_area::GuestArea;
 pub use guest_space::GuestSpace;
 pub use kernel::{Kernel, Node, Numbered, Part};
 pub use laws::locality;

@@ -1,5 +1,5 @@
 -- Shared areas, and those that are handed in with an access.
-use Rattle.std.specs.Prelude.{ℕ, List, [], ◌∷◌, map, Option, Some, None, if◌then◌else◌}
+use Rattle.std.specs.Prelude.{ℕ, List, [], ◌∷◌, map, replicate, Option, Some, None, if◌then◌else◌}
 use Rattle.rv_table.specs.declared.error.Area.{Area}
 use Rattle.rv_atomic.specs.declared.area_reservations.AreaReservation.{AreaReservation}
 use Rattle.mm_frames.specs.Frames.{pages_of}
@@ -16,6 +16,11 @@ pub record AreaState : Type 0 where
 
 abbrev pub area_state : SharedArea → AreaState
 area_state area = record { pages = pages_of area.frames; reservations = area.reservations }
+
+-- an area of so many pages that nobody has written, in which nothing is reserved
+-- mmap(2), MAP_SHARED and MAP_ANONYMOUS
+abbrev pub zero_area : (count : ℕ) → AreaState
+zero_area count = record { pages = replicate count (replicate 4096 0); reservations = [] }
 
 -- a shared area that is handed in, under its name
 -- profile

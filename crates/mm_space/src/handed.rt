@@ -1,8 +1,9 @@
 //! Shared areas, and those that are handed in with an access.
 
-ghost use Rattle.std.specs.Prelude.{◌≡◌, ℕ, ◌<◌, true, false, None, [], ◌∷◌, ◌++◌, OnOk, OnErr, option_map, option_copied};
+ghost use Rattle.std.specs.Prelude.{◌≡◌, ℕ, ◌<◌, true, false, None, [], ◌∷◌, ◌++◌, IfOk, IfSome, OnOk, OnErr};
+ghost use Rattle.std.specs.Prelude.{option_map, option_copied};
 ghost use Rattle.mm_areas.specs.Pages.{held_in};
-ghost use Rattle.mm_space.specs.Handing.{area_in, area_state, hand_of, in_hand};
+ghost use Rattle.mm_space.specs.Handing.{area_in, area_state, hand_of, in_hand, zero_area};
 ghost use Rattle.mm_space.specs.Places.{owned_in, owns_shared, place_of};
 ghost use Rattle.mm_space.specs.Puts.{put_in_area, with_area};
 ghost use Rattle.mm_space.specs.Sight.{as_byte, is_area, seen_byte};
@@ -14,6 +15,7 @@ use rv_atomic::AreaReservations;
 use rv_table::Area;
 use sn_base::Memory;
 use std::alloc::Global;
+use std::mem;
 
 /// A shared area: the frames of its pages, one behind another, and what tasks have reserved in it.
 #[derive(Drop)]
@@ -26,6 +28,33 @@ impl SharedArea {
     ghost use Rattle.std.specs.Prelude.{Some};
     ghost use Rattle.mm_space.specs.Places.{page_owned};
     ghost use Rattle.mm_space.specs.Reserves.{is_held_in_area, leave_in_area, reserve_in_area};
+
+    /// So many pages that nobody has written, in which nothing is reserved.
+    ///
+    /// mmap(2), MAP_SHARED and MAP_ANONYMOUS.
+    pub fn zeros(alloc: Global, count: usize) -> Result<SharedArea, Memory>
+        ensures { IfOk result (λ area. area_state area ≡ zero_area count) }
+    {
+        let frames = Frames::zeros(alloc, count)?;
+        Ok(SharedArea {
+            frames,
+            reservations: AreaReservations::new(alloc),
+        })
+    }
+
+    /// The same area once more. Its pages have the same bytes, which both share until one of them is written. An `Err`
+    /// leaves this one as it was.
+    pub fn copy(&mut self, alloc: Global) -> Result<SharedArea, Memory>
+        ensures copied { IfOk result (λ other. area_state other ≡ area_state self.old) }
+        ensures kept { area_state self.new ≡ area_state self.old }
+    {
+        let reservations = self.reservations.copy(alloc)?;
+        let frames = self.frames.share(alloc)?;
+        Ok(SharedArea {
+            frames,
+            reservations,
+        })
+    }
 
     /// Makes the bytes of a page the area's own, where there is the page.
     fn own(&mut self, alloc: Global, number: usize) -> Result<(), Memory>
@@ -117,6 +146,35 @@ impl Handed {
     {
         self.areas.push(handed)?;
         Ok(())
+    }
+
+    /// Hands in an area under its name, behind those that are, and leaves one without a page in its place until it is
+    /// taken back. An `Err` changes nothing.
+    pub fn lend(
+        &mut self,
+        alloc: Global,
+        name: Area,
+        area: &mut SharedArea,
+    ) -> Result<(), Memory>
+        ensures ok { OnOk result
+            (hand_of self.new ≡ hand_of self.old ++ record { name = name; state = area_state area.old } ∷ []) }
+        ensures left { OnOk result (area_state area.new ≡ zero_area 0) }
+        ensures err { OnErr result (hand_of self.new ≡ hand_of self.old) }
+        ensures err_area { OnErr result (area_state area.new ≡ area_state area.old) }
+    {
+        let none = SharedArea::zeros(alloc, 0)?;
+        self.areas.reserve(1)?;
+        let area = mem::replace(area, none);
+        self.areas.push_reserved(HandedArea { name, area });
+        Ok(())
+    }
+
+    /// Takes back the area that was handed in last, where one is.
+    pub fn take_back(&mut self) -> Option<HandedArea>
+        ensures last { IfSome result (λ handed. hand_of self.old ≡ hand_of self.new ++ in_hand handed ∷ []) }
+        ensures none { result ≡ None → hand_of self.old ≡ [] }
+    {
+        self.areas.pop()
     }
 
     /// The area of a name, where it is handed in.

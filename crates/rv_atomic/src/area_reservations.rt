@@ -1,13 +1,13 @@
 //! The reservations that tasks have in a shared area.
 
-ghost use Rattle.std.specs.Prelude.{◌≡◌, ◌+◌, ◌^◌, ◌<◌, ◌≤◌, ◌↔◌, [], length, IsTrue, IsFalse, OnOk, OnErr, vec_len};
+ghost use Rattle.std.specs.Prelude.{◌≡◌, ◌+◌, ◌^◌, ◌<◌, ◌≤◌, ◌↔◌, [], length, IsTrue, IsFalse, IfOk, OnOk, OnErr, vec_len};
 ghost use Rattle.std.specs.Prelude.{vec_capacity};
 ghost use Rattle.rv_table.specs.Words.{IsWidth};
 ghost use Rattle.rv_atomic.specs.Reservations.{lies_over};
 ghost use Rattle.rv_atomic.specs.AreaReservations.{AtMostOneHere, after_run_here, after_store_here, is_held_here};
 ghost use Rattle.rv_atomic.specs.AreaReservations.{is_reserving_here, reserved_here, without_here};
 
-use sn_base::Memory;
+use sn_base::{List, Memory};
 use std::alloc::Global;
 use std::marker::Model;
 
@@ -46,6 +46,17 @@ impl AreaReservations {
         AreaReservations {
             items: Vec::new(alloc),
         }
+    }
+
+    /// The same reservations once more. An `Err` comes only where there are some.
+    pub fn copy(&self, alloc: Global) -> Result<Self, Memory>
+        ensures ok { IfOk result (λ copy. copy ≡ self.now) }
+        ensures err { OnErr result (0 < length self.now) }
+    {
+        let items = List::from_slice(alloc, &self.items)?;
+        Ok(AreaReservations {
+            items: items.into_vec(),
+        })
     }
 
     /// How many reservations there are.

@@ -15,7 +15,7 @@
 //! `holds` answers the same (`held`), and tells that no task has two (`single`); `is_reserving` answers whether the
 //! task has any. `stored_run` is `stored` for as many bytes as a call puts, and `drop_range` leaves those whose granule
 //! has no byte in the range. The list of an area has the same calls with the same clauses, and `leave` for a task that
-//! ends. Only `reserve` takes memory.
+//! ends. `copy` is the same list once more (`ok`). Only `reserve` and `copy` take memory.
 //!
 //! Not said: the loads and stores themselves, their alignment and order, and which stores `stored` is told of.
 //!

@@ -4,9 +4,9 @@ use Rattle.std.specs.Prelude.{None, pos, if◌then◌else◌}
 use Rattle.sn_errno.specs.declared.errno.Errno.TheVariants.{EBADF, EFAULT, ENOSPC}
 use Rattle.mm_space.specs.Spaces.{AddressSpace}
 use Rattle.kernel_model.specs.declared.kernel.Part.TheVariants.{OfConsole}
-use Rattle.kernel_model.specs.machine.Spaces.{bytes_read}
 use Rattle.kernel_model.specs.calls.Answers.{Answer, replies, refuses}
-use Rattle.kernel_model.specs.entries.Parts.{Prog, done, look}
+use Rattle.kernel_model.specs.entries.Areas.{bytes_read}
+use Rattle.kernel_model.specs.entries.Parts.{Prog, done, look, ◌>>=◌}
 
 -- a descriptor is the low 32 bits of its register
 -- the C calling convention of int
@@ -37,5 +37,7 @@ to_console (Some bytes) = look OfConsole (λ console. done (appended bytes conso
 abbrev pub write_row : (fd buffer count : ℕ) → AddressSpace → Prog Answer
 write_row fd buffer count space =
     if is_written_to (descriptor fd)
-    then (if count == 0 then done (replies (pos 0) []) else to_console (bytes_read space buffer (min count 65536)))
+    then (if count == 0
+    then done (replies (pos 0) [])
+    else bytes_read space buffer (min count 65536) >>= to_console)
     else done (refuses EBADF)

@@ -2,7 +2,8 @@
 use Rattle.std.specs.Prelude.{ℕ, Option, Some, None}
 use Rattle.sn_errno.specs.declared.errno.Errno.TheVariants.{ENOSYS}
 use Rattle.sn_errno.specs.declared.calls.CallNo.{CallNo}
-use Rattle.sn_errno.specs.declared.calls.CallNo.TheVariants.{Write, ExitGroup}
+use Rattle.sn_errno.specs.declared.calls.CallNo.TheVariants.{Write, ExitGroup, Brk, Munmap, Mmap, Mprotect}
+use Rattle.sn_errno.specs.declared.calls.CallNo.TheVariants.{Getrandom}
 use Rattle.sn_errno.specs.Calls.{call_of}
 use Rattle.kernel_model.specs.declared.caller.Caller.{Caller}
 use Rattle.kernel_model.specs.declared.entry.Args.{Args}
@@ -10,6 +11,8 @@ use Rattle.kernel_model.specs.calls.Answers.{Answer, refuses}
 use Rattle.kernel_model.specs.calls.Callers.{Context}
 use Rattle.kernel_model.specs.calls.Console.{write_row}
 use Rattle.kernel_model.specs.calls.Ending.{exit_group_row}
+use Rattle.kernel_model.specs.calls.Memory.{brk_row, munmap_row, mmap_row, mprotect_row}
+use Rattle.kernel_model.specs.calls.RandomBytes.{getrandom_row}
 use Rattle.kernel_model.specs.entries.Parts.{Prog, done}
 
 -- the row of a call; one that the kernel does not have answers ENOSYS
@@ -17,6 +20,11 @@ use Rattle.kernel_model.specs.entries.Parts.{Prog, done}
 abbrev pub row_of_call : Context → Caller → Args → CallNo → Prog Answer
 row_of_call context caller args Write = write_row args.a0 args.a1 args.a2 caller.space
 row_of_call context caller args ExitGroup = exit_group_row args.a0 caller.group
+row_of_call context caller args Brk = brk_row args.a0 caller
+row_of_call context caller args Munmap = munmap_row args.a0 args.a1 caller
+row_of_call context caller args Mmap = mmap_row context args.a0 args.a1 args.a2 args.a3 args.a4 args.a5 caller
+row_of_call context caller args Mprotect = mprotect_row args.a0 args.a1 args.a2 caller
+row_of_call context caller args Getrandom = getrandom_row context args.a0 args.a1 args.a2 caller
 row_of_call context caller args _ = done (refuses ENOSYS)
 
 -- the row of a call by its number in the table of calls; a number that the table lacks answers ENOSYS

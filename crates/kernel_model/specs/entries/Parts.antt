@@ -3,21 +3,26 @@ use Rattle.std.specs.Prelude.{◌≡◌, ℕ, List, [], ◌∷◌, Option, Some,
 use Rattle.std.specs.Ordering.{nat_cmp}
 use Rattle.std.specs.FinMap as map
 use Rattle.kernel_model.specs.Names.{NamedMap, get_named, with_named, without_named}
+use Rattle.rv_table.specs.declared.error.Area.{Area}
 use Rattle.rv_table.specs.declared.regs.Regs.{Regs}
 use Rattle.task_table.specs.declared.task.Made.{Made}
 use Rattle.task_table.specs.Table.{TaskTable}
+use Rattle.mm_space.specs.Handing.{AreaState}
 use Rattle.mm_space.specs.Spaces.{AddressSpace}
 use Rattle.kernel_model.specs.declared.kernel.Kernel.{Kernel}
 use Rattle.kernel_model.specs.declared.kernel.Node.{Node}
 use Rattle.kernel_model.specs.declared.kernel.Part.{Part}
-use Rattle.kernel_model.specs.declared.kernel.Part.TheVariants.{OfTasks, OfTask, OfSpace, OfNode, OfConsole, OfFaults}
+use Rattle.kernel_model.specs.declared.kernel.Part.TheVariants.{OfTasks, OfTask, OfSpace, OfArea, OfNode}
+use Rattle.kernel_model.specs.declared.kernel.Part.TheVariants.{OfConsole, OfFaults}
 
--- what a part holds: the task list, a task's registers, an address space, a node, the console's bytes, rises of counts
+-- what a part holds: the task list, a task's registers, an address space, a shared area, a node, the console's bytes,
+-- rises of counts
 -- profile
 abbrev pub Holds : Part → Type 0
 Holds OfTasks = TaskTable
 Holds (OfTask task) = Option Regs
 Holds (OfSpace name) = Option AddressSpace
+Holds (OfArea name) = Option AreaState
 Holds (OfNode ino) = Option Node
 Holds OfConsole = List ℕ
 Holds OfFaults = map.FinMap nat_cmp ℕ
@@ -33,6 +38,7 @@ abbrev pub parts : Kernel → Parts
 parts k OfTasks = k.tasks
 parts k (OfTask task) = map.get k.registers task
 parts k (OfSpace name) = get_named k.spaces name.place name.index
+parts k (OfArea name) = get_named k.areas name.place name.index
 parts k (OfNode ino) = map.get k.nodes ino
 parts k OfConsole = k.console
 parts k OfFaults = k.failed
@@ -88,12 +94,18 @@ abbrev pub set_named : {V : Type 0} → Made → Option V → NamedMap V → Nam
 set_named name (Some value) m = with_named m name.place name.index value
 set_named name None m = without_named m name.place name.index
 
+-- the name of an area as those of other made things
+-- profile
+abbrev pub area_made : Area → Made
+area_made name = record { place = name.place; index = name.index }
+
 -- a kernel with another content of a part
 -- profile
 abbrev pub put : (part : Part) → Holds part → Kernel → Kernel
 put OfTasks content k = record k { tasks = content }
 put (OfTask task) content k = record k { registers = set_at task content k.registers }
 put (OfSpace name) content k = record k { spaces = set_named name content k.spaces }
+put (OfArea name) content k = record k { areas = set_named (area_made name) content k.areas }
 put (OfNode ino) content k = record k { nodes = set_at ino content k.nodes }
 put OfConsole content k = record k { console = content }
 put OfFaults content k = record k { failed = content }

@@ -3,25 +3,26 @@ use Rattle.std.specs.Prelude.{ℕ, Bool, true, false, Option, Some, None}
 use Rattle.kernel_model.specs.declared.caller.Caller.{Caller}
 use Rattle.kernel_model.specs.declared.kernel.Kernel.{Kernel}
 use Rattle.kernel_model.specs.declared.traps.Next.{Next}
-use Rattle.kernel_model.specs.declared.traps.Next.TheVariants.{Goes, Calls, Traps}
+use Rattle.kernel_model.specs.declared.traps.Next.TheVariants.{Goes, Calls, Traps, Touches}
 use Rattle.kernel_model.specs.machine.Registers.{args_of, call_of}
 use Rattle.kernel_model.specs.calls.Answers.{is_reply}
 use Rattle.kernel_model.specs.calls.Callers.{Context, context_of, caller_of}
 use Rattle.kernel_model.specs.calls.Table.{call_row}
+use Rattle.kernel_model.specs.entries.Areas.{Stands, next_row}
 use Rattle.kernel_model.specs.entries.Parts.{parts, Prog, done, outcome_in, ◌>>=◌}
-use Rattle.kernel_model.specs.entries.Steps.{next_in}
 
 -- a live task's next step is ready: it is no call, or a call whose row replies
 -- profile
 abbrev pub ready_by : Context → Caller → Next → Prog Bool
 ready_by context c Goes = done true
 ready_by context c (Traps signal) = done true
+ready_by context c (Touches area) = done true
 ready_by context c Calls =
     call_row context c (call_of c.registers) (args_of c.registers) >>= λ answer. done (is_reply answer.reply)
 
 abbrev pub ready_if_live : Context → Option Caller → Prog Bool
 ready_if_live context None = done false
-ready_if_live context (Some c) = ready_by context c (next_in c)
+ready_if_live context (Some c) = next_row c >>= λ (s : Stands). ready_by context c s.next
 
 abbrev pub ready_row : Context → (task : ℕ) → Prog Bool
 ready_row context task = caller_of task >>= ready_if_live context

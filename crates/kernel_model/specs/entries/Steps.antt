@@ -8,6 +8,7 @@ use Rattle.sn_errno.specs.declared.errno.Errno.{Errno}
 use Rattle.sn_errno.specs.declared.errno.Errno.TheVariants.{EIO, ENFILE}
 use Rattle.sn_errno.specs.Errors.{reply_of}
 use Rattle.rv_table.specs.declared.regs.Regs.{Regs}
+use Rattle.mm_space.specs.Handing.{InHand}
 use Rattle.task_table.specs.declared.task.Status.TheVariants.{Killed}
 use Rattle.quantum.specs.Instructions.{Going, ran}
 use Rattle.kernel_model.specs.declared.caller.Caller.{Caller}
@@ -20,14 +21,15 @@ use Rattle.kernel_model.specs.declared.kernel.Part.TheVariants.{OfTasks, OfTask,
 use Rattle.kernel_model.specs.declared.opening.Fresh.{Fresh}
 use Rattle.kernel_model.specs.declared.opening.Given.{Given}
 use Rattle.kernel_model.specs.declared.traps.Next.{Next}
-use Rattle.kernel_model.specs.declared.traps.Next.TheVariants.{Goes, Calls, Traps}
+use Rattle.kernel_model.specs.declared.traps.Next.TheVariants.{Goes, Calls, Traps, Touches}
 use Rattle.kernel_model.specs.machine.Instructions.{next_of}
 use Rattle.kernel_model.specs.machine.Registers.{args_of, call_of, replied}
-use Rattle.kernel_model.specs.machine.Spaces.{acting_in, going_in}
+use Rattle.kernel_model.specs.machine.Spaces.{acting_in, going_in, going_with}
 use Rattle.kernel_model.specs.calls.Answers.{Reply, Replies, NotReady, Key, Answer}
 use Rattle.kernel_model.specs.calls.Callers.{Context, context_of, caller_of}
 use Rattle.kernel_model.specs.calls.Ending.{group_end}
 use Rattle.kernel_model.specs.calls.Table.{call_row}
+use Rattle.kernel_model.specs.entries.Areas.{Stands, next_row, area_changes}
 use Rattle.kernel_model.specs.entries.Given.{has_any, is_in_order, above_last, Nodes_so_far, number_all, node_changes}
 use Rattle.kernel_model.specs.entries.Given.{faulted}
 use Rattle.kernel_model.specs.entries.Parts.{parts, Prog, done, look, outcome_in, uses, ◌>>=◌, Change, changed, parts_of}
@@ -37,21 +39,41 @@ use Rattle.kernel_model.specs.entries.Parts.{parts, Prog, done, look, outcome_in
 abbrev pub task_change : (task : ℕ) → Regs → Change
 task_change task registers = (OfTask task, Some registers)
 
--- what the next instruction of a task does
+-- what the next instruction of a task does with no shared area in hand
 -- RISC-V Unprivileged ISA 20191213, 1.2
 abbrev pub next_in : Caller → Next
 next_in c = next_of (acting_in c.task c.space) c.registers
 
--- Run: the next n instructions, 1 to 10,000, none of which traps or calls; the task and its address space change
+-- what instructions leave: the task's registers, its address space, and the shared areas that they had in hand
 -- profile
 abbrev pub run_changes : Caller → Going → List Change
-run_changes c g = (OfSpace c.memory, Some g.acting.reach.space) ∷ task_change c.task g.registers ∷ []
+run_changes c g =
+    (OfSpace c.memory, Some g.acting.reach.space) ∷ task_change c.task g.registers ∷ area_changes g.acting.reach.hand
+
+-- the next n instructions, 1 to 10,000, none of which traps, calls or touches a shared area
+-- profile
+abbrev pub run_alone : ℕ → Caller → Option (List Change)
+run_alone n c =
+    if nat_le 1 n && nat_le n 10000
+    then option_map (run_changes c) (ran n (going_in c.task c.space c.registers))
+    else None
+
+-- the next instruction alone, with the shared areas that it touches
+-- mmap(2), MAP_SHARED; that it is an entry of its own: profile
+abbrev pub step_with : Caller → List InHand → Option (List Change)
+step_with c hand = option_map (run_changes c) (ran 1 (going_with c.task c.space hand c.registers))
+
+abbrev pub step_row : Caller → Prog (Option (List Change))
+step_row c = next_row c >>= λ (s : Stands). done (step_with c s.hand)
+
+-- Run: the next n instructions, or the next one that touches a shared area
+-- profile
+abbrev pub or_step : ℕ → Caller → Option (List Change) → Prog (Option (List Change))
+or_step n c (Some changes) = done (Some changes)
+or_step n c None = if n == 1 then step_row c else done None
 
 abbrev pub run_row : ℕ → Caller → Prog (Option (List Change))
-run_row n c =
-    done (if nat_le 1 n && nat_le n 10000
-    then option_map (run_changes c) (ran n (going_in c.task c.space c.registers))
-    else None)
+run_row n c = or_step n c (run_alone n c)
 
 -- End: the next instruction traps with that signal, which ends the group
 -- signal(7), Term; profile
@@ -60,9 +82,10 @@ end_at signal c (Traps s) =
     if s == signal then look OfTasks (λ list. done (Some (group_end c.group (Killed signal) list))) else done None
 end_at signal c Goes = done None
 end_at signal c Calls = done None
+end_at signal c (Touches area) = done None
 
 abbrev pub end_row : ℕ → Caller → Prog (Option (List Change))
-end_row signal c = end_at signal c (next_in c)
+end_row signal c = next_row c >>= λ (s : Stands). end_at signal c s.next
 
 -- the caller goes on behind its call, with the reply
 -- syscall(2)
@@ -143,13 +166,20 @@ abbrev pub stands_at : (call : ℕ) → Args → Regs → Next → Bool
 stands_at call args registers Calls = (call_of registers == call) && same_args (args_of registers) args
 stands_at call args registers Goes = false
 stands_at call args registers (Traps signal) = false
+stands_at call args registers (Touches area) = false
+
+-- a call that a task stands at
+-- syscall(2)
+abbrev pub call_at : Context → Caller → (call : ℕ) → Args → ℤ → Given → Next → Prog (Option (List Change))
+call_at context c call args reply given next =
+    if stands_at call args c.registers next then by_given context c call args reply given else done None
 
 -- what an entry of a live task changes, or None where it does not fit
 -- profile
 abbrev pub row_of : Context → Entry → Caller → Prog (Option (List Change))
 row_of context (Run task n) c = run_row n c
 row_of context (Call task call args given reply) c =
-    if stands_at call args c.registers (next_in c) then by_given context c call args reply given else done None
+    next_row c >>= λ (s : Stands). call_at context c call args reply given s.next
 row_of context (Sleep task) c = done None
 row_of context (End task signal) c = end_row signal c
 

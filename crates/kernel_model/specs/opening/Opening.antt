@@ -155,6 +155,7 @@ bare mounts trees = record {
   tasks = no_tasks;
   registers = map.empty;
   spaces = map.empty;
+  areas = map.empty;
   nodes = rooted 1 trees;
   console = [];
   failed = map.empty;
