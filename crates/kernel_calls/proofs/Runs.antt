@@ -1,10 +1,11 @@
 -- Runs of instructions: one behind another, with no shared area in hand.
 use Rattle.std.proofs.Common.{◌≡◌, ◌≢◌, ℕ, zero, suc, ◌+◌, ◌-◌, ◌≤◌, ◌<◌, Bool, true, false, cond, List, [], ◌∷◌}
-use Rattle.std.proofs.Common.{Option, Some, None, option_map, refl, sym, ap, ◌∙◌, arith, add-zero}
-use Rattle.std.proofs.Common.{add-one}
-use Rattle.std.specs.Prelude.{option_and_then, nat_le, ◌&&◌}
+use Rattle.std.proofs.Common.{◌++◌, Option, Some, None, option_map, refl, sym, ap, ◌∙◌, arith, add-zero, ◌⊎◌, inl, inr}
+use Rattle.std.proofs.Common.{add-one, eqb}
+use Rattle.std.specs.Prelude.{option_and_then, nat_le, ◌&&◌, ◌%◌, ◌/◌, map as map_each, is_some}
 use Rattle.std.proofs.lemmas.Bool.{le-leb}
 use Rattle.std.specs.FinMap as map
+use Rattle.rv_table.specs.declared.error.Area.{Area}
 use Rattle.rv_table.specs.declared.regs.Regs.{Regs}
 use Rattle.rv_table.specs.Bytes.{behind}
 use Rattle.rv_exec.specs.Writes.{Write, Stores, Reserves, Releases, all_after}
@@ -12,23 +13,27 @@ use Rattle.rv_exec.specs.Execution.{Done, exec}
 use Rattle.rv_exec.specs.Execution as done
 use Rattle.mm_areas.specs.Pages.{Held, Bytes, PageOf, Mapped}
 use Rattle.mm_space.specs.Accesses.{page_number, page_offset}
-use Rattle.mm_space.specs.Handing.{InHand}
-use Rattle.mm_space.specs.Puts.{with_area, put_in_area, put_held, put_mapped, put_byte, put_bytes}
+use Rattle.mm_space.specs.Handing.{AreaState, InHand, area_in}
+use Rattle.mm_space.specs.Puts.{changed_in_hand, with_area, put_in_area, put_held, put_mapped, put_byte, put_bytes, put_run}
 use Rattle.mm_space.specs.Reserves.{reserve_in_area, reserve_held, reserve_mapped, leave_in_area, leave_held}
 use Rattle.mm_space.specs.Reserves.{leave_mapped}
+use Rattle.mm_space.specs.Sight.{is_area}
 use Rattle.mm_space.specs.Spaces.{AddressSpace, Reach}
 use Rattle.quantum.specs.Acting.{Acting, acting_on, memory_of, after_write}
 use Rattle.rv_exec.specs.Courses as courses
 use Rattle.rv_exec.specs.Courses.{ran as ran_over}
 use Rattle.quantum.specs.Instructions.{Going, ran}
 use Rattle.kernel_model.specs.declared.caller.Caller.{Caller}
-use Rattle.kernel_model.specs.declared.kernel.Part.TheVariants.{OfSpace}
+use Rattle.kernel_model.specs.declared.kernel.Part.TheVariants.{OfSpace, OfArea}
 use Rattle.kernel_model.specs.declared.traps.Next.{Next}
-use Rattle.kernel_model.specs.declared.traps.Next.TheVariants.{Goes, Calls, Traps}
-use Rattle.kernel_model.specs.machine.Instructions.{StopsAt, next_by, next_of, goes_on}
-use Rattle.kernel_model.specs.machine.Spaces.{acting_in, going_in}
-use Rattle.kernel_model.specs.entries.Parts.{Parts, outcome_in, Change}
-use Rattle.kernel_model.specs.entries.Steps.{run_changes, run_row, task_change}
+use Rattle.kernel_model.specs.declared.traps.Next.TheVariants.{Goes, Calls, Traps, Touches}
+use Rattle.kernel_model.specs.machine.Instructions.{StopsAt, next_by, next_of, goes_on, touches_area}
+use Rattle.kernel_model.specs.machine.Spaces.{acting_in, acting_with, going_in, going_with}
+use Rattle.kernel_model.specs.entries.Areas.{Stands, stands_by, stands_lacking, next_tried, next_row, handed_in, asked}
+use Rattle.kernel_model.specs.entries.Areas.{comes_to, tried_with}
+use Rattle.kernel_model.specs.entries.Parts.{Parts, done, look, outcome_in, Change}
+use Rattle.kernel_model.specs.entries.Steps.{run_changes, run_alone, run_row, or_step, step_with, step_row, task_change}
+use Rattle.kernel_model.proofs.Trees.{outcome-bind}
 
 -- ---- one behind another
 
@@ -78,75 +83,103 @@ ran_short n count g h so_far short stopped =
     let none : ran (n + 1) g ≡ None = ran_last n g ∙ ap (option_and_then one_more) so_far ∙ stops h stopped in
     sym (ap (λ m. ran m g) further) ∙ none_goes_on (n + 1) (count - (n + 1)) g none
 
--- ---- with no area in hand
+-- ---- the names of the areas in hand stay
 
-module _ (task page offset value : ℕ) (r : Reach) (none : r.hand ≡ []) where
-  put_held_alone : (held : Held) → (put_held task page offset value held r).hand ≡ []
-  put_held_alone (Bytes bytes) = none
-  put_held_alone (PageOf name number) = ap (λ hand. with_area name (put_in_area task number offset value) hand) none
+abbrev pub names : List InHand → List Area
+names hand = map_each (λ (h : InHand). h.name) hand
 
-  put_mapped_alone : (m : Option Mapped) → (put_mapped task page offset value m r).hand ≡ []
-  put_mapped_alone None = none
-  put_mapped_alone (Some m) = put_held_alone m.held
+names_with : (name : Area) (change : AreaState → AreaState) (hand : List InHand)
+    → names (with_area name change hand) ≡ names hand
+names_with name change [] = refl
+names_with name change (h ∷ hs) =
+    by (is_area h.name name) (ap (λ ns. h.name ∷ ns) (names_with name change hs))
+  where
+    by : (b : Bool) → (h.name ∷ names (with_area name change hs)) ≡ (h.name ∷ names hs)
+        → names (cond b (changed_in_hand change h ∷ hs) (h ∷ with_area name change hs)) ≡ (h.name ∷ names hs)
+    by true e = refl
+    by false e = e
 
-put_byte_alone : (task address value : ℕ) (r : Reach) → r.hand ≡ [] → (put_byte task address value r).hand ≡ []
-put_byte_alone task address value r none =
-    put_mapped_alone task (page_number address) (page_offset address) value r none
+module _ (task page offset value : ℕ) (r : Reach) where
+  put_held_names : (held : Held) → names (put_held task page offset value held r).hand ≡ names r.hand
+  put_held_names (Bytes bytes) = refl
+  put_held_names (PageOf name number) = names_with name (put_in_area task number offset value) r.hand
+
+  put_mapped_names : (m : Option Mapped) → names (put_mapped task page offset value m r).hand ≡ names r.hand
+  put_mapped_names None = refl
+  put_mapped_names (Some m) = put_held_names m.held
+
+pub put_byte_names : (task address value : ℕ) (r : Reach) → names (put_byte task address value r).hand ≡ names r.hand
+put_byte_names task address value r =
+    put_mapped_names task (page_number address) (page_offset address) value r
     (map.get r.space.mapping.pages (page_number address))
 
-put_bytes_alone : (task at count value : ℕ) (r : Reach) → r.hand ≡ [] → (put_bytes task at count value r).hand ≡ []
+put_bytes_names : (task at count value : ℕ) (r : Reach) → names (put_bytes task at count value r).hand ≡ names r.hand
 unfolding put_bytes
-put_bytes_alone task at zero value r none = none
-put_bytes_alone task at (suc n) value r none =
-    put_byte_alone task at _ (put_bytes task (behind at) n _ r) (put_bytes_alone task (behind at) n _ r none)
+put_bytes_names task at zero value r = refl
+put_bytes_names task at (suc n) value r =
+    put_byte_names task at (value % 256) (put_bytes task (behind at) n (value / 256) r)
+    ∙ put_bytes_names task (behind at) n (value / 256) r
 
-reserve_alone : (task offset : ℕ) (m : Option Mapped) (hand : List InHand) → hand ≡ []
-    → reserve_mapped task offset m hand ≡ []
-reserve_alone task offset None hand none = none
-reserve_alone task offset (Some m) hand none = by m.held
+pub put_run_names : (task at : ℕ) (bytes : List ℕ) (r : Reach) → names (put_run task at bytes r).hand ≡ names r.hand
+unfolding put_run
+put_run_names task at [] r = refl
+put_run_names task at (b ∷ bs) r =
+    put_run_names task (behind at) bs (put_byte task at b r) ∙ put_byte_names task at b r
+
+reserve_names : (task offset : ℕ) (m : Option Mapped) (hand : List InHand)
+    → names (reserve_mapped task offset m hand) ≡ names hand
+reserve_names task offset None hand = refl
+reserve_names task offset (Some m) hand = by m.held
   where
-    by : (held : Held) → reserve_held task offset held hand ≡ []
-    by (Bytes bytes) = none
-    by (PageOf name number) = ap (λ h. with_area name (reserve_in_area task number offset) h) none
+    by : (held : Held) → names (reserve_held task offset held hand) ≡ names hand
+    by (Bytes bytes) = refl
+    by (PageOf name number) = names_with name (reserve_in_area task number offset) hand
 
-leave_alone : (task : ℕ) (m : Option Mapped) (hand : List InHand) → hand ≡ [] → leave_mapped task m hand ≡ []
-leave_alone task None hand none = none
-leave_alone task (Some m) hand none = by m.held
+leave_names : (task : ℕ) (m : Option Mapped) (hand : List InHand) → names (leave_mapped task m hand) ≡ names hand
+leave_names task None hand = refl
+leave_names task (Some m) hand = by m.held
   where
-    by : (held : Held) → leave_held task held hand ≡ []
-    by (Bytes bytes) = none
-    by (PageOf name number) = ap (λ h. with_area name (leave_in_area task) h) none
+    by : (held : Held) → names (leave_held task held hand) ≡ names hand
+    by (Bytes bytes) = refl
+    by (PageOf name number) = names_with name (leave_in_area task) hand
 
--- no write brings one into hand, and the task stays
-write_alone : (w : Write) (a : Acting) → a.reach.hand ≡ [] → (after_write w a).reach.hand ≡ []
-write_alone (Stores at width value) a none = put_bytes_alone a.task at width value a.reach none
-write_alone (Reserves at width) a none =
-    reserve_alone a.task (page_offset at) (map.get a.reach.space.mapping.pages (page_number at)) a.reach.hand none
-write_alone (Releases at) a none =
-    leave_alone a.task (map.get a.reach.space.mapping.pages (page_number at)) a.reach.hand none
+write_names : (w : Write) (a : Acting) → names (after_write w a).reach.hand ≡ names a.reach.hand
+write_names (Stores at width value) a = put_bytes_names a.task at width value a.reach
+write_names (Reserves at width) a =
+    reserve_names a.task (page_offset at) (map.get a.reach.space.mapping.pages (page_number at)) a.reach.hand
+write_names (Releases at) a =
+    leave_names a.task (map.get a.reach.space.mapping.pages (page_number at)) a.reach.hand
 
-writes_alone : (ws : List Write) (a : Acting) → a.reach.hand ≡ [] → (all_after after_write ws a).reach.hand ≡ []
-writes_alone [] a none = none
-writes_alone (w ∷ ws) a none = writes_alone ws (after_write w a) (write_alone w a none)
+writes_names : (ws : List Write) (a : Acting) → names (all_after after_write ws a).reach.hand ≡ names a.reach.hand
+writes_names [] a = refl
+writes_names (w ∷ ws) a = writes_names ws (after_write w a) ∙ write_names w a
 
-one_alone : (a : Acting) (done : Done) (h : Going) → a.reach.hand ≡ [] → went_by a done ≡ Some h
-    → h.acting.reach.hand ≡ []
-one_alone a (done.Goes r ws) h none e =
+one_names : (a : Acting) (done : Done) (h : Going) → went_by a done ≡ Some h
+    → names h.acting.reach.hand ≡ names a.reach.hand
+one_names a (done.Goes r ws) h e =
     let is : h ≡ record { acting = all_after after_write ws a; registers = r } = cc e in
-    ap (λ (g : Going). g.acting.reach.hand) is ∙ writes_alone ws a none
-one_alone a done.Calls h none e = absurd (cc e)
-one_alone a (done.Traps signal) h none e = absurd (cc e)
-one_alone a (done.Touches area) h none e = absurd (cc e)
+    ap (λ (g : Going). names g.acting.reach.hand) is ∙ writes_names ws a
+one_names a done.Calls h e = absurd (cc e)
+one_names a (done.Traps signal) h e = absurd (cc e)
+one_names a (done.Touches area) h e = absurd (cc e)
+
+pub ran_names : (n : ℕ) (g h : Going) → ran n g ≡ Some h → names h.acting.reach.hand ≡ names g.acting.reach.hand
+ran_names zero g h e =
+    let is : h ≡ g = cc (e, ran_none g) in ap (λ (x : Going). names x.acting.reach.hand) is
+ran_names (suc n) g h e = by (ran n g) (λ m so_far. ran_names n g m so_far) (sym (ran_suc n g) ∙ e)
+  where
+    by : (o : Option Going) → ((m : Going) → o ≡ Some m → names m.acting.reach.hand ≡ names g.acting.reach.hand)
+        → option_and_then one_more o ≡ Some h → names h.acting.reach.hand ≡ names g.acting.reach.hand
+    by None before e = absurd (cc e)
+    by (Some m) before e = one_names m.acting (exec (memory_of m.acting) m.registers) h e ∙ before m refl
+
+-- so with no area in hand there is none then
+unnamed : (hand : List InHand) → names hand ≡ [] → hand ≡ []
+unnamed [] e = refl
+unnamed (h ∷ hs) e = absurd (cc e)
 
 ran_alone : (n : ℕ) (g h : Going) → g.acting.reach.hand ≡ [] → ran n g ≡ Some h → h.acting.reach.hand ≡ []
-ran_alone zero g h none e =
-    let is : h ≡ g = cc (e, ran_none g) in ap (λ (x : Going). x.acting.reach.hand) is ∙ none
-ran_alone (suc n) g h none e = by (ran n g) (λ m so_far. ran_alone n g m none so_far) (sym (ran_suc n g) ∙ e)
-  where
-    by : (o : Option Going) → ((m : Going) → o ≡ Some m → m.acting.reach.hand ≡ [])
-        → option_and_then one_more o ≡ Some h → h.acting.reach.hand ≡ []
-    by None before e = absurd (cc e)
-    by (Some m) before e = one_alone m.acting (exec (memory_of m.acting) m.registers) h (before m refl) e
+ran_alone n g h none e = unnamed h.acting.reach.hand (ran_names n g h e ∙ ap names none)
 
 -- ---- what a run tells of the kernel
 
@@ -174,13 +207,6 @@ next_in_space n task a b r r' none told =
     ap (λ (x : Acting). next_of x r')
     (sym (alone task b (ran_alone n _ (record { acting = acting_on task b; registers = r' }) none told)))
 
--- what went on neither calls nor traps
-went_on : (a : Acting) (done : Done) (h : Going) → went_by a done ≡ Some h → next_by done ≡ Goes
-went_on a (done.Goes r ws) h e = refl
-went_on a done.Calls h e = absurd (cc e)
-went_on a (done.Traps signal) h e = absurd (cc e)
-went_on a (done.Touches area) h e = absurd (cc e)
-
 -- nothing ran, so that all is as it was
 pub nothing_ran : (count : ℕ) (g h : Going) → ran count g ≡ Some h → count < 1 → h ≡ g
 nothing_ran count g h told few =
@@ -188,63 +214,132 @@ nothing_ran count g h told few =
     let start : ran count g ≡ Some g = ap (λ n. ran n g) none ∙ ran_none g in
     cc (told, start)
 
--- what the next instruction does, by a run of one
-pub next_told : (task : ℕ) (space after : AddressSpace) (r r' : Regs) (count : ℕ) (told : Next)
-    → ran count (going_in task space r) ≡ Some (going_in task after r')
-    → StopsAt 1 count told (next_of (acting_in task after) r') → told ≡ next_of (acting_in task space) r
-next_told task space after r r' count Goes ran_is all =
-    let g : Going = going_in task space r in
-    let one : one_more g ≡ Some (going_in task after r') =
-    sym (ran_last 0 g ∙ ap (option_and_then one_more) (ran_none g)) ∙ ap (λ n. ran n g) (sym all) ∙ ran_is in
-    sym (went_on (acting_in task space) (exec (memory_of (acting_in task space)) r) (going_in task after r') one)
-next_told task space after r r' count Calls ran_is stop =
-    let same : going_in task after r' ≡ going_in task space r = nothing_ran count _ _ ran_is stop.0 in
-    sym (sym (ap (λ (g : Going). next_of g.acting g.registers) same) ∙ stop.1)
-next_told task space after r r' count (Traps signal) ran_is stop =
-    let same : going_in task after r' ≡ going_in task space r = nothing_ran count _ _ ran_is stop.0 in
-    sym (sym (ap (λ (g : Going). next_of g.acting g.registers) same) ∙ stop.1)
-
--- where it does not go on, the address space is as it was
-pub next_kept : (task : ℕ) (space after : AddressSpace) (r r' : Regs) (count : ℕ) (told : Next)
-    → ran count (going_in task space r) ≡ Some (going_in task after r')
-    → StopsAt 1 count told (next_of (acting_in task after) r') → goes_on told ≡ false → after ≡ space
-next_kept task space after r r' count Goes ran_is all stopped = absurd (cc stopped)
-next_kept task space after r r' count Calls ran_is stop stopped =
-    ap (λ (g : Going). g.acting.reach.space) (nothing_ran count _ _ ran_is stop.0)
-next_kept task space after r r' count (Traps signal) ran_is stop stopped =
-    ap (λ (g : Going). g.acting.reach.space) (nothing_ran count _ _ ran_is stop.0)
-
 -- ---- the row of a run
 
 module _ (n : ℕ) (c : Caller) (after : AddressSpace) (r : Regs) where
+  abbrev start : Going
+  start = going_in c.task c.space c.registers
+
   -- of so many instructions
+  pub alone_ran : ran n (going_in c.task c.space c.registers) ≡ Some (going_in c.task after r) → 1 ≤ n → n ≤ 10000
+      → run_alone n c ≡ Some ((OfSpace c.memory, Some after) ∷ task_change c.task r ∷ [])
+  alone_ran told low high =
+      ap (λ b. cond (b && nat_le n 10000) (option_map (run_changes c) (ran n start)) None) (le-leb 1 n low)
+      ∙ ap (λ b. cond b (option_map (run_changes c) (ran n start)) None) (le-leb n 10000 high)
+      ∙ ap (option_map (run_changes c)) told
+
   pub row_ran : (s : Parts) → ran n (going_in c.task c.space c.registers) ≡ Some (going_in c.task after r)
       → 1 ≤ n → n ≤ 10000
       → outcome_in s (run_row n c) ≡ Some ((OfSpace c.memory, Some after) ∷ task_change c.task r ∷ [])
-  row_ran s told low high =
-      ap (λ b. cond (b && nat_le n 10000) (option_map (run_changes c) (ran n g)) None) (le-leb 1 n low)
-      ∙ ap (λ b. cond b (option_map (run_changes c) (ran n g)) None) (le-leb n 10000 high)
-      ∙ ap (option_map (run_changes c)) told
-    where
-      g : Going
-      g = going_in c.task c.space c.registers
+  row_ran s told low high = ap (λ o. outcome_in s (or_step n c o)) (alone_ran told low high)
 
-  -- and of one that stopped before, which does not fit
-  pub row_short : (s : Parts) (count : ℕ) (told : Next) → ran count (going_in c.task c.space c.registers)
+  -- and of one that stopped before, which does not fit alone
+  pub alone_short : (count : ℕ) (told : Next) → ran count (going_in c.task c.space c.registers)
       ≡ Some (going_in c.task after r)
-      → StopsAt n count told (next_of (acting_in c.task after) r) → count ≢ n → outcome_in s (run_row n c) ≡ None
-  row_short s count told ran_is stop apart =
+      → StopsAt n count told (next_of (acting_in c.task after) r) → count ≢ n → run_alone n c ≡ None
+  alone_short count told ran_is stop apart =
       ap (λ o. cond (nat_le 1 n && nat_le n 10000) (option_map (run_changes c) o) None) (none told stop)
       ∙ by (nat_le 1 n && nat_le n 10000)
     where
-      g : Going
-      g = going_in c.task c.space c.registers
-
-      none : (told : Next) → StopsAt n count told (next_of (acting_in c.task after) r) → ran n g ≡ None
+      none : (told : Next) → StopsAt n count told (next_of (acting_in c.task after) r) → ran n start ≡ None
       none Goes stop = absurd (apart stop)
-      none Calls stop = ran_short count n g (going_in c.task after r) ran_is stop.0 (ap goes_on stop.1)
-      none (Traps signal) stop = ran_short count n g (going_in c.task after r) ran_is stop.0 (ap goes_on stop.1)
+      none Calls stop = ran_short count n start (going_in c.task after r) ran_is stop.0 (ap goes_on stop.1)
+      none (Traps signal) stop = ran_short count n start (going_in c.task after r) ran_is stop.0 (ap goes_on stop.1)
+      none (Touches area) stop = ran_short count n start (going_in c.task after r) ran_is stop.0 (ap goes_on stop.1)
 
       by : (b : Bool) → cond {A = Option (List Change)} b None None ≡ None
       by true = refl
       by false = refl
+
+module _ (n : ℕ) (c : Caller) (alone : run_alone n c ≡ None) where
+  -- a run that does not fit alone fits where it is one instruction, by the areas that this touches
+  pub row_by_step : (s : Parts) → n ≡ 1 → outcome_in s (run_row n c) ≡ outcome_in s (step_row c)
+  row_by_step s one =
+      ap (λ o. outcome_in s (or_step n c o)) alone
+      ∙ ap (λ m. outcome_in s (cond (eqb m 1) (step_row c) (done None))) one
+
+  -- and not where it is more
+  pub row_none : (s : Parts) → eqb n 1 ≡ false → outcome_in s (run_row n c) ≡ None
+  row_none s more =
+      ap (λ o. outcome_in s (or_step n c o)) alone
+      ∙ ap (λ b. outcome_in s (cond b (step_row c) (done None))) more
+
+-- ---- the next instruction, with the areas that it touches
+
+-- an instruction that does not go on is no run
+pub stopped_none : (g : Going) → goes_on (next_of g.acting g.registers) ≡ false → ran 1 g ≡ None
+stopped_none g stopped = ran_last 0 g ∙ ap (option_and_then one_more) (ran_none g) ∙ stops g stopped
+
+-- one that touches a shared area does not run alone
+pub alone_touching : (c : Caller) (area : Area) → next_of (acting_in c.task c.space) c.registers ≡ Touches area
+    → run_alone 1 c ≡ None
+alone_touching c area touches =
+    ap (option_map (run_changes c)) (stopped_none (going_in c.task c.space c.registers) (ap goes_on touches))
+
+module _ (c : Caller) (s : Parts) where
+  -- one that touches none stands as it does with none in hand
+  pub stands_alone : (next : Next) → next_of (acting_in c.task c.space) c.registers ≡ next
+      → touches_area next ≡ false → outcome_in s (next_row c) ≡ record { next = next; hand = [] }
+  unfolding tried_with
+  stands_alone next is apart =
+      ap (λ x. outcome_in s (asked stands_lacking (tried_with (next_tried c) stands_lacking 16) [] (stands_by [] x))) is
+      ∙ by next apart
+    where
+      by : (x : Next) → touches_area x ≡ false
+          → outcome_in s (asked stands_lacking (tried_with (next_tried c) stands_lacking 16) [] (stands_by [] x))
+          ≡ record { next = x; hand = [] }
+      by Goes e = refl
+      by Calls e = refl
+      by (Traps signal) e = refl
+      by (Touches area) e = absurd (cc e)
+
+  -- one that does not go on, with the areas that it asks for, does not run with them, or is lacking one
+  abbrev IsStill : Stands → Type 0
+  IsStill x = goes_on x.next ≡ false → (step_with c x.hand ≡ None) ⊎ (x ≡ stands_lacking)
+
+  still_here : (hand : List InHand) → goes_on (next_of (acting_with c.task c.space hand) c.registers) ≡ false
+      → step_with c hand ≡ None
+  still_here hand stopped =
+      ap (option_map (run_changes c)) (stopped_none (going_with c.task c.space hand c.registers) stopped)
+
+  still_by : (most : ℕ) (hand : List InHand) → IsStill (outcome_in s (tried_with (next_tried c) stands_lacking most hand))
+  unfolding tried_with
+  still_by zero hand = by (next_of (acting_with c.task c.space hand) c.registers) refl
+    where
+      by : (x : Next) → next_of (acting_with c.task c.space hand) c.registers ≡ x
+          → IsStill (comes_to stands_lacking (stands_by hand x))
+      by Goes e stopped = absurd (cc stopped)
+      by Calls e stopped = inl (still_here hand (ap goes_on e))
+      by (Traps signal) e stopped = inl (still_here hand (ap goes_on e))
+      by (Touches area) e stopped = inr refl
+  still_by (suc n) hand = by (next_of (acting_with c.task c.space hand) c.registers) refl
+    where
+      given : (area : Area) (o : Option AreaState) → IsStill (outcome_in s
+          (handed_in stands_lacking (tried_with (next_tried c) stands_lacking n) hand area o))
+      given area None stopped = inr refl
+      given area (Some state) = still_by n (hand ++ record { name = area; state = state } ∷ [])
+
+      anew : (area : Area) (b : Bool) → IsStill (outcome_in s (cond b (done stands_lacking)
+          (look (OfArea area) (handed_in stands_lacking (tried_with (next_tried c) stands_lacking n) hand area))))
+      anew area true stopped = inr refl
+      anew area false = given area (s (OfArea area))
+
+      by : (x : Next) → next_of (acting_with c.task c.space hand) c.registers ≡ x
+          → IsStill (outcome_in s
+          (asked stands_lacking (tried_with (next_tried c) stands_lacking n) hand (stands_by hand x)))
+      by Goes e stopped = absurd (cc stopped)
+      by Calls e stopped = inl (still_here hand (ap goes_on e))
+      by (Traps signal) e stopped = inl (still_here hand (ap goes_on e))
+      by (Touches area) e = anew area (is_some (area_in area hand))
+
+  -- so it does not fit as a run of one instruction
+  pub step_none : goes_on (outcome_in s (next_row c)).next ≡ false → run_alone 1 c ≡ None
+      → outcome_in s (step_row c) ≡ None
+  step_none stopped alone =
+      outcome-bind s (next_row c) (λ (x : Stands). done (step_with c x.hand))
+      ∙ either (still_by 17 [] stopped)
+    where
+      either : (step_with c (outcome_in s (next_row c)).hand ≡ None) ⊎ (outcome_in s (next_row c) ≡ stands_lacking)
+          → step_with c (outcome_in s (next_row c)).hand ≡ None
+      either (inl none) = none
+      either (inr lacking) = ap (λ (x : Stands). step_with c x.hand) lacking ∙ alone

@@ -1,11 +1,19 @@
--- What the code's answer to a call stands for.
-use Rattle.std.specs.Prelude.{ℕ, ◌≤◌, ⊤, IsTrue, IsFalse, List, [], ◌∷◌, ◌++◌, length}
+-- What the code's answers to calls and instructions stand for.
+use Rattle.std.specs.Prelude.{◌≡◌, ℕ, ◌+◌, ◌≤◌, ⊤, Some, IsTrue, IsFalse, List, [], ◌∷◌, ◌++◌, length}
 use Rattle.std.specs.FinMap as map
+use Rattle.rv_table.specs.declared.regs.Regs.{Regs}
+use Rattle.mm_space.specs.Handing.{AreaState}
+use Rattle.mm_space.specs.Spaces.{AddressSpace}
 use Rattle.task_table.specs.Table.{TaskTable, has_ended}
+use Rattle.kernel_model.specs.Names.{NamedMap, get_named, with_named}
+use Rattle.kernel_model.specs.declared.caller.Caller.{Caller}
+use Rattle.kernel_model.specs.declared.kernel.Kernel.{Kernel}
 use Rattle.kernel_model.specs.declared.kernel.Part.TheVariants.{OfTasks, OfConsole}
 use Rattle.kernel_model.specs.calls.Answers.{Answer, replies}
 use Rattle.kernel_model.specs.calls.Ending.{group_end}
-use Rattle.kernel_model.specs.entries.Parts.{Parts, Change}
+use Rattle.kernel_model.specs.entries.Parts.{Parts, parts, Prog, outcome_in, Change, changed}
+use Rattle.kernel_model.specs.entries.Steps.{step_row}
+use Rattle.kernel_calls.specs.declared.context.Context.{Context}
 use Rattle.kernel_calls.specs.declared.prepared.Effect.{Effect}
 use Rattle.kernel_calls.specs.declared.prepared.Effect.TheVariants.{Nothing, TakesBytes, EndsGroup}
 use Rattle.kernel_calls.specs.declared.prepared.Prepared.{Prepared}
@@ -17,10 +25,40 @@ changes_of Nothing group s = []
 changes_of (TakesBytes bytes) group s = (OfConsole, s OfConsole ++ bytes) ∷ []
 changes_of (EndsGroup status) group s = group_end group status (s OfTasks)
 
--- the answer that a call prepared is, in a state
+-- a task at a call, in a kernel: with its number, with its address space and the shared areas as they are, with so many
+-- bytes on the console, and the key and the place of the call's entry
+-- syscall(2); profile
+pub record IsCalling (c : Caller) (k : Kernel) (context : Context) (space : AddressSpace) (areas : NamedMap AreaState)
+    (console : ℕ) : Type 0 where
+  pub task : c.task ≡ context.task
+  pub place : k.entries + 1 ≡ context.place
+  pub seed : k.seed ≡ context.seed.now
+  pub space : c.space ≡ space
+  pub there : get_named k.spaces c.memory.place c.memory.index ≡ Some c.space
+  pub areas : k.areas ≡ areas
+  pub console : length k.console ≡ console
+
+-- a kernel in which a task's address space, and the shared areas, are these
+-- profile
+abbrev pub with_memory : Caller → AddressSpace → NamedMap AreaState → Kernel → Kernel
+with_memory c space areas k =
+    record k { spaces = with_named k.spaces c.memory.place c.memory.index space; areas = areas }
+
+-- a row comes to what a call prepared: the same reply, and the changes of the effect beside what the address space and
+-- the shared areas are then
 -- syscall(2)
-abbrev pub answer_of : Prepared → (group : ℕ) → Parts → Answer
-answer_of p group s = replies p.reply (changes_of p.effect group s)
+pub record Answers (row : Prog Answer) (p : Prepared) (c : Caller) (k : Kernel) (space : AddressSpace)
+    (areas : NamedMap AreaState) : Type 0 where
+  pub changes : List Change
+  pub row_is : outcome_in (parts k) row ≡ replies p.reply changes
+  pub done_is : changed changes k ≡ changed (changes_of p.effect c.group (parts k)) (with_memory c space areas k)
+
+-- an effect is something that is to be done
+-- profile
+abbrev pub HasEffect : Effect → Type 0
+HasEffect Nothing = ⊥
+HasEffect (TakesBytes bytes) = ⊤
+HasEffect (EndsGroup status) = ⊤
 
 -- what a call writes is no more than one write may
 -- write(2); the number: profile
@@ -36,3 +74,22 @@ EndsLive Nothing group list = ⊤
 EndsLive (TakesBytes bytes) group list = ⊤
 EndsLive (EndsGroup status) group list =
     IsTrue (map.contains_key list.groups group) × IsFalse (has_ended list.groups group)
+
+-- a task before its next instruction, in a kernel: with its number, registers and address space, and the shared areas as
+-- they are
+-- RISC-V Unprivileged ISA 20191213, 1.2
+pub record IsAt (c : Caller) (k : Kernel) (task : ℕ) (registers : Regs) (space : AddressSpace)
+    (areas : NamedMap AreaState) : Type 0 where
+  pub task : c.task ≡ task
+  pub registers : c.registers ≡ registers
+  pub space : c.space ≡ space
+  pub areas : k.areas ≡ areas
+
+-- an instruction that may touch shared areas leaves a task these registers and this address space, and these areas
+-- RISC-V Unprivileged ISA 20191213, 1.2; mmap(2), MAP_SHARED
+pub record Steps (c : Caller) (k : Kernel) (registers : Regs) (space : AddressSpace) (areas : NamedMap AreaState)
+    : Type 0 where
+  pub changes : List Change
+  pub row_is : outcome_in (parts k) (step_row c) ≡ Some changes
+  pub done_is : changed changes k
+      ≡ record (with_memory c space areas k) { registers = map.insert k.registers c.task registers }

@@ -18,24 +18,28 @@ use sn_base::Memory;
 use sn_errno::{CallNo, Errno, Reply};
 use std::alloc::Global;
 
-/// The call of a number, of a task with that memory, as far as the kernel has it: `write` and `exit_group`. Any other
-/// answers ENOSYS. It reads guest memory, and of the console only how many bytes that has.
+/// The call of a number, of a task with that memory and with the shared areas there are, as far as the kernel has it:
+/// `write`, `exit_group`, `brk`, `mmap`, `munmap`, `mprotect` and `getrandom`. Any other answers ENOSYS. What is mapped
+/// and what lies in memory is changed at once; what is to be done to the console or the task list is told, and then
+/// nothing has changed so far. Of the console it reads only how many bytes that has. An `Err` changes nothing.
 pub fn call(
     alloc: Global,
+    context: &Context<'_>,
     number: u64,
     args: &Args,
-    space: &GuestSpace,
+    space: &mut GuestSpace,
+    areas: &mut Named<GuestArea>,
     console: usize,
 ) -> Result<Prepared, Memory>
-    ensures row { IfOk result (λ p. (context : Context) (caller : ACaller) (s : Parts) → caller.space ≡ space.now →
-        length (s OfConsole) ≡ console →
-        outcome_in s (call_row context caller number args.now) ≡ answer_of p caller.group s) }
+    ensures row { IfOk result (λ p. (c : ACaller) (k : AKernel) →
+        IsCalling c k context.now space.old areas.old console →
+        Answers (call_row (context_of k) c number args.now) p c k space.new areas.new) }
+    ensures apart { IfOk result (λ p. HasEffect p.effect → (space.new ≡ space.old) × (areas.new ≡ areas.old)) }
     ensures few { IfOk result (λ p. TakesFew p.effect) }
+    ensures err { OnErr result (space.new ≡ space.old) }
+    ensures err_areas { OnErr result (areas.new ≡ areas.old) }
 {
-    match CallNo::of(number) {
-        Some(call) => known(alloc, call, args, space, console),
-        None => Ok(refused(Errno::ENOSYS)),
-    }
+    CALL_BODY
 }
 
 /// A call of the table, a row a call.

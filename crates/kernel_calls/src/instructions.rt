@@ -1,8 +1,8 @@
-//! Runs of a task's instructions over its address space, and what the next one does.
+//! Runs of a task's instructions over its address space.
 
-ghost use Rattle.std.specs.Prelude.{◌≡◌, ℕ, ◌<◌, ◌≤◌, false, Some, IfOk, OnErr};
+ghost use Rattle.std.specs.Prelude.{◌≡◌, ℕ, ◌<◌, ◌≤◌, Some, IfOk, OnErr};
 ghost use Rattle.quantum.specs.Instructions.{ran};
-ghost use Rattle.kernel_model.specs.machine.Instructions.{StopsAt, goes_on, next_of};
+ghost use Rattle.kernel_model.specs.machine.Instructions.{StopsAt, next_of};
 ghost use Rattle.kernel_model.specs.machine.Spaces.{acting_in, going_in};
 
 use kernel_model::{GuestSpace, Next};
@@ -20,8 +20,8 @@ pub struct Ran {
     pub next: Next,
 }
 
-/// Runs the instructions of a task, until as many have run, or the next one traps or calls. Want of memory leaves what
-/// some of them, fewer than asked for, have left.
+/// Runs the instructions of a task, until as many have run, or the next one traps, calls or touches a shared area. Want
+/// of memory leaves what some of them, fewer than asked for, have left.
 #[tactic(auto, using(crate::proofs::Runs::run_in_space, crate::proofs::Runs::next_in_space))]
 pub fn run(
     alloc: Global,
@@ -52,28 +52,10 @@ pub fn run(
             count,
             next: Next::Traps(signal),
         }),
-        // No shared area is in hand so far.
-        QuantumEnd::Shared { count, .. } => Ok(Ran {
+        QuantumEnd::Shared { count, area } => Ok(Ran {
             count,
-            next: Next::Traps(11),
+            next: Next::Touches(area),
         }),
         QuantumEnd::Memory => Err(Memory),
     }
-}
-
-/// What the next instruction of a task does. Where it goes on, the address space is as it is behind it, so that this is
-/// for a copy.
-#[tactic(auto, using(crate::proofs::Runs::next_told, crate::proofs::Runs::next_kept))]
-pub fn next(
-    alloc: Global,
-    task: u32,
-    registers: &Regs,
-    space: &mut GuestSpace,
-) -> Result<Next, Memory>
-    ensures next { IfOk result (λ next. next ≡ next_of (acting_in task space.old) registers.now) }
-    ensures kept { IfOk result (λ next. goes_on next ≡ false → space.new ≡ space.old) }
-{
-    let mut after = *registers;
-    let ran = run(alloc, task, &mut after, space, 1)?;
-    Ok(ran.next)
 }

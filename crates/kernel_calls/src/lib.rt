@@ -21,6 +21,7 @@
 mod arguments;
 mod calls;
 mod console;
+mod context;
 mod ending;
 mod executable;
 mod instructions;
@@ -28,12 +29,15 @@ mod opened_task;
 mod prepared;
 mod random;
 mod registers;
+mod stepping;
 
 pub use arguments::is_too_long;
 pub use calls::call;
+pub use context::Context;
 pub use executable::read_executable;
-pub use instructions::{Ran, next, run};
+pub use instructions::{Ran, run};
 pub use opened_task::{Beginning, opened};
 pub use prepared::{Effect, Prepared, commit};
 pub use random::opening_random;
+pub use stepping::step;
 pub use registers::{args_of, call_of, reply};

@@ -5,7 +5,7 @@ ghost use Rattle.std.specs.FinMap as map;
 ghost use Rattle.task_table.specs.Table.{has_ended};
 ghost use Rattle.kernel_model.specs.declared.kernel.Kernel.{Kernel as AKernel};
 ghost use Rattle.kernel_model.specs.entries.Parts.{changed, parts};
-ghost use Rattle.kernel_calls.specs.Prepared.{EndsLive, changes_of};
+ghost use Rattle.kernel_calls.specs.Prepared.{EndsLive, HasEffect, changes_of};
 
 use sn_base::{List, Memory};
 use std::alloc::Global;
@@ -26,7 +26,8 @@ pub struct Prepared {
     pub effect: Effect,
 }
 
-/// Does what a call of a thread group comes to, to the parts that it changes. Want of memory leaves both.
+/// Does what a call of a thread group comes to, to the parts that it changes. Want of memory leaves both, and comes only
+/// where there is something to do.
 #[tactic(auto, using(crate::proofs::Effects::kernel_kept, crate::proofs::Effects::bytes_taken, crate::proofs::Effects::group_ends))]
 pub fn commit(
     alloc: Global,
@@ -40,6 +41,7 @@ pub fn commit(
         changed (changes_of effect group (parts k)) k ≡ record k { tasks = tasks.new; console = console.new }) }
     ensures err { OnErr result (tasks.new ≡ tasks.old) }
     ensures err_console { OnErr result (console.new ≡ console.old) }
+    ensures lacking { OnErr result (HasEffect effect) }
 {
     match effect {
         Effect::Nothing => Ok(()),
