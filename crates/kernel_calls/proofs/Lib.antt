@@ -2,5 +2,6 @@
 pub mod Effects
 pub mod Executables
 pub mod Keys
+pub mod Lendings
 pub mod Runs
 pub mod Strings

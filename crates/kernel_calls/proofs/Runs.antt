@@ -2,7 +2,7 @@
 use Rattle.std.proofs.Common.{◌≡◌, ◌≢◌, ℕ, zero, suc, ◌+◌, ◌-◌, ◌≤◌, ◌<◌, Bool, true, false, cond, List, [], ◌∷◌}
 use Rattle.std.proofs.Common.{◌++◌, Option, Some, None, option_map, refl, sym, ap, ◌∙◌, arith, add-zero, ◌⊎◌, inl, inr}
 use Rattle.std.proofs.Common.{add-one, eqb}
-use Rattle.std.specs.Prelude.{option_and_then, nat_le, ◌&&◌, ◌%◌, ◌/◌, map as map_each, is_some}
+use Rattle.std.specs.Prelude.{option_and_then, nat_le, ◌&&◌, ◌%◌, ◌/◌, is_some}
 use Rattle.std.proofs.lemmas.Bool.{le-leb}
 use Rattle.std.specs.FinMap as map
 use Rattle.rv_table.specs.declared.error.Area.{Area}
@@ -34,6 +34,7 @@ use Rattle.kernel_model.specs.entries.Areas.{comes_to, tried_with}
 use Rattle.kernel_model.specs.entries.Parts.{Parts, done, look, outcome_in, Change}
 use Rattle.kernel_model.specs.entries.Steps.{run_changes, run_alone, run_row, or_step, step_with, step_row, task_change}
 use Rattle.kernel_model.proofs.Trees.{outcome-bind}
+use Rattle.kernel_calls.specs.Lending.{names}
 
 -- ---- one behind another
 
@@ -84,9 +85,6 @@ ran_short n count g h so_far short stopped =
     sym (ap (λ m. ran m g) further) ∙ none_goes_on (n + 1) (count - (n + 1)) g none
 
 -- ---- the names of the areas in hand stay
-
-abbrev pub names : List InHand → List Area
-names hand = map_each (λ (h : InHand). h.name) hand
 
 names_with : (name : Area) (change : AreaState → AreaState) (hand : List InHand)
     → names (with_area name change hand) ≡ names hand

@@ -1,2 +1,4 @@
 -- What contracts of this crate say, by subject.
+pub mod Lending
 pub mod Prepared
+pub mod Trying

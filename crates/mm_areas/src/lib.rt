@@ -9,7 +9,8 @@
 //! of the old one (`ok`), and `map` answers the address of the place that the definition names (`place`). An error that
 //! isn't want of memory is the definition's fault (`fault`); where there is a fault, that one is the answer, before
 //! memory is asked for (`faulty`); after an error the mapping is as before (`err`). `brk` answers where the break is
-//! then (`answer`), and takes no memory where it stays (`refused`). `page`, `number` and `byte` are answers of the map.
+//! then (`answer`), and takes no memory where it stays (`refused`). `place_of` tells without a change where `map` would
+//! go (`place`), or why it would not (`fault`). `page`, `number` and `byte` are answers of the map.
 //! A write to a private page changes that page's bytes alone (`ok`), and takes no memory where they are its own
 //! (`lacking`, `fits`). `fork` answers another of the same mapping (`copied`) and leaves this one's (`kept`). Decoded
 //! words are those of the page's bytes (`words`), whatever is stored. Pages that a change doesn't lay or take out keep

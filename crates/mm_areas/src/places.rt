@@ -61,6 +61,21 @@ pub(crate) fn place(areas: &Areas, at: Option<u64>, length: u64) -> Result<u64, 
     }
 }
 
+impl Areas {
+    /// The page that a mapping of that length would begin at, or why there would be none. Nothing changes.
+    ///
+    /// mmap(2), ERRORS.
+    pub fn place_of(&self, at: Option<u64>, length: u64) -> Result<u64, AreaErr>
+        ensures place { IfOk result (λ page. place_in (mapping self.now).pages at (pages_in length) ≡ Some page) }
+        ensures ok { OnOk result (map_fault (mapping self.now) at length ≡ None) }
+        ensures end { IfOk result (λ page. page + pages_in length ≤ 2 ^ 26) }
+        ensures few { OnOk result (pages_in length ≤ most_pages) }
+        ensures fault { IfErr result (λ e. map_fault (mapping self.now) at length ≡ Some e) }
+    {
+        place(self, at, length)
+    }
+}
+
 /// Whether the break may be put there.
 #[tactic(auto, using(crate::proofs::RegionLaws::order_from_test))]
 pub(crate) fn is_break(areas: &Areas, to: u64) -> bool
