@@ -1,7 +1,9 @@
 -- Lemmas of system calls and of what an execve reads, by subject.
+pub mod Answering
 pub mod Effects
 pub mod Executables
 pub mod Keys
 pub mod Lendings
 pub mod Runs
+pub mod Stepping
 pub mod Strings

@@ -40,10 +40,10 @@ use Rattle.kernel_calls.specs.Lending.{names}
 
 -- a task after an instruction's work, and after one instruction
 -- RISC-V Unprivileged ISA 20191213, 1.2
-abbrev went_by : Acting → Done → Option Going
+abbrev pub went_by : Acting → Done → Option Going
 went_by a done = courses.went_by after_write a done
 
-abbrev one_more : Going → Option Going
+abbrev pub one_more : Going → Option Going
 one_more g = courses.one_more memory_of after_write g
 
 -- no instruction changes nothing

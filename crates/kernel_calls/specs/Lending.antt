@@ -28,6 +28,11 @@ names hand = map (λ (h : InHand). h.name) hand
 abbrev pub AreThose : Parts → NamedMap AreaState → Type 0
 AreThose s areas = (name : Area) → s (OfArea name) ≡ get_named areas name.place name.index
 
+-- two maps of areas have the same under each name
+-- profile
+abbrev pub AreAlike : (areas other : NamedMap AreaState) → Type 0
+AreAlike areas other = (place index : ℕ) → get_named areas place index ≡ get_named other place index
+
 -- an area was taken from its place, where one without a page is now, and is in hand behind the others
 -- profile
 pub record IsLent (name : Area) (hand hand' : List InHand) (areas areas' : NamedMap AreaState) : Type 0 where

@@ -25,6 +25,11 @@ changes_of Nothing group s = []
 changes_of (TakesBytes bytes) group s = (OfConsole, s OfConsole ++ bytes) ∷ []
 changes_of (EndsGroup status) group s = group_end group status (s OfTasks)
 
+-- the answer that a call prepared is, in a state
+-- syscall(2)
+abbrev pub answer_of : Prepared → (group : ℕ) → Parts → Answer
+answer_of p group s = replies p.reply (changes_of p.effect group s)
+
 -- a task at a call, in a kernel: with its number, with its address space and the shared areas as they are, with so many
 -- bytes on the console, and the key and the place of the call's entry
 -- syscall(2); profile
@@ -37,6 +42,12 @@ pub record IsCalling (c : Caller) (k : Kernel) (context : Context) (space : Addr
   pub there : get_named k.spaces c.memory.place c.memory.index ≡ Some c.space
   pub areas : k.areas ≡ areas
   pub console : length k.console ≡ console
+
+-- a task whose address space is this, in a kernel that has it
+-- profile
+pub record HasSpace (c : Caller) (k : Kernel) (space : AddressSpace) : Type 0 where
+  pub space : c.space ≡ space
+  pub there : get_named k.spaces c.memory.place c.memory.index ≡ Some c.space
 
 -- a kernel in which a task's address space, and the shared areas, are these
 -- profile

@@ -14,7 +14,7 @@ use Rattle.kernel_model.specs.declared.traps.Next.TheVariants.{Goes, Calls, Trap
 use Rattle.kernel_model.specs.machine.Spaces.{reach_with, going_with}
 use Rattle.kernel_model.specs.entries.Areas.{stands_lacking, next_tried, access_tried, tried_with}
 use Rattle.kernel_model.specs.entries.Parts.{Parts, outcome_in}
-use Rattle.kernel_calls.specs.Lending.{AreThose, with_hand}
+use Rattle.kernel_calls.specs.Lending.{AreThere, AreThose, with_hand}
 
 -- an access with some areas in hand comes to those in hand at last, where each byte may be accessed so; the state has all
 -- areas in their places
@@ -56,6 +56,12 @@ Left c Goes last registers space hand' areas' all =
     × (with_hand hand' areas' ≡ with_hand hand' all)
 Left c _ last registers space hand' areas' all =
     (registers ≡ c.registers) × (space ≡ c.space) × (with_hand hand' areas' ≡ all)
+
+-- areas that are in hand have their places, and put back they make all that there are
+-- profile
+pub record AreLent (hand : List InHand) (areas all : NamedMap AreaState) : Type 0 where
+  pub there : AreThere hand areas
+  pub back : with_hand hand areas ≡ all
 
 -- an instruction with some areas in hand, and so many more at most; the state has all areas in their places
 -- profile

@@ -1,19 +1,23 @@
 //! What system calls come to: the table of the calls that the kernel has.
 
-ghost use Rattle.std.specs.Prelude.{◌≡◌, ℕ, length, IfOk};
+ghost use Rattle.std.specs.Prelude.{◌≡◌, IfOk, OnErr};
 ghost use Rattle.sn_errno.specs.Errors.{reply_of};
-ghost use Rattle.kernel_model.specs.declared.kernel.Part.TheVariants.{OfConsole};
 ghost use Rattle.kernel_model.specs.declared.caller.Caller.{Caller as ACaller};
-ghost use Rattle.kernel_model.specs.calls.Callers.{Context};
+ghost use Rattle.kernel_model.specs.declared.kernel.Kernel.{Kernel as AKernel};
+ghost use Rattle.kernel_model.specs.calls.Callers.{context_of};
 ghost use Rattle.kernel_model.specs.calls.Table.{call_row, row_of_call};
-ghost use Rattle.kernel_model.specs.entries.Parts.{Parts, outcome_in};
-ghost use Rattle.kernel_calls.specs.Prepared.{TakesFew, answer_of};
+ghost use Rattle.kernel_calls.specs.Lending.{AreAlike};
+ghost use Rattle.kernel_calls.specs.Prepared.{Answers, HasEffect, IsCalling, TakesFew};
 ghost use Rattle.kernel_calls.specs.declared.prepared.Effect.TheVariants.{Nothing};
 
+use crate::Context;
 use crate::console::write;
 use crate::ending::exit_group;
+use crate::mapping::mmap;
+use crate::memory::{brk, mprotect, munmap};
 use crate::prepared::{Effect, Prepared};
-use kernel_model::{Args, GuestSpace};
+use crate::random::getrandom;
+use kernel_model::{Args, GuestArea, GuestSpace, Named};
 use sn_base::Memory;
 use sn_errno::{CallNo, Errno, Reply};
 use std::alloc::Global;
@@ -37,18 +41,32 @@ pub fn call(
     ensures apart { IfOk result (λ p. HasEffect p.effect → (space.new ≡ space.old) × (areas.new ≡ areas.old)) }
     ensures few { IfOk result (λ p. TakesFew p.effect) }
     ensures err { OnErr result (space.new ≡ space.old) }
-    ensures err_areas { OnErr result (areas.new ≡ areas.old) }
+    ensures err_areas { OnErr result (AreAlike areas.new areas.old) }
 {
-    CALL_BODY
+    match CallNo::of(number) {
+        Some(call) => known(alloc, context, call, args, space, areas, console),
+        None => Ok(refused(Errno::ENOSYS)),
+    }
 }
 
 /// A call of the table, a row a call.
 #[rattlefmt::skip]
-fn known(alloc: Global, call: CallNo, args: &Args, space: &GuestSpace, console: usize) -> Result<Prepared, Memory>
-    ensures row { IfOk result (λ p. (context : Context) (caller : ACaller) (s : Parts) → caller.space ≡ space.now →
-        length (s OfConsole) ≡ console →
-        outcome_in s (row_of_call context caller args.now call) ≡ answer_of p caller.group s) }
+fn known(
+    alloc: Global,
+    context: &Context<'_>,
+    call: CallNo,
+    args: &Args,
+    space: &mut GuestSpace,
+    areas: &mut Named<GuestArea>,
+    console: usize,
+) -> Result<Prepared, Memory>
+    ensures row { IfOk result (λ p. (c : ACaller) (k : AKernel) →
+        IsCalling c k context.now space.old areas.old console →
+        Answers (row_of_call (context_of k) c args.now call) p c k space.new areas.new) }
+    ensures apart { IfOk result (λ p. HasEffect p.effect → (space.new ≡ space.old) × (areas.new ≡ areas.old)) }
     ensures few { IfOk result (λ p. TakesFew p.effect) }
+    ensures err { OnErr result (space.new ≡ space.old) }
+    ensures err_areas { OnErr result (AreAlike areas.new areas.old) }
 {
     match call {
         CallNo::Getcwd => Ok(refused(Errno::ENOSYS)),
@@ -69,7 +87,7 @@ fn known(alloc: Global, call: CallNo, args: &Args, space: &GuestSpace, console: 
         CallNo::Getdents64 => Ok(refused(Errno::ENOSYS)),
         CallNo::Lseek => Ok(refused(Errno::ENOSYS)),
         CallNo::Read => Ok(refused(Errno::ENOSYS)),
-        CallNo::Write => write(alloc, args.a0, args.a1, args.a2, space, console),
+        CallNo::Write => write(alloc, args.a0, args.a1, args.a2, space, areas, console),
         CallNo::Readv => Ok(refused(Errno::ENOSYS)),
         CallNo::Writev => Ok(refused(Errno::ENOSYS)),
         CallNo::Pread64 => Ok(refused(Errno::ENOSYS)),
@@ -95,15 +113,15 @@ fn known(alloc: Global, call: CallNo, args: &Args, space: &GuestSpace, console: 
         CallNo::Getgid => Ok(refused(Errno::ENOSYS)),
         CallNo::Getegid => Ok(refused(Errno::ENOSYS)),
         CallNo::Gettid => Ok(refused(Errno::ENOSYS)),
-        CallNo::Brk => Ok(refused(Errno::ENOSYS)),
-        CallNo::Munmap => Ok(refused(Errno::ENOSYS)),
+        CallNo::Brk => brk(alloc, args.a0, space),
+        CallNo::Munmap => munmap(args.a0, args.a1, space),
         CallNo::Clone => Ok(refused(Errno::ENOSYS)),
         CallNo::Execve => Ok(refused(Errno::ENOSYS)),
-        CallNo::Mmap => Ok(refused(Errno::ENOSYS)),
-        CallNo::Mprotect => Ok(refused(Errno::ENOSYS)),
+        CallNo::Mmap => mmap(alloc, context.place, args, space, areas),
+        CallNo::Mprotect => Ok(mprotect(args.a0, args.a1, args.a2, space)),
         CallNo::Wait4 => Ok(refused(Errno::ENOSYS)),
         CallNo::Renameat2 => Ok(refused(Errno::ENOSYS)),
-        CallNo::Getrandom => Ok(refused(Errno::ENOSYS)),
+        CallNo::Getrandom => getrandom(alloc, context, args.a0, args.a1, args.a2, space, areas),
     }
 }
 

@@ -4,11 +4,13 @@ ghost use Rattle.std.specs.Prelude.{◌≡◌, ◌≤◌, ℕ, length, IfOk};
 ghost use Rattle.kernel_model.specs.declared.kernel.Part.TheVariants.{OfConsole};
 ghost use Rattle.kernel_model.specs.calls.Console.{appended, is_written_to, write_row};
 ghost use Rattle.kernel_model.specs.entries.Parts.{Parts, outcome_in};
+ghost use Rattle.kernel_calls.specs.Lending.{AreThose};
 ghost use Rattle.kernel_calls.specs.Prepared.{TakesFew, answer_of};
 
+use crate::buffers::read;
 use crate::calls::refused;
 use crate::prepared::{Effect, Prepared};
-use kernel_model::GuestSpace;
+use kernel_model::{GuestArea, GuestSpace, Named};
 use sn_base::{List, Memory};
 use sn_errno::Errno;
 use std::alloc::Global;
@@ -19,18 +21,21 @@ const MOST_WRITTEN: u64 = 65_536;
 /// The most bytes of the console.
 const CONSOLE_ROOM: usize = 1_048_576;
 
-/// write(fd, buffer, count). It reads guest memory, and of the console only how many bytes that has.
+/// write(fd, buffer, count). It reads guest memory, and of the console only how many bytes that has. The areas stay as
+/// they are.
 pub(crate) fn write(
     alloc: Global,
     fd: u64,
     buffer: u64,
     count: u64,
     space: &GuestSpace,
+    areas: &mut Named<GuestArea>,
     console: usize,
 ) -> Result<Prepared, Memory>
-    ensures row { IfOk result (λ p. (s : Parts) (group : ℕ) → length (s OfConsole) ≡ console →
+    ensures row { IfOk result (λ p. (s : Parts) (group : ℕ) → AreThose s areas.old → length (s OfConsole) ≡ console →
         outcome_in s (write_row fd buffer count space.now) ≡ answer_of p group s) }
     ensures few { IfOk result (λ p. TakesFew p.effect) }
+    ensures kept { areas.new ≡ areas.old }
 {
     if !is_written_to(fd % (1 << 32)) {
         return Ok(refused(Errno::EBADF));
@@ -41,7 +46,7 @@ pub(crate) fn write(
             effect: Effect::Nothing,
         });
     }
-    match space.read(alloc, buffer, count.min(MOST_WRITTEN))? {
+    match read(alloc, space, areas, buffer, count.min(MOST_WRITTEN))? {
         Some(bytes) => Ok(appended(bytes, console)),
         None => Ok(refused(Errno::EFAULT)),
     }

@@ -19,12 +19,16 @@
 #![tactic(auto)]
 
 mod arguments;
+mod buffers;
 mod calls;
 mod console;
 mod context;
 mod ending;
 mod executable;
 mod instructions;
+mod lending;
+mod mapping;
+mod memory;
 mod opened_task;
 mod prepared;
 mod random;

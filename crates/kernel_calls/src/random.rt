@@ -1,11 +1,83 @@
-//! The random bytes of an opening task: words of the ChaCha20 stream whose key is the mount file's seed.
+//! Random bytes: words of the ChaCha20 stream whose key is the mount file's seed.
 
-ghost use Rattle.std.specs.Prelude.{◌≡◌, ℕ, ◌<◌, slice_index};
-ghost use Rattle.kernel_model.specs.machine.Random.{opening_random, random_bytes};
+ghost use Rattle.std.specs.Prelude.{◌≡◌, ℕ, ◌<◌, ◌≤◌, ◌^◌, ◌%◌, min, slice_index, IfOk, OnErr};
+ghost use Rattle.kernel_model.specs.declared.caller.Caller.{Caller as ACaller};
+ghost use Rattle.kernel_model.specs.declared.kernel.Kernel.{Kernel as AKernel};
+ghost use Rattle.kernel_model.specs.calls.Callers.{context_of};
+ghost use Rattle.kernel_model.specs.calls.RandomBytes.{getrandom_row};
+ghost use Rattle.kernel_model.specs.machine.Random.{opening_random, random_at, random_bytes, words_of};
+ghost use Rattle.kernel_calls.specs.Prepared.{Answers, IsCalling};
+ghost use Rattle.kernel_calls.specs.declared.prepared.Effect.TheVariants.{Nothing};
 
+use crate::buffers::write;
+use crate::calls::refused;
+use crate::memory::replied;
+use crate::{Context, Prepared};
+use kernel_model::{GuestArea, GuestSpace, Named};
 use rand_chacha::ChaCha20Rng;
 use rand_core::SeedableRng;
 use rand_core::utils::NextWord;
+use sn_base::{List, Memory};
+use sn_errno::Errno;
+use std::alloc::Global;
+
+/// The most bytes of a call.
+const MOST_BYTES: u64 = 256;
+
+/// getrandom(buffer, count, flags): the first of the random bytes of the entry's place, at most 256 of them. Flags are
+/// the low 32 bits of their register.
+///
+/// EINVAL: flags above 7; EFAULT: a byte of the buffer that may not be written.
+pub(crate) fn getrandom(
+    alloc: Global,
+    context: &Context<'_>,
+    buffer: u64,
+    count: u64,
+    flags: u64,
+    space: &mut GuestSpace,
+    areas: &mut Named<GuestArea>,
+) -> Result<Prepared, Memory>
+    ensures row { IfOk result (λ p. (c : ACaller) (k : AKernel) (console : ℕ) →
+        IsCalling c k context.now space.old areas.old console →
+        Answers (getrandom_row (context_of k) buffer count flags c) p c k space.new areas.new) }
+    ensures effect { IfOk result (λ p. p.effect ≡ Nothing) }
+    ensures err { OnErr result ((space.new ≡ space.old) × (areas.new ≡ areas.old)) }
+{
+    if flags % (1 << 32) > 7 {
+        return Ok(refused(Errno::EINVAL));
+    }
+    let count = count.min(MOST_BYTES);
+    let bytes = random_at(alloc, context.seed, context.place, count)?;
+    if write(alloc, context.task, space, areas, buffer, bytes.as_slice())? {
+        Ok(replied(count as i64))
+    } else {
+        Ok(refused(Errno::EFAULT))
+    }
+}
+
+/// So many random bytes for the entry of a place.
+fn random_at(alloc: Global, seed: &[u8], place: u64, count: u64) -> Result<List<u8>, Memory>
+    requires { count ≤ 256 }
+    ensures { IfOk result (λ bytes. bytes ≡ random_at seed.now place count) }
+{
+    let words = words_of(alloc, &key_of(seed), place, count.div_ceil(4))?;
+    List::from_slice(alloc, &words.as_slice()[..count as usize])
+}
+
+/// So many words of a stream, from its first on, each with its lowest byte first.
+fn words_of(alloc: Global, seed: &[u8; 32], stream: u64, count: u64) -> Result<List<u8>, Memory>
+    requires { count ≤ 64 }
+    ensures { IfOk result (λ bytes. bytes ≡ words_of seed.now stream count) }
+{
+    let mut words = ChaCha20Rng::from_seed(*seed);
+    words.set_stream(stream);
+    words.set_word_pos(0);
+    let mut bytes = List::new(alloc);
+    for _word in 0..count {
+        bytes.extend_from_slice(&words.next_word().to_le_bytes())?;
+    }
+    Ok(bytes)
+}
 
 /// The sixteen random bytes that the opening task of that number finds by `AT_RANDOM`: the first four words of the
 /// stream 2^32 plus its number, each with its lowest byte first. The seed is the mount file's, 32 bytes, and a shorter

@@ -10,9 +10,7 @@ use Rattle.sn_errno.specs.declared.errno.Errno.TheVariants.{EIO, ENFILE, EFAULT,
 use Rattle.sn_errno.specs.declared.calls.CallNo.{CallNo}
 use Rattle.sn_errno.specs.declared.calls.CallNo.TheVariants.{Write, ExitGroup, Brk, Munmap, Mmap, Mprotect}
 use Rattle.sn_errno.specs.declared.calls.CallNo.TheVariants.{Getrandom}
-use Rattle.mm_areas.specs.declared.fault.AreaErr.{AreaErr}
-use Rattle.mm_areas.specs.Mappings.{map_fault, unmap_fault, protect_fault, pages_in}
-use Rattle.mm_space.specs.Changes.{broken_in}
+use Rattle.mm_areas.specs.Mappings.{unmap_fault, pages_in}
 use Rattle.mm_space.specs.Handing.{InHand, zero_area}
 use Rattle.sn_errno.specs.Calls.{call_of}
 use Rattle.sn_errno.specs.Errors.{reply_of}
@@ -38,8 +36,8 @@ use Rattle.kernel_model.specs.calls.Console.{is_written_to, descriptor, to_conso
 use Rattle.kernel_model.specs.calls.Ending.{exit_group_row, group_end}
 use Rattle.kernel_model.specs.calls.Memory.{mmap_row}
 use Rattle.kernel_model.specs.calls.RandomBytes.{getrandom_row}
-use Rattle.kernel_model.specs.calls.Memory.{remaps, unless_refused, area_errno, is_no_mapping, is_no_protection}
-use Rattle.kernel_model.specs.calls.Memory.{is_anonymous, is_shared, asked_place, file_errno, area_made_at, area_made_by}
+use Rattle.kernel_model.specs.calls.Memory.{remaps, unless_refused, fault_errno, map_refusal, protect_refusal}
+use Rattle.kernel_model.specs.calls.Memory.{is_shared, area_made_at, area_made_by, maps_at, address_in, asked_place}
 use Rattle.kernel_model.specs.calls.RandomBytes.{put_random}
 use Rattle.kernel_model.specs.calls.Table.{call_row, row_of_call, row_if_known}
 use Rattle.kernel_model.specs.entries.Areas.{Stands, next_row, bytes_read, bytes_written, area_changes, reach_changes}
@@ -72,7 +70,7 @@ going_on_leaves c value ino (inr is) = is
 
 -- areas that were in hand
 areas_leave : (hand : List InHand) → LeavesNodes (area_changes hand)
-areas_leave [] ino is = is
+areas_leave [] = λ ino is. is
 areas_leave (h ∷ hand) = leaves-append (area_changes hand) _ (areas_leave hand) last
   where
     last : LeavesNodes ((OfArea h.name, Some h.state) ∷ [])
@@ -122,15 +120,10 @@ module _ (s : Parts) where
   exit_leaves status group ino (inr is) = is
 
   -- what is mapped changes an address space, and makes an area
-  either_answer : (b : Bool) (x y : Answer) → LeavesNodes x.changes → LeavesNodes y.changes
-      → LeavesNodes (cond b x y).changes
-  either_answer true x y here there = here
-  either_answer false x y here there = there
-
-  unless_leaves : (fault : Option AreaErr) (answer : Answer) → LeavesNodes answer.changes
-      → LeavesNodes (unless_refused fault answer).changes
+  unless_leaves : (refusal : Option Errno) (answer : Answer) → LeavesNodes answer.changes
+      → LeavesNodes (unless_refused refusal answer).changes
   unless_leaves None answer h = h
-  unless_leaves (Some fault) answer h = refused_leaves (area_errno fault)
+  unless_leaves (Some errno) answer h = refused_leaves errno
 
   remaps_leave : (c : Caller) (space : AddressSpace) (value : ℤ) (changes : List Change) → LeavesNodes changes
       → LeavesNodes (remaps c space value changes).changes
@@ -149,17 +142,21 @@ module _ (s : Parts) where
       by true ino (inr is) = is
       by false ino is = is
 
+  maps_leave : (context : Context) (c : Caller) (address length protection flags : ℕ)
+      → LeavesNodes (maps_at context c address length protection flags).changes
+  maps_leave context c address length protection flags ino (inl e) = absurd (cc e)
+  maps_leave context c address length protection flags ino (inr is) = made_leaves context.place length flags ino is
+
   mmap_leaves : (context : Context) (address length protection flags fd offset : ℕ) (c : Caller)
       → Leaves (mmap_row context address length protection flags fd offset c)
   mmap_leaves context address length protection flags fd offset c =
-      either_answer (is_no_mapping address length protection flags offset) _ _ (refused_leaves EINVAL)
-      (either_answer (not (is_anonymous flags)) _ _ (refused_leaves (file_errno fd))
-      (unless_leaves (map_fault c.space.mapping (asked_place address flags) length) _
-      (remaps_leave c _ _ _ (made_leaves context.place length flags))))
+      unless_leaves (map_refusal c.space address length protection flags fd offset)
+      (maps_at context c (address_in c.space (asked_place address flags) length) length protection flags)
+      (maps_leave context c (address_in c.space (asked_place address flags) length) length protection flags)
 
   -- and random bytes an address space and areas
   put_leaves : (memory : Made) (count : ℕ) (reach : Option Reach) → LeavesNodes (put_random memory count reach).changes
-  put_leaves memory count None = refused_leaves EFAULT
+  put_leaves memory count None ino is = is
   put_leaves memory count (Some reach) ino (inl e) = absurd (cc e)
   put_leaves memory count (Some reach) ino (inr is) = areas_leave reach.hand ino is
 
@@ -176,11 +173,10 @@ module _ (s : Parts) where
   row_leaves context c args ExitGroup = exit_leaves args.a0 c.group
   row_leaves context c args Brk = remaps_leave c _ _ [] none_leaves
   row_leaves context c args Munmap =
-      unless_leaves (unmap_fault args.a0 args.a1) _ (remaps_leave c _ _ [] none_leaves)
+      unless_leaves (fault_errno (unmap_fault args.a0 args.a1)) _ (remaps_leave c _ _ [] none_leaves)
   row_leaves context c args Mmap = mmap_leaves context args.a0 args.a1 args.a2 args.a3 args.a4 args.a5 c
   row_leaves context c args Mprotect =
-      either_answer (is_no_protection args.a2) _ _ (refused_leaves EINVAL)
-      (unless_leaves (protect_fault c.space.mapping args.a0 args.a1) _ (remaps_leave c _ _ [] none_leaves))
+      unless_leaves (protect_refusal c.space args.a0 args.a1 args.a2) _ (remaps_leave c _ _ [] none_leaves)
   row_leaves context c args Getrandom = getrandom_leaves context args.a0 args.a1 args.a2 c
   row_leaves context c args _ = refused_leaves ENOSYS
 

@@ -10,8 +10,8 @@ use Rattle.sn_base.proofs.Maps.{get-insert_same, get-insert_other, get-remove_sa
 use Rattle.sn_errno.specs.declared.calls.CallNo.{CallNo}
 use Rattle.sn_errno.specs.declared.calls.CallNo.TheVariants.{Write, ExitGroup, Brk, Munmap, Mmap, Mprotect}
 use Rattle.sn_errno.specs.declared.calls.CallNo.TheVariants.{Getrandom}
-use Rattle.mm_areas.specs.declared.fault.AreaErr.{AreaErr}
-use Rattle.mm_areas.specs.Mappings.{map_fault, unmap_fault, protect_fault}
+use Rattle.sn_errno.specs.declared.errno.Errno.{Errno}
+use Rattle.mm_areas.specs.Mappings.{unmap_fault}
 use Rattle.mm_space.specs.Spaces.{Reach}
 use Rattle.sn_errno.specs.Calls.{call_of}
 use Rattle.rv_table.specs.declared.error.Area.{Area}
@@ -30,7 +30,7 @@ use Rattle.kernel_model.specs.machine.Registers.{args_of, call_of as number_of}
 use Rattle.kernel_model.specs.calls.Answers.{Answer, is_reply}
 use Rattle.kernel_model.specs.calls.Callers.{Context, context_of, caller_of}
 use Rattle.kernel_model.specs.calls.Console.{is_written_to, descriptor, to_console}
-use Rattle.kernel_model.specs.calls.Memory.{unless_refused, is_no_mapping, is_no_protection, is_anonymous, asked_place}
+use Rattle.kernel_model.specs.calls.Memory.{unless_refused, fault_errno, map_refusal, protect_refusal}
 use Rattle.kernel_model.specs.calls.RandomBytes.{put_random}
 use Rattle.kernel_model.specs.calls.Table.{call_row, row_of_call, row_if_known}
 use Rattle.kernel_model.specs.entries.Areas.{Stands, next_row, bytes_read, bytes_written}
@@ -284,10 +284,10 @@ module _ (s : Parts) (context : Context) (caller : Caller) (args : Args) where
       → Answers (first >>= next)
   behind_answers first next h = ap (λ (a : Answer). is_reply a.reply) (outcome-bind s first next) ∙ h
 
-  refused_replies : (fault : Option AreaErr) (answer : Answer) → is_reply answer.reply ≡ true
-      → is_reply (unless_refused fault answer).reply ≡ true
+  refused_replies : (refusal : Option Errno) (answer : Answer) → is_reply answer.reply ≡ true
+      → is_reply (unless_refused refusal answer).reply ≡ true
   refused_replies None answer h = h
-  refused_replies (Some fault) answer h = refl
+  refused_replies (Some errno) answer h = refl
 
   console_answers : (bytes : Option (List ℕ)) → Answers (to_console bytes)
   console_answers None = refl
@@ -307,14 +307,10 @@ module _ (s : Parts) (context : Context) (caller : Caller) (args : Args) where
       refl
   row_answers ExitGroup = refl
   row_answers Brk = refl
-  row_answers Munmap = refused_replies (unmap_fault args.a0 args.a1) _ refl
+  row_answers Munmap = refused_replies (fault_errno (unmap_fault args.a0 args.a1)) _ refl
   row_answers Mmap =
-      either_replies (is_no_mapping args.a0 args.a1 args.a2 args.a3 args.a5) _ _ refl
-      (either_replies (not (is_anonymous args.a3)) _ _ refl
-      (refused_replies (map_fault caller.space.mapping (asked_place args.a0 args.a3) args.a1) _ refl))
-  row_answers Mprotect =
-      either_replies (is_no_protection args.a2) _ _ refl
-      (refused_replies (protect_fault caller.space.mapping args.a0 args.a1) _ refl)
+      refused_replies (map_refusal caller.space args.a0 args.a1 args.a2 args.a3 args.a4 args.a5) _ refl
+  row_answers Mprotect = refused_replies (protect_refusal caller.space args.a0 args.a1 args.a2) _ refl
   row_answers Getrandom =
       either_answers (nat_lt 7 (args.a2 % 2 ^ 32)) _ _ refl
       (behind_answers

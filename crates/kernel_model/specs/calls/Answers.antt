@@ -1,5 +1,6 @@
 -- What a call comes to: its reply, what it changes, and the children that it walks to, lists or makes.
 use Rattle.std.specs.Prelude.{ℕ, ℤ, List, [], Bool, true, false}
+use Rattle.std.specs.Int.{cast_signed, w64}
 use Rattle.sn_errno.specs.declared.errno.Errno.{Errno}
 use Rattle.sn_errno.specs.Errors.{reply_of}
 use Rattle.kernel_model.specs.entries.Parts.{Change}
@@ -28,6 +29,11 @@ pub record Answer : Type 0 where
 -- syscall(2)
 abbrev pub replies : ℤ → List Change → Answer
 replies value changes = record { reply = Replies value; changes = changes; fresh = [] }
+
+-- an address as a reply: the signed number of its 64 bits
+-- syscall(2), RETURN VALUE
+abbrev pub address_reply : ℕ → ℤ
+address_reply address = cast_signed w64 address
 
 -- a call that is refused with an error, and changes nothing
 -- syscall(2)

@@ -1,6 +1,6 @@
 -- brk, mmap, munmap and mprotect: what is mapped in the caller's address space.
 use Rattle.std.specs.Prelude.{ℕ, ℤ, ◌/◌, ◌%◌, ◌^◌, ◌==◌, ◌||◌, nat_le, nat_lt, Bool, true, false, not, List, [], ◌∷◌}
-use Rattle.std.specs.Prelude.{Option, Some, None, pos, unwrap_or, if◌then◌else◌}
+use Rattle.std.specs.Prelude.{Option, Some, None, pos, unwrap_or, option_map, if◌then◌else◌}
 use Rattle.sn_errno.specs.declared.errno.Errno.{Errno}
 use Rattle.sn_errno.specs.declared.errno.Errno.TheVariants.{EINVAL, ENOMEM, ENODEV, EBADF}
 use Rattle.rv_table.specs.declared.error.Area.{Area}
@@ -15,7 +15,7 @@ use Rattle.mm_space.specs.Handing.{zero_area}
 use Rattle.mm_space.specs.Spaces.{AddressSpace}
 use Rattle.kernel_model.specs.declared.caller.Caller.{Caller}
 use Rattle.kernel_model.specs.declared.kernel.Part.TheVariants.{OfSpace, OfArea}
-use Rattle.kernel_model.specs.calls.Answers.{Answer, replies, refuses}
+use Rattle.kernel_model.specs.calls.Answers.{Answer, replies, refuses, address_reply}
 use Rattle.kernel_model.specs.calls.Callers.{Context}
 use Rattle.kernel_model.specs.calls.Console.{descriptor}
 use Rattle.kernel_model.specs.entries.Parts.{Prog, done, Change}
@@ -34,9 +34,14 @@ area_errno Limit = ENOMEM
 area_errno NoRange = ENOMEM
 area_errno Memory = ENOMEM
 
-abbrev pub unless_refused : Option AreaErr → Answer → Answer
+abbrev pub fault_errno : Option AreaErr → Option Errno
+fault_errno fault = option_map area_errno fault
+
+-- what a call comes to, unless it is refused with an error
+-- syscall(2)
+abbrev pub unless_refused : Option Errno → Answer → Answer
 unless_refused None answer = answer
-unless_refused (Some fault) answer = refuses (area_errno fault)
+unless_refused (Some errno) answer = refuses errno
 
 -- the rights that a protection is: PROT_READ 1, PROT_WRITE 2 and PROT_EXEC 4
 -- mmap(2), DESCRIPTION
@@ -54,7 +59,8 @@ is_no_protection protection = nat_lt 7 protection
 -- brk(2), NOTES
 abbrev pub brk_row : (address : ℕ) → Caller → Prog Answer
 brk_row address c =
-    done (remaps c (broken_in c.space address) (pos (broken_in c.space address).mapping.program_break) [])
+    done (remaps c (broken_in c.space address)
+    (address_reply (broken_in c.space address).mapping.program_break) [])
 
 -- ---- mappings
 
@@ -62,14 +68,18 @@ brk_row address c =
 -- munmap(2), ERRORS: EINVAL
 abbrev pub munmap_row : (address length : ℕ) → Caller → Prog Answer
 munmap_row address length c =
-    done (unless_refused (unmap_fault address length) (remaps c (unmapped_in c.space address length) (pos 0) []))
+    done (unless_refused (fault_errno (unmap_fault address length))
+    (remaps c (unmapped_in c.space address length) (pos 0) []))
 
 -- mprotect(address, length, protection)
 -- mprotect(2), ERRORS: EINVAL, ENOMEM; their order: profile
+abbrev pub protect_refusal : AddressSpace → (address length protection : ℕ) → Option Errno
+protect_refusal space address length protection =
+    if is_no_protection protection then Some EINVAL else fault_errno (protect_fault space.mapping address length)
+
 abbrev pub mprotect_row : (address length protection : ℕ) → Caller → Prog Answer
 mprotect_row address length protection c =
-    done (if is_no_protection protection then refuses EINVAL else
-    unless_refused (protect_fault c.space.mapping address length)
+    done (unless_refused (protect_refusal c.space address length protection)
     (remaps c (righted_in c.space address length (rights_in protection)) (pos 0) []))
 
 -- the flags of mmap, of which other bits are not looked at: MAP_SHARED, MAP_PRIVATE, MAP_FIXED and MAP_ANONYMOUS
@@ -124,19 +134,23 @@ area_made_by place length flags =
 -- mmap(2)
 abbrev pub maps_at : Context → Caller → (address length protection flags : ℕ) → Answer
 maps_at context c address length protection flags =
-    remaps c (mapped_in c.space address length (rights_in protection) (backing_by context.place flags)) (pos address)
-    (area_made_by context.place length flags)
+    remaps c (mapped_in c.space address length (rights_in protection) (backing_by context.place flags))
+    (address_reply address) (area_made_by context.place length flags)
 
 -- where it goes
 -- mmap(2), RETURN VALUE
-abbrev pub address_for : Caller → Option ℕ → (length : ℕ) → ℕ
-address_for c place length = unwrap_or (address_of (place_in c.space.mapping.pages place (pages_in length))) 0
+abbrev pub address_in : AddressSpace → (asked : Option ℕ) → (length : ℕ) → ℕ
+address_in space asked length = unwrap_or (address_of (place_in space.mapping.pages asked (pages_in length))) 0
 
 -- mmap(address, length, protection, flags, fd, offset)
 -- mmap(2), ERRORS: EINVAL, EBADF, ENODEV, ENOMEM; their order: profile
+abbrev pub map_refusal : AddressSpace → (address length protection flags fd offset : ℕ) → Option Errno
+map_refusal space address length protection flags fd offset =
+    if is_no_mapping address length protection flags offset then Some EINVAL
+    else if not (is_anonymous flags) then Some (file_errno fd)
+    else fault_errno (map_fault space.mapping (asked_place address flags) length)
+
 abbrev pub mmap_row : Context → (address length protection flags fd offset : ℕ) → Caller → Prog Answer
 mmap_row context address length protection flags fd offset c =
-    done (if is_no_mapping address length protection flags offset then refuses EINVAL
-    else if not (is_anonymous flags) then refuses (file_errno fd)
-    else unless_refused (map_fault c.space.mapping (asked_place address flags) length)
-    (maps_at context c (address_for c (asked_place address flags) length) length protection flags))
+    done (unless_refused (map_refusal c.space address length protection flags fd offset)
+    (maps_at context c (address_in c.space (asked_place address flags) length) length protection flags))

@@ -1,0 +1,79 @@
+-- What calls come to, as their rows have it.
+use Rattle.std.proofs.Common.{◌≡◌, ℕ, ℤ, List, [], ◌∷◌, ◌++◌, length, Option, Some, None, refl, ap, sym, ◌∙◌}
+use Rattle.sn_errno.specs.declared.errno.Errno.{Errno}
+use Rattle.sn_errno.specs.Errors.{reply_of}
+use Rattle.mm_space.specs.Handing.{AreaState, InHand}
+use Rattle.mm_space.specs.Spaces.{AddressSpace, Reach}
+use Rattle.kernel_model.specs.Names.{NamedMap, get_named, with_named}
+use Rattle.kernel_model.specs.declared.caller.Caller.{Caller}
+use Rattle.kernel_model.specs.declared.kernel.Kernel.{Kernel}
+use Rattle.kernel_model.specs.declared.kernel.Part.TheVariants.{OfArea, OfSpace}
+use Rattle.kernel_model.specs.calls.Answers.{Answer, replies, refuses}
+use Rattle.kernel_model.specs.calls.Memory.{remaps}
+use Rattle.kernel_model.specs.entries.Areas.{area_changes, reach_changes}
+use Rattle.kernel_model.specs.entries.Parts.{parts, Prog, outcome_in, Change, changed}
+use Rattle.kernel_model.proofs.ChildLaws.{changed-append}
+use Rattle.kernel_model.proofs.NamedMaps.{with_same}
+use Rattle.kernel_calls.specs.Lending.{with_hand, AreThose}
+use Rattle.kernel_calls.specs.Prepared.{Answers, HasSpace, IsCalling, answer_of, changes_of, with_memory}
+use Rattle.kernel_calls.specs.declared.context.Context.{Context}
+use Rattle.kernel_calls.specs.declared.prepared.Effect.TheVariants.{Nothing}
+use Rattle.kernel_calls.specs.declared.prepared.Prepared.{Prepared}
+
+-- a task that calls has its address space in the kernel
+pub has_space : (c : Caller) (k : Kernel) (context : Context) (space : AddressSpace) (areas : NamedMap AreaState)
+    (console : ℕ) → IsCalling c k context space areas console → HasSpace c k space
+has_space c k context space areas console calling = record { space = calling.space; there = calling.there }
+
+-- the areas of a kernel, as a state
+pub are_those : (k : Kernel) (areas : NamedMap AreaState) → k.areas ≡ areas → AreThose (parts k) areas
+are_those k areas same name = ap (λ (m : NamedMap AreaState). get_named m name.place name.index) same
+
+-- a kernel with the memory that it has
+kept_memory : (c : Caller) (k : Kernel) (space : AddressSpace) (areas : NamedMap AreaState)
+    → get_named k.spaces c.memory.place c.memory.index ≡ Some c.space → space ≡ c.space → areas ≡ k.areas
+    → with_memory c space areas k ≡ k
+kept_memory c k space areas there same as =
+    ap (λ s. record k { spaces = with_named k.spaces c.memory.place c.memory.index s; areas = areas }) same
+    ∙ ap (λ m. record k { spaces = m; areas = areas }) (with_same k.spaces c.memory.place c.memory.index c.space there)
+    ∙ ap (λ m. record k { areas = m }) as
+
+module _ (row : Prog Answer) (p : Prepared) (c : Caller) (k : Kernel) (old space : AddressSpace)
+    (areas : NamedMap AreaState) (has : HasSpace c k old) where
+  -- a call that leaves memory as it is
+  pub answers_kept : outcome_in (parts k) row ≡ answer_of p c.group (parts k) → space ≡ old → areas ≡ k.areas
+      → Answers row p c k space areas
+  answers_kept is same as = record {
+    changes = changes_of p.effect c.group (parts k);
+    row_is = is;
+    done_is =
+        ap (changed (changes_of p.effect c.group (parts k)))
+        (sym (kept_memory c k space areas has.there (same ∙ sym has.space) as));
+  }
+
+  -- one that is refused
+  pub answers_refused : (errno : Errno) → outcome_in (parts k) row ≡ refuses errno → p.reply ≡ reply_of errno
+      → p.effect ≡ Nothing → space ≡ old → areas ≡ k.areas → Answers row p c k space areas
+  answers_refused errno is reply none same as =
+      answers_kept
+      (is ∙ ap (λ v. replies v []) (sym reply)
+      ∙ ap (λ e. replies p.reply (changes_of e c.group (parts k))) (sym none)) same as
+
+  -- one that leaves another address space, with these changes of areas
+  pub answers_remapped : (changes : List Change) → outcome_in (parts k) row ≡ remaps c space p.reply changes
+      → p.effect ≡ Nothing
+      → changed changes (with_memory c space k.areas k) ≡ with_memory c space areas k
+      → Answers row p c k space areas
+  answers_remapped changes is none does = record {
+    changes = (OfSpace c.memory, Some space) ∷ changes;
+    row_is = is;
+    done_is = does ∙ ap (λ e. changed (changes_of e c.group (parts k)) (with_memory c space areas k)) (sym none);
+  }
+
+-- areas that were in hand, put back
+pub areas_changed : (hand : List InHand) (k : Kernel)
+    → changed (area_changes hand) k ≡ record k { areas = with_hand hand k.areas }
+areas_changed [] k = refl
+areas_changed (h ∷ hand) k =
+    changed-append (area_changes hand) ((OfArea h.name, Some h.state) ∷ []) k
+    ∙ ap (λ m. changed ((OfArea h.name, Some h.state) ∷ []) m) (areas_changed hand k)

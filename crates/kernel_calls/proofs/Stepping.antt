@@ -1,0 +1,296 @@
+-- An instruction that touches shared areas, as it is tried with more and more of them in hand.
+use Rattle.std.proofs.Common.{◌≡◌, ℕ, zero, suc, ◌+◌, ◌-◌, ◌<◌, Bool, true, false, cond, List, [], ◌∷◌, ◌++◌, Option}
+use Rattle.std.proofs.Common.{Some, None, refl, ap, sym, ◌∙◌, ◌⊎◌, inl, inr, arith, option_map}
+use Rattle.std.specs.Prelude.{is_some, option_and_then}
+use Rattle.std.specs.FinMap as map
+use Rattle.rv_table.specs.declared.error.Area.{Area}
+use Rattle.rv_table.specs.declared.regs.Regs.{Regs}
+use Rattle.rv_exec.specs.Execution.{Done, exec}
+use Rattle.rv_exec.specs.Execution as done
+use Rattle.mm_space.specs.Handing.{AreaState, InHand, area_in}
+use Rattle.mm_space.specs.Spaces.{AddressSpace}
+use Rattle.quantum.specs.Acting.{Acting, memory_of}
+use Rattle.quantum.specs.Instructions.{Going, ran, next_done}
+use Rattle.kernel_model.specs.Names.{NamedMap, get_named, with_named}
+use Rattle.kernel_model.specs.declared.caller.Caller.{Caller}
+use Rattle.kernel_model.specs.declared.kernel.Kernel.{Kernel}
+use Rattle.kernel_model.specs.declared.kernel.Part.TheVariants.{OfArea, OfSpace}
+use Rattle.kernel_model.specs.declared.traps.Next.{Next}
+use Rattle.kernel_model.specs.declared.traps.Next.TheVariants.{Goes, Calls, Traps, Touches}
+use Rattle.kernel_model.specs.machine.Instructions.{goes_on, next_by, next_of}
+use Rattle.kernel_model.specs.machine.Spaces.{acting_with, going_with}
+use Rattle.kernel_model.specs.entries.Areas.{Stands, stands_by, stands_lacking, next_tried, next_row, handed_in, asked}
+use Rattle.kernel_model.specs.entries.Areas.{Comes, comes_to, tried_with}
+use Rattle.kernel_model.specs.entries.Parts.{Parts, parts, done as comes, look, outcome_in, put, changed}
+use Rattle.kernel_model.specs.entries.Steps.{run_changes, step_with, step_row, task_change}
+use Rattle.kernel_model.proofs.Trees.{outcome-bind}
+use Rattle.kernel_calls.specs.Lending.{AreThere, AreThose, IsLent, names, with_hand}
+use Rattle.kernel_calls.specs.Prepared.{IsAt, Steps, with_memory}
+use Rattle.kernel_calls.specs.Trying.{AreLent, Left, StandsOver, Stepped}
+use Rattle.kernel_calls.proofs.Answering.{are_those, areas_changed}
+use Rattle.kernel_calls.proofs.Lendings.{get_unasked, lent_left, lent_more}
+use Rattle.kernel_calls.proofs.Runs.{nothing_ran, one_more, ran_last, ran_none, ran_names, went_by}
+
+-- ---- one instruction with what is in hand
+
+went_goes : (a : Acting) (done : Done) (h : Going) → went_by a done ≡ Some h → next_by done ≡ Goes
+went_goes a (done.Goes r ws) h e = refl
+went_goes a done.Calls h e = absurd (cc e)
+went_goes a (done.Traps signal) h e = absurd (cc e)
+went_goes a (done.Touches area) h e = absurd (cc e)
+
+-- what ran as one instruction goes on
+pub one_goes : (count : ℕ) (g h : Going) → ran count g ≡ Some h → count ≡ 1 → next_of g.acting g.registers ≡ Goes
+one_goes count g h told one =
+    went_goes g.acting (exec (memory_of g.acting) g.registers) h
+    (sym (ran_last 0 g ∙ ap (option_and_then one_more) (ran_none g)) ∙ ap (λ n. ran n g) (sym one) ∙ told)
+
+pub one_ran : (count : ℕ) (g h : Going) → ran count g ≡ Some h → count ≡ 1 → ran 1 g ≡ Some h
+one_ran count g h told one = ap (λ n. ran n g) (sym one) ∙ told
+
+-- what was stopped before it has left all as it was
+pub none_ran : (count task : ℕ) (space space' : AddressSpace) (hand hand' : List InHand) (r r' : Regs)
+    → ran count (going_with task space hand r) ≡ Some (going_with task space' hand' r') → count < 1
+    → (r' ≡ r) × (space' ≡ space) × (hand' ≡ hand)
+none_ran count task space space' hand hand' r r' told few =
+    let same : going_with task space' hand' r' ≡ going_with task space hand r = nothing_ran count _ _ told few in (
+      ap (λ (g : Going). g.registers) same,
+      ap (λ (g : Going). g.acting.reach.space) same,
+      ap (λ (g : Going). g.acting.reach.hand) same,
+    )
+
+pub none_next : (count task : ℕ) (space space' : AddressSpace) (hand hand' : List InHand) (r r' : Regs)
+    → ran count (going_with task space hand r) ≡ Some (going_with task space' hand' r') → count < 1
+    → next_of (acting_with task space hand) r ≡ next_by (next_done (going_with task space' hand' r'))
+none_next count task space space' hand hand' r r' told few =
+    sym (ap (λ (g : Going). next_by (next_done g)) (nothing_ran count _ _ told few))
+
+-- ---- tried once
+
+module _ (c : Caller) (hand : List InHand) (s : Parts) where
+  -- what asks for no area comes to what it is
+  comes_at_once : (most : ℕ) (x : Next) (stands : Stands)
+      → next_of (acting_with c.task c.space hand) c.registers ≡ x → stands_by hand x ≡ Comes stands
+      → outcome_in s (tried_with (next_tried c) stands_lacking most hand) ≡ stands
+  unfolding tried_with
+  comes_at_once zero x stands e f =
+      ap (λ t. comes_to stands_lacking t) (ap (stands_by hand) e ∙ f)
+  comes_at_once (suc n) x stands e f =
+      ap (λ t. outcome_in s (asked stands_lacking (tried_with (next_tried c) stands_lacking n) hand t))
+      (ap (stands_by hand) e ∙ f)
+
+  module _ (area : Area) (touches : next_of (acting_with c.task c.space hand) c.registers ≡ Touches area) where
+    -- what asks for an area and may have no more is lacking
+    lacks_more : (most : ℕ) → most ≡ 0
+        → outcome_in s (tried_with (next_tried c) stands_lacking most hand) ≡ stands_lacking
+    unfolding tried_with
+    lacks_more zero e = ap (λ x. comes_to stands_lacking (stands_by hand x)) touches
+    lacks_more (suc n) e = absurd (cc e)
+
+    asks_more : (n : ℕ) → outcome_in s (tried_with (next_tried c) stands_lacking (suc n) hand)
+        ≡ outcome_in s (cond (is_some (area_in area hand)) (comes stands_lacking)
+        (look (OfArea area) (handed_in stands_lacking (tried_with (next_tried c) stands_lacking n) hand area)))
+    unfolding tried_with
+    asks_more n =
+        ap (λ x. outcome_in s (asked stands_lacking (tried_with (next_tried c) stands_lacking n) hand
+        (stands_by hand x))) touches
+
+    -- one that is in hand, or isn't there, is lacking
+    lacks_area : (n : ℕ) → (is_some (area_in area hand) ≡ true) ⊎ (s (OfArea area) ≡ None)
+        → outcome_in s (tried_with (next_tried c) stands_lacking (suc n) hand) ≡ stands_lacking
+    lacks_area n (inl has) =
+        asks_more n
+        ∙ ap (λ b. outcome_in s (cond b (comes stands_lacking)
+        (look (OfArea area) (handed_in stands_lacking (tried_with (next_tried c) stands_lacking n) hand area)))) has
+    lacks_area n (inr none) = asks_more n ∙ by (is_some (area_in area hand))
+      where
+        by : (b : Bool) → outcome_in s (cond b (comes stands_lacking)
+            (look (OfArea area) (handed_in stands_lacking (tried_with (next_tried c) stands_lacking n) hand area)))
+            ≡ stands_lacking
+        by true = refl
+        by false =
+            ap (λ o. outcome_in s
+            (handed_in stands_lacking (tried_with (next_tried c) stands_lacking n) hand area o)) none
+
+    -- and with one that is there it is tried again
+    tries_again : (n : ℕ) (state : AreaState) → area_in area hand ≡ None → s (OfArea area) ≡ Some state
+        → outcome_in s (tried_with (next_tried c) stands_lacking (suc n) hand)
+        ≡ outcome_in s (tried_with (next_tried c) stands_lacking n (hand ++ record { name = area; state = state } ∷ []))
+    tries_again n state unasked there =
+        asks_more n
+        ∙ ap (λ o. outcome_in s (cond (is_some o) (comes stands_lacking)
+        (look (OfArea area) (handed_in stands_lacking (tried_with (next_tried c) stands_lacking n) hand area)))) unasked
+        ∙ ap (λ o. outcome_in s
+        (handed_in stands_lacking (tried_with (next_tried c) stands_lacking n) hand area o)) there
+
+-- ---- what a try leaves
+
+module _ (c : Caller) (task : ℕ) (r r' : Regs) (space space' : AddressSpace) (over : StandsOver c task r space)
+    (most : ℕ) (hand hand' : List InHand) (areas : NamedMap AreaState) where
+  next_over : (x : Next) → next_of (acting_with task space hand) r ≡ x
+      → next_of (acting_with c.task c.space hand) c.registers ≡ x
+  next_over x e =
+      ap (λ t. next_of (acting_with t c.space hand) c.registers) over.task
+      ∙ ap (λ a. next_of (acting_with task a hand) c.registers) over.space
+      ∙ ap (λ q. next_of (acting_with task space hand) q) over.registers ∙ e
+
+  ran_over : ran 1 (going_with task space hand r) ≡ Some (going_with task space' hand' r')
+      → ran 1 (going_with c.task c.space hand c.registers) ≡ Some (going_with c.task space' hand' r')
+  ran_over told =
+      ap (λ t. ran 1 (going_with t c.space hand c.registers)) over.task
+      ∙ ap (λ a. ran 1 (going_with task a hand c.registers)) over.space
+      ∙ ap (λ q. ran 1 (going_with task space hand q)) over.registers
+      ∙ told ∙ ap (λ t. Some (going_with t space' hand' r')) (sym over.task)
+
+  -- where it went on
+  pub stepped_goes : next_of (acting_with task space hand) r ≡ Goes
+      → ran 1 (going_with task space hand r) ≡ Some (going_with task space' hand' r') → AreThere hand areas
+      → Stepped c most hand (with_hand hand areas) Goes r' space' hand' areas
+  stepped_goes goes told there = record {
+    last = hand;
+    stands = λ s those. comes_at_once c hand s most Goes (record { next = Goes; hand = hand }) (next_over Goes goes) refl;
+    left = (
+      ran_over told,
+      lent_left hand hand' areas (with_hand hand areas) (record { there = there; back = refl })
+          (ran_names 1 (going_with task space hand r) (going_with task space' hand' r') told),
+    );
+  }
+
+  module _ (same : (r' ≡ r) × (space' ≡ space) × (hand' ≡ hand)) where
+    still : (r' ≡ c.registers) × (space' ≡ c.space) × (with_hand hand' areas ≡ with_hand hand areas)
+    still = (
+      same.0 ∙ sym over.registers,
+      same.1.0 ∙ sym over.space,
+      ap (λ h. with_hand h areas) same.1.1,
+    )
+
+    -- where it calls or traps
+    pub stepped_calls : next_of (acting_with task space hand) r ≡ Calls
+        → Stepped c most hand (with_hand hand areas) Calls r' space' hand' areas
+    stepped_calls calls = record {
+      last = hand;
+      stands = λ s those.
+          comes_at_once c hand s most Calls (record { next = Calls; hand = hand }) (next_over Calls calls) refl;
+      left = still;
+    }
+
+    pub stepped_traps : (signal : ℕ) → next_of (acting_with task space hand) r ≡ Traps signal
+        → Stepped c most hand (with_hand hand areas) (Traps signal) r' space' hand' areas
+    stepped_traps signal traps = record {
+      last = hand;
+      stands = λ s those.
+          comes_at_once c hand s most (Traps signal) (record { next = Traps signal; hand = hand })
+          (next_over (Traps signal) traps) refl;
+      left = still;
+    }
+
+    module _ (area : Area) (touches : next_of (acting_with task space hand) r ≡ Touches area) where
+      -- where it asks for an area, and may have no more
+      pub stepped_full : most ≡ 0 → Stepped c most hand (with_hand hand areas) (Traps 11) r' space' hand' areas
+      stepped_full none = record {
+        last = [];
+        stands = λ s those. lacks_more c hand s area (next_over (Touches area) touches) most none;
+        left = still;
+      }
+
+-- where the area that it asks for can't be had
+pub stepped_lacking : (c : Caller) (task : ℕ) (r r' : Regs) (space space' : AddressSpace)
+    → StandsOver c task r space → (most : ℕ) (hand hand' : List InHand) (areas areas' : NamedMap AreaState)
+    → (area : Area) → next_of (acting_with task space hand) r ≡ Touches area → (r' ≡ r) × (space' ≡ space)
+    → 0 < most → hand' ≡ hand → areas' ≡ areas
+    → (is_some (area_in area hand) ≡ true) ⊎ (get_named areas area.place area.index ≡ None)
+    → Stepped c most hand (with_hand hand areas) (Traps 11) r' space' hand' areas'
+stepped_lacking c task r r' space space' over zero hand hand' areas areas' area touches same more e f lacking =
+    absurd (omega (arith, more))
+stepped_lacking c task r r' space space' over (suc n) hand hand' areas areas' area touches same more e f lacking =
+    record {
+      last = [];
+      stands = λ s those.
+          lacks_area c hand s area
+          (next_over c task r r' space space' over (suc n) hand hand' areas (Touches area) touches) n
+          (by s those lacking);
+      left = (
+        same.0 ∙ sym over.registers,
+        same.1 ∙ sym over.space,
+        ap (λ h. with_hand h areas') e ∙ ap (with_hand hand) f,
+      );
+    }
+  where
+    by : (s : Parts) → AreThose s (with_hand hand areas)
+        → (is_some (area_in area hand) ≡ true) ⊎ (get_named areas area.place area.index ≡ None)
+        → (is_some (area_in area hand) ≡ true) ⊎ (s (OfArea area) ≡ None)
+    by s those (inl has) = inl has
+    by s those (inr none) = at (area_in area hand) refl
+      where
+        at : (o : Option AreaState) → area_in area hand ≡ o
+            → (is_some (area_in area hand) ≡ true) ⊎ (s (OfArea area) ≡ None)
+        at (Some state) q = inl (ap is_some q)
+        at None q = inr (those area ∙ get_unasked hand area areas q ∙ none)
+
+-- where it is tried again with one more in hand
+pub stepped_more : (c : Caller) (most : ℕ) (hand lent hand' : List InHand) (areas left areas' : NamedMap AreaState)
+    (area : Area) (next : Next) (r' : Regs) (space' : AddressSpace)
+    → next_of (acting_with c.task c.space hand) c.registers ≡ Touches area → AreThere hand areas
+    → IsLent area hand lent areas left → 0 < most
+    → Stepped c (most - 1) lent (with_hand lent left) next r' space' hand' areas'
+    → Stepped c most hand (with_hand hand areas) next r' space' hand' areas'
+stepped_more c zero hand lent hand' areas left areas' area next r' space' touches there is more rest =
+    absurd (omega (arith, more))
+stepped_more c (suc n) hand lent hand' areas left areas' area next r' space' touches there is more rest =
+    record {
+      last = rest.last;
+      stands = λ s those.
+          tries_again c hand s area touches n is.state is.unasked (those area ∙ get_unasked hand area areas is.unasked
+          ∙ is.there)
+          ∙ ap (λ h. outcome_in s (tried_with (next_tried c) stands_lacking n h)) (sym is.handed)
+          ∙ rest.stands s (λ name. those name ∙ ap (λ (m : NamedMap AreaState). get_named m name.place name.index)
+          (sym back));
+      left = by next rest.left;
+    }
+  where
+    back : with_hand lent left ≡ with_hand hand areas
+    back = (lent_more area hand lent areas left (with_hand hand areas) is (record { there = there; back = refl })).back
+
+    by : (x : Next) → Left c x rest.last r' space' hand' areas' (with_hand lent left)
+        → Left c x rest.last r' space' hand' areas' (with_hand hand areas)
+    by Goes l = (l.0, l.1 ∙ ap (with_hand hand') back)
+    by Calls l = (l.0, l.1.0, l.1.1 ∙ back)
+    by (Traps signal) l = (l.0, l.1.0, l.1.1 ∙ back)
+    by (Touches other) l = (l.0, l.1.0, l.1.1 ∙ back)
+
+-- ---- the instruction in a kernel
+
+module _ (c : Caller) (k : Kernel) (task : ℕ) (r r' : Regs) (space space' : AddressSpace)
+    (areas left all : NamedMap AreaState) (at : IsAt c k task r space areas) (hand' : List InHand) (next : Next)
+    (stepped : Stepped c 17 [] areas next r' space' hand' left) where
+  pub over_at : StandsOver c task r space
+  over_at = record { task = at.task; registers = at.registers; space = at.space }
+
+  stands_at : outcome_in (parts k) (next_row c) ≡ record { next = next; hand = stepped.last }
+  stands_at = stepped.stands (parts k) (are_those k areas at.areas)
+
+  pub next_at : (outcome_in (parts k) (next_row c)).next ≡ next
+  next_at = ap (λ (x : Stands). x.next) stands_at
+
+  pub steps_at : next ≡ Goes → all ≡ with_hand hand' left → Steps c k r' space' all
+  steps_at goes back =
+      let went : Left c Goes stepped.last r' space' hand' left areas =
+      rw goes at stepped.left in
+      record {
+        changes = run_changes c (going_with c.task space' hand' r');
+        row_is =
+            outcome-bind (parts k) (next_row c) (λ (x : Stands). comes (step_with c x.hand))
+            ∙ ap (λ (x : Stands). step_with c x.hand) stands_at
+            ∙ ap (option_map (run_changes c)) went.0;
+        done_is =
+            areas_changed hand'
+            (record k {
+              spaces = with_named k.spaces c.memory.place c.memory.index space';
+              registers = map.insert k.registers c.task r';
+            })
+            ∙ ap (λ m. record k {
+              spaces = with_named k.spaces c.memory.place c.memory.index space';
+              registers = map.insert k.registers c.task r';
+              areas = m;
+            }) (ap (with_hand hand') at.areas ∙ sym went.1 ∙ sym back);
+      }

@@ -1,0 +1,204 @@
+//! mmap.
+
+ghost use Rattle.std.specs.Prelude.{◌≡◌, ◌+◌, None, IfOk, OnOk, OnErr};
+ghost use Rattle.mm_areas.specs.Mappings.{map_fault, pages_in};
+ghost use Rattle.mm_space.specs.Changes.{mapped_in};
+ghost use Rattle.mm_space.specs.Handing.{zero_area};
+ghost use Rattle.kernel_model.specs.Names.{with_named};
+ghost use Rattle.kernel_model.specs.declared.caller.Caller.{Caller as ACaller};
+ghost use Rattle.kernel_model.specs.declared.kernel.Kernel.{Kernel as AKernel};
+ghost use Rattle.kernel_model.specs.calls.Callers.{context_of};
+ghost use Rattle.kernel_model.specs.calls.Memory.{address_in, area_made_at, asked_place, file_errno, is_anonymous};
+ghost use Rattle.kernel_model.specs.calls.Memory.{is_fixed, is_of_one_kind, is_private, is_shared, map_refusal, mmap_row};
+ghost use Rattle.kernel_calls.specs.Lending.{AreAlike};
+ghost use Rattle.kernel_calls.specs.Prepared.{Answers, HasSpace};
+ghost use Rattle.kernel_calls.specs.declared.prepared.Effect.TheVariants.{Nothing};
+
+use crate::calls::refused;
+use crate::memory::{area_errno, is_no_protection, replied, rights_in};
+use crate::prepared::Prepared;
+use kernel_model::{Args, GuestArea, GuestSpace, Named};
+use mm_areas::{AreaErr, Backing, Rights};
+use rv_table::Area;
+use sn_base::Memory;
+use sn_errno::Errno;
+use std::alloc::Global;
+
+/// What is to be mapped: where, if that is asked for, how many bytes, and with which rights.
+#[derive(Clone, Copy)]
+struct Asked {
+    place: Option<u64>,
+    length: u64,
+    rights: Rights,
+}
+
+/// mmap(address, length, protection, flags, fd, offset), of anonymous memory: private, or shared, which makes a shared
+/// area of the entry's place. The answer is the address.
+///
+/// EINVAL: a protection above 7, not just one of MAP_SHARED and MAP_PRIVATE, an offset that is no multiple of 4,096, no
+/// length or one that passes 2^63 in whole pages, with MAP_FIXED an address below 4,096 or no multiple of 4,096, or an end
+/// above 2^38. Without MAP_ANONYMOUS: ENODEV for the descriptors 0 to 2, and EBADF. ENOMEM: more than 16,384 pages, or no
+/// free range.
+pub(crate) fn mmap(
+    alloc: Global,
+    place: u64,
+    args: &Args,
+    space: &mut GuestSpace,
+    areas: &mut Named<GuestArea>,
+) -> Result<Prepared, Memory>
+    ensures row { IfOk result (λ p. (c : ACaller) (k : AKernel) → HasSpace c k space.old → k.areas ≡ areas.old →
+        k.entries + 1 ≡ place → Answers (mmap_row (context_of k) args.now.a0 args.now.a1 args.now.a2 args.now.a3
+        args.now.a4 args.now.a5 c) p c k space.new areas.new) }
+    ensures effect { IfOk result (λ p. p.effect ≡ Nothing) }
+    ensures err { OnErr result (space.new ≡ space.old) }
+    ensures err_areas { OnErr result (AreAlike areas.new areas.old) }
+{
+    if let Some(errno) = refusal(space, args) {
+        return Ok(refused(errno));
+    }
+    let asked = Asked {
+        place: asked_place(args.a0, args.a3),
+        length: args.a1,
+        rights: rights_in(args.a2),
+    };
+    let address = if is_shared(args.a3) {
+        map_shared(alloc, place, asked, space, areas)?
+    } else {
+        map_over(alloc, asked, Backing::Zeros, space)?
+    };
+    Ok(replied(address.cast_signed()))
+}
+
+/// Why a mapping is refused.
+fn refusal(space: &GuestSpace, args: &Args) -> Option<Errno>
+    ensures { result ≡ map_refusal space.now args.now.a0 args.now.a1 args.now.a2 args.now.a3 args.now.a4 args.now.a5 }
+{
+    let place = space
+        .space
+        .areas()
+        .place_of(asked_place(args.a0, args.a3), args.a1);
+    if is_no_protection(args.a2)
+        || !is_of_one_kind(args.a3)
+        || args.a5 % 4096 != 0
+        || place == Err(AreaErr::Invalid)
+    {
+        return Some(Errno::EINVAL);
+    }
+    if !is_anonymous(args.a3) {
+        return Some(file_errno(args.a4));
+    }
+    match place {
+        Ok(_) => None,
+        Err(fault) => Some(area_errno(fault)),
+    }
+}
+
+/// Maps pages of their own or of an area, where nothing refuses that.
+fn map_over(
+    alloc: Global,
+    asked: Asked,
+    backing: Backing,
+    space: &mut GuestSpace,
+) -> Result<u64, Memory>
+    requires { map_fault space.old.mapping asked.place asked.length ≡ None }
+    ensures address { IfOk result (λ address. address ≡ address_in space.old asked.place asked.length) }
+    ensures mapped { IfOk result (λ address.
+        space.new ≡ mapped_in space.old address asked.length asked.rights backing) }
+    ensures err { OnErr result (space.new ≡ space.old) }
+{
+    match space
+        .space
+        .map(alloc, asked.place, asked.length, asked.rights, backing)
+    {
+        Ok(address) => Ok(address),
+        Err(AreaErr::Memory) => Err(Memory),
+        Err(_) => unreachable!(),
+    }
+}
+
+/// Makes a shared area and maps its pages. The area is made first, and is taken out again where memory is wanting for the
+/// rest.
+fn map_shared(
+    alloc: Global,
+    place: u64,
+    asked: Asked,
+    space: &mut GuestSpace,
+    areas: &mut Named<GuestArea>,
+) -> Result<u64, Memory>
+    requires { map_fault space.old.mapping asked.place asked.length ≡ None }
+    ensures address { IfOk result (λ address. address ≡ address_in space.old asked.place asked.length) }
+    ensures mapped { IfOk result (λ address.
+        space.new ≡ mapped_in space.old address asked.length asked.rights (Backing.Of (area_made_at place))) }
+    ensures made { OnOk result (areas.new ≡ with_named areas.old place 0 (zero_area (pages_in asked.length))) }
+    ensures err { OnErr result (space.new ≡ space.old) }
+    ensures err_areas { OnErr result (AreAlike areas.new areas.old) }
+{
+    let backing = Backing::Of(Area { place, index: 0 });
+    let area = GuestArea::zeros(alloc, asked.length.div_ceil(4096) as usize)?;
+    if areas.contains(place, 0) {
+        let address = map_over(alloc, asked, backing, space)?;
+        areas.replace(place, 0, area);
+        return Ok(address);
+    }
+    areas.insert(alloc, place, 0, area)?;
+    match map_over(alloc, asked, backing, space) {
+        Ok(address) => Ok(address),
+        Err(error) => {
+            let _ = areas.remove(place, 0);
+            Err(error)
+        }
+    }
+}
+
+/// The address that is asked for: with MAP_FIXED, bit 4; else the address is a hint, which is ignored.
+fn asked_place(address: u64, flags: u64) -> Option<u64>
+    ensures { result ≡ asked_place address flags }
+{
+    if is_fixed(flags) { Some(address) } else { None }
+}
+
+/// MAP_FIXED.
+fn is_fixed(flags: u64) -> bool
+    ensures { result ≡ is_fixed flags }
+{
+    flags / 16 % 2 == 1
+}
+
+/// MAP_SHARED.
+fn is_shared(flags: u64) -> bool
+    ensures { result ≡ is_shared flags }
+{
+    flags % 2 == 1
+}
+
+/// MAP_PRIVATE.
+fn is_private(flags: u64) -> bool
+    ensures { result ≡ is_private flags }
+{
+    flags / 2 % 2 == 1
+}
+
+/// MAP_ANONYMOUS.
+fn is_anonymous(flags: u64) -> bool
+    ensures { result ≡ is_anonymous flags }
+{
+    flags / 32 % 2 == 1
+}
+
+/// Just one of MAP_SHARED and MAP_PRIVATE.
+fn is_of_one_kind(flags: u64) -> bool
+    ensures { result ≡ is_of_one_kind flags }
+{
+    is_shared(flags) != is_private(flags)
+}
+
+/// The error of a mapping of a file: the console can't be mapped, and no other file is open so far.
+fn file_errno(fd: u64) -> Errno
+    ensures { result ≡ file_errno fd }
+{
+    if fd % (1 << 32) <= 2 {
+        Errno::ENODEV
+    } else {
+        Errno::EBADF
+    }
+}
