@@ -11,6 +11,7 @@ use Rattle.sn_errno.specs.declared.calls.CallNo.{CallNo}
 use Rattle.sn_errno.specs.declared.calls.CallNo.TheVariants.{Write, ExitGroup, Brk, Munmap, Mmap, Mprotect}
 use Rattle.sn_errno.specs.declared.calls.CallNo.TheVariants.{Getrandom}
 use Rattle.mm_areas.specs.Mappings.{unmap_fault, pages_in}
+use Rattle.mm_space.specs.Changes.{broken_in, unmapped_in, righted_in}
 use Rattle.mm_space.specs.Handing.{InHand, zero_area}
 use Rattle.sn_errno.specs.Calls.{call_of}
 use Rattle.sn_errno.specs.Errors.{reply_of}
@@ -30,14 +31,14 @@ use Rattle.kernel_model.specs.declared.traps.Next.{Next}
 use Rattle.kernel_model.specs.declared.traps.Next.TheVariants.{Goes, Calls, Traps, Touches}
 use Rattle.kernel_model.specs.machine.Random.{random_at}
 use Rattle.kernel_model.specs.machine.Spaces.{going_in, going_with}
-use Rattle.kernel_model.specs.calls.Answers.{Reply, Replies, NotReady, Answer, refuses, replies}
+use Rattle.kernel_model.specs.calls.Answers.{Reply, Replies, NotReady, Answer, refuses, replies, address_reply}
 use Rattle.kernel_model.specs.calls.Callers.{Context, context_of, caller_of}
 use Rattle.kernel_model.specs.calls.Console.{is_written_to, descriptor, to_console, appended, write_row}
 use Rattle.kernel_model.specs.calls.Ending.{exit_group_row, group_end}
 use Rattle.kernel_model.specs.calls.Memory.{mmap_row}
 use Rattle.kernel_model.specs.calls.RandomBytes.{getrandom_row}
 use Rattle.kernel_model.specs.calls.Memory.{remaps, unless_refused, fault_errno, map_refusal, protect_refusal}
-use Rattle.kernel_model.specs.calls.Memory.{is_shared, area_made_at, area_made_by, maps_at, address_in, asked_place}
+use Rattle.kernel_model.specs.calls.Memory.{is_shared, area_made_at, area_made_by, maps_at, address_in, asked_place, rights_in}
 use Rattle.kernel_model.specs.calls.RandomBytes.{put_random}
 use Rattle.kernel_model.specs.calls.Table.{call_row, row_of_call, row_if_known}
 use Rattle.kernel_model.specs.entries.Areas.{Stands, next_row, bytes_read, bytes_written, area_changes, reach_changes}
@@ -171,12 +172,16 @@ module _ (s : Parts) where
   row_leaves : (context : Context) (c : Caller) (args : Args) (call : CallNo) → Leaves (row_of_call context c args call)
   row_leaves context c args Write = write_leaves args.a0 args.a1 args.a2 c.space
   row_leaves context c args ExitGroup = exit_leaves args.a0 c.group
-  row_leaves context c args Brk = remaps_leave c _ _ [] none_leaves
+  row_leaves context c args Brk =
+      remaps_leave c (broken_in c.space args.a0) (address_reply (broken_in c.space args.a0).mapping.program_break) []
+      none_leaves
   row_leaves context c args Munmap =
-      unless_leaves (fault_errno (unmap_fault args.a0 args.a1)) _ (remaps_leave c _ _ [] none_leaves)
+      unless_leaves (fault_errno (unmap_fault args.a0 args.a1)) _
+      (remaps_leave c (unmapped_in c.space args.a0 args.a1) (pos 0) [] none_leaves)
   row_leaves context c args Mmap = mmap_leaves context args.a0 args.a1 args.a2 args.a3 args.a4 args.a5 c
   row_leaves context c args Mprotect =
-      unless_leaves (protect_refusal c.space args.a0 args.a1 args.a2) _ (remaps_leave c _ _ [] none_leaves)
+      unless_leaves (protect_refusal c.space args.a0 args.a1 args.a2) _
+      (remaps_leave c (righted_in c.space args.a0 args.a1 (rights_in args.a2)) (pos 0) [] none_leaves)
   row_leaves context c args Getrandom = getrandom_leaves context args.a0 args.a1 args.a2 c
   row_leaves context c args _ = refused_leaves ENOSYS
 
