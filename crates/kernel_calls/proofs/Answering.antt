@@ -33,31 +33,31 @@ are_those k areas same name = ap (λ (m : NamedMap AreaState). get_named m name.
 kept_memory : (c : Caller) (k : Kernel) (space : AddressSpace) (areas : NamedMap AreaState)
     → get_named k.spaces c.memory.place c.memory.index ≡ Some c.space → space ≡ c.space → areas ≡ k.areas
     → with_memory c space areas k ≡ k
-kept_memory c k space areas there same as =
+kept_memory c k space areas there same shared =
     ap (λ s. record k { spaces = with_named k.spaces c.memory.place c.memory.index s; areas = areas }) same
     ∙ ap (λ m. record k { spaces = m; areas = areas }) (with_same k.spaces c.memory.place c.memory.index c.space there)
-    ∙ ap (λ m. record k { areas = m }) as
+    ∙ ap (λ m. record k { areas = m }) shared
 
 module _ (row : Prog Answer) (p : Prepared) (c : Caller) (k : Kernel) (old space : AddressSpace)
     (areas : NamedMap AreaState) (has : HasSpace c k old) where
   -- a call that leaves memory as it is
   pub answers_kept : outcome_in (parts k) row ≡ answer_of p c.group (parts k) → space ≡ old → areas ≡ k.areas
       → Answers row p c k space areas
-  answers_kept is same as = record {
+  answers_kept is same shared = record {
     changes = changes_of p.effect c.group (parts k);
     row_is = is;
     done_is =
         ap (changed (changes_of p.effect c.group (parts k)))
-        (sym (kept_memory c k space areas has.there (same ∙ sym has.space) as));
+        (sym (kept_memory c k space areas has.there (same ∙ sym has.space) shared));
   }
 
   -- one that is refused
   pub answers_refused : (errno : Errno) → outcome_in (parts k) row ≡ refuses errno → p.reply ≡ reply_of errno
       → p.effect ≡ Nothing → space ≡ old → areas ≡ k.areas → Answers row p c k space areas
-  answers_refused errno is reply none same as =
+  answers_refused errno is reply none same shared =
       answers_kept
       (is ∙ ap (λ v. replies v []) (sym reply)
-      ∙ ap (λ e. replies p.reply (changes_of e c.group (parts k))) (sym none)) same as
+      ∙ ap (λ e. replies p.reply (changes_of e c.group (parts k))) (sym none)) same shared
 
   -- one that leaves another address space, with these changes of areas
   pub answers_remapped : (changes : List Change) → outcome_in (parts k) row ≡ remaps c space p.reply changes

@@ -1,6 +1,6 @@
 -- Laws of shared areas that are handed in, and taken back.
 use Rattle.std.proofs.Common.{◌≡◌, ◌≢◌, ℕ, Bool, true, false, cond, List, [], ◌∷◌, ◌++◌, Option, Some, None, refl, ap}
-use Rattle.std.proofs.Common.{sym, ◌∙◌, ◌⊎◌, inl, inr}
+use Rattle.std.proofs.Common.{sym, ◌∙◌, ◌⊎◌, inl, inr, subst}
 use Rattle.std.specs.Prelude.{is_some, unwrap_or, IsTrue, ◌==◌, ◌&&◌}
 use Rattle.std.specs.Ordering.{nat_cmp}
 use Rattle.std.specs.FinMap.{FinMap, get, insert, empty}
@@ -102,23 +102,25 @@ over_one : (hand : List InHand) (m : NamedMap AreaState) (place index : ℕ) (v 
 over_one [] m place index v w = with-with m place index v w
 over_one (h ∷ hand) m place index v w =
     elim (one_name_or_two h.name.place h.name.index place index) [
-      | inl e ↦ here e.0 e.1
+      | inl e ↦ here (over_one hand m place index v w) e.0 e.1
       | inr d ↦ with-swap (with_hand hand (with_named m place index v)) h.name.place h.name.index place index h.state w d
           ∙ ap (λ n. with_named n h.name.place h.name.index h.state) (over_one hand m place index v w)
           ∙ sym (with-swap (with_hand hand m) h.name.place h.name.index place index h.state w d)
     ]
   where
-    here : h.name.place ≡ place → h.name.index ≡ index
+    here : with_named (with_hand hand (with_named m place index v)) place index w
+        ≡ with_named (with_hand hand m) place index w
+        → h.name.place ≡ place → h.name.index ≡ index
         → with_named (with_named (with_hand hand (with_named m place index v)) h.name.place h.name.index h.state)
         place index w
         ≡ with_named (with_named (with_hand hand m) h.name.place h.name.index h.state) place index w
-    here e f =
+    here rest e f =
         ap (λ p. with_named (with_named (with_hand hand (with_named m place index v)) p h.name.index h.state)
         place index w) e
         ∙ ap (λ i. with_named (with_named (with_hand hand (with_named m place index v)) place i h.state)
         place index w) f
         ∙ with-with (with_hand hand (with_named m place index v)) place index h.state w
-        ∙ over_one hand m place index v w
+        ∙ rest
         ∙ sym (with-with (with_hand hand m) place index h.state w)
         ∙ sym (ap (λ i. with_named (with_named (with_hand hand m) place i h.state) place index w) f)
         ∙ sym (ap (λ p. with_named (with_named (with_hand hand m) p h.name.index h.state) place index w) e)
@@ -172,7 +174,7 @@ pub there_rest : (all hand : List InHand) (h : InHand) (m : NamedMap AreaState) 
     → (IsTrue (has_named m h.name.place h.name.index))
     × AreThere hand (with_named m h.name.place h.name.index h.state)
 there_rest all hand h m e there =
-    let less = there_less hand h m (rw (sym e) at there) in
+    let less = there_less hand h m (subst (λ x. AreThere x m) e there) in
     (less.1, there_with hand m h.name.place h.name.index h.state less.0)
 
 pub back_last : (all hand : List InHand) (h : InHand) (m : NamedMap AreaState) → all ≡ hand ++ h ∷ []
@@ -204,24 +206,27 @@ apart_by a b e = by (a.place == b.place) (a.index == b.index) refl refl e
 pub get_unasked : (hand : List InHand) (name : Area) (m : NamedMap AreaState) → area_in name hand ≡ None
     → get_named (with_hand hand m) name.place name.index ≡ get_named m name.place name.index
 get_unasked [] name m e = refl
-get_unasked (h ∷ hand) name m e = by (is_area h.name name) refl e
+get_unasked (h ∷ hand) name m e = by (get_unasked hand name m) (is_area h.name name) refl e
   where
-    by : (b : Bool) → is_area h.name name ≡ b → cond b (Some h.state) (area_in name hand) ≡ None
+    by : (area_in name hand ≡ None
+        → get_named (with_hand hand m) name.place name.index ≡ get_named m name.place name.index)
+        → (b : Bool) → is_area h.name name ≡ b → cond b (Some h.state) (area_in name hand) ≡ None
         → get_named (with_named (with_hand hand m) h.name.place h.name.index h.state) name.place name.index
         ≡ get_named m name.place name.index
-    by true is e = absurd (cc e)
-    by false is e =
+    by rest true is e = absurd (cc e)
+    by rest false is e =
         get-with_other (with_hand hand m) h.name.place h.name.index name.place name.index h.state
         (apart_by h.name name is)
-        ∙ get_unasked hand name m e
+        ∙ rest e
 
 pub lent_more : (name : Area) (hand hand' : List InHand) (areas areas' all : NamedMap AreaState)
     → IsLent name hand hand' areas areas' → AreLent hand areas all → AreLent hand' areas' all
 lent_more name hand hand' areas areas' all lent before = record {
-  there = rw (lent.handed, lent.left) (there_more hand (record { name = name; state = lent.state })
+  there = subst (λ x. AreThere x areas') (sym lent.handed) (subst (λ x. AreThere (hand
+      ++ record { name = name; state = lent.state } ∷ []) x) (sym lent.left) (there_more hand (record { name = name; state = lent.state })
       (with_named areas name.place name.index (zero_area 0))
       (there_with hand areas name.place name.index (zero_area 0) before.there)
-      (ap is_some (get-with_same areas name.place name.index (zero_area 0))));
+      (ap is_some (get-with_same areas name.place name.index (zero_area 0)))));
   back = ap (λ h. with_hand h areas') lent.handed
       ∙ ap (with_hand (hand ++ record { name = name; state = lent.state } ∷ [])) lent.left
       ∙ with_hand-last hand (record { name = name; state = lent.state })

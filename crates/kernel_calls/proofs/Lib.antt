@@ -5,5 +5,5 @@ pub mod Executables
 pub mod Keys
 pub mod Lendings
 pub mod Runs
-pub mod Stepping
+pub mod SteppedLaws
 pub mod Strings

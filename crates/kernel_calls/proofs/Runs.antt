@@ -31,7 +31,7 @@ use Rattle.kernel_model.specs.machine.Instructions.{StopsAt, next_by, next_of, g
 use Rattle.kernel_model.specs.machine.Spaces.{acting_in, acting_with, going_in, going_with}
 use Rattle.kernel_model.specs.entries.Areas.{Stands, stands_by, stands_lacking, next_tried, next_row, handed_in, asked}
 use Rattle.kernel_model.specs.entries.Areas.{comes_to, tried_with}
-use Rattle.kernel_model.specs.entries.Parts.{Parts, done, look, outcome_in, Change}
+use Rattle.kernel_model.specs.entries.Parts.{Parts, done as comes, look, outcome_in, Change}
 use Rattle.kernel_model.specs.entries.Steps.{run_changes, run_alone, run_row, or_step, step_with, step_row, task_change}
 use Rattle.kernel_model.proofs.Trees.{outcome-bind}
 use Rattle.kernel_calls.specs.Lending.{names}
@@ -254,13 +254,13 @@ module _ (n : ℕ) (c : Caller) (alone : run_alone n c ≡ None) where
   pub row_by_step : (s : Parts) → n ≡ 1 → outcome_in s (run_row n c) ≡ outcome_in s (step_row c)
   row_by_step s one =
       ap (λ o. outcome_in s (or_step n c o)) alone
-      ∙ ap (λ m. outcome_in s (cond (eqb m 1) (step_row c) (done None))) one
+      ∙ ap (λ m. outcome_in s (cond (eqb m 1) (step_row c) (comes None))) one
 
   -- and not where it is more
   pub row_none : (s : Parts) → eqb n 1 ≡ false → outcome_in s (run_row n c) ≡ None
   row_none s more =
       ap (λ o. outcome_in s (or_step n c o)) alone
-      ∙ ap (λ b. outcome_in s (cond b (step_row c) (done None))) more
+      ∙ ap (λ b. outcome_in s (cond b (step_row c) (comes None))) more
 
 -- ---- the next instruction, with the areas that it touches
 
@@ -310,31 +310,35 @@ module _ (c : Caller) (s : Parts) where
       by Calls e stopped = inl (still_here hand (ap goes_on e))
       by (Traps signal) e stopped = inl (still_here hand (ap goes_on e))
       by (Touches area) e stopped = inr refl
-  still_by (suc n) hand = by (next_of (acting_with c.task c.space hand) c.registers) refl
+  still_by (suc n) hand =
+      by (λ more. still_by n more) (next_of (acting_with c.task c.space hand) c.registers) refl
     where
-      given : (area : Area) (o : Option AreaState) → IsStill (outcome_in s
+      given : ((more : List InHand) → IsStill (outcome_in s (tried_with (next_tried c) stands_lacking n more)))
+          → (area : Area) (o : Option AreaState) → IsStill (outcome_in s
           (handed_in stands_lacking (tried_with (next_tried c) stands_lacking n) hand area o))
-      given area None stopped = inr refl
-      given area (Some state) = still_by n (hand ++ record { name = area; state = state } ∷ [])
+      given rest area None stopped = inr refl
+      given rest area (Some state) stopped = rest (hand ++ record { name = area; state = state } ∷ []) stopped
 
-      anew : (area : Area) (b : Bool) → IsStill (outcome_in s (cond b (done stands_lacking)
+      anew : ((more : List InHand) → IsStill (outcome_in s (tried_with (next_tried c) stands_lacking n more)))
+          → (area : Area) (b : Bool) → IsStill (outcome_in s (cond b (comes stands_lacking)
           (look (OfArea area) (handed_in stands_lacking (tried_with (next_tried c) stands_lacking n) hand area))))
-      anew area true stopped = inr refl
-      anew area false = given area (s (OfArea area))
+      anew rest area true stopped = inr refl
+      anew rest area false stopped = given rest area (s (OfArea area)) stopped
 
-      by : (x : Next) → next_of (acting_with c.task c.space hand) c.registers ≡ x
+      by : ((more : List InHand) → IsStill (outcome_in s (tried_with (next_tried c) stands_lacking n more)))
+          → (x : Next) → next_of (acting_with c.task c.space hand) c.registers ≡ x
           → IsStill (outcome_in s
           (asked stands_lacking (tried_with (next_tried c) stands_lacking n) hand (stands_by hand x)))
-      by Goes e stopped = absurd (cc stopped)
-      by Calls e stopped = inl (still_here hand (ap goes_on e))
-      by (Traps signal) e stopped = inl (still_here hand (ap goes_on e))
-      by (Touches area) e = anew area (is_some (area_in area hand))
+      by rest Goes e stopped = absurd (cc stopped)
+      by rest Calls e stopped = inl (still_here hand (ap goes_on e))
+      by rest (Traps signal) e stopped = inl (still_here hand (ap goes_on e))
+      by rest (Touches area) e stopped = anew rest area (is_some (area_in area hand)) stopped
 
   -- so it does not fit as a run of one instruction
   pub step_none : goes_on (outcome_in s (next_row c)).next ≡ false → run_alone 1 c ≡ None
       → outcome_in s (step_row c) ≡ None
   step_none stopped alone =
-      outcome-bind s (next_row c) (λ (x : Stands). done (step_with c x.hand))
+      outcome-bind s (next_row c) (λ (x : Stands). comes (step_with c x.hand))
       ∙ either (still_by 17 [] stopped)
     where
       either : (step_with c (outcome_in s (next_row c)).hand ≡ None) ⊎ (outcome_in s (next_row c) ≡ stands_lacking)

@@ -33,20 +33,20 @@ answer_of p group s = replies p.reply (changes_of p.effect group s)
 -- a task at a call, in a kernel: with its number, with its address space and the shared areas as they are, with so many
 -- bytes on the console, and the key and the place of the call's entry
 -- syscall(2); profile
-pub record IsCalling (c : Caller) (k : Kernel) (context : Context) (space : AddressSpace) (areas : NamedMap AreaState)
-    (console : ℕ) : Type 0 where
+pub record IsCalling (c : Caller) (k : Kernel) (context : Context) (own : AddressSpace) (shared : NamedMap AreaState)
+    (taken : ℕ) : Type 0 where
   pub task : c.task ≡ context.task
   pub place : k.entries + 1 ≡ context.place
   pub seed : k.seed ≡ context.seed.now
-  pub space : c.space ≡ space
+  pub space : c.space ≡ own
   pub there : get_named k.spaces c.memory.place c.memory.index ≡ Some c.space
-  pub areas : k.areas ≡ areas
-  pub console : length k.console ≡ console
+  pub areas : k.areas ≡ shared
+  pub console : length k.console ≡ taken
 
 -- a task whose address space is this, in a kernel that has it
 -- profile
-pub record HasSpace (c : Caller) (k : Kernel) (space : AddressSpace) : Type 0 where
-  pub space : c.space ≡ space
+pub record HasSpace (c : Caller) (k : Kernel) (own : AddressSpace) : Type 0 where
+  pub space : c.space ≡ own
   pub there : get_named k.spaces c.memory.place c.memory.index ≡ Some c.space
 
 -- a kernel in which a task's address space, and the shared areas, are these
@@ -89,12 +89,12 @@ EndsLive (EndsGroup status) group list =
 -- a task before its next instruction, in a kernel: with its number, registers and address space, and the shared areas as
 -- they are
 -- RISC-V Unprivileged ISA 20191213, 1.2
-pub record IsAt (c : Caller) (k : Kernel) (task : ℕ) (registers : Regs) (space : AddressSpace)
-    (areas : NamedMap AreaState) : Type 0 where
-  pub task : c.task ≡ task
-  pub registers : c.registers ≡ registers
-  pub space : c.space ≡ space
-  pub areas : k.areas ≡ areas
+pub record IsAt (c : Caller) (k : Kernel) (number : ℕ) (before : Regs) (own : AddressSpace)
+    (shared : NamedMap AreaState) : Type 0 where
+  pub task : c.task ≡ number
+  pub registers : c.registers ≡ before
+  pub space : c.space ≡ own
+  pub areas : k.areas ≡ shared
 
 -- an instruction that may touch shared areas leaves a task these registers and this address space, and these areas
 -- RISC-V Unprivileged ISA 20191213, 1.2; mmap(2), MAP_SHARED

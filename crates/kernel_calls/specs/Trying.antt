@@ -42,10 +42,10 @@ Wrote (Some r) wrote space space' areas areas' = (wrote ≡ true) × (space' ≡
 
 -- a task with these registers and this address space
 -- RISC-V Unprivileged ISA 20191213, 1.2
-pub record StandsOver (c : Caller) (task : ℕ) (registers : Regs) (space : AddressSpace) : Type 0 where
-  pub task : c.task ≡ task
-  pub registers : c.registers ≡ registers
-  pub space : c.space ≡ space
+pub record StandsOver (c : Caller) (number : ℕ) (before : Regs) (own : AddressSpace) : Type 0 where
+  pub task : c.task ≡ number
+  pub registers : c.registers ≡ before
+  pub space : c.space ≡ own
 
 -- what an instruction has left, with what was in hand for it: where it went on, what it does, and else nothing has changed
 -- RISC-V Unprivileged ISA 20191213, 1.2

@@ -1,6 +1,6 @@
 //! Guests' buffers, which may lie in shared areas: these are handed in as they are asked for.
 
-ghost use Rattle.std.specs.Prelude.{◌≡◌, ◌≤◌, length, Some, true, IfOk, IfSome, OnErr};
+ghost use Rattle.std.specs.Prelude.{◌≡◌, [], length, IfOk, IfSome, OnErr};
 ghost use Rattle.std.specs.Bool.{OnTrue, OnFalse};
 ghost use Rattle.mm_space.specs.Accesses.{readable, writable};
 ghost use Rattle.mm_space.specs.Handing.{hand_of};

@@ -1,9 +1,9 @@
 //! brk, mmap, munmap and mprotect.
 
-ghost use Rattle.std.specs.Prelude.{◌≡◌, IfOk, OnErr};
+ghost use Rattle.std.specs.Prelude.{◌≡◌, false, IfOk, OnErr};
 ghost use Rattle.kernel_model.specs.declared.caller.Caller.{Caller as ACaller};
 ghost use Rattle.kernel_model.specs.declared.kernel.Kernel.{Kernel as AKernel};
-ghost use Rattle.kernel_model.specs.calls.Memory.{area_errno, brk_row, is_no_protection, mprotect_row, munmap_row};
+ghost use Rattle.kernel_model.specs.calls.Memory.{area_errno, brk_row, is_no_protection, mprotect_row, munmap_row, rights_in};
 ghost use Rattle.kernel_calls.specs.Prepared.{Answers, HasSpace};
 ghost use Rattle.kernel_calls.specs.declared.prepared.Effect.TheVariants.{Nothing};
 

@@ -66,7 +66,8 @@ fn step_with(
     ensures err { OnErr result ((registers.new ≡ registers.old) × (space.new ≡ space.old)
         × (with_hand (hand_of handed.new) areas.new ≡ with_hand (hand_of handed.old) areas.old)) }
 {
-    match once(alloc, task, registers, space, handed)? {
+    let next = once(alloc, task, registers, space, handed)?;
+    match next {
         Next::Touches(area) => {
             if most == 0 {
                 return Ok(Next::Traps(11));

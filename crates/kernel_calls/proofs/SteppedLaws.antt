@@ -160,8 +160,8 @@ module _ (c : Caller) (task : ℕ) (r r' : Regs) (space space' : AddressSpace) (
     still : (r' ≡ c.registers) × (space' ≡ c.space) × (with_hand hand' areas ≡ with_hand hand areas)
     still = (
       same.0 ∙ sym over.registers,
-      same.1.0 ∙ sym over.space,
-      ap (λ h. with_hand h areas) same.1.1,
+      same.1 ∙ sym over.space,
+      ap (λ h. with_hand h areas) same.2,
     )
 
     -- where it calls or traps
@@ -254,9 +254,9 @@ stepped_more c (suc n) hand lent hand' areas left areas' area next r' space' tou
     by : (x : Next) → Left c x rest.last r' space' hand' areas' (with_hand lent left)
         → Left c x rest.last r' space' hand' areas' (with_hand hand areas)
     by Goes l = (l.0, l.1 ∙ ap (with_hand hand') back)
-    by Calls l = (l.0, l.1.0, l.1.1 ∙ back)
-    by (Traps signal) l = (l.0, l.1.0, l.1.1 ∙ back)
-    by (Touches other) l = (l.0, l.1.0, l.1.1 ∙ back)
+    by Calls l = (l.0, l.1, l.2 ∙ back)
+    by (Traps signal) l = (l.0, l.1, l.2 ∙ back)
+    by (Touches other) l = (l.0, l.1, l.2 ∙ back)
 
 -- ---- the instruction in a kernel
 
