@@ -1,7 +1,7 @@
 /*
- * A buffer of two pages between guard pages, which mprotect makes. What mprotect says holds at once: a page that may not
- * be written can be read, and it keeps its bytes. Then bytes are written up to the end of the buffer and on: the first
- * byte of the guard page ends the group by signal 11. What was printed before is printed, and nothing behind it.
+ * A buffer of two pages between guard pages, which mprotect makes. What mprotect says holds at once: a page that may
+ * not be written can be read, and it keeps its bytes. Then bytes are written up to the end of the buffer and on: the
+ * first byte of the guard page ends the group by signal 11. What was printed before is printed, and nothing behind it.
  */
 #include <stdio.h>
 #include <stdlib.h>

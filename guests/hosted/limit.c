@@ -1,7 +1,7 @@
 /*
- * As many pages as there may be: those of the image and of the stack, of the heap and of a mapping are 16,384 in all. One
- * more is refused, in the heap and in a mapping; what takes no more of them isn't, and a page that is given back can be
- * taken again. Linux has no such limit; what is expected is written by hand.
+ * As many pages as there may be: those of the image and of the stack, of the heap and of a mapping are 16,384 in all.
+ * One more is refused, in the heap and in a mapping; what takes no more of them isn't, and a page that is given back
+ * can be taken again. Linux has no such limit; what is expected is written by hand.
  */
 #include <elf.h>
 #include <errno.h>

@@ -1,7 +1,7 @@
 /*
  * What ends a reservation: a load-reserved reserves a place, memory is changed, and a store-conditional to that place
- * stores where the reservation is still there. It is lost where its page was unmapped, mapped over or given rights, alone
- * or with others, and kept where another page was, and where the call was refused.
+ * stores where the reservation is still there. It is lost where its page was unmapped, mapped over or given rights,
+ * alone or with others, and kept where another page was, and where the call was refused.
  *
  * Linux ends the reservation in every call, and an emulator may end it in none; what is expected is written by hand.
  */

@@ -1,6 +1,6 @@
 /*
- * Shared anonymous memory: stored and loaded in all widths, at the ends of its pages too; atomic instructions on it; and
- * calls that take their bytes from it and put bytes into it. One task runs, so all is as in private memory.
+ * Shared anonymous memory: stored and loaded in all widths, at the ends of its pages too; atomic instructions on it;
+ * and calls that take their bytes from it and put bytes into it. One task runs, so all is as in private memory.
  */
 #include <stdatomic.h>
 #include <stdint.h>
@@ -119,8 +119,8 @@ int main(void)
     area = mmap(NULL, PAGES * PAGE, PROT_READ | PROT_WRITE, MAP_SHARED | MAP_ANONYMOUS, -1, 0);
     expect(area != MAP_FAILED, "shared pages are mapped");
     int zeros = 1;
-    for (int k = 0; k < PAGES * PAGE; k++)
-        zeros = zeros && area[k] == 0;
+    for (unsigned char *at = area; at < area + PAGES * PAGE; at += 8)
+        zeros = zeros && load_double(at) == 0;
     expect(zeros, "they have zeros");
     store_across();
     work_atomically();

@@ -1,4 +1,4 @@
-/* From the opening stack to main: arguments, environment, constructors, and the end of the group with what main returns. */
+/* From the opening stack to main: arguments, environment, constructors, and the group's end with what main returns. */
 #include <stdlib.h>
 #include <unistd.h>
 

@@ -1,4 +1,4 @@
-/* A system call as the kernel takes it: the number in a7, six arguments, and the reply, which is below 0 for an error. */
+/* A system call as the kernel takes it: the number in a7, six arguments, and the reply, below 0 for an error. */
 #ifndef CALL_H
 #define CALL_H
 

@@ -1,6 +1,6 @@
 /*
- * Where the parts of a guest lie: code from 0x10000 on, then constants, then variables, each on pages of its own, so that
- * none may be both written and executed. The variables of the one thread are used where they lie.
+ * Where the parts of a guest lie: code from 0x10000 on, then constants, then variables, each on pages of its own, so
+ * that none may be both written and executed. The variables of the one thread are used where they lie.
  */
 ENTRY(_start)
 
