@@ -19,35 +19,35 @@ static long read_number(const char *digits)
 static void check(int holds)
 {
     if (!holds)
-        call(EXIT_GROUP, 1, 0, 0, 0, 0, 0);
+        call(CALL_EXIT_GROUP, 1, 0, 0, 0, 0, 0);
 }
 
 static long map(long length)
 {
-    long at = call(MMAP, 0, length, 3, 0x22, -1, 0); /* to read and write; private and anonymous */
+    long at = call(CALL_MMAP, 0, length, 3, 0x22, -1, 0); /* to read and write; private and anonymous */
     check(at > 0);
     return at;
 }
 
 static void ask_for_break(void)
 {
-    check(call(BRK, 0, 0, 0, 0, 0, 0) > 0);
+    check(call(CALL_BRK, 0, 0, 0, 0, 0, 0) > 0);
 }
 
 static void ask_for_random_bytes(void)
 {
     char bytes[16];
-    check(call(GETRANDOM, (long)bytes, sizeof bytes, 0, 0, 0, 0) == sizeof bytes);
+    check(call(CALL_GETRANDOM, (long)bytes, sizeof bytes, 0, 0, 0, 0) == sizeof bytes);
 }
 
 static void map_and_unmap(void)
 {
-    check(call(MUNMAP, map(PAGE), PAGE, 0, 0, 0, 0) == 0);
+    check(call(CALL_MUNMAP, map(PAGE), PAGE, 0, 0, 0, 0) == 0);
 }
 
 static void write_a_byte(void)
 {
-    check(call(WRITE, 1, (long)".", 1, 0, 0, 0) == 1);
+    check(call(CALL_WRITE, 1, (long)".", 1, 0, 0, 0) == 1);
 }
 
 static void touch(long pages)
@@ -74,6 +74,6 @@ _Noreturn void begin(char **stack)
     case 't': touch(times); break;
     default: check(0);
     }
-    call(EXIT_GROUP, 0, 0, 0, 0, 0, 0);
+    call(CALL_EXIT_GROUP, 0, 0, 0, 0, 0, 0);
     __builtin_unreachable();
 }

@@ -7,12 +7,7 @@ _Noreturn void begin(char **stack);
 
 #ifdef __riscv
 
-#define WRITE 64
-#define EXIT_GROUP 94
-#define BRK 214
-#define MUNMAP 215
-#define MMAP 222
-#define GETRANDOM 278
+#include "../guests/libc/call.h"
 
 __asm__(
     ".globl _start\n"
@@ -20,27 +15,14 @@ __asm__(
     "mv a0, sp\n\t"
     "call begin\n");
 
-static inline long call(long number, long a, long b, long c, long d, long e, long f)
-{
-    register long a0 __asm__("a0") = a;
-    register long a1 __asm__("a1") = b;
-    register long a2 __asm__("a2") = c;
-    register long a3 __asm__("a3") = d;
-    register long a4 __asm__("a4") = e;
-    register long a5 __asm__("a5") = f;
-    register long a7 __asm__("a7") = number;
-    __asm__ volatile("ecall" : "+r"(a0) : "r"(a1), "r"(a2), "r"(a3), "r"(a4), "r"(a5), "r"(a7) : "memory");
-    return a0;
-}
-
 #else
 
-#define WRITE 1
-#define EXIT_GROUP 231
-#define BRK 12
-#define MUNMAP 11
-#define MMAP 9
-#define GETRANDOM 318
+#define CALL_WRITE 1
+#define CALL_EXIT_GROUP 231
+#define CALL_BRK 12
+#define CALL_MUNMAP 11
+#define CALL_MMAP 9
+#define CALL_GETRANDOM 318
 
 __asm__(
     ".globl _start\n"

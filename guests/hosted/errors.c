@@ -1,7 +1,7 @@
 /*
  * What the five calls of memory answer, at the edges of addresses and lengths: a line a call, with the name of an
  * error, a number, or from 4,096 on its hexadecimal digits. What is expected is written by hand, from docs/GUESTS.md.
- * Behind the word `choice` stands what Linux answers, where that is something else.
+ * Behind the word `choice` stands what Linux, with addresses of 39 bits, answers where that is something else.
  */
 #include <limits.h>
 #include <stdio.h>
@@ -211,7 +211,7 @@ static void try_break(void)
     show("brk of 1 byte", set_break(start + 1) - start);
     show("brk below the start", set_break(start - 1) - start);
     show("brk of 1", set_break(1) - start);
-    show("brk of 2^37", set_break(LOW) - start);
+    show("brk of 2^37", set_break(LOW) - start); /* choice: the break may come to there */
     show("brk of 2^37 - 1", set_break(LOW - 1) - start); /* choice: the break may come to there */
     show("brk of 2^64 - 1", set_break(-1) - start);
     show("brk of 16384 pages", set_break(start + 16384 * PAGE) - start); /* choice: the break may come to there */

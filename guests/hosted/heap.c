@@ -8,7 +8,7 @@
 #include <stdio.h>
 #include <stdlib.h>
 
-#include "numbers.h"
+#include "../numbers.h"
 
 #define BLOCKS 300
 #define STEPS 20000

@@ -11,7 +11,7 @@
 #include <sys/random.h>
 #include <unistd.h>
 
-#include "numbers.h"
+#include "../numbers.h"
 
 #define PAGE 4096
 #define PAGES 5

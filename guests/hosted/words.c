@@ -8,7 +8,7 @@
 #include <stdlib.h>
 #include <string.h>
 
-#include "numbers.h"
+#include "../numbers.h"
 
 #define TEXT_SIZE 300000
 #define SHOWN 12

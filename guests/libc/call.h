@@ -2,8 +2,6 @@
 #ifndef CALL_H
 #define CALL_H
 
-#include <errno.h>
-
 #define CALL_WRITE 64
 #define CALL_EXIT_GROUP 94
 #define CALL_BRK 214
@@ -23,16 +21,6 @@ static inline long call(long number, long a, long b, long c, long d, long e, lon
     register long a7 __asm__("a7") = number;
     __asm__ volatile("ecall" : "+r"(a0) : "r"(a1), "r"(a2), "r"(a3), "r"(a4), "r"(a5), "r"(a7) : "memory");
     return a0;
-}
-
-/* What a function of the C library answers for a reply: the reply, or -1 with errno set. The library's number of ENOSYS
- * is not the kernel's, 38; up to 34 their numbers are the same. */
-static inline long answer(long reply)
-{
-    if (reply >= 0 || reply < -4095)
-        return reply;
-    errno = reply == -38 ? ENOSYS : -reply;
-    return -1;
 }
 
 #endif

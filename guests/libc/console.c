@@ -6,6 +6,7 @@
 #include <stdio-bufio.h>
 #include <unistd.h>
 
+#include "answer.h"
 #include "call.h"
 
 ssize_t write(int fd, const void *bytes, size_t count)

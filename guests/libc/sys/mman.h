@@ -5,6 +5,7 @@
 #include <stddef.h>
 #include <sys/types.h>
 
+#include "../answer.h"
 #include "../call.h"
 
 #define PROT_NONE 0

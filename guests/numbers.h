@@ -1,4 +1,4 @@
-/* A generator of numbers and a digest, as ../programs/guest.h has them. */
+/* A generator of numbers and a digest. */
 #ifndef NUMBERS_H
 #define NUMBERS_H
 
