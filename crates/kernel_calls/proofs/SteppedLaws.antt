@@ -10,6 +10,9 @@ use Rattle.rv_exec.specs.Execution as done
 use Rattle.mm_space.specs.Handing.{AreaState, InHand, area_in}
 use Rattle.mm_space.specs.Spaces.{AddressSpace}
 use Rattle.quantum.specs.Acting.{Acting, memory_of}
+use Rattle.quantum.specs.declared.run.QuantumEnd.{QuantumEnd}
+use Rattle.quantum.specs.declared.run.QuantumEnd.TheVariants as ends
+use Rattle.quantum.specs.Ends.{Few, LacksMemory, Ran, Stopped}
 use Rattle.quantum.specs.Instructions.{Going, ran, next_done}
 use Rattle.kernel_model.specs.Names.{NamedMap, get_named, with_named}
 use Rattle.kernel_model.specs.declared.caller.Caller.{Caller}
@@ -26,7 +29,7 @@ use Rattle.kernel_model.specs.entries.Steps.{run_changes, step_with, step_row, t
 use Rattle.kernel_model.proofs.Trees.{outcome-bind}
 use Rattle.kernel_calls.specs.Lending.{AreThere, AreThose, IsLent, names, with_hand}
 use Rattle.kernel_calls.specs.Prepared.{IsAt, Steps, with_memory}
-use Rattle.kernel_calls.specs.Trying.{AreLent, Left, StandsOver, Stepped}
+use Rattle.kernel_calls.specs.Trying.{AreLent, Left, StandsOver, Stepped, next_by_end}
 use Rattle.kernel_calls.proofs.Answering.{are_those, areas_changed}
 use Rattle.kernel_calls.proofs.Lendings.{get_unasked, lent_left, lent_more}
 use Rattle.kernel_calls.proofs.Runs.{nothing_ran, one_more, ran_last, ran_none, ran_names, went_by}
@@ -64,6 +67,68 @@ pub none_next : (count task : ℕ) (space space' : AddressSpace) (hand hand' : L
     → next_of (acting_with task space hand) r ≡ next_by (next_done (going_with task space' hand' r'))
 none_next count task space space' hand hand' r r' told few =
     sym (ap (λ (g : Going). next_by (next_done g)) (nothing_ran count _ _ told few))
+
+-- what a run of at most one tells of the next instruction: `own` is the address space as it was
+module _ (end : QuantumEnd) (task : ℕ) (own space space' : AddressSpace) (same : own ≡ space)
+    (hand hand' : List InHand) (r r' : Regs)
+    (told : Ran (going_with task own hand r) (going_with task space' hand' r') end) (few : Few 1 end) where
+  moved : (count : ℕ) → ran count (going_with task own hand r) ≡ Some (going_with task space' hand' r')
+      → ran count (going_with task space hand r) ≡ Some (going_with task space' hand' r')
+  moved count is = ap (λ a. ran count (going_with task a hand r)) (sym same) ∙ is
+
+  pub end_next : Stopped (going_with task space' hand' r') end → (next : Next) → next_by_end end ≡ Some next
+      → next_of (acting_with task space hand) r ≡ next
+  end_next stopped next is = by end told few stopped is
+    where
+      by : (e : QuantumEnd) → Ran (going_with task own hand r) (going_with task space' hand' r') e → Few 1 e
+          → Stopped (going_with task space' hand' r') e → next_by_end e ≡ Some next
+          → next_of (acting_with task space hand) r ≡ next
+      by (ends.Ended count) t f s i =
+          one_goes count (going_with task space hand r) (going_with task space' hand' r') (moved count t) f ∙ cc i
+      by (ends.Call count) t f s i =
+          none_next count task space space' hand hand' r r' (moved count t) f ∙ ap next_by s ∙ cc i
+      by (ends.Trap count signal) t f s i =
+          none_next count task space space' hand hand' r r' (moved count t) f ∙ ap next_by s ∙ cc i
+      by (ends.Shared count area) t f s i =
+          none_next count task space space' hand hand' r r' (moved count t) f ∙ ap next_by s ∙ cc i
+      by ends.Memory t f s i = absurd (cc i)
+
+  pub end_goes : (next : Next) → next_by_end end ≡ Some next → next ≡ Goes
+      → ran 1 (going_with task space hand r) ≡ Some (going_with task space' hand' r')
+  end_goes next is goes = by end told few is
+    where
+      by : (e : QuantumEnd) → Ran (going_with task own hand r) (going_with task space' hand' r') e → Few 1 e
+          → next_by_end e ≡ Some next → ran 1 (going_with task space hand r) ≡ Some (going_with task space' hand' r')
+      by (ends.Ended count) t f i =
+          one_ran count (going_with task space hand r) (going_with task space' hand' r') (moved count t) f
+      by (ends.Call count) t f i = absurd (cc (i, goes))
+      by (ends.Trap count signal) t f i = absurd (cc (i, goes))
+      by (ends.Shared count area) t f i = absurd (cc (i, goes))
+      by ends.Memory t f i = absurd (cc i)
+
+  pub end_kept : (next : Next) → next_by_end end ≡ Some next → goes_on next ≡ false
+      → (r' ≡ r) × (space' ≡ space) × (hand' ≡ hand)
+  end_kept next is stays = by end told few is
+    where
+      by : (e : QuantumEnd) → Ran (going_with task own hand r) (going_with task space' hand' r') e → Few 1 e
+          → next_by_end e ≡ Some next → (r' ≡ r) × (space' ≡ space) × (hand' ≡ hand)
+      by (ends.Ended count) t f i = absurd (cc (i, stays))
+      by (ends.Call count) t f i = none_ran count task space space' hand hand' r r' (moved count t) f
+      by (ends.Trap count signal) t f i = none_ran count task space space' hand hand' r r' (moved count t) f
+      by (ends.Shared count area) t f i = none_ran count task space space' hand hand' r r' (moved count t) f
+      by ends.Memory t f i = absurd (cc i)
+
+  pub end_lacking : LacksMemory (going_with task own hand r) (going_with task space' hand' r') 1 end
+      → next_by_end end ≡ None → (r' ≡ r) × (space' ≡ space) × (hand' ≡ hand)
+  end_lacking lacks is = by end lacks is
+    where
+      by : (e : QuantumEnd) → LacksMemory (going_with task own hand r) (going_with task space' hand' r') 1 e
+          → next_by_end e ≡ None → (r' ≡ r) × (space' ≡ space) × (hand' ≡ hand)
+      by (ends.Ended count) l i = absurd (cc i)
+      by (ends.Call count) l i = absurd (cc i)
+      by (ends.Trap count signal) l i = absurd (cc i)
+      by (ends.Shared count area) l i = absurd (cc i)
+      by ends.Memory l i = none_ran l.0 task space space' hand hand' r r' (moved l.0 l.2) l.1
 
 -- ---- tried once
 
@@ -127,7 +192,7 @@ module _ (c : Caller) (hand : List InHand) (s : Parts) where
 
 module _ (c : Caller) (task : ℕ) (r r' : Regs) (space space' : AddressSpace) (over : StandsOver c task r space)
     (most : ℕ) (hand hand' : List InHand) (areas : NamedMap AreaState) where
-  next_over : (x : Next) → next_of (acting_with task space hand) r ≡ x
+  pub next_over : (x : Next) → next_of (acting_with task space hand) r ≡ x
       → next_of (acting_with c.task c.space hand) c.registers ≡ x
   next_over x e =
       ap (λ t. next_of (acting_with t c.space hand) c.registers) over.task
@@ -228,29 +293,25 @@ stepped_lacking c task r r' space space' over (suc n) hand hand' areas areas' ar
         at None q = inr (those area ∙ get_unasked hand area areas q ∙ none)
 
 -- where it is tried again with one more in hand
-pub stepped_more : (c : Caller) (most : ℕ) (hand lent hand' : List InHand) (areas left areas' : NamedMap AreaState)
-    (area : Area) (next : Next) (r' : Regs) (space' : AddressSpace)
-    → next_of (acting_with c.task c.space hand) c.registers ≡ Touches area → AreThere hand areas
-    → IsLent area hand lent areas left → 0 < most
-    → Stepped c (most - 1) lent (with_hand lent left) next r' space' hand' areas'
+pub stepped_more : (c : Caller) (most less : ℕ) → most ≡ suc less → (hand lent hand' : List InHand)
+    (areas left areas' : NamedMap AreaState) (area : Area) (next : Next) (r' : Regs) (space' : AddressSpace)
+    → next_of (acting_with c.task c.space hand) c.registers ≡ Touches area
+    → IsLent area hand lent areas left → with_hand lent left ≡ with_hand hand areas
+    → Stepped c less lent (with_hand lent left) next r' space' hand' areas'
     → Stepped c most hand (with_hand hand areas) next r' space' hand' areas'
-stepped_more c zero hand lent hand' areas left areas' area next r' space' touches there is more rest =
-    absurd (omega (arith, more))
-stepped_more c (suc n) hand lent hand' areas left areas' area next r' space' touches there is more rest =
+stepped_more c most less e hand lent hand' areas left areas' area next r' space' touches is back rest =
     record {
       last = rest.last;
       stands = λ s those.
-          tries_again c hand s area touches n is.state is.unasked (those area ∙ get_unasked hand area areas is.unasked
-          ∙ is.there)
-          ∙ ap (λ h. outcome_in s (tried_with (next_tried c) stands_lacking n h)) (sym is.handed)
+          ap (λ m. outcome_in s (tried_with (next_tried c) stands_lacking m hand)) e
+          ∙ tries_again c hand s area touches less is.state is.unasked
+          (those area ∙ get_unasked hand area areas is.unasked ∙ is.there)
+          ∙ ap (λ h. outcome_in s (tried_with (next_tried c) stands_lacking less h)) (sym is.handed)
           ∙ rest.stands s (λ name. those name ∙ ap (λ (m : NamedMap AreaState). get_named m name.place name.index)
           (sym back));
       left = by next rest.left;
     }
   where
-    back : with_hand lent left ≡ with_hand hand areas
-    back = (lent_more area hand lent areas left (with_hand hand areas) is (record { there = there; back = refl })).back
-
     by : (x : Next) → Left c x rest.last r' space' hand' areas' (with_hand lent left)
         → Left c x rest.last r' space' hand' areas' (with_hand hand areas)
     by Goes l = (l.0, l.1 ∙ ap (with_hand hand') back)
@@ -294,3 +355,27 @@ module _ (c : Caller) (k : Kernel) (task : ℕ) (r r' : Regs) (space space' : Ad
               areas = m;
             }) (ap (with_hand hand') at.areas ∙ sym went.1 ∙ sym back);
       }
+
+-- where it does not go on, nothing has changed
+pub kept_over : (c : Caller) (r r' : Regs) (space space' : AddressSpace) (areas left all : NamedMap AreaState)
+    → c.registers ≡ r → c.space ≡ space → (hand' : List InHand) (next : Next)
+    → Stepped c 17 [] areas next r' space' hand' left → goes_on next ≡ false → all ≡ with_hand hand' left
+    → (r' ≡ r) × (space' ≡ space) × (all ≡ areas)
+kept_over c r r' space space' areas left all registers own hand' next stepped stays back = by next stepped.left stays
+  where
+    by : (x : Next) → Left c x stepped.last r' space' hand' left areas → goes_on x ≡ false
+        → (r' ≡ r) × (space' ≡ space) × (all ≡ areas)
+    by Goes l e = absurd (cc e)
+    by Calls l e = (l.0 ∙ registers, l.1 ∙ own, back ∙ l.2)
+    by (Traps signal) l e = (l.0 ∙ registers, l.1 ∙ own, back ∙ l.2)
+    by (Touches other) l e = (l.0 ∙ registers, l.1 ∙ own, back ∙ l.2)
+
+-- a task of some group, where no more is told of it
+abbrev pub some_caller : (task : ℕ) → Regs → AddressSpace → Caller
+some_caller task r space = record {
+  task = task;
+  group = 0;
+  memory = record { place = 0; index = 0 };
+  registers = r;
+  space = space;
+}

@@ -6,6 +6,8 @@ use Rattle.mm_areas.specs.declared.rights.Rights.{Rights}
 use Rattle.mm_space.specs.Accesses.{byte_at}
 use Rattle.mm_space.specs.Handing.{AreaState, InHand}
 use Rattle.mm_space.specs.Spaces.{AddressSpace, Reach}
+use Rattle.quantum.specs.declared.run.QuantumEnd.{QuantumEnd}
+use Rattle.quantum.specs.declared.run.QuantumEnd.TheVariants as ends
 use Rattle.quantum.specs.Instructions.{ran}
 use Rattle.kernel_model.specs.Names.{NamedMap}
 use Rattle.kernel_model.specs.declared.caller.Caller.{Caller}
@@ -56,6 +58,15 @@ Left c Goes last registers space hand' areas' all =
     × (with_hand hand' areas' ≡ with_hand hand' all)
 Left c _ last registers space hand' areas' all =
     (registers ≡ c.registers) × (space ≡ c.space) × (with_hand hand' areas' ≡ all)
+
+-- what the next instruction does, by how a run of at most one ended, or None where memory was wanting
+-- profile
+abbrev pub next_by_end : QuantumEnd → Option Next
+next_by_end (ends.Ended count) = Some Goes
+next_by_end (ends.Call count) = Some Calls
+next_by_end (ends.Trap count signal) = Some (Traps signal)
+next_by_end (ends.Shared count area) = Some (Touches area)
+next_by_end ends.Memory = None
 
 -- areas that are in hand have their places, and put back they make all that there are
 -- profile

@@ -1,6 +1,6 @@
 //! An instruction that touches shared areas, which are handed in as it asks for them.
 
-ghost use Rattle.std.specs.Prelude.{◌≡◌, Some, false, IfOk, OnErr};
+ghost use Rattle.std.specs.Prelude.{◌≡◌, Some, None, false, IfOk, OnErr};
 ghost use Rattle.mm_space.specs.Handing.{hand_of};
 ghost use Rattle.quantum.specs.Instructions.{ran};
 ghost use Rattle.kernel_model.specs.declared.caller.Caller.{Caller as ACaller};
@@ -11,7 +11,7 @@ ghost use Rattle.kernel_model.specs.entries.Areas.{next_row};
 ghost use Rattle.kernel_model.specs.entries.Parts.{outcome_in, parts};
 ghost use Rattle.kernel_calls.specs.Lending.{AreThere, with_hand};
 ghost use Rattle.kernel_calls.specs.Prepared.{IsAt, Steps};
-ghost use Rattle.kernel_calls.specs.Trying.{StandsOver, Stepped};
+ghost use Rattle.kernel_calls.specs.Trying.{StandsOver, Stepped, next_by_end};
 
 use crate::lending::{MOST_AREAS, hand_in, take_back};
 use kernel_model::{GuestArea, GuestSpace, Named, Next};
@@ -101,7 +101,16 @@ fn once(
     ensures err { OnErr result
         ((registers.new ≡ registers.old) × (space.new ≡ space.old) × (hand_of handed.new ≡ hand_of handed.old)) }
 {
-    match run_at_most(alloc, registers, &mut space.space, task, handed, 1) {
+    let end = run_at_most(alloc, registers, &mut space.space, task, handed, 1);
+    next_by(end)
+}
+
+/// What the next instruction does, by how a run of at most one ended.
+fn next_by(end: QuantumEnd) -> Result<Next, Memory>
+    ensures next { IfOk result (λ next. next_by_end end ≡ Some next) }
+    ensures err { OnErr result (next_by_end end ≡ None) }
+{
+    match end {
         QuantumEnd::Ended(_) => Ok(Next::Goes),
         QuantumEnd::Call(_) => Ok(Next::Calls),
         QuantumEnd::Trap { signal, .. } => Ok(Next::Traps(signal)),

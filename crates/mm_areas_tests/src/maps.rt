@@ -193,3 +193,28 @@ fn pages_are_laid_with_their_own_rights(rt: HostRuntime) -> Result<(), Fail> {
     assert_eq!(rt; areas.byte(7, 4095), Some(0));
     Ok(())
 }
+
+#[test]
+fn where_a_mapping_would_go_is_told_without_one(rt: HostRuntime) -> Result<(), Fail> {
+    let mut areas = Areas::new(rt.alloc(), 4096);
+    areas.map(
+        rt.alloc(),
+        Some(0x3f_ffef_f000),
+        4096,
+        Rights::READ,
+        Backing::Zeros,
+    )?;
+    for (at, length, answer) in [
+        (Some(4096), 4096, Ok(1)),
+        (Some(0x3f_ffef_f000), 4096, Ok(0x3ff_feff)),
+        (None, 1, Ok(0x3ff_fefe)),
+        (None, 8192, Ok(0x3ff_fefd)),
+        (None, 0, Err(AreaErr::Invalid)),
+        (Some(4095), 1, Err(AreaErr::Invalid)),
+        (None, 67_104_769, Err(AreaErr::Limit)),
+    ] {
+        assert_eq!(rt; areas.place_of(at, length), answer, "{at:?} {length}");
+        assert_eq!(rt; areas.len(), 1);
+    }
+    Ok(())
+}

@@ -150,12 +150,7 @@ impl Handed {
 
     /// Hands in an area under its name, behind those that are, and leaves one without a page in its place until it is
     /// taken back. An `Err` changes nothing.
-    pub fn lend(
-        &mut self,
-        alloc: Global,
-        name: Area,
-        area: &mut SharedArea,
-    ) -> Result<(), Memory>
+    pub fn lend(&mut self, alloc: Global, name: Area, area: &mut SharedArea) -> Result<(), Memory>
         ensures ok { OnOk result
             (hand_of self.new ≡ hand_of self.old ++ record { name = name; state = area_state area.old } ∷ []) }
         ensures left { OnOk result (area_state area.new ≡ zero_area 0) }

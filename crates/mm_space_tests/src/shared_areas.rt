@@ -5,7 +5,7 @@ use crate::guest::{Guest, area_of, expect_same, load, put_of};
 use crate::pair::{SHORT, Side, pair};
 use mm_areas::{Areas, Backing, Rights};
 use mm_frames::Frames;
-use mm_space::{Handed, Space};
+use mm_space::{Handed, SharedArea, Space};
 use rv_table::{Area, MemErr};
 use std::alloc::Global;
 use std::process::Abort;
@@ -268,4 +268,57 @@ fn a_child_and_its_parent_have_one_area(rt: HostRuntime) -> Result<(), Fail> {
     let mut guest = pair(rt.alloc(), Side::Of(FIRST), Side::Private)?;
     let mut child = guest.child()?;
     expect_one_area(&rt, &mut guest, &mut child)
+}
+
+/// An area of two pages, whose first byte is that value, and in which task 1 has reserved the first granule.
+fn touched(alloc: Global, value: u8) -> Result<SharedArea, Fail> {
+    let mut area = SharedArea::zeros(alloc, 2)?;
+    area.frames.write_byte(alloc, 0, 0, value)?;
+    area.reservations.reserve(1, 0)?;
+    Ok(area)
+}
+
+#[test]
+fn an_area_that_is_lent_comes_back_as_it_is_then(rt: HostRuntime) -> Result<(), Fail> {
+    let alloc = rt.alloc();
+    let mut first = touched(alloc, 7)?;
+    let mut second = touched(alloc, 8)?;
+    let mut handed = Handed::none(alloc);
+    handed.lend(alloc, FIRST, &mut first)?;
+    handed.lend(alloc, SECOND, &mut second)?;
+    assert_eq!(rt; first.frames.len(), 0);
+    let mut space = Space::of(alloc, areas_at(alloc, 8192, &[0x1_0000])?);
+    space.store(alloc, &mut handed, 2, 0x1_0000, 1, 9)?;
+    let back = handed
+        .take_back()
+        .map(|last| (last.name, last.area.frames.byte(0, 0)));
+    assert_eq!(rt; back, Some((SECOND, Some(8))));
+    let back = handed.take_back().map(|last| (
+        last.name,
+        last.area.frames.byte(0, 0),
+        last.area.reservations.len(),
+    ));
+    assert_eq!(rt; back, Some((FIRST, Some(9), 0)));
+    assert!(rt; handed.take_back().is_none());
+    Ok(())
+}
+
+#[test]
+fn a_copy_of_an_area_goes_its_own_way(rt: HostRuntime) -> Result<(), Fail> {
+    let alloc = rt.alloc();
+    let mut area = touched(alloc, 7)?;
+    let mut copy = area.copy(alloc)?;
+    area.frames.write_byte(alloc, 0, 0, 1)?;
+    copy.frames.write_byte(alloc, 0, 1, 2)?;
+    assert_eq!(rt;
+        (area.frames.byte(0, 0), area.frames.byte(0, 1)),
+        (Some(1), Some(0))
+    );
+    assert_eq!(rt;
+        (copy.frames.byte(0, 0), copy.frames.byte(0, 1)),
+        (Some(7), Some(2))
+    );
+    assert_eq!(rt; copy.frames.byte(1, 4095), Some(0));
+    assert!(rt; area.reservations.holds(1, 0) && copy.reservations.holds(1, 0));
+    Ok(())
 }

@@ -148,7 +148,7 @@ beside_of m nodes = record { nodes = nodes; failed = map.empty; mounts = m.mount
 -- execve(2)
 abbrev pub kernel_opened : Mounts → Program → Image → Nodes → Kernel
 kernel_opened m program image nodes =
-    with_task 1 program image (kernel_with no_tasks map.empty map.empty [] (beside_of m nodes) 0)
+    with_task 1 program image (kernel_with no_tasks map.empty map.empty map.empty [] (beside_of m nodes) 0)
 
 -- a kernel with that beside its processes
 -- profile

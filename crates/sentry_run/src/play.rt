@@ -146,7 +146,8 @@ fn run_image(
     ensures trace { TraceOf mounts.now.entries result.end result.trace }
     ensures bound { length result.trace ≤ mounts.now.entries }
 {
-    let processes = match Processes::start(alloc, mounts.seed.as_slice(), program, image) {
+    let seed = mounts.seed.as_slice();
+    let processes = match Processes::start(alloc, seed, program, image) {
         Ok(processes) => processes,
         Err(Memory) => {
             return Played {
@@ -156,7 +157,8 @@ fn run_image(
             };
         }
     };
-    finished(alloc, run_turns(alloc, processes, mounts.entries), opening)
+    let ran = run_turns(alloc, processes, seed, mounts.entries);
+    finished(alloc, ran, opening)
 }
 
 /// How a run has ended.

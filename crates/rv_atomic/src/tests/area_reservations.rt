@@ -112,3 +112,18 @@ fn a_run_of_an_areas_bytes_ends_the_other_tasks_reservations_alone(
     }
     Ok(())
 }
+
+#[test]
+fn a_copy_has_the_same_reservations_and_goes_its_own_way(rt: HostRuntime) -> Result<(), Fail> {
+    let mut here = AreaReservations::new(rt.alloc());
+    here.reserve(1, 5)?;
+    here.reserve(2, 7)?;
+    let mut copy = here.copy(rt.alloc())?;
+    assert_eq!(rt; copy.len(), 2);
+    assert!(rt; copy.holds(1, 5) && copy.holds(2, 7));
+    copy.leave(1);
+    here.leave(2);
+    assert!(rt; here.holds(1, 5) && !here.holds(2, 7));
+    assert!(rt; copy.holds(2, 7) && !copy.holds(1, 5));
+    Ok(())
+}

@@ -1,5 +1,5 @@
 -- Processes that began an image run from the kernel that opens with that image.
-use Rattle.std.proofs.Common.{◌≡◌, List, length, sym, subst}
+use Rattle.std.proofs.Common.{◌≡◌, ℕ, List, length, sym, subst}
 use Rattle.std.specs.Prelude.{Option, Some, None, IfSome}
 use Rattle.std.specs.FinMap as map
 use Rattle.mount_file.specs.declared.mounts.Mounts.{Mounts}
@@ -16,39 +16,41 @@ use Rattle.sentry_run.proofs.play.run_image.Goals as goal
 
 -- what a run left, with these nodes beside it
 state_with : (m : Mounts) (o : Option Processes) (first : Processes) (trace : List Entry) (nodes : Nodes)
-    → IfSome o (λ p. (beside : Beside)
+    (seed : List ℕ) → m.seed ≡ seed → IfSome o (λ p. (beside : Beside) → beside.seed ≡ seed
     → replay (kernel_of first beside 0) trace ≡ Some (kernel_of p beside (length trace)))
     → IfSome o (λ p. replay (kernel_of first (beside_of m nodes) 0) trace
     ≡ Some (kernel_of p (beside_of m nodes) (length trace)))
-state_with m None first trace nodes h = tt
-state_with m (Some p) first trace nodes h = h (beside_of m nodes)
+state_with m None first trace nodes seed same h = tt
+state_with m (Some p) first trace nodes seed same h = h (beside_of m nodes) same
 
 pub returns-clause-ran : goal.returns-clause-ran
 returns-clause-ran c = λ nodes.
     let m : Mounts = c.args.mounts.now in
-    let e = c.run_turns.ensures in
+    let e = c.run_turns-ran.ensures in
     let first = c.in-Ok.processes in
     let same : kernel_of first (beside_of m nodes) 0 ≡ kernel_opened m c.args.program.now c.args.image.now nodes =
-    c.in-Ok.ensures.begun (beside_of m nodes) 0 (sym c.as_slice.ensures) in
+    c.in-Ok.ensures.begun (beside_of m nodes) 0 (sym c.as_slice-seed.ensures) in
     let ran =
-    ran_from m c.run_turns.result.processes c.run_turns.result.trace c.finished.result.end nodes
-    (kernel_of first (beside_of m nodes) 0) (e.history (beside_of m nodes))
-    (state_with m c.run_turns.result.processes first c.run_turns.result.trace nodes e.state)
-    (e.whole (beside_of m nodes)) e.ended c.finished.ensures.end in
+    ran_from m c.run_turns-ran.result.processes c.run_turns-ran.result.trace c.finished.result.end nodes
+    (kernel_of first (beside_of m nodes) 0) (e.history (beside_of m nodes) (sym c.as_slice-seed.ensures))
+    (state_with m c.run_turns-ran.result.processes first c.run_turns-ran.result.trace nodes c.as_slice-seed.result.now
+    (sym c.as_slice-seed.ensures) e.state)
+    (e.whole (beside_of m nodes) (sym c.as_slice-seed.ensures)) e.ended c.finished.ensures.end in
     subst (λ (es : List Entry). RanFrom m nodes (kernel_opened m c.args.program.now c.args.image.now nodes)
     c.finished.result.end es) (sym c.finished.ensures.trace)
-    (subst (λ (k : Kernel). RanFrom m nodes k c.finished.result.end c.run_turns.result.trace) same ran)
+    (subst (λ (k : Kernel). RanFrom m nodes k c.finished.result.end c.run_turns-ran.result.trace) same ran)
 
 pub returns-clause-trace : goal.returns-clause-trace
 returns-clause-trace c =
     let m : Mounts = c.args.mounts.now in
-    let e = c.run_turns.ensures in
+    let e = c.run_turns-ran.ensures in
     let first = c.in-Ok.processes in
     let start : Kernel = kernel_of first (beside_of m map.empty) 0 in
     let ran =
-    ran_from m c.run_turns.result.processes c.run_turns.result.trace c.finished.result.end map.empty start
-    (e.history (beside_of m map.empty))
-    (state_with m c.run_turns.result.processes first c.run_turns.result.trace map.empty e.state)
-    (e.whole (beside_of m map.empty)) e.ended c.finished.ensures.end in
+    ran_from m c.run_turns-ran.result.processes c.run_turns-ran.result.trace c.finished.result.end map.empty start
+    (e.history (beside_of m map.empty) (sym c.as_slice-seed.ensures))
+    (state_with m c.run_turns-ran.result.processes first c.run_turns-ran.result.trace map.empty
+    c.as_slice-seed.result.now (sym c.as_slice-seed.ensures) e.state)
+    (e.whole (beside_of m map.empty) (sym c.as_slice-seed.ensures)) e.ended c.finished.ensures.end in
     subst (λ (es : List Entry). TraceOf m.entries c.finished.result.end es) (sym c.finished.ensures.trace)
-    (ran_trace m map.empty start c.finished.result.end c.run_turns.result.trace ran)
+    (ran_trace m map.empty start c.finished.result.end c.run_turns-ran.result.trace ran)

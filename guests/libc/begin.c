@@ -1,0 +1,19 @@
+/* From the opening stack to main: arguments, environment, constructors, and the group's end with what main returns. */
+#include <stdlib.h>
+#include <unistd.h>
+
+extern char **environ;
+
+int main(int argc, char **argv, char **environment);
+void __libc_init_array(void);
+_Noreturn void begin(char **stack);
+
+/* What stands from the stack pointer up: argc, the arguments and a null pointer, the environment and a null pointer. */
+_Noreturn void begin(char **stack)
+{
+    int argc = *(long *)stack;
+    char **argv = stack + 1;
+    environ = argv + argc + 1;
+    __libc_init_array();
+    exit(main(argc, argv, environ));
+}

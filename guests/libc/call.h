@@ -1,0 +1,26 @@
+/* A system call as the kernel takes it: the number in a7, six arguments, and the reply, below 0 for an error. */
+#ifndef CALL_H
+#define CALL_H
+
+#define CALL_WRITE 64
+#define CALL_EXIT_GROUP 94
+#define CALL_BRK 214
+#define CALL_MUNMAP 215
+#define CALL_MMAP 222
+#define CALL_MPROTECT 226
+#define CALL_GETRANDOM 278
+
+static inline long call(long number, long a, long b, long c, long d, long e, long f)
+{
+    register long a0 __asm__("a0") = a;
+    register long a1 __asm__("a1") = b;
+    register long a2 __asm__("a2") = c;
+    register long a3 __asm__("a3") = d;
+    register long a4 __asm__("a4") = e;
+    register long a5 __asm__("a5") = f;
+    register long a7 __asm__("a7") = number;
+    __asm__ volatile("ecall" : "+r"(a0) : "r"(a1), "r"(a2), "r"(a3), "r"(a4), "r"(a5), "r"(a7) : "memory");
+    return a0;
+}
+
+#endif
