@@ -1,6 +1,6 @@
 -- What is tried with more and more shared areas in hand.
-use Rattle.std.proofs.Common.{◌≡◌, ◌≢◌, ℕ, zero, suc, ◌-◌, Bool, true, false, cond, List, [], ◌∷◌, ◌++◌, Option, Some, None}
-use Rattle.std.proofs.Common.{refl, ap, sym, ◌∙◌, ◌⊎◌, inl, inr, arith}
+use Rattle.std.proofs.Common.{◌≡◌, ◌≢◌, ℕ, zero, suc, Bool, true, false, cond, List, [], ◌∷◌, ◌++◌, Option, Some, None}
+use Rattle.std.proofs.Common.{refl, ap, sym, ◌∙◌, ◌⊎◌, inl, inr}
 use Rattle.std.specs.Prelude.{is_some}
 use Rattle.rv_table.specs.declared.error.Area.{Area}
 use Rattle.mm_space.specs.Handing.{AreaState, InHand, area_in}
@@ -68,14 +68,13 @@ module _ {A : Type 0} (try : List InHand → Tried A) (lacking : A) (hand : List
           by (Some state) e = lacks_area n (inl (ap is_some e))
           by None e = lacks_area n (inr (those area ∙ get_unasked hand area areas e ∙ none))
 
-      module _ (lent : List InHand) (left : NamedMap AreaState) (is : IsLent area hand lent areas left) where
-        pub tries_lent : (most : ℕ) → most ≢ 0
-            → outcome_in s (tried_with try lacking most hand) ≡ outcome_in s (tried_with try lacking (most - 1) lent)
-        tries_lent zero more = absurd (more refl)
-        tries_lent (suc n) more =
-            tries_again n is.state is.unasked (those area ∙ get_unasked hand area areas is.unasked ∙ is.there)
-            ∙ ap (λ h. outcome_in s (tried_with try lacking n h)) (sym is.handed)
-            ∙ ap (λ m. outcome_in s (tried_with try lacking m lent)) (omega arith)
+      pub tries_lent : (lent : List InHand) (left : NamedMap AreaState) → IsLent area hand lent areas left
+          → (most less : ℕ) → most ≡ suc less
+          → outcome_in s (tried_with try lacking most hand) ≡ outcome_in s (tried_with try lacking less lent)
+      tries_lent lent left is most less e =
+          ap (λ m. outcome_in s (tried_with try lacking m hand)) e
+          ∙ tries_again less is.state is.unasked (those area ∙ get_unasked hand area areas is.unasked ∙ is.there)
+          ∙ ap (λ h. outcome_in s (tried_with try lacking less h)) (sym is.handed)
 
 -- what is in hand with one more is put back over the same
 pub back_lent : (area : Area) (hand lent : List InHand) (areas left : NamedMap AreaState) → AreThere hand areas
@@ -83,9 +82,6 @@ pub back_lent : (area : Area) (hand lent : List InHand) (areas left : NamedMap A
 back_lent area hand lent areas left there is =
     (lent_more area hand lent areas left (with_hand hand areas) is (record { there = there; back = refl })).back
 
-pub those_lent : (area : Area) (hand lent : List InHand) (areas left : NamedMap AreaState) → AreThere hand areas
-    → IsLent area hand lent areas left → (s : Parts) → AreThose s (with_hand hand areas)
-    → AreThose s (with_hand lent left)
-those_lent area hand lent areas left there is s those name =
-    those name ∙ ap (λ (m : NamedMap AreaState). get_named m name.place name.index)
-    (sym (back_lent area hand lent areas left there is))
+pub those_same : (s : Parts) (areas other : NamedMap AreaState) → other ≡ areas → AreThose s areas → AreThose s other
+those_same s areas other same those name =
+    those name ∙ ap (λ (m : NamedMap AreaState). get_named m name.place name.index) (sym same)

@@ -5,7 +5,8 @@ use Rattle.std.proofs.lemmas.Result.{IfOk-weaker}
 use Rattle.mm_space.specs.Handing.{hand_of}
 use Rattle.kernel_calls.specs.Lending.{with_hand}
 use Rattle.kernel_calls.specs.Trying.{Accesses}
-use Rattle.kernel_calls.proofs.AccessLaws.{is_allowed, access_comes, access_bars, access_full, access_lacks, access_more}
+use Rattle.kernel_calls.proofs.AccessLaws.{is_allowed, access_comes, access_bars, access_full, access_lacks}
+use Rattle.kernel_calls.proofs.AccessLaws.{access_more}
 use Rattle.kernel_calls.proofs.Lendings.{lent_more}
 use Rattle.kernel_calls.proofs.Tries.{back_lent}
 use Rattle.kernel_calls.proofs.buffers.+access.Goals as goal
