@@ -5,9 +5,9 @@
 //! call, a task at work in an address space of mm_space with shared areas in hand, the next instruction of a task,
 //! random bytes, images), `calls` (who calls, and a row for each call, as a decision tree over the state's parts),
 //! `entries` (the parts; shared areas as they are asked for; what an entry does, when a task is ready, and a list of
-//! entries each of whose steps is defined), `files`
-//! (nodes with numbers, and the trees that they are), `opening`, `printed` (the text of a run), and `Words` (the
-//! command line). `laws` has the words of laws and of proofs about these.
+//! entries each of whose steps is defined), `files` (nodes with numbers, and the trees that they are), `opening`,
+//! `printed` (the text of a run), and `Words` (the command line). `laws` has the words of laws and of proofs about
+//! these.
 //!
 //! Proved: an entry reads the parts that it uses and changes those that it touches, by nothing but what it reads, and
 //! whether a task's next step is ready is told by the parts that are looked at; a write does the same in any context;
