@@ -14,6 +14,9 @@ use sn_vectors::image_of;
 use std::alloc::Global;
 use std::test::Fail;
 
+/// The mount file's seed of each test.
+pub const SEED: [u8; 32] = [0; 32];
+
 /// The image of a file.
 fn image_in(alloc: Global, file: &[u8]) -> Result<Image, Fail>
     ensures { IfOk result HasRoom }
@@ -40,7 +43,7 @@ fn begin(alloc: Global, program: &Program, image: &Image) -> Result<Processes, M
     requires short { is_too_long program.now.args program.now.env ≡ false }
     requires pages { HasRoom image.now }
 {
-    Processes::start(alloc, &[0; 32], program, image)
+    Processes::start(alloc, &SEED, program, image)
 }
 
 /// The processes of a guest of these words.

@@ -1,17 +1,20 @@
 //! The system calls of the Sentry, as functions over the parts that their rows use.
 //!
-//! A caller sees `call`, which prepares what a call of a live task comes to, and `commit`, which does it; `args_of`,
-//! `call_of` and `reply`, the registers at a call; `run` and `next`, a task's instructions up to its next call; and of
-//! execve `is_too_long`, `read_executable`, `opened` and `opening_random`. They know no map of tasks, no host and no
-//! trace. What each of them means is said by `kernel_model`.
+//! A caller sees `call`, which does what a call of a live task comes to in its memory and tells what is left to do to
+//! the console or the task list, and `commit`, which does that; `args_of`, `call_of` and `reply`, the registers at a
+//! call; `run`, a task's instructions up to one that calls, traps or touches a shared area, and `step`, one instruction
+//! with the shared areas that it touches; and of execve `is_too_long`, `read_executable`, `opened` and
+//! `opening_random`. They know no map of tasks, no host and no trace. What each of them means is said by `kernel_model`.
 //!
-//! Proved: `call` comes to what its row says, in every state whose console has so many bytes (`row`), and writes no
-//! more than one write may (`few`); `commit` leaves of each kernel what the row's changes do (`ok`). `run` is so many
-//! instructions one after another (`steps`), up to its limit or to one that traps or calls (`within`, `stopped`), and
-//! want of memory leaves what fewer of them leave (`memory`); `next` is what the next one does (`next`), and leaves the
-//! space where that does not go on (`kept`). `read_executable` is the image as execve takes it (`image`, `pages`),
-//! `opened` the definition of what an opening task begins with (`registers`, `space`), and `opening_random` of its
-//! random bytes.
+//! Proved: `call` comes to what its row says, in every state that has the address space, the shared areas, the key and
+//! the place that were handed in (`row`). What it leaves to do is told where memory is as it was (`apart`), and is no
+//! more than one write may (`few`); want of memory changes nothing, and no area under its name (`err`, `err_areas`).
+//! `commit` leaves of each kernel what the row's changes do (`ok`). `run` is so many instructions one after another
+//! (`steps`), up to its limit or to one that stops it (`within`, `stopped`), and want of memory leaves what fewer of
+//! them leave (`memory`). `step` tells what the next instruction does (`next`), and where it goes on leaves what its
+//! row leaves (`goes`); otherwise nothing has changed (`kept`, `err`). `read_executable` is the image as execve takes
+//! it (`image`, `pages`), `opened` the definition of what an opening task begins with (`registers`, `space`), and
+//! `opening_random` of its random bytes.
 //!
 //! Not said: which tasks there are, what a host is, and what an entry changes.
 //!
