@@ -59,7 +59,10 @@ pub(crate) fn mprotect(
     if is_no_protection(protection) {
         return refused(Errno::EINVAL);
     }
-    match space.space.protect(address, length, rights_in(protection)) {
+    match space
+        .space
+        .protect(address, length, rights_in(protection))
+    {
         Ok(()) => replied(0),
         Err(fault) => refused(area_errno(fault)),
     }

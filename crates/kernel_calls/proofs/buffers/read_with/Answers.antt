@@ -16,4 +16,5 @@ returns-clause-bytes c =
     let whole : c.from_vec.result ≡ c.read.new.buffer = grind (arith, common_steps) in
     all_read c.args.space.now c.args.at c.args.count (hand_of c.args.handed.now) (hand_of c.access.new.handed)
     c.requires c.args.areas.now c.in_ok-access.field-0 c.in_ok-access.ensures.comes c.if-not-branch.false _
-    c.space.view_is (length c.as_mut_slice.result.now) (grind (arith, common_steps)) c.from_vec.result (whole ∙ c.in-Ok.ensures.ok)
+    c.space.view_is (length c.as_mut_slice.result.now) (grind (arith, common_steps)) c.from_vec.result
+    (whole ∙ c.in-Ok.ensures.ok)
