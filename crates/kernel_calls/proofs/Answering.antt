@@ -1,6 +1,10 @@
 -- What calls come to, as their rows have it.
-use Rattle.std.proofs.Common.{◌≡◌, ℕ, ℤ, List, [], ◌∷◌, ◌++◌, length, Option, Some, None, refl, ap, sym, ◌∙◌}
+use Rattle.std.proofs.Common.{◌≡◌, ℕ, ℤ, List, [], ◌∷◌, ◌++◌, length, Option, Some, None, Result, Ok, Err, refl, ap, sym}
+use Rattle.std.proofs.Common.{◌∙◌}
+use Rattle.std.specs.Prelude.{IfSome}
+use Rattle.mm_areas.specs.declared.fault.AreaErr.{AreaErr}
 use Rattle.sn_errno.specs.declared.errno.Errno.{Errno}
+use Rattle.sn_errno.specs.declared.errno.Errno.TheVariants.{ENOSYS}
 use Rattle.sn_errno.specs.Errors.{reply_of}
 use Rattle.mm_space.specs.Handing.{AreaState, InHand}
 use Rattle.mm_space.specs.Spaces.{AddressSpace, Reach}
@@ -9,9 +13,9 @@ use Rattle.kernel_model.specs.declared.caller.Caller.{Caller}
 use Rattle.kernel_model.specs.declared.kernel.Kernel.{Kernel}
 use Rattle.kernel_model.specs.declared.kernel.Part.TheVariants.{OfArea, OfSpace}
 use Rattle.kernel_model.specs.calls.Answers.{Answer, replies, refuses}
-use Rattle.kernel_model.specs.calls.Memory.{remaps}
+use Rattle.kernel_model.specs.calls.Memory.{remaps, unless_refused}
 use Rattle.kernel_model.specs.entries.Areas.{area_changes, reach_changes}
-use Rattle.kernel_model.specs.entries.Parts.{parts, Prog, outcome_in, Change, changed}
+use Rattle.kernel_model.specs.entries.Parts.{parts, Prog, done, outcome_in, Change, changed}
 use Rattle.kernel_model.proofs.ChildLaws.{changed-append}
 use Rattle.kernel_model.proofs.NamedMaps.{with_same}
 use Rattle.kernel_calls.specs.Lending.{with_hand, AreThose}
@@ -69,6 +73,45 @@ module _ (row : Prog Answer) (p : Prepared) (c : Caller) (k : Kernel) (old space
     row_is = is;
     done_is = does ∙ ap (λ e. changed (changes_of e c.group (parts k)) (with_memory c space areas k)) (sym none);
   }
+
+-- ---- rows of what may be refused by the address space
+
+-- nothing is refused where the code was not
+pub no_fault : (fault : Option AreaErr) (r : Result (Unit {0}) AreaErr) (u : Unit {0}) → r ≡ Ok u
+    → IfSome fault (λ f. r ≡ Err f) → fault ≡ None
+no_fault None r u is faulty = refl
+no_fault (Some f) r u is faulty = absurd (cc (is, faulty))
+
+module _ (refusal : AddressSpace → Option Errno) (p : Prepared) (c : Caller) (k : Kernel) (old space : AddressSpace)
+    (areas : NamedMap AreaState) (has : HasSpace c k old) (none : p.effect ≡ Nothing) where
+  -- a call that is refused
+  pub answers_if_refused : (answer : Answer) (errno : Errno) → refusal old ≡ Some errno → p.reply ≡ reply_of errno
+      → space ≡ old → areas ≡ k.areas → Answers (done (unless_refused (refusal c.space) answer)) p c k space areas
+  answers_if_refused answer errno is reply same shared =
+      answers_refused (done (unless_refused (refusal c.space) answer)) p c k old space areas has errno
+      (ap (λ s. unless_refused (refusal s) answer) has.space ∙ ap (λ o. unless_refused o answer) is) reply none same
+      shared
+
+  -- one that leaves another address space, and no other areas
+  pub answers_unless_refused : (to : AddressSpace → AddressSpace) (value : ℤ) → refusal old ≡ None → p.reply ≡ value
+      → space ≡ to old → areas ≡ k.areas
+      → Answers (done (unless_refused (refusal c.space) (remaps c (to c.space) value []))) p c k space areas
+  answers_unless_refused to value free reply is shared =
+      answers_remapped (done (unless_refused (refusal c.space) (remaps c (to c.space) value []))) p c k old space areas
+      has []
+      (ap (λ s. unless_refused (refusal s) (remaps c (to s) value [])) has.space
+      ∙ ap (λ o. unless_refused o (remaps c (to old) value [])) free
+      ∙ ap (λ s. remaps c s value []) (sym is) ∙ ap (λ v. remaps c space v []) (sym reply))
+      none (ap (λ m. with_memory c space m k) (sym shared))
+
+-- a call that the kernel does not have
+pub answers_lacking : (row : Prog Answer) (p : Prepared) (c : Caller) (k : Kernel) (space : AddressSpace)
+    (areas : NamedMap AreaState) → c.space ≡ space → get_named k.spaces c.memory.place c.memory.index ≡ Some c.space
+    → k.areas ≡ areas → outcome_in (parts k) row ≡ refuses ENOSYS → p.reply ≡ reply_of ENOSYS → p.effect ≡ Nothing
+    → Answers row p c k space areas
+answers_lacking row p c k space areas own there shared is reply none =
+    answers_refused row p c k space space areas (record { space = own; there = there }) ENOSYS is reply none refl
+    (sym shared)
 
 -- areas that were in hand, put back
 pub areas_changed : (hand : List InHand) (k : Kernel)
