@@ -1,23 +1,26 @@
 -- What calls come to, as their rows have it.
 use Rattle.std.proofs.Common.{◌≡◌, ℕ, ℤ, List, [], ◌∷◌, ◌++◌, length, Option, Some, None, Result, Ok, Err, refl, ap, sym}
-use Rattle.std.proofs.Common.{◌∙◌}
+use Rattle.std.proofs.Common.{◌∙◌, ◌==◌, ◌≢◌, min, true, false}
 use Rattle.std.specs.Prelude.{IfSome}
+use Rattle.std.proofs.lemmas.Bool.{ne_eqb}
 use Rattle.mm_areas.specs.declared.fault.AreaErr.{AreaErr}
 use Rattle.sn_errno.specs.declared.errno.Errno.{Errno}
 use Rattle.sn_errno.specs.declared.errno.Errno.TheVariants.{ENOSYS}
 use Rattle.sn_errno.specs.Errors.{reply_of}
 use Rattle.mm_space.specs.Handing.{AreaState, InHand}
-use Rattle.mm_space.specs.Spaces.{AddressSpace, Reach}
+use Rattle.mm_space.specs.Spaces.{AddressSpace}
 use Rattle.kernel_model.specs.Names.{NamedMap, get_named, with_named}
 use Rattle.kernel_model.specs.declared.caller.Caller.{Caller}
 use Rattle.kernel_model.specs.declared.kernel.Kernel.{Kernel}
 use Rattle.kernel_model.specs.declared.kernel.Part.TheVariants.{OfArea, OfSpace}
 use Rattle.kernel_model.specs.calls.Answers.{Answer, replies, refuses}
 use Rattle.kernel_model.specs.calls.Memory.{remaps, unless_refused}
-use Rattle.kernel_model.specs.entries.Areas.{area_changes, reach_changes}
-use Rattle.kernel_model.specs.entries.Parts.{parts, Prog, done, outcome_in, Change, changed}
+use Rattle.kernel_model.specs.entries.Areas.{area_changes, bytes_read}
+use Rattle.kernel_model.specs.entries.Parts.{Parts, parts, Prog, done, outcome_in, Change, changed}
+use Rattle.kernel_model.specs.calls.Console.{descriptor, is_written_to, to_console, write_row}
 use Rattle.kernel_model.proofs.ChildLaws.{changed-append}
 use Rattle.kernel_model.proofs.NamedMaps.{with_same}
+use Rattle.kernel_model.proofs.Trees.{outcome-bind}
 use Rattle.kernel_calls.specs.Lending.{with_hand, AreThose}
 use Rattle.kernel_calls.specs.Prepared.{Answers, HasSpace, IsCalling, answer_of, changes_of, with_memory}
 use Rattle.kernel_calls.specs.declared.context.Context.{Context}
@@ -120,3 +123,15 @@ areas_changed [] k = refl
 areas_changed (h ∷ hand) k =
     changed-append (area_changes hand) ((OfArea h.name, Some h.state) ∷ []) k
     ∙ ap (λ m. changed ((OfArea h.name, Some h.state) ∷ []) m) (areas_changed hand k)
+
+-- ---- the console
+
+-- a write of bytes to a descriptor that is open for it
+pub console_written : (s : Parts) (fd buffer count : ℕ) (space : AddressSpace) (o : Option (List ℕ))
+    → is_written_to (descriptor fd) ≡ true → count ≢ 0
+    → outcome_in s (bytes_read space buffer (min count 65536)) ≡ o
+    → outcome_in s (write_row fd buffer count space) ≡ outcome_in s (to_console o)
+console_written s fd buffer count space o out some is =
+    let more : (count == 0) ≡ false = ne_eqb count 0 some in
+    rw (out, more) (outcome-bind s (bytes_read space buffer (min count 65536)) to_console
+    ∙ ap (λ x. outcome_in s (to_console x)) is)

@@ -4,6 +4,7 @@ pub mod Effects
 pub mod Executables
 pub mod Keys
 pub mod Lendings
+pub mod RandomRows
 pub mod RandomWords
 pub mod Runs
 pub mod SteppedLaws

@@ -56,7 +56,7 @@ pub(crate) fn getrandom(
 }
 
 /// So many random bytes for the entry of a place.
-#[tactic(auto, using(crate::proofs::RandomWords::len_words, crate::proofs::RandomWords::random_by_words))]
+#[tactic(auto, using(crate::proofs::RandomWords::random_by_words))]
 fn random_at(alloc: Global, seed: &[u8], place: u64, count: u64) -> Result<List<u8>, Memory>
     requires { count ≤ 256 }
     ensures { IfOk result (λ bytes. bytes ≡ random_at seed.now place count) }
