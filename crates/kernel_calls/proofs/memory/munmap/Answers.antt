@@ -1,5 +1,6 @@
 -- What was unmapped, or why nothing was.
-use Rattle.std.proofs.Common.{◌≡◌, pos, [], refl, ap, sym, ◌∙◌}
+use Rattle.std.proofs.Common.{◌≢◌, pos, [], Some, rules, refl, ap, sym, ◌∙◌}
+use Rattle.mm_areas.specs.declared.fault.AreaErr.TheVariants.{Memory}
 use Rattle.mm_areas.specs.Mappings.{unmap_fault}
 use Rattle.mm_space.specs.Changes.{unmapped_in}
 use Rattle.kernel_model.specs.calls.Memory.{fault_errno, remaps}
@@ -20,10 +21,11 @@ returns-clause-row c =
           (w.in-Ok.ensures.ok ∙ ap (λ s. unmapped_in s a.address a.length) c.space.view_is) refl)
       | in-Err-Memory w ↦ rw w.result-is tt
       | in-Err w ↦
-          let h = w.in-Err in
+          let other : w.in-Err.fault ≢ Memory = search rules in
           rw w.result-is (λ caller k has. answers_if_refused
           (λ space. fault_errno (unmap_fault a.address a.length)) w.refused.result caller k a.space.now _
           k.areas has w.refused.ensures.effect (remaps caller (unmapped_in caller.space a.address a.length)
-          (pos 0) []) w.area_errno.result ? w.refused.ensures.reply
-          (w.in-Err.ensures.err ∙ c.space.view_is) refl)
+          (pos 0) []) w.area_errno.result
+          (ap fault_errno (w.in-Err.ensures.fault other) ∙ ap Some (sym w.area_errno.ensures))
+          w.refused.ensures.reply (w.in-Err.ensures.err ∙ c.space.view_is) refl)
     ]
