@@ -1,6 +1,6 @@
 -- What calls come to, as their rows have it.
-use Rattle.std.proofs.Common.{◌≡◌, ℕ, ℤ, List, [], ◌∷◌, ◌++◌, length, Option, Some, None, Result, Ok, Err, refl, ap, sym}
-use Rattle.std.proofs.Common.{◌∙◌, ◌==◌, ◌≢◌, min, true, false}
+use Rattle.std.proofs.Common.{◌≡◌, ◌≢◌, ◌==◌, ℕ, ℤ, min, true, false, List, [], ◌∷◌, Option, Some, None, Result, Ok}
+use Rattle.std.proofs.Common.{Err, refl, ap, sym, ◌∙◌}
 use Rattle.std.specs.Prelude.{IfSome}
 use Rattle.std.proofs.lemmas.Bool.{ne_eqb}
 use Rattle.mm_areas.specs.declared.fault.AreaErr.{AreaErr}
@@ -14,10 +14,10 @@ use Rattle.kernel_model.specs.declared.caller.Caller.{Caller}
 use Rattle.kernel_model.specs.declared.kernel.Kernel.{Kernel}
 use Rattle.kernel_model.specs.declared.kernel.Part.TheVariants.{OfArea, OfSpace}
 use Rattle.kernel_model.specs.calls.Answers.{Answer, replies, refuses}
+use Rattle.kernel_model.specs.calls.Console.{descriptor, is_written_to, to_console, write_row}
 use Rattle.kernel_model.specs.calls.Memory.{remaps, unless_refused}
 use Rattle.kernel_model.specs.entries.Areas.{area_changes, bytes_read}
 use Rattle.kernel_model.specs.entries.Parts.{Parts, parts, Prog, done, outcome_in, Change, changed}
-use Rattle.kernel_model.specs.calls.Console.{descriptor, is_written_to, to_console, write_row}
 use Rattle.kernel_model.proofs.ChildLaws.{changed-append}
 use Rattle.kernel_model.proofs.NamedMaps.{with_same}
 use Rattle.kernel_model.proofs.Trees.{outcome-bind}

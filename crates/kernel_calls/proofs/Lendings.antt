@@ -256,7 +256,7 @@ taken_out m place index v has p i =
     elim (one_name_or_two place index p i) [
       | inl e ↦
           let here : get_named (without_named (with_named m place index v) place index) place index
-              ≡ get_named m place index
+          ≡ get_named m place index
           = get-without_same (with_named m place index v) place index
           ∙ sym (nothing_there (get_named m place index) has) in
           rw (← e.0, ← e.1) here

@@ -1,6 +1,6 @@
 -- What the row of getrandom comes to.
-use Rattle.std.proofs.Common.{◌≡◌, ℕ, ◌+◌, ◌<◌, ◌≤◌, ◌%◌, ◌^◌, nat_lt, min, Bool, true, false, pos, Option, Some, None, refl}
-use Rattle.std.proofs.Common.{ap, sym, ◌∙◌, subst, List, to_z, w64, arith}
+use Rattle.std.proofs.Common.{◌≡◌, ℕ, ◌+◌, ◌<◌, ◌≤◌, ◌%◌, ◌^◌, nat_lt, min, pos, Bool, true, false, List, Option, Some}
+use Rattle.std.proofs.Common.{None, to_z, w64, refl, ap, sym, ◌∙◌, subst, arith}
 use Rattle.std.proofs.lemmas.Bool.{lt-ltb, le-ltb}
 use Rattle.std.proofs.lemmas.Int.{to_z_pos}
 use Rattle.sn_errno.specs.declared.errno.Errno.TheVariants.{EINVAL, EFAULT}
@@ -68,7 +68,6 @@ module _ (p : Prepared) (c : Caller) (k : Kernel) (context : Context) (own space
       ∙ ap (λ i. outcome_in (parts k) (bytes_written context.task own buffer (random_at context.seed.now i n)))
       calling.place)
 
-
   answers_put : (n : ℕ) (o : Option Reach) (wrote : Bool) → put_by n ≡ o → Wrote o wrote own space shared areas
       → wrote ≡ true → p.reply ≡ pos n
       → Answers (putting c c.task c.space buffer n k.seed (k.entries + 1)) p c k space areas
@@ -94,7 +93,8 @@ module _ (p : Prepared) (c : Caller) (k : Kernel) (context : Context) (own space
   -- bytes that were put, by the flags and the count of the call
   pub random_put : (flags n : ℕ) (bytes : List ℕ) (wrote : Bool) → flags % 2 ^ 32 ≤ 7 → n ≡ min count most_random
       → bytes ≡ random_at context.seed.now context.place n → Wrote (puts bytes) wrote own space shared areas
-      → wrote ≡ true → p.reply ≡ to_z w64 n → Answers (getrandom_row (context_of k) buffer count flags c) p c k space areas
+      → wrote ≡ true → p.reply ≡ to_z w64 n
+      → Answers (getrandom_row (context_of k) buffer count flags c) p c k space areas
   random_put flags n bytes wrote few least are w so reply =
       subst (λ row. Answers row p c k space areas) (sym (row_taken (context_of k) buffer count flags c few))
       (answers_put (min count most_random) (puts bytes) wrote

@@ -1,5 +1,5 @@
 -- What a write of bytes that were read, or could not be, comes to.
-use Rattle.std.proofs.Common.{◌≡◌, min, [], None, Some, ap, sym, ◌∙◌}
+use Rattle.std.proofs.Common.{[], None, Some, ap, sym, ◌∙◌}
 use Rattle.kernel_model.specs.calls.Answers.{replies}
 use Rattle.kernel_model.specs.entries.Areas.{bytes_read}
 use Rattle.kernel_model.specs.entries.Parts.{outcome_in}

@@ -22,7 +22,7 @@ pub returns-clause-row : goal.returns-clause-row
 returns-clause-row c caller k has =
     let a = c.args in
     let within : protect_refusal a.space.now a.address a.length a.protection
-        ≡ fault_errno (protect_fault a.space.now.mapping a.address a.length)
+    ≡ fault_errno (protect_fault a.space.now.mapping a.address a.length)
     = ap (λ b. if b then Some EINVAL else fault_errno (protect_fault a.space.now.mapping a.address a.length))
     (sym c.is_no_protection.ensures ∙ c.if-is_no_protection.false) in
     let view = ap (λ (s : AddressSpace). protect_fault s.mapping a.address a.length) c.space.view_is in
