@@ -1,5 +1,5 @@
 -- Runs, single instructions and ends, piece by piece.
-use Rattle.std.proofs.Common.{◌≡◌, ◌≢◌, ℕ, ◌<◌, ◌≤◌, true, false, cond, Some, None, ap, sym, ◌∙◌, eq-eqb, arith}
+use Rattle.std.proofs.Common.{◌≡◌, ◌≢◌, ℕ, ◌<◌, ◌≤◌, false, cond, Some, None, ap, sym, ◌∙◌, eq-eqb, arith}
 use Rattle.std.proofs.lemmas.Bool.{ne_eqb}
 use Rattle.rv_table.specs.declared.regs.Regs.{Regs}
 use Rattle.task_table.specs.declared.task.Status.TheVariants.{Killed}
