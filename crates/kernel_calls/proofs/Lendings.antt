@@ -4,7 +4,7 @@ use Rattle.std.proofs.Common.{sym, ◌∙◌, ◌⊎◌, inl, inr, subst}
 use Rattle.std.specs.Prelude.{is_some, unwrap_or, IsTrue, ◌==◌, ◌&&◌}
 use Rattle.std.specs.Ordering.{nat_cmp}
 use Rattle.std.specs.FinMap.{FinMap, get, insert, empty}
-use Rattle.std.proofs.lemmas.Bool.{eqb-true, eqb-false}
+use Rattle.std.proofs.lemmas.Bool.{eqb-false}
 use Rattle.sn_base.proofs.Maps.{get-insert_same, get-insert_other, insert-insert, same_by_get}
 use Rattle.rv_table.specs.declared.error.Area.{Area}
 use Rattle.mm_space.specs.Handing.{AreaState, InHand, area_in, zero_area}
