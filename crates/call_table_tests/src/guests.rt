@@ -14,6 +14,9 @@ use sn_vectors::image_of;
 use std::alloc::Global;
 use std::test::Fail;
 
+/// The seed of 32 zeros.
+pub const SEED: [u8; 32] = [0; 32];
+
 /// The image of a file.
 fn image_in(alloc: Global, file: &[u8]) -> Result<Image, Fail>
     ensures { IfOk result HasRoom }
@@ -35,12 +38,12 @@ fn program(alloc: Global) -> Result<Program, Fail> {
     })
 }
 
-/// The processes of a program, with the seed of 32 zeros.
+/// The processes of a program, with that seed.
 fn begin(alloc: Global, program: &Program, image: &Image) -> Result<Processes, Memory>
     requires short { is_too_long program.now.args program.now.env ≡ false }
     requires pages { HasRoom image.now }
 {
-    Processes::start(alloc, &[0; 32], program, image)
+    Processes::start(alloc, &SEED, program, image)
 }
 
 /// The processes of a guest of these words.

@@ -3,7 +3,7 @@
 ghost use Rattle.std.specs.Prelude.{IsTrue};
 ghost use Rattle.task_table.specs.Table.{is_live};
 
-use crate::guests::processes_of;
+use crate::guests::{SEED, processes_of};
 use call_table::{Processes, Ran, run_turns};
 use kernel_model::Entry;
 use sn_base::List;
@@ -81,7 +81,7 @@ fn lines_of(alloc: Global, trace: &[Entry]) -> Result<List<Line>, Fail> {
 /// Has a guest of these words make at most so many entries.
 fn turns(alloc: Global, words: &[u32], entries: u64) -> Result<Told, Fail> {
     let processes = processes_of(alloc, words)?;
-    let Ran { processes, trace } = run_turns(alloc, processes, entries);
+    let Ran { processes, trace } = run_turns(alloc, processes, &SEED, entries);
     let Some(processes) = processes else {
         return Err(Fail::new("memory"));
     };
@@ -160,7 +160,7 @@ fn expect_live(rt: &impl Abort, processes: &Processes, number: u32)
 fn a_live_task_advances_by_one_entry(rt: HostRuntime) -> Result<(), Fail> {
     let mut processes = processes_of(rt.alloc(), WRITES_NOTHING.words)?;
     expect_live(&rt, &processes, 1);
-    let entry = processes.advance(rt.alloc(), 1)?;
+    let entry = processes.advance(rt.alloc(), 1, &SEED, 1)?;
     assert!(rt; line_of(&entry) == run(4));
     Ok(())
 }
