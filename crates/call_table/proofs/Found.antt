@@ -18,7 +18,7 @@ module _ (list : TaskTable) (registers : map.FinMap nat_cmp Regs) (spaces : Name
   number = group_of list.tasks task
 
   s : Parts
-  s = parts (kernel_with list registers spaces [] nothing_beside 0)
+  s = parts (kernel_with list registers spaces map.empty [] nothing_beside 0)
 
   -- the parts of a live task
   pub record Parted (c : Caller) : Type 0 where

@@ -38,17 +38,18 @@ both : {a b : Bool} → a ≡ true → b ≡ true → (a && b) ≡ true
 both {a} {b} p q = ap (λ x. x && b) p ∙ q
 
 pub whole_more : (k next last : Kernel) (es : List Entry) (e : Entry) → replay k es ≡ Some next → each_whole k es ≡ true
-    → step next e ≡ Some last → is_whole e last ≡ true → each_whole k (es ++ e ∷ []) ≡ true
+    → step next e ≡ Some last → is_whole e next last ≡ true → each_whole k (es ++ e ∷ []) ≡ true
 whole_more k next last [] e r w s h =
     let same : k ≡ next = cc in
-    ap (λ (x : Kernel). whole_then e (step x e) (λ after. true)) same ∙ ap (λ o. whole_then e o (λ after. true)) s
-    ∙ both h refl
+    ap (λ (x : Kernel). whole_then e x (step x e) (λ after. true)) same
+    ∙ ap (λ o. whole_then e next o (λ after. true)) s ∙ both h refl
 whole_more k next last (x ∷ es) e r w s h = go (step k x) r w (λ y p q. whole_more y next last es e p q s h)
   where
     go : (o : Option Kernel) → option_and_then (λ (y : Kernel). replay y es) o ≡ Some next
-        → whole_then x o (λ after. each_whole after es) ≡ true
+        → whole_then x k o (λ after. each_whole after es) ≡ true
         → ((y : Kernel) → replay y es ≡ Some next → each_whole y es ≡ true → each_whole y (es ++ e ∷ []) ≡ true)
-        → whole_then x o (λ after. each_whole after (es ++ e ∷ [])) ≡ true
+        → whole_then x k o (λ after. each_whole after (es ++ e ∷ [])) ≡ true
     go None p q f = cc
     go (Some y) p q f =
-        both (first_part (is_whole x y) (each_whole y es) q) (f y p (second_part (is_whole x y) (each_whole y es) q))
+        both (first_part (is_whole x k y) (each_whole y es) q)
+        (f y p (second_part (is_whole x k y) (each_whole y es) q))

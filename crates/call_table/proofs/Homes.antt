@@ -116,7 +116,8 @@ pub registers_stay : (registers : map.FinMap nat_cmp Regs) (task : ℕ) (after :
     → map.get registers q ≡ Some r → (r' : Regs) × (map.get (map.insert registers task after) q ≡ Some r')
 registers_stay registers task after q r e =
     elim (same_or_other task q) [
-      | inl same ↦ (after, ap (map.get (map.insert registers task after)) (sym same) ∙ get-insert_same registers task after)
+      | inl same ↦
+          (after, ap (map.get (map.insert registers task after)) (sym same) ∙ get-insert_same registers task after)
       | inr apart ↦ (r, get-insert_other registers task q after apart ∙ e)
     ]
 
@@ -131,8 +132,8 @@ memories_stay spaces place index after p i a e =
     ]
 
 -- registers and a memory that are set
-pub home_run : (list : TaskTable) (registers registers' : map.FinMap nat_cmp Regs) (spaces spaces' : NamedMap AddressSpace)
-    (task : ℕ) (after : Regs) (place index : ℕ) (left : AddressSpace) → AreAtHome list registers spaces
+pub home_run : (list : TaskTable) (registers registers' : map.FinMap nat_cmp Regs)
+    (spaces spaces' : NamedMap AddressSpace) (task : ℕ) (after : Regs) (place index : ℕ) (left : AddressSpace) → AreAtHome list registers spaces
     → registers' ≡ map.insert registers task after → spaces' ≡ with_named spaces place index left
     → AreAtHome list registers' spaces'
 home_run list registers registers' spaces spaces' task after place index left home e f =
@@ -140,6 +141,14 @@ home_run list registers registers' spaces spaces' task after place index left ho
     (subst (λ x. AreAtHome list (map.insert registers task after) x) (sym f)
     (home_kept list registers spaces home (map.insert registers task after) (with_named spaces place index left)
     (registers_stay registers task after) (memories_stay spaces place index left)))
+
+-- a memory that is set
+pub home_reached : (list : TaskTable) (registers : map.FinMap nat_cmp Regs) (spaces : NamedMap AddressSpace)
+    (place index : ℕ) (left : AddressSpace) → AreAtHome list registers spaces
+    → AreAtHome list registers (with_named spaces place index left)
+home_reached list registers spaces place index left home =
+    home_kept list registers spaces home registers (with_named spaces place index left) (λ q r there. (r, there))
+    (memories_stay spaces place index left)
 
 -- registers that are set
 pub home_replied : (list : TaskTable) (registers registers' : map.FinMap nat_cmp Regs) (spaces : NamedMap AddressSpace)

@@ -3,5 +3,7 @@ pub mod Ends
 pub mod Found
 pub mod Histories
 pub mod Homes
+pub mod Kept
+pub mod Results
 pub mod Steps
 pub mod NextTurns

@@ -1,12 +1,14 @@
 -- What an entry of a live task is to the kernel of its processes.
 use Rattle.std.proofs.Common.{◌≡◌, ℕ, ◌+◌, ◌≤◌, Bool, true, false, cond, List, [], ◌∷◌, ◌++◌, refl, ap, sym}
-use Rattle.std.proofs.Common.{◌∙◌, arith, ℤ, option_map}
+use Rattle.std.proofs.Common.{◌∙◌, arith, ℤ, option_map, subst}
 use Rattle.std.specs.Prelude.{Option, Some, None, if◌then◌else◌, ◌&&◌, ◌||◌, not, nat_eq}
 use Rattle.std.specs.Ordering.{int_eq, nat_cmp}
 use Rattle.std.specs.FinMap as map
 use Rattle.std.proofs.lemmas.Bool.Decides.{Decides-int_eq, Decides-eqb}
 use Rattle.sn_base.proofs.Maps.{get-insert_same, insert_same}
 use Rattle.rv_table.specs.declared.regs.Regs.{Regs}
+use Rattle.rv_table.specs.declared.error.Area.{Area}
+use Rattle.mm_space.specs.Handing.{AreaState}
 use Rattle.mm_space.specs.Spaces.{AddressSpace}
 use Rattle.quantum.specs.Instructions.{Going, ran}
 use Rattle.task_table.specs.declared.task.Group.{Group}
@@ -20,30 +22,34 @@ use Rattle.kernel_model.specs.declared.entry.Args.{Args}
 use Rattle.kernel_model.specs.declared.entry.Entry.{Entry}
 use Rattle.kernel_model.specs.declared.entry.Entry.TheVariants.{Run, Call, End}
 use Rattle.kernel_model.specs.declared.kernel.Kernel.{Kernel}
-use Rattle.kernel_model.specs.declared.kernel.Part.TheVariants.{OfTasks, OfTask, OfSpace}
+use Rattle.kernel_model.specs.declared.kernel.Part.TheVariants.{OfTasks, OfTask, OfSpace, OfConsole}
 use Rattle.kernel_model.specs.declared.opening.Given.{Given}
 use Rattle.kernel_model.specs.declared.traps.Next.{Next}
-use Rattle.kernel_model.specs.declared.traps.Next.TheVariants.{Goes, Calls, Traps}
-use Rattle.kernel_model.specs.machine.Instructions.{StopsAt, goes_on, next_of}
+use Rattle.kernel_model.specs.declared.traps.Next.TheVariants.{Goes, Calls, Traps, Touches}
+use Rattle.kernel_model.specs.machine.Instructions.{StopsAt, goes_on, next_of, touches_area}
 use Rattle.kernel_model.specs.machine.Registers.{args_of, call_of, replied}
 use Rattle.kernel_model.specs.machine.Spaces.{acting_in, going_in}
 use Rattle.kernel_model.specs.calls.Answers.{replies}
 use Rattle.kernel_model.specs.calls.Callers.{context_of, caller_of, with_memory, in_group}
 use Rattle.kernel_model.specs.calls.Ending.{group_end}
 use Rattle.kernel_model.specs.calls.Table.{call_row}
-use Rattle.kernel_model.specs.entries.History.{is_whole, goes_next}
+use Rattle.kernel_model.specs.entries.Areas.{Stands, next_row}
+use Rattle.kernel_model.specs.entries.History.{is_whole, goes_next, has_next, has_touching, touches_next}
 use Rattle.kernel_model.specs.entries.Parts.{Parts, parts, done, look, outcome_in, Change, put, changed}
-use Rattle.kernel_model.specs.entries.Steps.{by_given, end_at, entry_row, going_on, if_live, next_in, row_of, same_args}
-use Rattle.kernel_model.specs.entries.Steps.{stands_at, step, stepped, task_change, task_of}
+use Rattle.kernel_model.specs.entries.Steps.{by_given, call_at, end_at, entry_row, going_on, if_live, next_in, row_of}
+use Rattle.kernel_model.specs.entries.Steps.{run_alone, same_args, stands_at, step, stepped, task_change, task_of}
 use Rattle.kernel_model.proofs.CallLemmas.{call_quiet}
 use Rattle.kernel_model.proofs.NamedMaps.{get-with_same, with_same}
 use Rattle.kernel_model.proofs.Trees.{outcome-bind}
-use Rattle.kernel_calls.proofs.Runs.{nothing_ran, ran_none, row_ran}
+use Rattle.kernel_calls.specs.Prepared.{Steps, changes_of}
+use Rattle.kernel_calls.specs.declared.prepared.Effect.{Effect}
+use Rattle.kernel_calls.specs.declared.prepared.Effect.TheVariants.{Nothing, TakesBytes, EndsGroup}
+use Rattle.kernel_calls.proofs.Runs.{alone_touching, nothing_ran, row_by_step, row_ran, stands_alone}
 use Rattle.call_table.specs.declared.processes.Processes.{Processes}
 use Rattle.call_table.specs.declared.processes.Standing.{Standing}
 use Rattle.call_table.specs.Beside.{Beside, nothing_beside, kernel_with, found_in}
-use Rattle.call_table.specs.Processes.{kernel_of, caller_in, caller_with, StandsAs, RunsIn, NextIn, IsNextOf}
-use Rattle.call_table.specs.Processes.{AreKept, HasRunPart}
+use Rattle.call_table.specs.Processes.{kernel_of, caller_with, StandsAs, RunsIn, NextIn, IsNextOf}
+use Rattle.call_table.specs.Processes.{is_touching}
 use Rattle.call_table.proofs.Found.{Parted, found_by, parted}
 
 -- ---- numbers and arguments are themselves
@@ -60,12 +66,12 @@ args_same args = simp nat_same
 -- ---- a live task is found, whatever stands beside the processes
 
 module _ (list : TaskTable) (registers : map.FinMap nat_cmp Regs) (spaces : NamedMap AddressSpace)
-    (console : List ℕ) (beside : Beside) (n task : ℕ) where
+    (areas : NamedMap AreaState) (console : List ℕ) (beside : Beside) (n task : ℕ) where
   s : Parts
-  s = parts (kernel_with list registers spaces console beside n)
+  s = parts (kernel_with list registers spaces areas console beside n)
 
   z : Parts
-  z = parts (kernel_with list registers spaces [] nothing_beside 0)
+  z = parts (kernel_with list registers spaces map.empty [] nothing_beside 0)
 
   alike_registers : (group : ℕ) (memory : Made) (o : Option Regs)
       → outcome_in s (with_memory task group memory o) ≡ outcome_in z (with_memory task group memory o)
@@ -88,7 +94,7 @@ module _ (list : TaskTable) (registers : map.FinMap nat_cmp Regs) (spaces : Name
   alike_life true = alike_group (group_of list.tasks task) (map.get list.groups (group_of list.tasks task))
   alike_life false = refl
 
-  pub found_beside : outcome_in (parts (kernel_with list registers spaces console beside n)) (caller_of task)
+  pub found_beside : outcome_in (parts (kernel_with list registers spaces areas console beside n)) (caller_of task)
       ≡ found_in list registers spaces task
   unfolding s z
   found_beside = alike_life (is_live list.tasks task)
@@ -109,14 +115,17 @@ step_found k e c changes found row = ap (option_map (stepped k)) (row_found k e 
 
 -- kernels with the same parts
 pub same_kernel : (list list' : TaskTable) (registers registers' : map.FinMap nat_cmp Regs)
-    (spaces spaces' : NamedMap AddressSpace) (console console' : List ℕ) (beside : Beside) (n : ℕ) → list' ≡ list
-    → registers' ≡ registers → spaces' ≡ spaces → console' ≡ console
-    → kernel_with list registers spaces console beside n ≡ kernel_with list' registers' spaces' console' beside n
-same_kernel list list' registers registers' spaces spaces' console console' beside n e f g h =
-    sym (ap (λ x. kernel_with x registers' spaces' console' beside n) e
-    ∙ ap (λ x. kernel_with list x spaces' console' beside n) f
-    ∙ ap (λ x. kernel_with list registers x console' beside n) g
-    ∙ ap (λ x. kernel_with list registers spaces x beside n) h)
+    (spaces spaces' : NamedMap AddressSpace) (areas areas' : NamedMap AreaState) (console console' : List ℕ)
+    (beside : Beside) (n : ℕ) → list' ≡ list → registers' ≡ registers → spaces' ≡ spaces → areas' ≡ areas
+    → console' ≡ console
+    → kernel_with list registers spaces areas console beside n
+    ≡ kernel_with list' registers' spaces' areas' console' beside n
+same_kernel list list' registers registers' spaces spaces' areas areas' console console' beside n e f g h i =
+    sym (ap (λ x. kernel_with x registers' spaces' areas' console' beside n) e
+    ∙ ap (λ x. kernel_with list x spaces' areas' console' beside n) f
+    ∙ ap (λ x. kernel_with list registers x areas' console' beside n) g
+    ∙ ap (λ x. kernel_with list registers spaces x console' beside n) h
+    ∙ ap (λ x. kernel_with list registers spaces areas x beside n) i)
 
 -- changes and then others
 changed-append : (xs ys : List Change) (k : Kernel) → changed (xs ++ ys) k ≡ changed ys (changed xs k)
@@ -128,31 +137,64 @@ pub stop_none : (n : ℕ) (told next : Next) → StopsAt 10000 n told next → n
 stop_none n Goes next all none = absurd (omega arith)
 stop_none n Calls next stop none = sym stop.1
 stop_none n (Traps signal) next stop none = sym stop.1
+stop_none n (Touches area) next stop none = sym stop.1
 
 pub stop_not_on : (n : ℕ) (told next : Next) → StopsAt 10000 n told next → n ≡ 0 → goes_on told ≡ false
 stop_not_on n Goes next all none = absurd (omega arith)
 stop_not_on n Calls next stop none = refl
 stop_not_on n (Traps signal) next stop none = refl
+stop_not_on n (Touches area) next stop none = refl
 
 or_true : (b : Bool) → (b || true) ≡ true
 or_true true = refl
 or_true false = refl
+
+-- an instruction that touches a shared area touches some one
+area_touched : (next : Next) → touches_area next ≡ true → (area : Area) × (next ≡ Touches area)
+area_touched Goes e = absurd (cc e)
+area_touched Calls e = absurd (cc e)
+area_touched (Traps signal) e = absurd (cc e)
+area_touched (Touches area) e = (area, refl)
+
+-- an effect is the same to kernels with the same task list and console
+pub effect_alike : (effect : Effect) (group : ℕ) (k m : Kernel) → k.tasks ≡ m.tasks → k.console ≡ m.console
+    → changes_of effect group (parts k) ≡ changes_of effect group (parts m)
+effect_alike Nothing group k m e f = refl
+effect_alike (TakesBytes bytes) group k m e f = ap (λ (x : List ℕ). (OfConsole, x ++ bytes) ∷ []) f
+effect_alike (EndsGroup status) group k m e f = ap (group_end group status) e
 
 module _ (p : Processes) (task : ℕ) (standing : Standing) (stands : StandsAs p task standing) where
   abbrev c : Caller
   c = caller_with task standing stands.space
 
   found_here : (beside : Beside) (n : ℕ) → outcome_in (parts (kernel_of p beside n)) (caller_of task) ≡ Some c
-  found_here beside n = found_beside p.tasks p.registers p.spaces p.console beside n task ∙ stands.found
+  found_here beside n = found_beside p.tasks p.registers p.spaces p.areas p.console beside n task ∙ stands.found
+
+  -- its memory is its own, and that and its registers stay where they are set to what they are
+  pub own_space : (space : AddressSpace)
+      → get_named p.spaces standing.memory.place standing.memory.index ≡ Some space → stands.space ≡ space
+  own_space space there = let e : Some stands.space ≡ Some space = sym stands.in_memory ∙ there in cc e
+
+  pub space_same : (after : AddressSpace) → after ≡ stands.space
+      → with_named p.spaces standing.memory.place standing.memory.index after ≡ p.spaces
+  space_same after e =
+      ap (with_named p.spaces standing.memory.place standing.memory.index) e
+      ∙ with_same p.spaces standing.memory.place standing.memory.index stands.space stands.in_memory
+
+  pub registers_same : (after : Regs) → after ≡ standing.registers → map.insert p.registers task after ≡ p.registers
+  registers_same after e =
+      ap (map.insert p.registers task) e
+      ∙ insert_same p.registers task standing.registers
+      (parted p.tasks p.registers p.spaces task (caller_with task standing stands.space) stands.found).registered
 
   -- what its next instruction does
-  pub next_here : (next : Next) → NextIn p task next → next_in c ≡ next
-  next_here next is = by (caller_in p task) stands.found is
-    where
-      by : (o : Option Caller) → o ≡ Some (caller_with task standing stands.space) → IsNextOf o next
-          → next_in (caller_with task standing stands.space) ≡ next
-      by None e is = absurd is
-      by (Some x) e is = let same : x ≡ caller_with task standing stands.space = cc e in ap next_in (sym same) ∙ is
+  pub next_told : (next : Next) → ((k : Kernel) → k.areas ≡ p.areas → (outcome_in (parts k) (next_row c)).next ≡ next)
+      → NextIn p task next
+  next_told next is = subst (λ (o : Option Caller). IsNextOf p.areas o next) (sym stands.found) is
+
+  next_here : (next : Next) → NextIn p task next → (k : Kernel) → k.areas ≡ p.areas
+      → (outcome_in (parts k) (next_row c)).next ≡ next
+  next_here next is = subst (λ (o : Option Caller). IsNextOf p.areas o next) stands.found is
 
   -- ---- runs
 
@@ -160,32 +202,34 @@ module _ (p : Processes) (task : ℕ) (standing : Standing) (stands : StandsAs p
       (runs : RunsIn task standing.memory count standing.registers after p.spaces spaces') where
     -- the memory that it ran over is its own
     same_space : runs.space ≡ stands.space
-    same_space = let e : Some runs.space ≡ Some stands.space = sym runs.there ∙ stands.in_memory in cc e
+    same_space = sym (own_space runs.space runs.there)
 
     ran_here : ran count (going_in task stands.space standing.registers) ≡ Some (going_in task runs.left after)
     ran_here = ap (λ a. ran count (going_in task a standing.registers)) (sym same_space) ∙ runs.steps
 
     pub step_run : (list : TaskTable) (registers : map.FinMap nat_cmp Regs) (spaces : NamedMap AddressSpace)
-        (console : List ℕ) (beside : Beside) (n : ℕ) → 1 ≤ count → count ≤ 10000 → list ≡ p.tasks
-        → registers ≡ map.insert p.registers task after → spaces ≡ spaces' → console ≡ p.console
-        → step (kernel_of p beside n) (Run task count) ≡ Some (kernel_with list registers spaces console beside (n + 1))
-    step_run list registers spaces console beside n low high e f g h =
+        (areas : NamedMap AreaState) (console : List ℕ) (beside : Beside) (n : ℕ) → 1 ≤ count → count ≤ 10000
+        → list ≡ p.tasks → registers ≡ map.insert p.registers task after → spaces ≡ spaces' → areas ≡ p.areas
+        → console ≡ p.console
+        → step (kernel_of p beside n) (Run task count)
+        ≡ Some (kernel_with list registers spaces areas console beside (n + 1))
+    step_run list registers spaces areas console beside n low high e f g h i =
         step_found (kernel_of p beside n) (Run task count) c
         ((OfSpace standing.memory, Some runs.left) ∷ task_change task after ∷ []) (found_here beside n)
         (row_ran count c runs.left after (parts (kernel_of p beside n)) ran_here low high)
         ∙ ap Some (same_kernel p.tasks list (map.insert p.registers task after) registers
-        (with_named p.spaces standing.memory.place standing.memory.index runs.left) spaces p.console console beside
-        (n + 1) e f (g ∙ runs.put) h)
+        (with_named p.spaces standing.memory.place standing.memory.index runs.left) spaces p.areas areas p.console
+        console beside (n + 1) e f (g ∙ runs.put) h i)
 
     -- what its task is then
     found_after : (list : TaskTable) (registers : map.FinMap nat_cmp Regs) (spaces : NamedMap AddressSpace)
-        (console : List ℕ) (beside : Beside) (n : ℕ) → list ≡ p.tasks
+        (areas : NamedMap AreaState) (console : List ℕ) (beside : Beside) (n : ℕ) → list ≡ p.tasks
         → registers ≡ map.insert p.registers task after → spaces ≡ spaces'
-        → outcome_in (parts (kernel_with list registers spaces console beside n)) (caller_of task)
+        → outcome_in (parts (kernel_with list registers spaces areas console beside n)) (caller_of task)
         ≡ Some (caller_with task (record { group = standing.group; memory = standing.memory; registers = after })
         runs.left)
-    found_after list registers spaces console beside n e f g =
-        found_beside list registers spaces console beside n task
+    found_after list registers spaces areas console beside n e f g =
+        found_beside list registers spaces areas console beside n task
         ∙ ap (λ x. found_in x registers spaces task) e
         ∙ ap (λ x. found_in p.tasks x spaces task) f
         ∙ ap (λ x. found_in p.tasks (map.insert p.registers task after) x task) (g ∙ runs.put)
@@ -221,19 +265,28 @@ module _ (p : Processes) (task : ℕ) (standing : Standing) (stands : StandsAs p
 
     -- a run that stopped is whole
     pub whole_run : (list : TaskTable) (registers : map.FinMap nat_cmp Regs) (spaces : NamedMap AddressSpace)
-        (console : List ℕ) (beside : Beside) (n : ℕ) (told : Next) → list ≡ p.tasks
-        → registers ≡ map.insert p.registers task after → spaces ≡ spaces'
+        (areas : NamedMap AreaState) (console : List ℕ) (beside : Beside) (n : ℕ) (before : Kernel) (told : Next)
+        → list ≡ p.tasks → registers ≡ map.insert p.registers task after → spaces ≡ spaces'
         → StopsAt 10000 count told (next_of (acting_in task runs.left) after)
-        → is_whole (Run task count) (kernel_with list registers spaces console beside n) ≡ true
-    whole_run list registers spaces console beside n Goes e f g all =
-        ap (λ x. nat_eq x 10000
-        || not (goes_next (outcome_in (parts (kernel_with list registers spaces console beside n)) (caller_of task)))) all
-    whole_run list registers spaces console beside n Calls e f g stop =
-        ap (λ o. nat_eq count 10000 || not (goes_next o)) (found_after list registers spaces console beside n e f g)
-        ∙ ap (λ x. nat_eq count 10000 || not (goes_on x)) stop.1 ∙ or_true (nat_eq count 10000)
-    whole_run list registers spaces console beside n (Traps signal) e f g stop =
-        ap (λ o. nat_eq count 10000 || not (goes_next o)) (found_after list registers spaces console beside n e f g)
-        ∙ ap (λ x. nat_eq count 10000 || not (goes_on x)) stop.1 ∙ or_true (nat_eq count 10000)
+        → is_whole (Run task count) before (kernel_with list registers spaces areas console beside n) ≡ true
+    whole_run list registers spaces areas console beside n before told e f g = by told
+      where
+        k : Kernel
+        k = kernel_with list registers spaces areas console beside n
+
+        stopped : goes_on (next_of (acting_in task runs.left) after) ≡ false → is_whole (Run task count) before k ≡ true
+        stopped off =
+            ap (λ o. nat_eq count 10000 || not (goes_next o) || has_touching before task)
+            (found_after list registers spaces areas console beside n e f g)
+            ∙ ap (λ x. nat_eq count 10000 || not x || has_touching before task) off
+            ∙ ap (λ x. x || has_touching before task) (or_true (nat_eq count 10000))
+
+        by : (told : Next) → StopsAt 10000 count told (next_of (acting_in task runs.left) after)
+            → is_whole (Run task count) before k ≡ true
+        by Goes all = ap (λ x. nat_eq x 10000 || not (has_next k task) || has_touching before task) all
+        by Calls stop = stopped (ap goes_on stop.1)
+        by (Traps signal) stop = stopped (ap goes_on stop.1)
+        by (Touches area) stop = stopped (ap goes_on stop.1)
 
     -- the memory that it left is there
     pub left_there : get_named spaces' standing.memory.place standing.memory.index ≡ Some runs.left
@@ -246,47 +299,78 @@ module _ (p : Processes) (task : ℕ) (standing : Standing) (stands : StandsAs p
     nothing none = nothing_ran count _ _ ran_here (omega arith)
 
     pub registers_left : count ≡ 0 → map.insert p.registers task after ≡ p.registers
-    registers_left none =
-        ap (λ (g : Going). map.insert p.registers task g.registers) (nothing none)
-        ∙ insert_same p.registers task standing.registers
-        (parted p.tasks p.registers p.spaces task (caller_with task standing stands.space) stands.found).registered
+    registers_left none = registers_same after (ap (λ (g : Going). g.registers) (nothing none))
 
     pub spaces_left : count ≡ 0 → spaces' ≡ p.spaces
-    spaces_left none =
-        runs.put
-        ∙ ap (λ (g : Going). with_named p.spaces standing.memory.place standing.memory.index g.acting.reach.space)
-        (nothing none)
-        ∙ with_same p.spaces standing.memory.place standing.memory.index stands.space stands.in_memory
+    spaces_left none = runs.put ∙ space_same runs.left (ap (λ (g : Going). g.acting.reach.space) (nothing none))
+
+    next_alone : (told : Next) → count ≡ 0 → StopsAt 10000 count told (next_of (acting_in task runs.left) after)
+        → next_in c ≡ told
+    next_alone told none stop =
+        sym (ap (λ (g : Going). next_of g.acting g.registers) (nothing none)) ∙ sym (stop_none count told _ stop none)
 
     pub next_left : (told : Next) → count ≡ 0 → StopsAt 10000 count told (next_of (acting_in task runs.left) after)
-        → NextIn p task told
-    next_left told none stop = by (caller_in p task) stands.found
-      where
-        told_is : told ≡ next_of (acting_in task runs.left) after
-        told_is = stop_none count told _ stop none
+        → touches_area told ≡ false → NextIn p task told
+    next_left told none stop apart =
+        next_told told (λ k areas. ap (λ (x : Stands). x.next)
+        (stands_alone c (parts k) told (next_alone told none stop) apart))
 
-        by : (o : Option Caller) → o ≡ Some (caller_with task standing stands.space) → IsNextOf o told
-        by None e = absurd (cc e)
-        by (Some x) e =
-            let same : x ≡ caller_with task standing stands.space = cc e in
-            ap next_in same
-            ∙ sym (ap (λ (g : Going). next_of g.acting g.registers) (nothing none)) ∙ sym told_is
+    pub touching_left : (told : Next) → count ≡ 0
+        → StopsAt 10000 count told (next_of (acting_in task runs.left) after)
+        → is_touching p task ≡ touches_area told
+    touching_left told none stop = ap touches_next stands.found ∙ ap touches_area (next_alone told none stop)
+
+  -- ---- instructions that touch a shared area
+
+  module _ (touching : is_touching p task ≡ true) where
+    alone : run_alone 1 c ≡ None
+    alone =
+        let touched = area_touched (next_in c) (sym (ap touches_next stands.found) ∙ touching) in
+        alone_touching c touched.0 touched.1
+
+    pub step_touching : (after : Regs) (space : AddressSpace) (list : TaskTable) (registers : map.FinMap nat_cmp Regs)
+        (spaces : NamedMap AddressSpace) (areas : NamedMap AreaState) (console : List ℕ) (beside : Beside) (n : ℕ)
+        → Steps c (kernel_of p beside n) after space areas → list ≡ p.tasks
+        → registers ≡ map.insert p.registers task after
+        → spaces ≡ with_named p.spaces standing.memory.place standing.memory.index space → console ≡ p.console
+        → step (kernel_of p beside n) (Run task 1)
+        ≡ Some (kernel_with list registers spaces areas console beside (n + 1))
+    step_touching after space list registers spaces areas console beside n steps e f g h =
+        step_found (kernel_of p beside n) (Run task 1) c steps.changes (found_here beside n)
+        (row_by_step 1 c alone (parts (kernel_of p beside n)) refl ∙ steps.row_is)
+        ∙ ap (λ (m : Kernel). Some (record m { entries = n + 1 })) steps.done_is
+        ∙ ap Some (same_kernel p.tasks list (map.insert p.registers task after) registers
+        (with_named p.spaces standing.memory.place standing.memory.index space) spaces areas areas p.console console
+        beside (n + 1) e f g refl h)
+
+    pub whole_touching : (beside : Beside) (n : ℕ) (after : Kernel)
+        → is_whole (Run task 1) (kernel_of p beside n) after ≡ true
+    whole_touching beside n after =
+        ap (λ o. nat_eq 1 10000 || not (has_next after task) || touches_next o)
+        (found_beside p.tasks p.registers p.spaces p.areas p.console beside n task)
+        ∙ ap (λ b. nat_eq 1 10000 || not (has_next after task) || b) touching
+        ∙ or_true (nat_eq 1 10000 || not (has_next after task))
 
   -- ---- calls
 
   pub step_call : (number : ℕ) (args : Args) (given : Given) (value : ℤ) (changes : List Change)
-      (list : TaskTable) (registers : map.FinMap nat_cmp Regs) (console : List ℕ) (beside : Beside) (n : ℕ)
-      → next_in c ≡ Calls → number ≡ call_of standing.registers
-      → args ≡ args_of standing.registers → given ≡ record { fresh = []; rises = [] }
+      (list : TaskTable) (registers : map.FinMap nat_cmp Regs) (spaces : NamedMap AddressSpace)
+      (areas : NamedMap AreaState) (console : List ℕ) (beside : Beside) (n : ℕ) → NextIn p task Calls
+      → number ≡ call_of standing.registers → args ≡ args_of standing.registers
+      → given ≡ record { fresh = []; rises = [] }
       → outcome_in (parts (kernel_of p beside n)) (call_row (context_of (kernel_of p beside n)) c number args)
       ≡ replies value changes
-      → changed changes (kernel_of p beside n) ≡ record (kernel_of p beside n) { tasks = list; console = console }
+      → changed changes (kernel_of p beside n) ≡ kernel_with list p.registers spaces areas console beside n
       → registers ≡ map.insert p.registers task (replied standing.registers value)
       → step (kernel_of p beside n) (Call task number args given value)
-      ≡ Some (kernel_with list registers p.spaces console beside (n + 1))
-  step_call number args given value changes list registers console beside n calls is same nothing_met row left f =
+      ≡ Some (kernel_with list registers spaces areas console beside (n + 1))
+  step_call number args given value changes list registers spaces areas console beside n calls is same nothing_met row
+      left f =
       step_found k (Call task number args given value) c (changes ++ going_on c value) (found_here beside n)
-      (ap (λ b. outcome_in (parts k) (if b then by_given (context_of k) c number args value given else done None)) at
+      (outcome-bind (parts k) (next_row c) (λ (x : Stands). call_at (context_of k) c number args value given x.next)
+      ∙ ap (λ x. outcome_in (parts k) (call_at (context_of k) c number args value given x))
+      (next_here Calls calls k refl)
+      ∙ ap (λ b. outcome_in (parts k) (if b then by_given (context_of k) c number args value given else done None)) at
       ∙ ap (λ x. outcome_in (parts k) (by_given (context_of k) c number args value x)) nothing_met
       ∙ call_quiet (parts k) (context_of k) c number args value value changes (record { fresh = []; rises = [] }) row
       refl
@@ -294,91 +378,32 @@ module _ (p : Processes) (task : ℕ) (standing : Standing) (stands : StandsAs p
       ∙ ap Some (ap (λ (m : Kernel). record m { entries = n + 1 })
       (changed-append changes (going_on c value) k
       ∙ ap (put (OfTask task) (Some (replied standing.registers value))) left)
-      ∙ ap (λ x. kernel_with list x p.spaces console beside (n + 1)) (sym f))
+      ∙ ap (λ x. kernel_with list x spaces areas console beside (n + 1)) (sym f))
     where
       k : Kernel
       k = kernel_of p beside n
 
-      at : stands_at number args standing.registers (next_in c) ≡ true
+      at : stands_at number args standing.registers Calls ≡ true
       at =
-          ap (stands_at number args standing.registers) calls
-          ∙ ap (λ b. b && same_args (args_of standing.registers) args)
+          ap (λ b. b && same_args (args_of standing.registers) args)
           (ap (λ x. nat_eq x number) (sym is) ∙ nat_same number)
           ∙ ap (λ x. same_args x args) (sym same) ∙ args_same args
 
   -- ---- ends
 
-  pub step_end : (signal : ℕ) (list : TaskTable) (beside : Beside) (n : ℕ) → next_in c ≡ Traps signal
+  pub step_end : (signal : ℕ) (list : TaskTable) (beside : Beside) (n : ℕ) → NextIn p task (Traps signal)
       → list ≡ group_ended p.tasks standing.group (Killed signal)
       → step (kernel_of p beside n) (End task signal)
-      ≡ Some (kernel_with list p.registers p.spaces p.console beside (n + 1))
+      ≡ Some (kernel_with list p.registers p.spaces p.areas p.console beside (n + 1))
   step_end signal list beside n traps e =
       step_found k (End task signal) c
       ((OfTasks, group_ended p.tasks standing.group (Killed signal)) ∷ []) (found_here beside n)
-      (ap (λ x. outcome_in (parts k) (end_at signal c x)) traps
+      (outcome-bind (parts k) (next_row c) (λ (x : Stands). end_at signal c x.next)
+      ∙ ap (λ x. outcome_in (parts k) (end_at signal c x)) (next_here (Traps signal) traps k refl)
       ∙ ap (λ b. outcome_in (parts k) (if b
       then look OfTasks (λ list. done (Some (group_end standing.group (Killed signal) list))) else done None))
       (nat_same signal))
-      ∙ ap (λ x. Some (kernel_with x p.registers p.spaces p.console beside (n + 1))) (sym e)
+      ∙ ap (λ x. Some (kernel_with x p.registers p.spaces p.areas p.console beside (n + 1))) (sym e)
     where
       k : Kernel
       k = kernel_of p beside n
-
--- ---- where nothing changed
-
--- a task stands as it did
-pub stands_kept : (p q : Processes) (task : ℕ) (standing : Standing) → AreKept p q → StandsAs p task standing
-    → StandsAs q task standing
-stands_kept p q task standing kept stands = record {
-  space = stands.space;
-  in_memory =
-      ap (λ m. get_named m standing.memory.place standing.memory.index) kept.spaces ∙ stands.in_memory;
-  found =
-      ap (λ x. found_in x q.registers q.spaces task) kept.tasks
-      ∙ ap (λ x. found_in p.tasks x q.spaces task) kept.registers
-      ∙ ap (λ x. found_in p.tasks p.registers x task) kept.spaces
-      ∙ stands.found;
-}
-
--- no instruction has run
-pub part_none : (p q : Processes) (task : ℕ) (standing : Standing) → AreKept p q → StandsAs p task standing
-    → HasRunPart task p q
-part_none p q task standing kept stands = record {
-  caller = caller_with task standing stands.space;
-  found = stands.found;
-  count = 0;
-  few = omega arith;
-  registers = standing.registers;
-  runs = record {
-    space = stands.space;
-    left = stands.space;
-    there = stands.in_memory;
-    put =
-        kept.spaces
-        ∙ sym (with_same p.spaces standing.memory.place standing.memory.index stands.space stands.in_memory);
-    steps = ran_none (going_in task stands.space standing.registers);
-  };
-  kept_registers =
-      kept.registers
-      ∙ sym (insert_same p.registers task standing.registers
-      (parted p.tasks p.registers p.spaces task (caller_with task standing stands.space) stands.found).registered);
-  kept_tasks = kept.tasks;
-  kept_console = kept.console;
-}
-
-pub kept_twice : (p q r : Processes) → AreKept p q → AreKept q r → AreKept p r
-kept_twice p q r a b = record {
-  tasks = b.tasks ∙ a.tasks;
-  registers = b.registers ∙ a.registers;
-  spaces = b.spaces ∙ a.spaces;
-  console = b.console ∙ a.console;
-}
-
--- a step of processes that are the same
-pub step_kept : (p q : Processes) (e : Entry) (o : Option Kernel) (beside : Beside) (n : ℕ) → AreKept p q
-    → step (kernel_of q beside n) e ≡ o → step (kernel_of p beside n) e ≡ o
-step_kept p q e o beside n kept is =
-    ap (λ (k : Kernel). step k e)
-    (same_kernel p.tasks q.tasks p.registers q.registers p.spaces q.spaces p.console q.console beside n kept.tasks
-    kept.registers kept.spaces kept.console)
-    ∙ is

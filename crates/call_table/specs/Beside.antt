@@ -4,6 +4,7 @@ use Rattle.std.specs.Ordering.{nat_cmp}
 use Rattle.std.specs.FinMap as map
 use Rattle.mount_file.specs.declared.mounts.Mount.{Mount}
 use Rattle.rv_table.specs.declared.regs.Regs.{Regs}
+use Rattle.mm_space.specs.Handing.{AreaState}
 use Rattle.mm_space.specs.Spaces.{AddressSpace}
 use Rattle.task_table.specs.Table.{TaskTable, is_live}
 use Rattle.kernel_model.specs.Names.{NamedMap}
@@ -26,12 +27,13 @@ nothing_beside = record { nodes = map.empty; failed = map.empty; mounts = []; se
 
 -- a kernel of these parts, after so many entries
 -- profile
-abbrev pub kernel_with : TaskTable → map.FinMap nat_cmp Regs → NamedMap AddressSpace → List ℕ → Beside → (entries : ℕ)
-    → Kernel
-kernel_with list registers spaces console beside entries = record {
+abbrev pub kernel_with : TaskTable → map.FinMap nat_cmp Regs → NamedMap AddressSpace → NamedMap AreaState → List ℕ
+    → Beside → (entries : ℕ) → Kernel
+kernel_with list registers spaces areas console beside entries = record {
   tasks = list;
   registers = registers;
   spaces = spaces;
+  areas = areas;
   nodes = beside.nodes;
   console = console;
   failed = beside.failed;
@@ -44,7 +46,7 @@ kernel_with list registers spaces console beside entries = record {
 -- credentials(7), Process ID (PID)
 abbrev pub found_in : TaskTable → map.FinMap nat_cmp Regs → NamedMap AddressSpace → (task : ℕ) → Option Caller
 found_in list registers spaces task =
-    outcome_in (parts (kernel_with list registers spaces [] nothing_beside 0)) (caller_of task)
+    outcome_in (parts (kernel_with list registers spaces map.empty [] nothing_beside 0)) (caller_of task)
 
 -- each live task has registers, and its group a memory
 -- profile

@@ -1,6 +1,7 @@
 -- Processes as a kernel, with what stands beside them.
-use Rattle.std.specs.Prelude.{◌≡◌, ℕ, ◌<◌, Option, Some, None}
+use Rattle.std.specs.Prelude.{◌≡◌, ℕ, ◌<◌, Bool, Option, Some, None}
 use Rattle.rv_table.specs.declared.regs.Regs.{Regs}
+use Rattle.mm_space.specs.Handing.{AreaState}
 use Rattle.mm_space.specs.Spaces.{AddressSpace}
 use Rattle.task_table.specs.declared.task.Made.{Made}
 use Rattle.quantum.specs.Instructions.{ran}
@@ -9,8 +10,10 @@ use Rattle.kernel_model.specs.declared.caller.Caller.{Caller}
 use Rattle.kernel_model.specs.declared.kernel.Kernel.{Kernel}
 use Rattle.kernel_model.specs.machine.Spaces.{going_in}
 use Rattle.kernel_model.specs.declared.traps.Next.{Next}
-use Rattle.kernel_model.specs.entries.Parts.{set_at}
-use Rattle.kernel_model.specs.entries.Steps.{next_in}
+use Rattle.kernel_model.specs.entries.Areas.{next_row}
+use Rattle.kernel_model.specs.entries.History.{touches_next}
+use Rattle.kernel_model.specs.entries.Parts.{parts, outcome_in, set_at}
+use Rattle.kernel_calls.specs.Lending.{AreAlike}
 use Rattle.call_table.specs.declared.processes.Processes.{Processes}
 use Rattle.call_table.specs.declared.processes.Standing.{Standing}
 use Rattle.call_table.specs.Beside.{Beside, kernel_with, found_in}
@@ -18,7 +21,7 @@ use Rattle.call_table.specs.Beside.{Beside, kernel_with, found_in}
 -- the kernel of processes, with this beside them, after so many entries
 -- profile
 abbrev pub kernel_of : Processes → Beside → (entries : ℕ) → Kernel
-kernel_of p beside entries = kernel_with p.tasks p.registers p.spaces p.console beside entries
+kernel_of p beside entries = kernel_with p.tasks p.registers p.spaces p.areas p.console beside entries
 
 -- a live task of processes
 -- profile
@@ -51,7 +54,8 @@ pub record RunsIn (task : ℕ) (memory : Made) (count : ℕ) (before after : Reg
   pub put : spaces' ≡ with_named spaces memory.place memory.index left
   pub steps : ran count (going_in task space before) ≡ Some (going_in task left after)
 
--- processes that lacked memory: some whole instructions of one task have run, fewer than 10,000
+-- processes that lacked memory: some whole instructions of one task have run, fewer than 10,000, and each shared area
+-- is as it was
 -- profile
 pub record HasRunPart (task : ℕ) (before after : Processes) : Type 0 where
   pub caller : Caller
@@ -62,16 +66,22 @@ pub record HasRunPart (task : ℕ) (before after : Processes) : Type 0 where
   pub runs : RunsIn task caller.memory count caller.registers registers before.spaces after.spaces
   pub kept_registers : after.registers ≡ set_at task (Some registers) before.registers
   pub kept_tasks : after.tasks ≡ before.tasks
+  pub kept_areas : AreAlike after.areas before.areas
   pub kept_console : after.console ≡ before.console
 
--- what the next instruction of a live task does
+-- what the next instruction of a live task does, in each kernel with these shared areas
 -- RISC-V Unprivileged ISA 20191213, 1.2
-abbrev pub IsNextOf : Option Caller → Next → Type 0
-IsNextOf None next = ⊥
-IsNextOf (Some c) next = next_in c ≡ next
+abbrev pub IsNextOf : NamedMap AreaState → Option Caller → Next → Type 0
+IsNextOf areas None next = ⊥
+IsNextOf areas (Some c) next = (k : Kernel) → k.areas ≡ areas → (outcome_in (parts k) (next_row c)).next ≡ next
 
 abbrev pub NextIn : Processes → (task : ℕ) → Next → Type 0
-NextIn p task next = IsNextOf (caller_in p task) next
+NextIn p task next = IsNextOf p.areas (caller_in p task) next
+
+-- it touches a shared area
+-- mmap(2), MAP_SHARED
+abbrev pub is_touching : Processes → (task : ℕ) → Bool
+is_touching p task = touches_next (caller_in p task)
 
 -- nothing changed
 -- profile
@@ -79,4 +89,5 @@ pub record AreKept (before after : Processes) : Type 0 where
   pub tasks : after.tasks ≡ before.tasks
   pub registers : after.registers ≡ before.registers
   pub spaces : after.spaces ≡ before.spaces
+  pub areas : after.areas ≡ before.areas
   pub console : after.console ≡ before.console

@@ -5,17 +5,17 @@ ghost use Rattle.std.specs.FinMap as map;
 ghost use Rattle.task_table.specs.Table.{has_ended, is_live};
 ghost use Rattle.mm_space.specs.Spaces.{AddressSpace};
 ghost use Rattle.kernel_model.specs.Names.{get_named, has_named};
-ghost use Rattle.kernel_model.specs.machine.Instructions.{StopsAt, goes_on, next_of};
+ghost use Rattle.kernel_model.specs.machine.Instructions.{StopsAt, goes_on, next_of, touches_area};
 ghost use Rattle.kernel_model.specs.machine.Spaces.{acting_in};
 ghost use Rattle.kernel_model.specs.entries.History.{is_whole};
 ghost use Rattle.kernel_model.specs.entries.Steps.{step};
 ghost use Rattle.kernel_model.specs.files.Numbers.{numbers_in};
 ghost use Rattle.call_table.specs.Beside.{Beside};
-ghost use Rattle.call_table.specs.Processes.{AreKept, HasRunPart, NextIn, RunsIn, StandsAs, kernel_of};
+ghost use Rattle.call_table.specs.Processes.{AreKept, HasRunPart, NextIn, RunsIn, StandsAs, is_touching, kernel_of};
 
 use crate::Processes;
 use crate::processes::Standing;
-use kernel_calls::{Prepared, Ran, args_of, call, call_of, commit, reply, run};
+use kernel_calls::{Context, Prepared, Ran, args_of, call, call_of, commit, reply, run, step};
 use kernel_model::{Entry, Given, GuestSpace, Named, Next};
 use rv_table::Regs;
 use sn_base::{List, Memory};
@@ -61,14 +61,20 @@ fn nothing_given(alloc: Global) -> Given
 }
 
 impl Processes {
-    /// Makes the next entry of a live task, and does it. Want of memory leaves what some whole instructions, fewer than
-    /// 10,000, have left.
-    pub fn advance(&mut self, alloc: Global, task: u32) -> Result<Entry, Memory>
+    /// Makes the next entry of a live task, of that place, by the mount file's seed, and does it. Want of memory leaves
+    /// what some whole instructions, fewer than 10,000, have left.
+    pub fn advance(
+        &mut self,
+        alloc: Global,
+        task: u32,
+        seed: &[u8],
+        place: u64,
+    ) -> Result<Entry, Memory>
         requires { IsTrue (is_live self.old.tasks.tasks task) }
-        ensures step { IfOk result (λ entry. (beside : Beside) (n : ℕ) →
+        ensures step { IfOk result (λ entry. (beside : Beside) (n : ℕ) → beside.seed ≡ seed.now → n + 1 ≡ place →
             step (kernel_of self.old beside n) entry ≡ Some (kernel_of self.new beside (n + 1))) }
-        ensures whole { IfOk result (λ entry. (beside : Beside) (n : ℕ) →
-            is_whole entry (kernel_of self.new beside n) ≡ true) }
+        ensures whole { IfOk result (λ entry. (beside : Beside) (n m : ℕ) →
+            is_whole entry (kernel_of self.old beside n) (kernel_of self.new beside m) ≡ true) }
         ensures numbers { IfOk result (λ entry. numbers_in entry ≡ []) }
         ensures memory { OnErr result (HasRunPart task self.old self.new) }
     {
@@ -77,10 +83,12 @@ impl Processes {
         if ran.count > 0 {
             return Ok(Entry::Run { task, n: ran.count });
         }
+        let context = Context { task, place, seed };
         match ran.next {
             Next::Goes => unreachable!(),
-            Next::Calls => self.answer(alloc, task, standing),
+            Next::Calls => self.answer(alloc, &context, standing),
             Next::Traps(signal) => self.end(alloc, task, standing, signal),
+            Next::Touches(_) => self.touch(alloc, &context, standing),
         }
     }
 
@@ -90,10 +98,11 @@ impl Processes {
         requires lives { IsTrue (is_live self.old.tasks.tasks task) }
         ensures step { IfOk result (λ r. 0 < r.count → (beside : Beside) (n : ℕ) →
             step (kernel_of self.old beside n) (Entry.Run task r.count) ≡ Some (kernel_of self.new beside (n + 1))) }
-        ensures whole { IfOk result (λ r. (beside : Beside) (n : ℕ) →
-            is_whole (Entry.Run task r.count) (kernel_of self.new beside n) ≡ true) }
+        ensures whole { IfOk result (λ r. (beside : Beside) (n m : ℕ) →
+            is_whole (Entry.Run task r.count) (kernel_of self.old beside n) (kernel_of self.new beside m) ≡ true) }
         ensures none { IfOk result (λ r. r.count ≡ 0 → AreKept self.old self.new) }
-        ensures next { IfOk result (λ r. r.count ≡ 0 → NextIn self.old task r.next) }
+        ensures next { IfOk result (λ r. r.count ≡ 0 → touches_area r.next ≡ false → NextIn self.old task r.next) }
+        ensures touching { IfOk result (λ r. r.count ≡ 0 → is_touching self.old task ≡ touches_area r.next) }
         ensures stops { IfOk result (λ r. r.count ≡ 0 → goes_on r.next ≡ false) }
         ensures memory { OnErr result (HasRunPart task self.old self.new) }
     {
@@ -109,33 +118,99 @@ impl Processes {
         ran
     }
 
-    /// Answers the call that a live task stands at. Want of memory changes nothing.
-    fn answer(&mut self, alloc: Global, task: u32, standing: Standing) -> Result<Entry, Memory>
-        requires stands { StandsAs self.old task standing }
-        requires calls { NextIn self.old task Next.Calls }
+    /// Does a live task's next instruction, which touches a shared area, as an entry of its own; where it calls or
+    /// traps with the areas that it touches, that is the entry. Want of memory leaves what was there.
+    fn touch(
+        &mut self,
+        alloc: Global,
+        context: &Context<'_>,
+        standing: Standing,
+    ) -> Result<Entry, Memory>
+        requires stands { StandsAs self.old context.now.task standing }
+        requires touches { IsTrue (is_touching self.old context.now.task) }
         requires there { IsTrue (map.contains_key self.old.tasks.groups standing.group) }
         requires lives { IsFalse (has_ended self.old.tasks.groups standing.group) }
-        requires registers { IsTrue (map.contains_key self.old.registers task) }
-        ensures step { IfOk result (λ entry. (beside : Beside) (n : ℕ) →
+        requires registers { IsTrue (map.contains_key self.old.registers context.now.task) }
+        ensures step { IfOk result (λ entry. (beside : Beside) (n : ℕ) → beside.seed ≡ context.now.seed.now →
+            n + 1 ≡ context.now.place →
             step (kernel_of self.old beside n) entry ≡ Some (kernel_of self.new beside (n + 1))) }
-        ensures whole { IfOk result (λ entry. (beside : Beside) (n : ℕ) →
-            is_whole entry (kernel_of self.new beside n) ≡ true) }
+        ensures whole { IfOk result (λ entry. (beside : Beside) (n m : ℕ) →
+            is_whole entry (kernel_of self.old beside n) (kernel_of self.new beside m) ≡ true) }
         ensures numbers { IfOk result (λ entry. numbers_in entry ≡ []) }
+        ensures memory { OnErr result (HasRunPart context.now.task self.old self.new) }
+    {
+        let task = context.task;
+        match self.step_standing(alloc, task, standing)? {
+            Next::Goes => Ok(Entry::Run { task, n: 1 }),
+            Next::Calls => self.answer(alloc, context, standing),
+            Next::Traps(signal) => self.end(alloc, task, standing, signal),
+            Next::Touches(_) => unreachable!(),
+        }
+    }
+
+    /// Does a live task's next instruction, which touches a shared area, and answers what it does. Where that does not
+    /// go on, and on want of memory, nothing has changed.
+    fn step_standing(
+        &mut self,
+        alloc: Global,
+        task: u32,
+        standing: Standing,
+    ) -> Result<Next, Memory>
+        requires stands { StandsAs self.old task standing }
+        requires touches { IsTrue (is_touching self.old task) }
+        requires registers { IsTrue (map.contains_key self.old.registers task) }
+        ensures step { IfOk result (λ next. next ≡ Next.Goes → (beside : Beside) (n : ℕ) →
+            step (kernel_of self.old beside n) (Entry.Run task 1) ≡ Some (kernel_of self.new beside (n + 1))) }
+        ensures next { IfOk result (λ next. NextIn self.old task next) }
+        ensures told { IfOk result (λ next. touches_area next ≡ false) }
+        ensures kept { IfOk result (λ next. goes_on next ≡ false → AreKept self.old self.new) }
         ensures err { OnErr result (AreKept self.old self.new) }
+    {
+        let mut registers = standing.registers;
+        let Some(space) = self
+            .spaces
+            .get_mut(standing.memory.place, standing.memory.index)
+        else {
+            unreachable!()
+        };
+        let next = step(alloc, task, &mut registers, space, &mut self.areas)?;
+        self.registers.replace(u64::from(task), registers);
+        Ok(next)
+    }
+
+    /// Answers the call that a live task stands at. Want of memory leaves what was there.
+    fn answer(
+        &mut self,
+        alloc: Global,
+        context: &Context<'_>,
+        standing: Standing,
+    ) -> Result<Entry, Memory>
+        requires stands { StandsAs self.old context.now.task standing }
+        requires calls { NextIn self.old context.now.task Next.Calls }
+        requires there { IsTrue (map.contains_key self.old.tasks.groups standing.group) }
+        requires lives { IsFalse (has_ended self.old.tasks.groups standing.group) }
+        requires registers { IsTrue (map.contains_key self.old.registers context.now.task) }
+        ensures step { IfOk result (λ entry. (beside : Beside) (n : ℕ) → beside.seed ≡ context.now.seed.now →
+            n + 1 ≡ context.now.place →
+            step (kernel_of self.old beside n) entry ≡ Some (kernel_of self.new beside (n + 1))) }
+        ensures whole { IfOk result (λ entry. (beside : Beside) (n m : ℕ) →
+            is_whole entry (kernel_of self.old beside n) (kernel_of self.new beside m) ≡ true) }
+        ensures numbers { IfOk result (λ entry. numbers_in entry ≡ []) }
+        ensures memory { OnErr result (HasRunPart context.now.task self.old self.new) }
     {
         let no = call_of(&standing.registers);
         let args = args_of(&standing.registers);
         let console = self.console.len();
         let Some(space) = self
             .spaces
-            .get(standing.memory.place, standing.memory.index)
+            .get_mut(standing.memory.place, standing.memory.index)
         else {
             unreachable!()
         };
         let Prepared {
             reply: value,
             effect,
-        } = call(alloc, no, &args, space, console)?;
+        } = call(alloc, context, no, &args, space, &mut self.areas, console)?;
         commit(
             alloc,
             effect,
@@ -145,6 +220,7 @@ impl Processes {
         )?;
         let mut registers = standing.registers;
         reply(&mut registers, value);
+        let task = context.task;
         self.registers.replace(u64::from(task), registers);
         Ok(Entry::Call {
             task,
@@ -170,8 +246,8 @@ impl Processes {
         requires lives { IsFalse (has_ended self.old.tasks.groups standing.group) }
         ensures step { IfOk result (λ entry. (beside : Beside) (n : ℕ) →
             step (kernel_of self.old beside n) entry ≡ Some (kernel_of self.new beside (n + 1))) }
-        ensures whole { IfOk result (λ entry. (beside : Beside) (n : ℕ) →
-            is_whole entry (kernel_of self.new beside n) ≡ true) }
+        ensures whole { IfOk result (λ entry. (beside : Beside) (n m : ℕ) →
+            is_whole entry (kernel_of self.old beside n) (kernel_of self.new beside m) ≡ true) }
         ensures numbers { IfOk result (λ entry. numbers_in entry ≡ []) }
         ensures err { OnErr result (AreKept self.old self.new) }
     {

@@ -1,4 +1,4 @@
-//! Tasks with their registers and memories, and the console: the parts of a run's state that calls work on so far.
+//! Tasks with their registers and memories, shared areas, and the console: the parts of a run's state so far.
 
 ghost use Rattle.std.specs.Prelude.{◌≡◌, ℕ, [], false, IsTrue, IsFalse, IfOk, OnOk};
 ghost use Rattle.std.specs.FinMap as map;
@@ -11,7 +11,7 @@ ghost use Rattle.call_table.specs.Beside.{AreAtHome};
 
 use elf_image::Image;
 use kernel_calls::{Beginning, opened};
-use kernel_model::{GuestSpace, Kernel, Named};
+use kernel_model::{GuestArea, GuestSpace, Kernel, Named};
 use mount_file::Program;
 use rv_table::Regs;
 use sn_base::{List, Map, Memory};
@@ -24,12 +24,13 @@ const FIRST: u32 = 1;
 /// The inode number of the root of the mount at `/`, which is a task's first working directory.
 const ROOT: u64 = 1;
 
-/// The task list, registers by task, address spaces by the entry that made them, and the console.
+/// The task list, registers by task, address spaces and shared areas by the entry that made them, and the console.
 #[derive(Drop)]
 pub struct Processes {
     pub tasks: Tasks,
     pub registers: Map<Regs>,
     pub spaces: Named<GuestSpace>,
+    pub areas: Named<GuestArea>,
     pub console: List<u8>,
     ghost at_home: { AreAtHome tasks registers spaces },
 }
@@ -58,7 +59,7 @@ impl Processes {
         requires short { is_too_long program.now.args program.now.env ≡ false }
         requires pages { HasRoom image.now }
         ensures begun { IfOk result (λ p. (beside : Beside) (n : ℕ) → beside.seed ≡ seed.now → kernel_of p beside n ≡
-            with_task 1 program.now image.now (kernel_with no_tasks map.empty map.empty [] beside n)) }
+            with_task 1 program.now image.now (kernel_with no_tasks map.empty map.empty map.empty [] beside n)) }
     {
         let Beginning { registers, space } = opened(alloc, seed, FIRST, program, image)?;
         let made = Made {
@@ -75,6 +76,7 @@ impl Processes {
             tasks,
             registers: all_registers,
             spaces,
+            areas: Named::new(alloc),
             console: List::new(alloc),
         })
     }
@@ -120,12 +122,14 @@ impl Processes {
             tasks,
             registers,
             spaces,
+            areas,
             console,
         } = self;
         Kernel {
             tasks,
             registers,
             spaces,
+            areas,
             nodes: Map::new(alloc),
             console,
             failed: Map::new(alloc),

@@ -39,13 +39,15 @@ fn next_turn(tasks: &Tasks, last: u32) -> Option<u32>
     }
 }
 
-/// Has tasks make entries in turn, until none lives or the trace has so many entries.
-pub fn run_turns(alloc: Global, processes: Processes, entries: u64) -> Ran
-    // The trace is a history, whatever stands beside the processes.
-    ensures history { (beside : Beside) → Leaves beside (replay (kernel_of processes beside 0) result.trace) }
-    ensures state { IfSome result.processes (λ p. (beside : Beside) →
+/// Has tasks make entries in turn, by the mount file's seed, until none lives or the trace has so many entries.
+pub fn run_turns(alloc: Global, processes: Processes, seed: &[u8], entries: u64) -> Ran
+    // The trace is a history, whatever stands beside the processes and the seed.
+    ensures history { (beside : Beside) → beside.seed ≡ seed.now →
+        Leaves beside (replay (kernel_of processes beside 0) result.trace) }
+    ensures state { IfSome result.processes (λ p. (beside : Beside) → beside.seed ≡ seed.now →
         replay (kernel_of processes beside 0) result.trace ≡ Some (kernel_of p beside (length result.trace))) }
-    ensures whole { (beside : Beside) → each_whole (kernel_of processes beside 0) result.trace ≡ true }
+    ensures whole { (beside : Beside) → beside.seed ≡ seed.now →
+        each_whole (kernel_of processes beside 0) result.trace ≡ true }
     ensures drawn { flat_map numbers_in result.trace ≡ [] }
     ensures bound { length result.trace ≤ entries }
     ensures ended { IfSome result.processes (λ p.
@@ -54,12 +56,12 @@ pub fn run_turns(alloc: Global, processes: Processes, entries: u64) -> Ran
     let mut processes = processes;
     let mut trace = List::new(alloc);
     let mut last = 0;
-    for _place in 0..entries {
+    for place in 0..entries {
         let Some(task) = next_turn(&processes.tasks, last) else {
             break;
         };
         last = task;
-        let Ok(entry) = processes.advance(alloc, task) else {
+        let Ok(entry) = processes.advance(alloc, task, seed, place + 1) else {
             return Ran {
                 processes: None,
                 trace,

@@ -1,4 +1,5 @@
 -- Lemmas of system calls and of what an execve reads, by subject.
+pub mod AccessLaws
 pub mod Answering
 pub mod Effects
 pub mod Executables
@@ -7,3 +8,4 @@ pub mod Lendings
 pub mod Runs
 pub mod SteppedLaws
 pub mod Strings
+pub mod Tries

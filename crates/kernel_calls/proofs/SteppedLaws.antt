@@ -1,6 +1,6 @@
 -- An instruction that touches shared areas, as it is tried with more and more of them in hand.
-use Rattle.std.proofs.Common.{◌≡◌, ℕ, zero, suc, ◌+◌, ◌-◌, ◌<◌, Bool, true, false, cond, List, [], ◌∷◌, ◌++◌, Option}
-use Rattle.std.proofs.Common.{Some, None, refl, ap, sym, ◌∙◌, ◌⊎◌, inl, inr, arith, option_map}
+use Rattle.std.proofs.Common.{◌≡◌, ℕ, suc, ◌<◌, true, false, List, []}
+use Rattle.std.proofs.Common.{Some, None, refl, ap, sym, ◌∙◌, ◌⊎◌, arith, option_map}
 use Rattle.std.specs.Prelude.{is_some, option_and_then}
 use Rattle.std.specs.FinMap as map
 use Rattle.rv_table.specs.declared.error.Area.{Area}
@@ -17,22 +17,21 @@ use Rattle.quantum.specs.Instructions.{Going, ran, next_done}
 use Rattle.kernel_model.specs.Names.{NamedMap, get_named, with_named}
 use Rattle.kernel_model.specs.declared.caller.Caller.{Caller}
 use Rattle.kernel_model.specs.declared.kernel.Kernel.{Kernel}
-use Rattle.kernel_model.specs.declared.kernel.Part.TheVariants.{OfArea, OfSpace}
 use Rattle.kernel_model.specs.declared.traps.Next.{Next}
 use Rattle.kernel_model.specs.declared.traps.Next.TheVariants.{Goes, Calls, Traps, Touches}
 use Rattle.kernel_model.specs.machine.Instructions.{goes_on, next_by, next_of}
 use Rattle.kernel_model.specs.machine.Spaces.{acting_with, going_with}
-use Rattle.kernel_model.specs.entries.Areas.{Stands, stands_by, stands_lacking, next_tried, next_row, handed_in, asked}
-use Rattle.kernel_model.specs.entries.Areas.{Comes, comes_to, tried_with}
-use Rattle.kernel_model.specs.entries.Parts.{Parts, parts, done as comes, look, outcome_in, put, changed}
-use Rattle.kernel_model.specs.entries.Steps.{run_changes, step_with, step_row, task_change}
+use Rattle.kernel_model.specs.entries.Areas.{Stands, stands_by, stands_lacking, next_tried, next_row}
+use Rattle.kernel_model.specs.entries.Parts.{parts, done as comes, outcome_in}
+use Rattle.kernel_model.specs.entries.Steps.{run_changes, step_with}
 use Rattle.kernel_model.proofs.Trees.{outcome-bind}
-use Rattle.kernel_calls.specs.Lending.{AreThere, AreThose, IsLent, names, with_hand}
-use Rattle.kernel_calls.specs.Prepared.{IsAt, Steps, with_memory}
-use Rattle.kernel_calls.specs.Trying.{AreLent, Left, StandsOver, Stepped, next_by_end}
+use Rattle.kernel_calls.specs.Lending.{AreThere, IsLent, with_hand}
+use Rattle.kernel_calls.specs.Prepared.{IsAt, Steps}
+use Rattle.kernel_calls.specs.Trying.{Left, StandsOver, Stepped, next_by_end}
 use Rattle.kernel_calls.proofs.Answering.{are_those, areas_changed}
-use Rattle.kernel_calls.proofs.Lendings.{get_unasked, lent_left, lent_more}
+use Rattle.kernel_calls.proofs.Lendings.{lent_left}
 use Rattle.kernel_calls.proofs.Runs.{nothing_ran, one_more, ran_last, ran_none, ran_names, went_by}
+use Rattle.kernel_calls.proofs.Tries.{comes_at_once, lacks_more, lacks_there, those_same, tries_lent}
 
 -- ---- one instruction with what is in hand
 
@@ -130,64 +129,6 @@ module _ (end : QuantumEnd) (task : ℕ) (own space space' : AddressSpace) (same
       by (ends.Shared count area) l i = absurd (cc i)
       by ends.Memory l i = none_ran l.0 task space space' hand hand' r r' (moved l.0 l.2) l.1
 
--- ---- tried once
-
-module _ (c : Caller) (hand : List InHand) (s : Parts) where
-  -- what asks for no area comes to what it is
-  comes_at_once : (most : ℕ) (x : Next) (stands : Stands)
-      → next_of (acting_with c.task c.space hand) c.registers ≡ x → stands_by hand x ≡ Comes stands
-      → outcome_in s (tried_with (next_tried c) stands_lacking most hand) ≡ stands
-  unfolding tried_with
-  comes_at_once zero x stands e f =
-      ap (λ t. comes_to stands_lacking t) (ap (stands_by hand) e ∙ f)
-  comes_at_once (suc n) x stands e f =
-      ap (λ t. outcome_in s (asked stands_lacking (tried_with (next_tried c) stands_lacking n) hand t))
-      (ap (stands_by hand) e ∙ f)
-
-  module _ (area : Area) (touches : next_of (acting_with c.task c.space hand) c.registers ≡ Touches area) where
-    -- what asks for an area and may have no more is lacking
-    lacks_more : (most : ℕ) → most ≡ 0
-        → outcome_in s (tried_with (next_tried c) stands_lacking most hand) ≡ stands_lacking
-    unfolding tried_with
-    lacks_more zero e = ap (λ x. comes_to stands_lacking (stands_by hand x)) touches
-    lacks_more (suc n) e = absurd (cc e)
-
-    asks_more : (n : ℕ) → outcome_in s (tried_with (next_tried c) stands_lacking (suc n) hand)
-        ≡ outcome_in s (cond (is_some (area_in area hand)) (comes stands_lacking)
-        (look (OfArea area) (handed_in stands_lacking (tried_with (next_tried c) stands_lacking n) hand area)))
-    unfolding tried_with
-    asks_more n =
-        ap (λ x. outcome_in s (asked stands_lacking (tried_with (next_tried c) stands_lacking n) hand
-        (stands_by hand x))) touches
-
-    -- one that is in hand, or isn't there, is lacking
-    lacks_area : (n : ℕ) → (is_some (area_in area hand) ≡ true) ⊎ (s (OfArea area) ≡ None)
-        → outcome_in s (tried_with (next_tried c) stands_lacking (suc n) hand) ≡ stands_lacking
-    lacks_area n (inl has) =
-        asks_more n
-        ∙ ap (λ b. outcome_in s (cond b (comes stands_lacking)
-        (look (OfArea area) (handed_in stands_lacking (tried_with (next_tried c) stands_lacking n) hand area)))) has
-    lacks_area n (inr none) = asks_more n ∙ by (is_some (area_in area hand))
-      where
-        by : (b : Bool) → outcome_in s (cond b (comes stands_lacking)
-            (look (OfArea area) (handed_in stands_lacking (tried_with (next_tried c) stands_lacking n) hand area)))
-            ≡ stands_lacking
-        by true = refl
-        by false =
-            ap (λ o. outcome_in s
-            (handed_in stands_lacking (tried_with (next_tried c) stands_lacking n) hand area o)) none
-
-    -- and with one that is there it is tried again
-    tries_again : (n : ℕ) (state : AreaState) → area_in area hand ≡ None → s (OfArea area) ≡ Some state
-        → outcome_in s (tried_with (next_tried c) stands_lacking (suc n) hand)
-        ≡ outcome_in s (tried_with (next_tried c) stands_lacking n (hand ++ record { name = area; state = state } ∷ []))
-    tries_again n state unasked there =
-        asks_more n
-        ∙ ap (λ o. outcome_in s (cond (is_some o) (comes stands_lacking)
-        (look (OfArea area) (handed_in stands_lacking (tried_with (next_tried c) stands_lacking n) hand area)))) unasked
-        ∙ ap (λ o. outcome_in s
-        (handed_in stands_lacking (tried_with (next_tried c) stands_lacking n) hand area o)) there
-
 -- ---- what a try leaves
 
 module _ (c : Caller) (task : ℕ) (r r' : Regs) (space space' : AddressSpace) (over : StandsOver c task r space)
@@ -213,7 +154,9 @@ module _ (c : Caller) (task : ℕ) (r r' : Regs) (space space' : AddressSpace) (
       → Stepped c most hand (with_hand hand areas) Goes r' space' hand' areas
   stepped_goes goes told there = record {
     last = hand;
-    stands = λ s those. comes_at_once c hand s most Goes (record { next = Goes; hand = hand }) (next_over Goes goes) refl;
+    stands = λ s those.
+        comes_at_once (next_tried c) stands_lacking hand s most (record { next = Goes; hand = hand })
+        (ap (stands_by hand) (next_over Goes goes));
     left = (
       ran_over told,
       lent_left hand hand' areas (with_hand hand areas) (record { there = there; back = refl })
@@ -235,7 +178,8 @@ module _ (c : Caller) (task : ℕ) (r r' : Regs) (space space' : AddressSpace) (
     stepped_calls calls = record {
       last = hand;
       stands = λ s those.
-          comes_at_once c hand s most Calls (record { next = Calls; hand = hand }) (next_over Calls calls) refl;
+          comes_at_once (next_tried c) stands_lacking hand s most (record { next = Calls; hand = hand })
+          (ap (stands_by hand) (next_over Calls calls));
       left = still;
     }
 
@@ -244,8 +188,8 @@ module _ (c : Caller) (task : ℕ) (r r' : Regs) (space space' : AddressSpace) (
     stepped_traps signal traps = record {
       last = hand;
       stands = λ s those.
-          comes_at_once c hand s most (Traps signal) (record { next = Traps signal; hand = hand })
-          (next_over (Traps signal) traps) refl;
+          comes_at_once (next_tried c) stands_lacking hand s most (record { next = Traps signal; hand = hand })
+          (ap (stands_by hand) (next_over (Traps signal) traps));
       left = still;
     }
 
@@ -254,7 +198,9 @@ module _ (c : Caller) (task : ℕ) (r r' : Regs) (space space' : AddressSpace) (
       pub stepped_full : most ≡ 0 → Stepped c most hand (with_hand hand areas) (Traps 11) r' space' hand' areas
       stepped_full none = record {
         last = [];
-        stands = λ s those. lacks_more c hand s area (next_over (Touches area) touches) most none;
+        stands = λ s those.
+            lacks_more (next_tried c) stands_lacking hand s area
+            (ap (stands_by hand) (next_over (Touches area) touches)) most none;
         left = still;
       }
 
@@ -265,32 +211,19 @@ pub stepped_lacking : (c : Caller) (task : ℕ) (r r' : Regs) (space space' : Ad
     → 0 < most → hand' ≡ hand → areas' ≡ areas
     → (is_some (area_in area hand) ≡ true) ⊎ (get_named areas area.place area.index ≡ None)
     → Stepped c most hand (with_hand hand areas) (Traps 11) r' space' hand' areas'
-stepped_lacking c task r r' space space' over zero hand hand' areas areas' area touches same more e f lacking =
-    absurd (omega (arith, more))
-stepped_lacking c task r r' space space' over (suc n) hand hand' areas areas' area touches same more e f lacking =
+stepped_lacking c task r r' space space' over most hand hand' areas areas' area touches same more e f lacking =
     record {
       last = [];
       stands = λ s those.
-          lacks_area c hand s area
-          (next_over c task r r' space space' over (suc n) hand hand' areas (Touches area) touches) n
-          (by s those lacking);
+          lacks_there (next_tried c) stands_lacking hand s area
+          (ap (stands_by hand) (next_over c task r r' space space' over most hand hand' areas (Touches area) touches))
+          areas those most (λ none. absurd (omega (arith, more, none))) lacking;
       left = (
         same.0 ∙ sym over.registers,
         same.1 ∙ sym over.space,
         ap (λ h. with_hand h areas') e ∙ ap (with_hand hand) f,
       );
     }
-  where
-    by : (s : Parts) → AreThose s (with_hand hand areas)
-        → (is_some (area_in area hand) ≡ true) ⊎ (get_named areas area.place area.index ≡ None)
-        → (is_some (area_in area hand) ≡ true) ⊎ (s (OfArea area) ≡ None)
-    by s those (inl has) = inl has
-    by s those (inr none) = at (area_in area hand) refl
-      where
-        at : (o : Option AreaState) → area_in area hand ≡ o
-            → (is_some (area_in area hand) ≡ true) ⊎ (s (OfArea area) ≡ None)
-        at (Some state) q = inl (ap is_some q)
-        at None q = inr (those area ∙ get_unasked hand area areas q ∙ none)
 
 -- where it is tried again with one more in hand
 pub stepped_more : (c : Caller) (most less : ℕ) → most ≡ suc less → (hand lent hand' : List InHand)
@@ -303,12 +236,9 @@ stepped_more c most less e hand lent hand' areas left areas' area next r' space'
     record {
       last = rest.last;
       stands = λ s those.
-          ap (λ m. outcome_in s (tried_with (next_tried c) stands_lacking m hand)) e
-          ∙ tries_again c hand s area touches less is.state is.unasked
-          (those area ∙ get_unasked hand area areas is.unasked ∙ is.there)
-          ∙ ap (λ h. outcome_in s (tried_with (next_tried c) stands_lacking less h)) (sym is.handed)
-          ∙ rest.stands s (λ name. those name ∙ ap (λ (m : NamedMap AreaState). get_named m name.place name.index)
-          (sym back));
+          tries_lent (next_tried c) stands_lacking hand s area (ap (stands_by hand) touches) areas those lent left is
+          most less e
+          ∙ rest.stands s (those_same s (with_hand hand areas) (with_hand lent left) back those);
       left = by next rest.left;
     }
   where

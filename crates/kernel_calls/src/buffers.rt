@@ -57,7 +57,16 @@ fn read_with(
     ensures there { AreThere (hand_of handed.new) areas.new }
     ensures back { with_hand (hand_of handed.new) areas.new ≡ areas.old }
 {
-    if !access(alloc, space, areas, handed, Rights::READ, at, count, MOST_AREAS)? {
+    if !access(
+        alloc,
+        space,
+        areas,
+        handed,
+        Rights::READ,
+        at,
+        count,
+        MOST_AREAS,
+    )? {
         return Ok(None);
     }
     let mut buffer = vec![in alloc; 0u8; count as usize]?;
@@ -108,7 +117,16 @@ fn write_with(
         ((space.new ≡ space.old) × (with_hand (hand_of handed.new) areas.new ≡ areas.old)) }
 {
     let count = bytes.len() as u64;
-    if !access(alloc, space, areas, handed, Rights::WRITE, at, count, MOST_AREAS)? {
+    if !access(
+        alloc,
+        space,
+        areas,
+        handed,
+        Rights::WRITE,
+        at,
+        count,
+        MOST_AREAS,
+    )? {
         return Ok(false);
     }
     match space.space.write(alloc, handed, task, at, bytes) {

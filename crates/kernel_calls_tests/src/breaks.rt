@@ -1,7 +1,7 @@
 //! brk.
 
 use crate::asked::{FIXED, PRIVATE, READ_WRITE, brk, map, mprotect, munmap};
-use crate::calling::{Guest, HEAP, LOAD, STORE, TOP, guest};
+use crate::calling::{Guest, HEAP, LOAD, STORE, TOP, new_guest};
 use kernel_model::Next;
 use mm_areas::Rights;
 use std::process::Abort;
@@ -44,7 +44,7 @@ fn expect_breaks(rt: &impl Abort, guest: &mut Guest, rows: &[(u64, u64)]) -> Res
 
 #[test]
 fn the_break_moves_between_its_start_and_2_to_the_37(rt: HostRuntime) -> Result<(), Fail> {
-    let mut guest = guest(rt.alloc())?;
+    let mut guest = new_guest(rt.alloc())?;
     expect_breaks(&rt, &mut guest, &BREAKS)
 }
 
@@ -72,7 +72,7 @@ fn expect_data(rt: &impl Abort, guest: &Guest, number: u64) {
 
 #[test]
 fn the_heap_has_whole_pages_to_be_read_and_written(rt: HostRuntime) -> Result<(), Fail> {
-    let mut guest = guest(rt.alloc())?;
+    let mut guest = new_guest(rt.alloc())?;
     expect_whole_pages(&rt, &mut guest)?;
     expect_data(&rt, &guest, HEAP / 4096);
     Ok(())
@@ -96,7 +96,7 @@ fn expect_fresh(rt: &impl Abort, guest: &mut Guest) -> Result<(), Fail> {
 
 #[test]
 fn a_page_of_the_heap_that_comes_back_has_zeros(rt: HostRuntime) -> Result<(), Fail> {
-    let mut guest = guest(rt.alloc())?;
+    let mut guest = new_guest(rt.alloc())?;
     expect_fresh(&rt, &mut guest)
 }
 
@@ -117,7 +117,7 @@ fn expect_stopped(rt: &impl Abort, guest: &mut Guest) -> Result<(), Fail> {
 
 #[test]
 fn the_break_goes_over_no_mapped_page(rt: HostRuntime) -> Result<(), Fail> {
-    let mut guest = guest(rt.alloc())?;
+    let mut guest = new_guest(rt.alloc())?;
     expect_stopped(&rt, &mut guest)
 }
 
@@ -141,6 +141,6 @@ fn expect_taken_out(rt: &impl Abort, guest: &mut Guest) -> Result<(), Fail> {
 
 #[test]
 fn the_break_takes_out_what_was_mapped_in_the_heap(rt: HostRuntime) -> Result<(), Fail> {
-    let mut guest = guest(rt.alloc())?;
+    let mut guest = new_guest(rt.alloc())?;
     expect_taken_out(&rt, &mut guest)
 }

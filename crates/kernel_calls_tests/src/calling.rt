@@ -84,7 +84,7 @@ pub fn guest_of(alloc: Global, words: &[u32]) -> Result<Guest, Fail> {
 }
 
 /// A guest with the instructions above.
-pub fn guest(alloc: Global) -> Result<Guest, Fail> {
+pub fn new_guest(alloc: Global) -> Result<Guest, Fail> {
     guest_of(alloc, &CODE)
 }
 

@@ -1,7 +1,7 @@
 //! What pages hold once they are mapped, replaced, unmapped and protected.
 
 use crate::asked::{Asked, FIXED, PRIVATE, READ_WRITE, SHARED, getrandom, map, mprotect, munmap, write};
-use crate::calling::{Guest, HEAP, LOAD, MAPPINGS_END, STORE, TOP, guest};
+use crate::calling::{Guest, HEAP, LOAD, MAPPINGS_END, STORE, TOP, new_guest};
 use kernel_model::Next;
 use std::process::Abort;
 use std::test::Fail;
@@ -55,7 +55,7 @@ fn expect_zeros_again(rt: &impl Abort, guest: &mut Guest, flags: u64) -> Result<
 
 #[test]
 fn what_was_unmapped_comes_back_with_zeros(rt: HostRuntime) -> Result<(), Fail> {
-    let mut guest = guest(rt.alloc())?;
+    let mut guest = new_guest(rt.alloc())?;
     for flags in [PRIVATE, SHARED, PRIVATE, SHARED] {
         expect_zeros_again(&rt, &mut guest, flags)?;
     }
@@ -81,7 +81,7 @@ fn expect_middle_gone(
 
 #[test]
 fn a_fixed_mapping_replaces_its_pages_alone(rt: HostRuntime) -> Result<(), Fail> {
-    let mut guest = guest(rt.alloc())?;
+    let mut guest = new_guest(rt.alloc())?;
     for kinds in [
         (PRIVATE, PRIVATE),
         (PRIVATE, SHARED),
@@ -108,7 +108,7 @@ fn expect_image_gone(rt: &impl Abort, guest: &mut Guest) -> Result<(), Fail> {
 
 #[test]
 fn a_fixed_mapping_goes_over_image_and_stack(rt: HostRuntime) -> Result<(), Fail> {
-    let mut guest = guest(rt.alloc())?;
+    let mut guest = new_guest(rt.alloc())?;
     expect_image_gone(&rt, &mut guest)
 }
 
@@ -128,7 +128,7 @@ fn expect_hole(rt: &impl Abort, guest: &mut Guest) -> Result<(), Fail> {
 
 #[test]
 fn munmap_takes_whole_pages_out_and_holes_among_them(rt: HostRuntime) -> Result<(), Fail> {
-    let mut guest = guest(rt.alloc())?;
+    let mut guest = new_guest(rt.alloc())?;
     expect_hole(&rt, &mut guest)
 }
 
@@ -175,7 +175,7 @@ fn expect_each_right(rt: &impl Abort, guest: &mut Guest, flags: u64) -> Result<(
 
 #[test]
 fn a_page_has_just_the_rights_that_it_was_given(rt: HostRuntime) -> Result<(), Fail> {
-    let mut guest = guest(rt.alloc())?;
+    let mut guest = new_guest(rt.alloc())?;
     expect_each_right(&rt, &mut guest, PRIVATE)?;
     expect_each_right(&rt, &mut guest, SHARED)
 }
@@ -204,7 +204,7 @@ fn expect_protected(rt: &impl Abort, guest: &mut Guest, flags: u64) -> Result<()
 
 #[test]
 fn pages_keep_their_bytes_under_other_rights(rt: HostRuntime) -> Result<(), Fail> {
-    let mut guest = guest(rt.alloc())?;
+    let mut guest = new_guest(rt.alloc())?;
     expect_protected(&rt, &mut guest, PRIVATE)?;
     expect_protected(&rt, &mut guest, SHARED)
 }
@@ -222,6 +222,6 @@ fn expect_unchanged(rt: &impl Abort, guest: &mut Guest) -> Result<(), Fail> {
 
 #[test]
 fn a_hole_in_its_range_has_mprotect_change_no_page(rt: HostRuntime) -> Result<(), Fail> {
-    let mut guest = guest(rt.alloc())?;
+    let mut guest = new_guest(rt.alloc())?;
     expect_unchanged(&rt, &mut guest)
 }

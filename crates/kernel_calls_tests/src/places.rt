@@ -1,7 +1,7 @@
 //! Where mappings go, and how many pages there may be.
 
 use crate::asked::{Asked, FIXED, PRIVATE, READ_WRITE, SHARED, brk, map, mmap, munmap};
-use crate::calling::{Guest, HEAP, MAPPINGS_END, TOP, guest};
+use crate::calling::{Guest, HEAP, MAPPINGS_END, TOP, new_guest};
 use std::process::Abort;
 use std::test::Fail;
 
@@ -70,7 +70,7 @@ fn expect_places(rt: &impl Abort, guest: &mut Guest) -> Result<(), Fail> {
 
 #[test]
 fn each_mapping_lies_under_the_last(rt: HostRuntime) -> Result<(), Fail> {
-    let mut guest = guest(rt.alloc())?;
+    let mut guest = new_guest(rt.alloc())?;
     expect_places(&rt, &mut guest)?;
     guest.expect_pages(&rt, 65 + 28);
     Ok(())
@@ -97,7 +97,7 @@ fn expect_filled(rt: &impl Abort, guest: &mut Guest) -> Result<(), Fail> {
 
 #[test]
 fn a_hole_is_filled_from_above(rt: HostRuntime) -> Result<(), Fail> {
-    let mut guest = guest(rt.alloc())?;
+    let mut guest = new_guest(rt.alloc())?;
     expect_filled(&rt, &mut guest)
 }
 
@@ -122,7 +122,7 @@ fn expect_edges(rt: &impl Abort, guest: &mut Guest) -> Result<(), Fail> {
 
 #[test]
 fn fixed_mappings_lie_between_4096_and_2_to_the_38(rt: HostRuntime) -> Result<(), Fail> {
-    let mut guest = guest(rt.alloc())?;
+    let mut guest = new_guest(rt.alloc())?;
     expect_edges(&rt, &mut guest)?;
     guest.expect_pages(&rt, 65 + 7);
     Ok(())
@@ -169,7 +169,7 @@ fn expect_replaced(rt: &impl Abort, guest: &mut Guest) -> Result<(), Fail> {
 
 #[test]
 fn there_are_16384_pages_of_image_stack_heap_and_mappings(rt: HostRuntime) -> Result<(), Fail> {
-    let mut guest = guest(rt.alloc())?;
+    let mut guest = new_guest(rt.alloc())?;
     fill(&rt, &mut guest)?;
     expect_full(&rt, &mut guest)?;
     expect_replaced(&rt, &mut guest)
@@ -188,7 +188,7 @@ fn expect_most(rt: &impl Abort, guest: &mut Guest) -> Result<(), Fail> {
 
 #[test]
 fn one_call_takes_all_that_are_left_and_no_more(rt: HostRuntime) -> Result<(), Fail> {
-    let mut guest = guest(rt.alloc())?;
+    let mut guest = new_guest(rt.alloc())?;
     expect_most(&rt, &mut guest)
 }
 
@@ -203,7 +203,7 @@ fn scatter(rt: &impl Abort, guest: &mut Guest) -> Result<(), Fail> {
 
 #[test]
 fn a_range_longer_than_each_free_one_is_enomem(rt: HostRuntime) -> Result<(), Fail> {
-    let mut guest = guest(rt.alloc())?;
+    let mut guest = new_guest(rt.alloc())?;
     scatter(&rt, &mut guest)?;
     expect_no_room(&rt, &mut guest, 4096 * 4096)?;
     expect_mapped(&rt, &mut guest, 4095 * 4096, 0x3f_fe00_0000)

@@ -2,7 +2,7 @@
 //! Python after the cipher's public definition, with the seed as its key and the place of the entry as its stream.
 
 use crate::asked::{PRIVATE, READ_WRITE, SHARED, getrandom, map};
-use crate::calling::{Guest, MAPPINGS_END, TOP, guest};
+use crate::calling::{Guest, MAPPINGS_END, TOP, new_guest};
 use sn_base::{List, Memory};
 use std::process::Abort;
 use std::test::Fail;
@@ -76,7 +76,7 @@ fn expect_put(
 
 #[test]
 fn the_bytes_are_those_of_the_seeds_and_the_places_stream(rt: HostRuntime) -> Result<(), Fail> {
-    let mut guest = guest(rt.alloc())?;
+    let mut guest = new_guest(rt.alloc())?;
     expect_put(&rt, &mut guest, &COUNTED, 7, &COUNTED_7)?;
     expect_put(&rt, &mut guest, &ZEROS, 7, &ZEROS_7)?;
     expect_put(&rt, &mut guest, &ZEROS, 8, &ZEROS_8)?;
@@ -97,7 +97,7 @@ fn expect_256(rt: &impl Abort, guest: &mut Guest) -> Result<(), Fail> {
 
 #[test]
 fn of_300_bytes_256_are_put(rt: HostRuntime) -> Result<(), Fail> {
-    let mut guest = guest(rt.alloc())?;
+    let mut guest = new_guest(rt.alloc())?;
     expect_256(&rt, &mut guest)
 }
 
@@ -125,7 +125,7 @@ fn expect_nothing_put(rt: &impl Abort, guest: &mut Guest) -> Result<(), Fail> {
 
 #[test]
 fn a_getrandom_that_is_refused_puts_nothing(rt: HostRuntime) -> Result<(), Fail> {
-    let mut guest = guest(rt.alloc())?;
+    let mut guest = new_guest(rt.alloc())?;
     expect_nothing_put(&rt, &mut guest)
 }
 
@@ -155,7 +155,7 @@ fn expect_over_borders(rt: &impl Abort, guest: &mut Guest) -> Result<(), Fail> {
 
 #[test]
 fn bytes_are_put_over_private_and_shared_pages(rt: HostRuntime) -> Result<(), Fail> {
-    let mut guest = guest(rt.alloc())?;
+    let mut guest = new_guest(rt.alloc())?;
     lay(&rt, &mut guest)?;
     expect_over_borders(&rt, &mut guest)
 }

@@ -1,7 +1,7 @@
 //! What refuses mmap, munmap, mprotect and getrandom, and of two causes which is told.
 
 use crate::asked::{Asked, FIXED, PRIVATE, READ_WRITE, SHARED, getrandom, mmap, mprotect, munmap};
-use crate::calling::{Guest, HEAP, TOP, guest};
+use crate::calling::{Guest, HEAP, TOP, new_guest};
 use std::process::Abort;
 use std::test::Fail;
 
@@ -113,7 +113,7 @@ fn expect_no_mapping(rt: &impl Abort, guest: &mut Guest) -> Result<(), Fail> {
 
 #[test]
 fn mmap_is_refused_by_its_first_error(rt: HostRuntime) -> Result<(), Fail> {
-    let mut guest = guest(rt.alloc())?;
+    let mut guest = new_guest(rt.alloc())?;
     expect_no_mapping(&rt, &mut guest)
 }
 
@@ -159,7 +159,7 @@ fn expect_no_unmapping(rt: &impl Abort, guest: &mut Guest) -> Result<(), Fail> {
 
 #[test]
 fn munmap_refuses_what_is_no_range_and_takes_a_hole(rt: HostRuntime) -> Result<(), Fail> {
-    let mut guest = guest(rt.alloc())?;
+    let mut guest = new_guest(rt.alloc())?;
     expect_no_unmapping(&rt, &mut guest)
 }
 
@@ -222,7 +222,7 @@ fn expect_protections(rt: &impl Abort, guest: &mut Guest) -> Result<(), Fail> {
 
 #[test]
 fn mprotect_is_refused_by_its_first_error(rt: HostRuntime) -> Result<(), Fail> {
-    let mut guest = guest(rt.alloc())?;
+    let mut guest = new_guest(rt.alloc())?;
     expect_protections(&rt, &mut guest)
 }
 
@@ -277,7 +277,7 @@ fn expect_randoms(rt: &impl Abort, guest: &mut Guest) -> Result<(), Fail> {
 fn getrandom_is_refused_by_its_first_error_and_puts_256_bytes_at_most(
     rt: HostRuntime,
 ) -> Result<(), Fail> {
-    let mut guest = guest(rt.alloc())?;
+    let mut guest = new_guest(rt.alloc())?;
     expect_randoms(&rt, &mut guest)
 }
 
@@ -291,6 +291,6 @@ fn expect_nothing_left(rt: &impl Abort, guest: &mut Guest) -> Result<(), Fail> {
 
 #[test]
 fn munmap_of_all_addresses_takes_every_page_out(rt: HostRuntime) -> Result<(), Fail> {
-    let mut guest = guest(rt.alloc())?;
+    let mut guest = new_guest(rt.alloc())?;
     expect_nothing_left(&rt, &mut guest)
 }

@@ -4,7 +4,7 @@ use crate::asked::{
     Asked, FIXED, PRIVATE, READ_WRITE, SHARED, brk, getrandom, map, mmap, mprotect, munmap, write,
 };
 use crate::calling::{
-    Guest, HEAP, LOAD, MAPPINGS_END, RESERVE, STORE, STORE_RESERVED, STORE_RESERVED_WORD, guest,
+    Guest, HEAP, LOAD, MAPPINGS_END, RESERVE, STORE, STORE_RESERVED, STORE_RESERVED_WORD, new_guest,
 };
 use kernel_model::Next;
 use std::process::Abort;
@@ -85,7 +85,7 @@ fn expect_calls(rt: &impl Abort, guest: &mut Guest, flags: u64) -> Result<(), Fa
 fn a_reservation_is_lost_with_a_change_of_its_private_page_alone(
     rt: HostRuntime,
 ) -> Result<(), Fail> {
-    let mut guest = guest(rt.alloc())?;
+    let mut guest = new_guest(rt.alloc())?;
     expect_calls(&rt, &mut guest, PRIVATE)
 }
 
@@ -93,7 +93,7 @@ fn a_reservation_is_lost_with_a_change_of_its_private_page_alone(
 fn a_reservation_is_lost_with_a_change_of_its_shared_page_alone(
     rt: HostRuntime,
 ) -> Result<(), Fail> {
-    let mut guest = guest(rt.alloc())?;
+    let mut guest = new_guest(rt.alloc())?;
     expect_calls(&rt, &mut guest, SHARED)
 }
 
@@ -122,7 +122,7 @@ fn expect_lost_by_munmap(rt: &impl Abort, guest: &mut Guest) -> Result<(), Fail>
 
 #[test]
 fn munmap_ends_a_reservation_and_the_break_keeps_it(rt: HostRuntime) -> Result<(), Fail> {
-    let mut guest = guest(rt.alloc())?;
+    let mut guest = new_guest(rt.alloc())?;
     expect_lost_by_munmap(&rt, &mut guest)
 }
 
@@ -141,7 +141,7 @@ fn expect_kept_elsewhere(rt: &impl Abort, guest: &mut Guest) -> Result<(), Fail>
 
 #[test]
 fn calls_elsewhere_and_its_own_stores_keep_a_reservation(rt: HostRuntime) -> Result<(), Fail> {
-    let mut guest = guest(rt.alloc())?;
+    let mut guest = new_guest(rt.alloc())?;
     expect_kept_elsewhere(&rt, &mut guest)
 }
 
@@ -156,6 +156,6 @@ fn expect_width(rt: &impl Abort, guest: &mut Guest) -> Result<(), Fail> {
 
 #[test]
 fn a_store_conditional_of_another_width_stores_nothing(rt: HostRuntime) -> Result<(), Fail> {
-    let mut guest = guest(rt.alloc())?;
+    let mut guest = new_guest(rt.alloc())?;
     expect_width(&rt, &mut guest)
 }

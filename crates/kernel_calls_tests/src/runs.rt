@@ -3,7 +3,7 @@
 use crate::asked::{Asked, READ_WRITE, SHARED, map, mprotect};
 use crate::calling::{
     ADD, ADD_WORD, Guest, JUMP, LOAD, MAPPINGS_END, RESERVE, RESERVE_WORD, STORE, STORE_RESERVED,
-    STORE_RESERVED_WORD, guest, guest_of,
+    STORE_RESERVED_WORD, new_guest, guest_of,
 };
 use kernel_calls::Ran;
 use kernel_model::Next;
@@ -137,7 +137,7 @@ fn expect_each(rt: &impl Abort, guest: &mut Guest) -> Result<(), Fail> {
 fn loads_stores_and_atomic_instructions_are_done_in_shared_areas(
     rt: HostRuntime,
 ) -> Result<(), Fail> {
-    let mut guest = guest(rt.alloc())?;
+    let mut guest = new_guest(rt.alloc())?;
     lay(&rt, &mut guest, READ_WRITE)?;
     expect_each(&rt, &mut guest)
 }
@@ -193,7 +193,7 @@ fn expect_each_trap(rt: &impl Abort, guest: &mut Guest) -> Result<(), Fail> {
 
 #[test]
 fn an_access_without_the_right_or_off_its_width_traps(rt: HostRuntime) -> Result<(), Fail> {
-    let mut guest = guest(rt.alloc())?;
+    let mut guest = new_guest(rt.alloc())?;
     lay(&rt, &mut guest, READ_WRITE)?;
     expect_each_trap(&rt, &mut guest)
 }
@@ -235,7 +235,7 @@ fn expect_words(rt: &impl Abort, guest: &mut Guest) -> Result<(), Fail> {
 
 #[test]
 fn instructions_are_fetched_from_a_shared_page(rt: HostRuntime) -> Result<(), Fail> {
-    let mut guest = guest(rt.alloc())?;
+    let mut guest = new_guest(rt.alloc())?;
     lay(&rt, &mut guest, 7)?;
     expect_words(&rt, &mut guest)
 }
@@ -256,7 +256,7 @@ fn expect_no_fetch(rt: &impl Abort, guest: &mut Guest) -> Result<(), Fail> {
 
 #[test]
 fn a_shared_page_may_be_fetched_from_by_its_right_alone(rt: HostRuntime) -> Result<(), Fail> {
-    let mut guest = guest(rt.alloc())?;
+    let mut guest = new_guest(rt.alloc())?;
     lay(&rt, &mut guest, READ_WRITE)?;
     expect_no_fetch(&rt, &mut guest)
 }

@@ -2,7 +2,7 @@
 
 use crate::asked::{Asked, FIXED, PRIVATE, READ_WRITE, SHARED, getrandom, map, munmap, write};
 use crate::calling::{
-    ADD, Guest, HEAP, LOAD, MAPPINGS_END, RESERVE, STORE, STORE_RESERVED, guest,
+    ADD, Guest, HEAP, LOAD, MAPPINGS_END, RESERVE, STORE, STORE_RESERVED, new_guest,
 };
 use kernel_model::Next;
 use mm_areas::{AreaErr, Backing, Rights};
@@ -64,7 +64,7 @@ fn expect_buffers(rt: &impl Abort, guest: &mut Guest) -> Result<(), Fail> {
 fn a_buffer_over_private_and_shared_pages_is_taken_whole_or_not_at_all(
     rt: HostRuntime,
 ) -> Result<(), Fail> {
-    let mut guest = guest(rt.alloc())?;
+    let mut guest = new_guest(rt.alloc())?;
     lay_four(&rt, &mut guest)?;
     expect_buffers(&rt, &mut guest)
 }
@@ -88,7 +88,7 @@ fn expect_seventeen(rt: &impl Abort, guest: &mut Guest) -> Result<(), Fail> {
 
 #[test]
 fn a_buffer_may_lie_in_seventeen_areas(rt: HostRuntime) -> Result<(), Fail> {
-    let mut guest = guest(rt.alloc())?;
+    let mut guest = new_guest(rt.alloc())?;
     expect_seventeen(&rt, &mut guest)
 }
 
@@ -132,7 +132,7 @@ fn expect_one_area(rt: &impl Abort, guest: &mut Guest) -> Result<(), Fail> {
 fn what_is_stored_in_an_area_by_one_address_is_read_by_the_other(
     rt: HostRuntime,
 ) -> Result<(), Fail> {
-    let mut guest = guest(rt.alloc())?;
+    let mut guest = new_guest(rt.alloc())?;
     map_twice(&rt, &mut guest)?;
     expect_one_area(&rt, &mut guest)
 }
@@ -156,7 +156,7 @@ fn expect_areas_stay(rt: &impl Abort, guest: &mut Guest) -> Result<(), Fail> {
 
 #[test]
 fn an_area_stays_while_nobody_maps_it(rt: HostRuntime) -> Result<(), Fail> {
-    let mut guest = guest(rt.alloc())?;
+    let mut guest = new_guest(rt.alloc())?;
     map_twice(&rt, &mut guest)?;
     expect_areas_stay(&rt, &mut guest)
 }
@@ -217,7 +217,7 @@ fn expect_meetings(rt: &impl Abort, guest: &mut Guest) -> Result<(), Fail> {
 
 #[test]
 fn another_tasks_store_by_either_address_ends_a_reservation(rt: HostRuntime) -> Result<(), Fail> {
-    let mut guest = guest(rt.alloc())?;
+    let mut guest = new_guest(rt.alloc())?;
     map_twice(&rt, &mut guest)?;
     expect_meetings(&rt, &mut guest)
 }
@@ -241,7 +241,7 @@ fn expect_one_address(rt: &impl Abort, guest: &mut Guest) -> Result<(), Fail> {
 
 #[test]
 fn a_reservation_in_an_area_is_of_one_address(rt: HostRuntime) -> Result<(), Fail> {
-    let mut guest = guest(rt.alloc())?;
+    let mut guest = new_guest(rt.alloc())?;
     map_twice(&rt, &mut guest)?;
     expect_one_address(&rt, &mut guest)
 }
@@ -258,6 +258,6 @@ fn expect_in_the_heap(rt: &impl Abort, guest: &mut Guest) -> Result<(), Fail> {
 
 #[test]
 fn shared_memory_may_lie_anywhere(rt: HostRuntime) -> Result<(), Fail> {
-    let mut guest = guest(rt.alloc())?;
+    let mut guest = new_guest(rt.alloc())?;
     expect_in_the_heap(&rt, &mut guest)
 }

@@ -5,11 +5,12 @@ use Rattle.task_table.specs.Table.{is_live}
 use Rattle.kernel_model.specs.declared.caller.Caller.{Caller}
 use Rattle.kernel_model.specs.declared.kernel.Kernel.{Kernel}
 use Rattle.kernel_model.specs.declared.traps.Next.{Next}
-use Rattle.kernel_model.specs.declared.traps.Next.TheVariants.{Goes, Calls, Traps}
+use Rattle.kernel_model.specs.declared.traps.Next.TheVariants.{Goes, Calls, Traps, Touches}
 use Rattle.kernel_model.specs.calls.Callers.{caller_of}
 use Rattle.kernel_model.specs.entries.History.{replay}
-use Rattle.kernel_model.specs.entries.Parts.{parts, outcome_in}
-use Rattle.kernel_model.specs.entries.Steps.{next_in, step, task_of}
+use Rattle.kernel_model.specs.entries.Areas.{Stands, next_row}
+use Rattle.kernel_model.specs.entries.Parts.{parts, Prog, done, outcome_in, ◌>>=◌}
+use Rattle.kernel_model.specs.entries.Steps.{step, task_of}
 
 -- the next instruction is a system call
 -- RISC-V Unprivileged ISA 20191213, 2.8, ECALL
@@ -17,15 +18,16 @@ abbrev pub is_call : Next → Bool
 is_call Calls = true
 is_call Goes = false
 is_call (Traps signal) = false
+is_call (Touches area) = false
 
-abbrev pub calls_next : Option Caller → Bool
-calls_next None = false
-calls_next (Some c) = is_call (next_in c)
+abbrev pub calls_next : Option Caller → Prog Bool
+calls_next None = done false
+calls_next (Some c) = next_row c >>= λ (s : Stands). done (is_call s.next)
 
 -- a task lives and stands at a system call
 -- RISC-V Unprivileged ISA 20191213, 2.8, ECALL
 abbrev pub stands_at_call : Kernel → ℕ → Bool
-stands_at_call k task = calls_next (outcome_in (parts k) (caller_of task))
+stands_at_call k task = outcome_in (parts k) (caller_of task >>= calls_next)
 
 -- an entry of another task ended a task that stood at a system call, or took it from that call
 -- exit_group(2); profile

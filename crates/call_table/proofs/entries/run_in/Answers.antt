@@ -1,19 +1,12 @@
 -- A run over the memory of a name leaves that memory alone.
 use Rattle.std.proofs.Common.{◌≡◌, ◌∙◌, sym, refl, subst}
-use Rattle.std.specs.Prelude.{Result, Ok, Err, IfOk, OnErr, Some}
+use Rattle.std.specs.Prelude.{Some}
 use Rattle.mm_space.specs.Spaces.{AddressSpace}
 use Rattle.kernel_model.specs.machine.Instructions.{StopsAt, next_of}
 use Rattle.kernel_model.specs.machine.Spaces.{acting_in}
 use Rattle.kernel_model.proofs.NamedMaps.{get-with_same}
+use Rattle.call_table.proofs.Results.{on_ok, on_err}
 use Rattle.call_table.proofs.entries.run_in.Goals as goal
-
-on_ok : {A E : Type 0} (P Q : A → Type 0) (r : Result A E) → ((x : A) → P x → Q x) → IfOk r P → IfOk r Q
-on_ok P Q (Ok x) f h = f x h
-on_ok P Q (Err e) f h = tt
-
-on_err : {A E P Q : Type 0} (r : Result A E) → (P → Q) → OnErr r P → OnErr r Q
-on_err (Ok x) f h = tt
-on_err (Err e) f h = f h
 
 pub returns-clause-runs : goal.returns-clause-runs
 returns-clause-runs c =

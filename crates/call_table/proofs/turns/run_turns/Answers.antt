@@ -24,21 +24,24 @@ loop-place-preserved c =
     ap length grown ∙ length-append c.loop-place.trace (c.in-Ok.entry ∷ []) in
     record {
       count = longer ∙ ap (λ (n : ℕ). n + 1) c.loop-place.invariant.count;
-      state = λ beside.
+      state = λ beside seed.
           ap (replay (kernel_of c.args.processes beside 0)) grown
           ∙ replay_more (kernel_of c.args.processes beside 0)
           (kernel_of c.loop-place.processes beside (length c.loop-place.trace)) _ c.loop-place.trace c.in-Ok.entry
-          (c.loop-place.invariant.state beside) (c.in-Ok.ensures.step beside (length c.loop-place.trace))
+          (c.loop-place.invariant.state beside seed)
+          (c.in-Ok.ensures.step beside (length c.loop-place.trace) seed
+          (ap (λ (n : ℕ). n + 1) c.loop-place.invariant.count))
           ∙ ap (λ (n : ℕ). Some (kernel_of c.advance.new.self beside n)) (sym longer);
       drawn =
           ap (flat_map numbers_in) grown ∙ flat_map-append numbers_in c.loop-place.trace (c.in-Ok.entry ∷ [])
           ∙ none_more _ _ c.loop-place.invariant.drawn c.in-Ok.ensures.numbers;
-      whole = λ beside.
+      whole = λ beside seed.
           ap (λ es. each_whole (kernel_of c.args.processes beside 0) es) grown
           ∙ whole_more (kernel_of c.args.processes beside 0)
           (kernel_of c.loop-place.processes beside (length c.loop-place.trace))
           (kernel_of c.advance.new.self beside (length c.loop-place.trace + 1)) c.loop-place.trace c.in-Ok.entry
-          (c.loop-place.invariant.state beside) (c.loop-place.invariant.whole beside)
-          (c.in-Ok.ensures.step beside (length c.loop-place.trace))
-          (c.in-Ok.ensures.whole beside (length c.loop-place.trace + 1));
+          (c.loop-place.invariant.state beside seed) (c.loop-place.invariant.whole beside seed)
+          (c.in-Ok.ensures.step beside (length c.loop-place.trace) seed
+          (ap (λ (n : ℕ). n + 1) c.loop-place.invariant.count))
+          (c.in-Ok.ensures.whole beside (length c.loop-place.trace) (length c.loop-place.trace + 1));
     }

@@ -11,10 +11,10 @@ use Rattle.call_table.proofs.turns.run_turns.Given as goal
 -- the trace so far is a history that leaves the processes, and each of its Runs is whole
 abbrev pub invariant-loop-place : goal.invariant-loop-place
 invariant-loop-place l = record {
-  count : length l.trace ≡ l._place;
-  state : (beside : Beside) → replay (kernel_of l.fn.processes beside 0) l.trace
+  count : length l.trace ≡ l.place;
+  state : (beside : Beside) → beside.seed ≡ l.fn.seed → replay (kernel_of l.fn.processes beside 0) l.trace
       ≡ Some (kernel_of l.processes beside (length l.trace));
   drawn : flat_map numbers_in l.trace ≡ [];
-  whole : (beside : Beside) → each_whole (kernel_of l.fn.processes beside 0) l.trace
+  whole : (beside : Beside) → beside.seed ≡ l.fn.seed → each_whole (kernel_of l.fn.processes beside 0) l.trace
       ≡ true;
 }

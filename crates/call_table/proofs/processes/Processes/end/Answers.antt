@@ -10,10 +10,9 @@ use Rattle.task_table.specs.declared.task.Status.TheVariants.{Killed}
 use Rattle.task_table.specs.Ends.{group_ended}
 use Rattle.task_table.specs.Table.{TaskTable}
 use Rattle.kernel_model.specs.Names.{NamedMap}
-use Rattle.kernel_model.specs.declared.traps.Next.TheVariants.{Traps}
 use Rattle.call_table.specs.Beside.{AreAtHome}
 use Rattle.call_table.proofs.Homes.{home_ended}
-use Rattle.call_table.proofs.Steps.{step_end, next_here}
+use Rattle.call_table.proofs.Steps.{step_end}
 use Rattle.call_table.proofs.processes.Processes.end.Goals as goal
 
 -- tasks are at home, whether the group has ended or not
@@ -37,5 +36,4 @@ invariant_of-self c = record {
 pub returns-clause-step : goal.returns-clause-step
 returns-clause-step c = λ beside n.
     step_end c.args.self.now c.args.task c.args.standing c.requires.stands c.args.signal c.end_group.new.self beside n
-    (next_here c.args.self.now c.args.task c.args.standing c.requires.stands (Traps c.args.signal) c.requires.traps)
-    c.in_ok-end_group.ensures.ok
+    c.requires.traps c.in_ok-end_group.ensures.ok

@@ -7,21 +7,12 @@ use Rattle.mm_space.specs.Spaces.{AddressSpace}
 use Rattle.task_table.specs.declared.task.Made.{Made}
 use Rattle.kernel_model.specs.Names.{NamedMap, with_named}
 use Rattle.kernel_calls.specs.declared.instructions.Ran.{Ran}
-use Rattle.call_table.specs.Processes.{RunsIn, caller_with}
+use Rattle.call_table.specs.Processes.{RunsIn, caller_with, kernel_of}
 use Rattle.call_table.proofs.Homes.{home_run}
+use Rattle.call_table.proofs.Results.{with_ok, on_err}
 use Rattle.call_table.proofs.Steps.{step_run, whole_run, registers_left, spaces_left, next_left, left_there}
-use Rattle.call_table.proofs.Steps.{stop_not_on}
+use Rattle.call_table.proofs.Steps.{stop_not_on, touching_left}
 use Rattle.call_table.proofs.processes.Processes.run_standing.Goals as goal
-
--- what holds on success, by what else does
-with_ok : {A E : Type 0} (P Q S : A → Type 0) (r : Result A E) → ((x : A) → P x → Q x → S x) → IfOk r P → IfOk r Q
-    → IfOk r S
-with_ok P Q S (Ok x) f p q = f x p q
-with_ok P Q S (Err e) f p q = tt
-
-on_err : {A E P Q : Type 0} (r : Result A E) → (P → Q) → OnErr r P → OnErr r Q
-on_err (Ok x) f h = tt
-on_err (Err e) f h = f h
 
 -- one memory alone was written to
 put_by : {E : Type 0} (task : ℕ) (memory : Made) (before after : Regs) (spaces spaces' : NamedMap AddressSpace)
@@ -50,16 +41,16 @@ returns-clause-step c =
     with_ok _ _ _ c.run_in-ran.result (λ r runs within more beside n.
     step_run c.args.self.now c.args.task c.args.standing c.requires.stands r.count c.run_in-ran.new.registers
     c.run_in-ran.new.spaces runs c.args.self.now.tasks c.replace.new.self c.run_in-ran.new.spaces
-    c.args.self.now.console beside n (omega arith) within refl
+    c.args.self.now.areas c.args.self.now.console beside n (omega arith) within refl
     (c.replace.ensures ∙ ap (λ k. map.insert c.args.self.now.registers k c.run_in-ran.new.registers) c.from.ensures)
-    refl refl) c.run_in-ran.ensures.runs c.run_in-ran.ensures.within
+    refl refl refl) c.run_in-ran.ensures.runs c.run_in-ran.ensures.within
 
 pub returns-clause-whole : goal.returns-clause-whole
 returns-clause-whole c =
-    with_ok _ _ _ c.run_in-ran.result (λ r runs stops beside n.
+    with_ok _ _ _ c.run_in-ran.result (λ r runs stops beside n m.
     whole_run c.args.self.now c.args.task c.args.standing c.requires.stands r.count c.run_in-ran.new.registers
     c.run_in-ran.new.spaces runs c.args.self.now.tasks c.replace.new.self c.run_in-ran.new.spaces
-    c.args.self.now.console beside n r.next refl
+    c.args.self.now.areas c.args.self.now.console beside m (kernel_of c.args.self.now beside n) r.next refl
     (c.replace.ensures ∙ ap (λ k. map.insert c.args.self.now.registers k c.run_in-ran.new.registers) c.from.ensures)
     refl
     (stops runs.left
@@ -78,13 +69,23 @@ returns-clause-none c =
       spaces =
           spaces_left c.args.self.now c.args.task c.args.standing c.requires.stands r.count
           c.run_in-ran.new.registers c.run_in-ran.new.spaces runs none;
+      areas = refl;
       console = refl;
     }) c.run_in-ran.ensures.runs c.run_in-ran.ensures.within
 
 pub returns-clause-next : goal.returns-clause-next
 returns-clause-next c =
-    with_ok _ _ _ c.run_in-ran.result (λ r runs stops none.
+    with_ok _ _ _ c.run_in-ran.result (λ r runs stops none apart.
     next_left c.args.self.now c.args.task c.args.standing c.requires.stands r.count c.run_in-ran.new.registers
+    c.run_in-ran.new.spaces runs r.next none
+    (stops runs.left
+    (left_there c.args.self.now c.args.task c.args.standing c.requires.stands r.count c.run_in-ran.new.registers
+    c.run_in-ran.new.spaces runs)) apart) c.run_in-ran.ensures.runs c.run_in-ran.ensures.stopped
+
+pub returns-clause-touching : goal.returns-clause-touching
+returns-clause-touching c =
+    with_ok _ _ _ c.run_in-ran.result (λ r runs stops none.
+    touching_left c.args.self.now c.args.task c.args.standing c.requires.stands r.count c.run_in-ran.new.registers
     c.run_in-ran.new.spaces runs r.next none
     (stops runs.left
     (left_there c.args.self.now c.args.task c.args.standing c.requires.stands r.count c.run_in-ran.new.registers
@@ -110,5 +111,6 @@ returns-clause-memory c =
           c.replace.ensures
           ∙ ap (λ k. map.insert c.args.self.now.registers k c.run_in-ran.new.registers) c.from.ensures;
       kept_tasks = refl;
+      kept_areas = λ place index. refl;
       kept_console = refl;
     }) c.run_in-ran.ensures.memory

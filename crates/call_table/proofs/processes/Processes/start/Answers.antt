@@ -46,6 +46,6 @@ returns c = record {
       c.in_ok-insert-2.ensures.ok ∙ ap (λ m. with_named m 0 1 c.in_ok-registers.field-0.space) c.new-spaces.ensures
       ∙ ap (with_named map.empty 0 1) (c.in_ok-registers.ensures.space
       ∙ ap (λ s. space_opened s 1 c.args.program.now c.args.image.now) (sym seed)) in
-      sym (same_kernel _ c.open.new.tasks _ c.insert.new.self _ c.insert-2.new.self _ c.new.result beside n list
-      registers spaces c.new.ensures);
+      sym (same_kernel _ c.open.new.tasks _ c.insert.new.self _ c.insert-2.new.self _ c.new.result _ c.new-2.result
+      beside n list registers spaces c.new.ensures c.new-2.ensures);
 }

@@ -1,0 +1,75 @@
+-- Where processes are as they were, and where they lacked memory.
+use Rattle.std.proofs.Common.{◌≡◌, ℕ, refl, ap, sym, ◌∙◌, arith, subst}
+use Rattle.std.specs.FinMap as map
+use Rattle.kernel_model.specs.Names.{get_named}
+use Rattle.kernel_model.specs.machine.Spaces.{going_in}
+use Rattle.kernel_calls.specs.Lending.{AreAlike}
+use Rattle.kernel_calls.proofs.Runs.{ran_none}
+use Rattle.call_table.specs.declared.processes.Processes.{Processes}
+use Rattle.call_table.specs.declared.processes.Standing.{Standing}
+use Rattle.call_table.specs.Beside.{found_in}
+use Rattle.call_table.specs.Processes.{AreKept, HasRunPart, RunsIn, StandsAs, caller_in, caller_with}
+use Rattle.call_table.proofs.Steps.{registers_same, space_same}
+
+-- a live task is who it was
+caller_kept : (p q : Processes) (task : ℕ) → AreKept p q → caller_in q task ≡ caller_in p task
+caller_kept p q task kept =
+    ap (λ x. found_in x q.registers q.spaces task) kept.tasks
+    ∙ ap (λ x. found_in p.tasks x q.spaces task) kept.registers
+    ∙ ap (λ x. found_in p.tasks p.registers x task) kept.spaces
+
+-- a task stands as it did
+pub stands_kept : (p q : Processes) (task : ℕ) (standing : Standing) → AreKept p q → StandsAs p task standing
+    → StandsAs q task standing
+stands_kept p q task standing kept stands = record {
+  space = stands.space;
+  in_memory =
+      ap (λ m. get_named m standing.memory.place standing.memory.index) kept.spaces ∙ stands.in_memory;
+  found = caller_kept p q task kept ∙ stands.found;
+}
+
+-- no instruction has run
+pub part_none : (p q : Processes) (task : ℕ) (standing : Standing) → StandsAs p task standing → q.tasks ≡ p.tasks
+    → q.registers ≡ p.registers → q.spaces ≡ p.spaces → AreAlike q.areas p.areas → q.console ≡ p.console
+    → HasRunPart task p q
+part_none p q task standing stands e f g areas i = record {
+  caller = caller_with task standing stands.space;
+  found = stands.found;
+  count = 0;
+  few = omega arith;
+  registers = standing.registers;
+  runs = record {
+    space = stands.space;
+    left = stands.space;
+    there = stands.in_memory;
+    put = g ∙ sym (space_same p task standing stands stands.space refl);
+    steps = ran_none (going_in task stands.space standing.registers);
+  };
+  kept_registers = f ∙ sym (registers_same p task standing stands standing.registers refl);
+  kept_tasks = e;
+  kept_areas = areas;
+  kept_console = i;
+}
+
+pub part_kept : (p q : Processes) (task : ℕ) (standing : Standing) → AreKept p q → StandsAs p task standing
+    → HasRunPart task p q
+part_kept p q task standing kept stands =
+    part_none p q task standing stands kept.tasks kept.registers kept.spaces
+    (λ place index. ap (λ x. get_named x place index) kept.areas) kept.console
+
+-- nor any before those that have
+pub part_behind : (p q r : Processes) (task : ℕ) → AreKept p q → HasRunPart task q r → HasRunPart task p r
+part_behind p q r task kept part = record {
+  caller = part.caller;
+  found = sym (caller_kept p q task kept) ∙ part.found;
+  count = part.count;
+  few = part.few;
+  registers = part.registers;
+  runs =
+      subst (λ x. RunsIn task part.caller.memory part.count part.caller.registers part.registers x r.spaces) kept.spaces
+      part.runs;
+  kept_registers = part.kept_registers ∙ ap (λ x. map.insert x task part.registers) kept.registers;
+  kept_tasks = part.kept_tasks ∙ kept.tasks;
+  kept_areas = λ place index. part.kept_areas place index ∙ ap (λ x. get_named x place index) kept.areas;
+  kept_console = part.kept_console ∙ kept.console;
+}

@@ -1,0 +1,83 @@
+-- An instruction that touches a shared area is a step of the kernel, or nothing.
+use Rattle.std.proofs.Common.{ap, sym, ◌∙◌, refl}
+use Rattle.std.specs.FinMap as map
+use Rattle.call_table.specs.Processes.{kernel_of, caller_with}
+use Rattle.call_table.proofs.Homes.{home_reached, home_run}
+use Rattle.call_table.proofs.Results.{err_by}
+use Rattle.call_table.proofs.Steps.{own_space, space_same, registers_same, next_told, step_touching}
+use Rattle.call_table.proofs.processes.Processes.step_standing.Goals as goal
+
+pub invariant_of-self : goal.invariant_of-self
+invariant_of-self c = record {
+  at_home =
+      home_reached c.args.self.now.tasks c.args.self.now.registers c.args.self.now.spaces c.args.standing.memory.place
+      c.args.standing.memory.index c.step.new.space c.args.self.now.at_home;
+}
+
+pub invariant_of-self-2 : goal.invariant_of-self-2
+invariant_of-self-2 c = record {
+  at_home =
+      home_run c.args.self.now.tasks c.args.self.now.registers _ c.args.self.now.spaces _ c.args.task
+      c.step.new.registers c.args.standing.memory.place c.args.standing.memory.index c.step.new.space
+      c.args.self.now.at_home
+      (c.replace.ensures ∙ ap (λ x. map.insert c.args.self.now.registers x c.step.new.registers) c.from.ensures) refl;
+}
+
+pub returns-clause-step : goal.returns-clause-step
+returns-clause-step c = λ goes beside n.
+    step_touching c.args.self.now c.args.task c.args.standing c.requires.stands c.requires.touches c.step.new.registers
+    c.step.new.space c.args.self.now.tasks c.replace.new.self _ c.step.new.areas c.args.self.now.console beside n
+    (c.in_ok-next.ensures.goes goes (caller_with c.args.task c.args.standing c.requires.stands.space)
+    (kernel_of c.args.self.now beside n) (record {
+      task = refl;
+      registers = refl;
+      space =
+          own_space c.args.self.now c.args.task c.args.standing c.requires.stands c.in-Some.space.now
+          (sym c.in-Some.ensures.value);
+      areas = refl;
+    })) refl
+    (c.replace.ensures ∙ ap (λ x. map.insert c.args.self.now.registers x c.step.new.registers) c.from.ensures) refl refl
+
+pub returns-clause-next : goal.returns-clause-next
+returns-clause-next c =
+    next_told c.args.self.now c.args.task c.args.standing c.requires.stands c.in_ok-next.next
+    (λ k areas. c.in_ok-next.ensures.next (caller_with c.args.task c.args.standing c.requires.stands.space) k (record {
+      task = refl;
+      registers = refl;
+      space =
+          own_space c.args.self.now c.args.task c.args.standing c.requires.stands c.in-Some.space.now
+          (sym c.in-Some.ensures.value);
+      areas = areas;
+    }))
+
+pub returns-clause-kept : goal.returns-clause-kept
+returns-clause-kept c = λ off.
+    let kept = c.in_ok-next.ensures.kept off in
+    record {
+      tasks = refl;
+      registers =
+          c.replace.ensures
+          ∙ ap (λ x. map.insert c.args.self.now.registers x c.step.new.registers) c.from.ensures
+          ∙ registers_same c.args.self.now c.args.task c.args.standing c.requires.stands c.step.new.registers kept.0;
+      spaces =
+          space_same c.args.self.now c.args.task c.args.standing c.requires.stands c.step.new.space
+          (kept.1
+          ∙ sym (own_space c.args.self.now c.args.task c.args.standing c.requires.stands c.in-Some.space.now
+          (sym c.in-Some.ensures.value)));
+      areas = kept.2;
+      console = refl;
+    }
+
+pub returns-in_err-next-clause-err : goal.returns-in_err-next-clause-err
+returns-in_err-next-clause-err c =
+    err_by c.from_residual.result (record {
+      tasks = refl;
+      registers = refl;
+      spaces =
+          space_same c.args.self.now c.args.task c.args.standing c.requires.stands c.step.new.space
+          (c.in_err-next.ensures.err.1
+          ∙ sym (own_space c.args.self.now c.args.task c.args.standing c.requires.stands c.in-Some.space.now
+          (sym c.in-Some.ensures.value)));
+      areas = c.in_err-next.ensures.err.2;
+      console = refl;
+    })

@@ -1,0 +1,35 @@
+-- An instruction that touches a shared area is an entry of its own, or the task calls or traps by it.
+use Rattle.std.proofs.Common.{ap}
+use Rattle.kernel_model.specs.machine.Instructions.{goes_on}
+use Rattle.call_table.proofs.Kept.{stands_kept, part_kept, part_behind}
+use Rattle.call_table.proofs.Results.{on_err, err_by}
+use Rattle.call_table.proofs.processes.Processes.touch.Goals as goal
+
+pub answer-requires-clause-stands : goal.answer-requires-clause-stands
+answer-requires-clause-stands c =
+    stands_kept c.args.self.now c.step_standing.new.self c.args.context.now.task c.args.standing
+    (c.in_ok-step_standing.ensures.kept (ap goes_on c.in-Calls.is)) c.requires.stands
+
+pub end-requires-clause-stands : goal.end-requires-clause-stands
+end-requires-clause-stands c =
+    stands_kept c.args.self.now c.step_standing.new.self c.args.context.now.task c.args.standing
+    (c.in_ok-step_standing.ensures.kept (ap goes_on c.in-Traps.is)) c.requires.stands
+
+pub returns-in_err-step_standing-clause-memory : goal.returns-in_err-step_standing-clause-memory
+returns-in_err-step_standing-clause-memory c =
+    err_by c.from_residual.result (part_kept c.args.self.now c.step_standing.new.self c.args.context.now.task
+    c.args.standing c.in_err-step_standing.ensures.err c.requires.stands)
+
+pub returns-in-Calls-clause-memory : goal.returns-in-Calls-clause-memory
+returns-in-Calls-clause-memory c =
+    on_err c.answer.result (part_behind c.args.self.now c.step_standing.new.self c.answer.new.self
+    c.args.context.now.task (c.in_ok-step_standing.ensures.kept (ap goes_on c.in-Calls.is))) c.answer.ensures.memory
+
+pub returns-in-Traps-clause-memory : goal.returns-in-Traps-clause-memory
+returns-in-Traps-clause-memory c =
+    let before = c.in_ok-step_standing.ensures.kept (ap goes_on c.in-Traps.is) in
+    on_err c.end.result (λ kept. part_behind c.args.self.now c.step_standing.new.self c.end.new.self
+    c.args.context.now.task before
+    (part_kept c.step_standing.new.self c.end.new.self c.args.context.now.task c.args.standing kept
+    (stands_kept c.args.self.now c.step_standing.new.self c.args.context.now.task c.args.standing before
+    c.requires.stands))) c.end.ensures.err
