@@ -45,12 +45,7 @@ fn random_lines() -> [Line; 6] {
 }
 
 /// That by a seed it has these entries, and leaves these bytes on the console.
-fn expect_random(
-    rt: &impl Abort,
-    alloc: Global,
-    seed: &[u8],
-    console: &[u8],
-) -> Result<(), Fail> {
+fn expect_random(rt: &impl Abort, alloc: Global, seed: &[u8], console: &[u8]) -> Result<(), Fail> {
     let told = turns_by(alloc, seed, &RANDOM, 4096)?;
     expect_lines(rt, &told, &random_lines());
     expect_end(rt, &told, false, console);
@@ -119,19 +114,16 @@ fn shared_byte(processes: &Processes) -> Option<u8> {
 }
 
 /// That it is that after so many entries.
-fn expect_byte(
-    rt: &impl Abort,
-    alloc: Global,
-    entries: u64,
-    byte: Option<u8>,
-) -> Result<(), Fail> {
+fn expect_byte(rt: &impl Abort, alloc: Global, entries: u64, byte: Option<u8>) -> Result<(), Fail> {
     let processes = left(alloc, &SHARES, entries)?;
     assert_eq!(rt; shared_byte(&processes), byte, "after {entries}");
     Ok(())
 }
 
 #[test]
-fn a_shared_area_has_the_name_of_its_entry_and_what_was_stored(rt: HostRuntime) -> Result<(), Fail> {
+fn a_shared_area_has_the_name_of_its_entry_and_what_was_stored(
+    rt: HostRuntime,
+) -> Result<(), Fail> {
     expect_byte(&rt, rt.alloc(), 1, None)?;
     expect_byte(&rt, rt.alloc(), 2, Some(0))?;
     expect_byte(&rt, rt.alloc(), 3, Some(0))?;

@@ -84,12 +84,7 @@ pub fn turns(alloc: Global, words: &[u32], entries: u64) -> Result<Told, Fail> {
 }
 
 /// The same by a seed.
-pub fn turns_by(
-    alloc: Global,
-    seed: &[u8],
-    words: &[u32],
-    entries: u64,
-) -> Result<Told, Fail> {
+pub fn turns_by(alloc: Global, seed: &[u8], words: &[u32], entries: u64) -> Result<Told, Fail> {
     let processes = processes_of(alloc, words)?;
     let Ran { processes, trace } = run_turns(alloc, processes, seed, entries);
     let Some(processes) = processes else {

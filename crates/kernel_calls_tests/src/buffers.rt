@@ -113,12 +113,7 @@ fn expect_written(rt: &impl Abort, guest: &mut Guest, console: usize) -> Result<
 }
 
 /// That a group exits with that code.
-fn expect_exit(
-    rt: &impl Abort,
-    guest: &mut Guest,
-    status: u64,
-    wanted: u8,
-) -> Result<(), Fail> {
+fn expect_exit(rt: &impl Abort, guest: &mut Guest, status: u64, wanted: u8) -> Result<(), Fail> {
     let prepared = prepared(guest, 94, [status, 0, 0], 0)?;
     assert_eq!(rt; prepared.reply, 0);
     match prepared.effect {

@@ -40,13 +40,21 @@ const CODE: [u32; 9] = [
 
 /// Where these stand.
 pub const STORE: u64 = 65_656;
+
 pub const LOAD: u64 = 65_660;
+
 pub const RESERVE: u64 = 65_664;
+
 pub const STORE_RESERVED: u64 = 65_668;
+
 pub const ADD: u64 = 65_672;
+
 pub const RESERVE_WORD: u64 = 65_676;
+
 pub const STORE_RESERVED_WORD: u64 = 65_680;
+
 pub const ADD_WORD: u64 = 65_684;
+
 pub const JUMP: u64 = 65_688;
 
 /// A guest: its registers, its memory, the shared areas there are, and the place of its last call's entry.
@@ -148,12 +156,7 @@ impl Guest {
     }
 
     /// That a call has that reply.
-    pub fn expect_reply(
-        &mut self,
-        rt: &impl Abort,
-        asked: Asked,
-        reply: i64,
-    ) -> Result<(), Fail> {
+    pub fn expect_reply(&mut self, rt: &impl Abort, asked: Asked, reply: i64) -> Result<(), Fail> {
         let told = self.reply(asked)?;
         assert_eq!(rt; told, reply, "{asked:?}");
         Ok(())
@@ -184,13 +187,7 @@ impl Guest {
 
     /// Runs the next instructions, so many at most.
     pub fn run(&mut self, most: u32) -> Result<Ran, Memory> {
-        run(
-            self.alloc,
-            1,
-            &mut self.registers,
-            &mut self.space,
-            most,
-        )
+        run(self.alloc, 1, &mut self.registers, &mut self.space, most)
     }
 
     /// Stands at an instruction, with an address in a0 and a value in a1.

@@ -1,6 +1,8 @@
 //! What pages hold once they are mapped, replaced, unmapped and protected.
 
-use crate::asked::{Asked, FIXED, PRIVATE, READ_WRITE, SHARED, getrandom, map, mprotect, munmap, write};
+use crate::asked::{
+    Asked, FIXED, PRIVATE, READ_WRITE, SHARED, getrandom, map, mprotect, munmap, write,
+};
 use crate::calling::{Guest, HEAP, LOAD, MAPPINGS_END, STORE, TOP, new_guest};
 use kernel_model::Next;
 use std::process::Abort;
@@ -25,7 +27,11 @@ fn mark(rt: &impl Abort, guest: &mut Guest) -> Result<(), Fail> {
         guest.expect_loads(rt, at, 0)?;
         guest.expect_stores(rt, at, 0x8877_6655_4433_2211)?;
     }
-    guest.expect_bytes(rt, AT + 4090, &[0x33, 0x44, 0x55, 0x66, 0x77, 0x88, 0x11, 0x22])
+    guest.expect_bytes(
+        rt,
+        AT + 4090,
+        &[0x33, 0x44, 0x55, 0x66, 0x77, 0x88, 0x11, 0x22],
+    )
 }
 
 /// That these places have that value.

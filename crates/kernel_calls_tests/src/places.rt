@@ -10,8 +10,11 @@ const ENOMEM: i64 = -12;
 
 /// The highest pages that mappings find, from the top.
 const FIRST: u64 = MAPPINGS_END - 4096;
+
 const SECOND: u64 = MAPPINGS_END - 8192;
+
 const THIRD: u64 = MAPPINGS_END - 12_288;
+
 const FOURTH: u64 = MAPPINGS_END - 16_384;
 
 /// Mappings one after another, each with the address where it goes: the highest free range, whatever the address that

@@ -7,9 +7,13 @@ use std::test::Fail;
 
 /// errno(3): EBADF, ENOMEM, EFAULT, ENODEV and EINVAL.
 const EBADF: i64 = -9;
+
 const ENOMEM: i64 = -12;
+
 const EFAULT: i64 = -14;
+
 const ENODEV: i64 = -19;
+
 const EINVAL: i64 = -22;
 
 /// A length of 16,385 pages: more than there may be.
@@ -17,7 +21,9 @@ const TOO_LONG: u64 = 16_385 * 4096;
 
 /// 2^31, 2^32 and 2^63.
 const P31: u64 = 1 << 31;
+
 const P32: u64 = 1 << 32;
+
 const P63: u64 = 1 << 63;
 
 /// The last page below the stack's end.
@@ -28,6 +34,7 @@ const AT: u64 = PRIVATE | FIXED;
 
 /// The flags of the two kinds, without MAP_ANONYMOUS.
 const OF_FILE: u64 = 2;
+
 const SHARED_OF_FILE: u64 = 1;
 
 /// Calls of mmap, each with its error: mmap(2), ERRORS, with the order of docs/GUESTS.md. First those of EINVAL, each
@@ -210,12 +217,7 @@ const MPROTECTS: [(u64, u64, u64, i64); 38] = [
 /// That each of them is so.
 fn expect_protections(rt: &impl Abort, guest: &mut Guest) -> Result<(), Fail> {
     for (address, length, protection, reply) in &MPROTECTS {
-        expect_kept(
-            rt,
-            guest,
-            mprotect(*address, *length, *protection),
-            *reply,
-        )?;
+        expect_kept(rt, guest, mprotect(*address, *length, *protection), *reply)?;
     }
     Ok(())
 }

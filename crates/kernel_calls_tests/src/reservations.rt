@@ -12,8 +12,11 @@ use std::test::Fail;
 
 /// The middle of three pages, and its last eight bytes, which are reserved.
 const MIDDLE: u64 = MAPPINGS_END - 8192;
+
 const BEFORE: u64 = MIDDLE - 4096;
+
 const BEHIND: u64 = MIDDLE + 4096;
+
 const PLACE: u64 = MIDDLE + 4088;
 
 /// MAP_PRIVATE with MAP_FIXED.
@@ -131,7 +134,11 @@ fn expect_kept_elsewhere(rt: &impl Abort, guest: &mut Guest) -> Result<(), Fail>
     lay(rt, guest, PRIVATE)?;
     guest.expect_gives(rt, RESERVE, PLACE, 0, 0)?;
     guest.expect_reply(rt, mprotect(HEAP - 4096, 4096, 5), 0)?;
-    guest.expect_reply(rt, mmap([0, 4096, 3, PRIVATE, 0, 0]), BEFORE.wrapping_sub(4096).cast_signed())?;
+    guest.expect_reply(
+        rt,
+        mmap([0, 4096, 3, PRIVATE, 0, 0]),
+        BEFORE.wrapping_sub(4096).cast_signed(),
+    )?;
     guest.expect_reply(rt, getrandom(BEHIND, 256, 0), 256)?;
     guest.expect_reply(rt, write(PLACE, 8), 8)?;
     guest.expect_does(rt, STORE, PLACE, 9, Next::Goes)?;

@@ -3,7 +3,7 @@
 use crate::asked::{Asked, READ_WRITE, SHARED, map, mprotect};
 use crate::calling::{
     ADD, ADD_WORD, Guest, JUMP, LOAD, MAPPINGS_END, RESERVE, RESERVE_WORD, STORE, STORE_RESERVED,
-    STORE_RESERVED_WORD, new_guest, guest_of,
+    STORE_RESERVED_WORD, guest_of, new_guest,
 };
 use kernel_calls::Ran;
 use kernel_model::Next;
@@ -14,10 +14,12 @@ use std::test::Fail;
 
 /// Two shared mappings, one under the other: the call of place 1 makes the upper one, and that of place 2 the lower.
 const UPPER: u64 = MAPPINGS_END - 4096;
+
 const LOWER: u64 = MAPPINGS_END - 8192;
 
 /// The areas of both.
 const FIRST: Area = Area { place: 1, index: 0 };
+
 const SECOND: Area = Area { place: 2, index: 0 };
 
 /// What a run comes to that stops so.
@@ -211,11 +213,7 @@ const WORDS: [(u64, Next); 6] = [
 ];
 
 /// That a word that stands in the upper page runs alone so, with a0 at the lower page.
-fn expect_word(
-    rt: &impl Abort,
-    guest: &mut Guest,
-    (words, next): (u64, Next),
-) -> Result<(), Fail> {
+fn expect_word(rt: &impl Abort, guest: &mut Guest, (words, next): (u64, Next)) -> Result<(), Fail> {
     guest.expect_stores(rt, UPPER + 16, words)?;
     guest.stand(JUMP, UPPER + 16, 0);
     guest.expect_runs(rt, 10, stop(1, Next::Touches(FIRST)))?;

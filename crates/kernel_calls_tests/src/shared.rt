@@ -12,8 +12,11 @@ use std::test::Fail;
 
 /// The pages of four mappings, from the lowest: private, shared, shared, private.
 const LOW: u64 = MAPPINGS_END - 16_384;
+
 const ONE: u64 = MAPPINGS_END - 12_288;
+
 const OTHER: u64 = MAPPINGS_END - 8192;
+
 const HIGH: u64 = MAPPINGS_END - 4096;
 
 /// That a call answers that address.
@@ -104,6 +107,7 @@ fn map_again(guest: &mut Guest, place: u64, at: u64, length: u64) -> Result<u64,
 
 /// An area of two pages at two addresses: where the call puts it, and where its first page is mapped again.
 const HERE: u64 = MAPPINGS_END - 8192;
+
 const THERE: u64 = 1 << 37;
 
 fn map_twice(rt: &impl Abort, guest: &mut Guest) -> Result<(), Fail> {

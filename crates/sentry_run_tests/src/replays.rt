@@ -96,12 +96,7 @@ fn text_of(alloc: Global, plain: &Plain, trace: &Trace) -> Result<List<u8>, Memo
 
 /// That each entry fits, and that its state then has the text of the run: the console, how the groups ended, and the
 /// calls.
-fn expect_same(
-    rt: &impl Abort,
-    alloc: Global,
-    plain: &mut Plain,
-    ran: &Ran,
-) -> Result<(), Fail> {
+fn expect_same(rt: &impl Abort, alloc: Global, plain: &mut Plain, ran: &Ran) -> Result<(), Fail> {
     let trace = &ran.outcome.trace;
     let count = fitting(alloc, plain, trace.as_slice())?;
     assert_eq!(rt; count, trace.len());
