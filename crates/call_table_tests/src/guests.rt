@@ -14,7 +14,7 @@ use sn_vectors::image_of;
 use std::alloc::Global;
 use std::test::Fail;
 
-/// The mount file's seed of each test.
+/// The seed of 32 zeros.
 pub const SEED: [u8; 32] = [0; 32];
 
 /// The image of a file.
@@ -38,7 +38,7 @@ fn program(alloc: Global) -> Result<Program, Fail> {
     })
 }
 
-/// The processes of a program, with the seed of 32 zeros.
+/// The processes of a program, with that seed.
 fn begin(alloc: Global, program: &Program, image: &Image) -> Result<Processes, Memory>
     requires short { is_too_long program.now.args program.now.env ≡ false }
     requires pages { HasRoom image.now }

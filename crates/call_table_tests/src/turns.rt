@@ -15,14 +15,14 @@ use std::test::Fail;
 
 /// An entry: its kind, and of a run how many instructions, of a call its number, of an end the signal; and the reply.
 #[derive(Clone, Copy, Debug, PartialEq, Eq)]
-struct Line {
-    kind: &'static str,
-    number: u64,
-    reply: i64,
+pub struct Line {
+    pub kind: &'static str,
+    pub number: u64,
+    pub reply: i64,
 }
 
 /// A run of so many instructions.
-fn run(number: u64) -> Line {
+pub fn run(number: u64) -> Line {
     Line {
         kind: "run",
         number,
@@ -31,7 +31,7 @@ fn run(number: u64) -> Line {
 }
 
 /// A call by its number, with its reply.
-fn call(number: u64, reply: i64) -> Line {
+pub fn call(number: u64, reply: i64) -> Line {
     Line {
         kind: "call",
         number,
@@ -40,7 +40,7 @@ fn call(number: u64, reply: i64) -> Line {
 }
 
 /// The end of a group by a signal.
-fn end(signal: u64) -> Line {
+pub fn end(signal: u64) -> Line {
     Line {
         kind: "end",
         number: signal,
@@ -50,11 +50,11 @@ fn end(signal: u64) -> Line {
 
 /// What came of a run of turns.
 #[derive(Drop)]
-struct Told {
-    lines: List<Line>,
-    lives: bool,
-    console: List<u8>,
-    entries: u64,
+pub struct Told {
+    pub lines: List<Line>,
+    pub lives: bool,
+    pub console: List<u8>,
+    pub entries: u64,
 }
 
 fn line_of(entry: &Entry) -> Line {
@@ -78,10 +78,15 @@ fn lines_of(alloc: Global, trace: &[Entry]) -> Result<List<Line>, Fail> {
     Ok(lines)
 }
 
-/// Has a guest of these words make at most so many entries.
-fn turns(alloc: Global, words: &[u32], entries: u64) -> Result<Told, Fail> {
+/// Has a guest of these words make at most so many entries, by the seed of zeros.
+pub fn turns(alloc: Global, words: &[u32], entries: u64) -> Result<Told, Fail> {
+    turns_by(alloc, &SEED, words, entries)
+}
+
+/// The same by a seed.
+pub fn turns_by(alloc: Global, seed: &[u8], words: &[u32], entries: u64) -> Result<Told, Fail> {
     let processes = processes_of(alloc, words)?;
-    let Ran { processes, trace } = run_turns(alloc, processes, &SEED, entries);
+    let Ran { processes, trace } = run_turns(alloc, processes, seed, entries);
     let Some(processes) = processes else {
         return Err(Fail::new("memory"));
     };
@@ -96,12 +101,12 @@ fn turns(alloc: Global, words: &[u32], entries: u64) -> Result<Told, Fail> {
     })
 }
 
-fn expect_lines(rt: &impl Abort, told: &Told, lines: &[Line]) {
+pub fn expect_lines(rt: &impl Abort, told: &Told, lines: &[Line]) {
     assert!(rt; told.lines.as_slice() == lines);
     assert!(rt; told.entries == lines.len() as u64);
 }
 
-fn expect_end(rt: &impl Abort, told: &Told, lives: bool, console: &[u8]) {
+pub fn expect_end(rt: &impl Abort, told: &Told, lives: bool, console: &[u8]) {
     assert!(rt; told.lives == lives);
     assert!(rt; told.console.as_slice() == console);
 }

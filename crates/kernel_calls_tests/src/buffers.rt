@@ -1,8 +1,10 @@
 //! What a call takes from a guest's buffer, and what it comes to.
 
+use crate::asked::Asked;
+use crate::calling::{Guest, guest_in};
 use crate::guests::{expect_bytes, expect_unreadable, opened, read};
-use kernel_calls::{Effect, Prepared, call, commit};
-use kernel_model::{Args, GuestSpace};
+use kernel_calls::{Effect, Prepared, commit};
+use kernel_model::GuestSpace;
 use sn_base::{List, Memory};
 use sn_vectors::images::GUEST;
 use std::alloc::Global;
@@ -30,14 +32,10 @@ const REPLIES: [(u64, [u64; 3], i64); 9] = [
 /// The four letters with which an image begins.
 const LETTERS: [u8; 4] = [0x7f, 0x45, 0x4c, 0x46];
 
-fn args(some: [u64; 3]) -> Args {
-    Args {
-        a0: some[0],
-        a1: some[1],
-        a2: some[2],
-        a3: 0,
-        a4: 0,
-        a5: 0,
+fn asked(number: u64, [a0, a1, a2]: [u64; 3]) -> Asked {
+    Asked {
+        number,
+        args: [a0, a1, a2, 0, 0, 0],
     }
 }
 
@@ -66,24 +64,22 @@ fn a_buffer_is_read_whole_or_not_at_all(rt: HostRuntime) -> Result<(), Fail> {
 
 /// What a call comes to, over a console of so many bytes.
 fn prepared(
-    alloc: Global,
+    guest: &mut Guest,
     no: u64,
     some: [u64; 3],
-    space: &GuestSpace,
     console: usize,
 ) -> Result<Prepared, Memory> {
-    call(alloc, no, &args(some), space, console)
+    guest.prepared_over(asked(no, some), console)
 }
 
 /// That a call returns that, and does nothing.
 fn expect_returns(
     rt: &impl Abort,
-    alloc: Global,
+    guest: &mut Guest,
     (no, some, reply): (u64, [u64; 3], i64),
-    space: &GuestSpace,
     console: usize,
 ) -> Result<(), Fail> {
-    let prepared = prepared(alloc, no, some, space, console)?;
+    let prepared = prepared(guest, no, some, console)?;
     assert_eq!(rt; prepared.reply, reply, "call {no}");
     match prepared.effect {
         Effect::Nothing => Ok(()),
@@ -92,27 +88,22 @@ fn expect_returns(
 }
 
 /// That each call of the list returns its reply.
-fn expect_replies(rt: &impl Abort, alloc: Global, space: &GuestSpace) -> Result<(), Fail> {
+fn expect_replies(rt: &impl Abort, guest: &mut Guest) -> Result<(), Fail> {
     for row in REPLIES {
-        expect_returns(rt, alloc, row, space, 0)?;
+        expect_returns(rt, guest, row, 0)?;
     }
     Ok(())
 }
 
 #[test]
 fn calls_reply_as_their_manual_pages_say(rt: HostRuntime) -> Result<(), Fail> {
-    let guest = opened(rt.alloc(), 1, &GUEST)?;
-    expect_replies(&rt, rt.alloc(), &guest.space)
+    let mut guest = guest_in(rt.alloc(), &GUEST)?;
+    expect_replies(&rt, &mut guest)
 }
 
 /// That the image's letters are written to a console of so many bytes.
-fn expect_written(
-    rt: &impl Abort,
-    alloc: Global,
-    space: &GuestSpace,
-    console: usize,
-) -> Result<(), Fail> {
-    let prepared = prepared(alloc, 64, [1, 65_536, 4], space, console)?;
+fn expect_written(rt: &impl Abort, guest: &mut Guest, console: usize) -> Result<(), Fail> {
+    let prepared = prepared(guest, 64, [1, 65_536, 4], console)?;
     assert_eq!(rt; prepared.reply, 4);
     match prepared.effect {
         Effect::TakesBytes(bytes) => assert_eq!(rt; bytes.as_slice(), LETTERS.as_slice()),
@@ -122,14 +113,8 @@ fn expect_written(
 }
 
 /// That a group exits with that code.
-fn expect_exit(
-    rt: &impl Abort,
-    alloc: Global,
-    space: &GuestSpace,
-    status: u64,
-    wanted: u8,
-) -> Result<(), Fail> {
-    let prepared = prepared(alloc, 94, [status, 0, 0], space, 0)?;
+fn expect_exit(rt: &impl Abort, guest: &mut Guest, status: u64, wanted: u8) -> Result<(), Fail> {
+    let prepared = prepared(guest, 94, [status, 0, 0], 0)?;
     assert_eq!(rt; prepared.reply, 0);
     match prepared.effect {
         Effect::EndsGroup(status) => assert_eq!(rt; status, Status::Exited(wanted)),
@@ -139,18 +124,18 @@ fn expect_exit(
 }
 
 /// ELF's four letters, of which a console of 1,048,572 bytes takes all, and one of a byte more none: ENOSPC 28.
-fn expect_room(rt: &impl Abort, alloc: Global, space: &GuestSpace) -> Result<(), Fail> {
-    expect_written(rt, alloc, space, 1_048_572)?;
-    expect_returns(rt, alloc, (64, [1, 65_536, 4], -28), space, 1_048_573)?;
-    expect_exit(rt, alloc, space, 0x1_0203, 3)
+fn expect_room(rt: &impl Abort, guest: &mut Guest) -> Result<(), Fail> {
+    expect_written(rt, guest, 1_048_572)?;
+    expect_returns(rt, guest, (64, [1, 65_536, 4], -28), 1_048_573)?;
+    expect_exit(rt, guest, 0x1_0203, 3)
 }
 
 #[test]
 fn what_is_written_is_the_buffers_bytes_where_the_console_has_room(
     rt: HostRuntime,
 ) -> Result<(), Fail> {
-    let guest = opened(rt.alloc(), 1, &GUEST)?;
-    expect_room(&rt, rt.alloc(), &guest.space)
+    let mut guest = guest_in(rt.alloc(), &GUEST)?;
+    expect_room(&rt, &mut guest)
 }
 
 /// Has a console take bytes, beside no tasks.

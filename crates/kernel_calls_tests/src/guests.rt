@@ -10,6 +10,7 @@ use elf_image::Image;
 use kernel_calls::{Beginning, is_too_long, opened as open_task, read_executable};
 use kernel_model::GuestSpace;
 use mm_areas::Rights;
+use mm_space::Handed;
 use mount_file::Program;
 use rv_table::{Reg, Regs};
 use sn_base::{List, Memory};
@@ -89,14 +90,19 @@ pub fn opened(alloc: Global, number: u32, file: &[u8]) -> Result<Beginning, Fail
     opened_of(alloc, number, &image)
 }
 
-/// So many bytes of a guest at an address, or `None` where they can't be read.
+/// So many bytes of a guest at an address, with no shared area in hand, or `None` where they can't be read.
 pub fn read(
     alloc: Global,
     space: &GuestSpace,
     at: u64,
-    count: u64,
+    count: usize,
 ) -> Result<Option<List<u8>>, Memory> {
-    space.read(alloc, at, count)
+    let mut bytes = vec![in alloc; 0u8; count]?;
+    let handed = Handed::none(alloc);
+    match space.space.read(&handed, at, bytes.as_mut_slice()) {
+        Ok(()) => Ok(Some(List::from_vec(bytes))),
+        Err(_) => Ok(None),
+    }
 }
 
 /// That these bytes can be read at an address.
@@ -107,7 +113,7 @@ pub fn expect_bytes(
     at: u64,
     bytes: &[u8],
 ) -> Result<(), Fail> {
-    let found = read(alloc, space, at, bytes.len() as u64)?.ok_or("not readable")?;
+    let found = read(alloc, space, at, bytes.len())?.ok_or("not readable")?;
     assert_eq!(rt; found.as_slice(), bytes, "at {at:x}");
     Ok(())
 }
@@ -118,7 +124,7 @@ pub fn expect_unreadable(
     alloc: Global,
     space: &GuestSpace,
     at: u64,
-    count: u64,
+    count: usize,
 ) -> Result<(), Fail> {
     assert!(rt;
         read(alloc, space, at, count)?.is_none(),

@@ -1,8 +1,9 @@
 //! Tests of the functions for system calls, over their public calls, with ample memory.
 //!
-//! The contracts of `kernel_calls` say what each of them does; here calls reply as their manual pages say, tasks begin
-//! with the pages, strings and random bytes of their images, and runs of instructions stop where they should. Guests
-//! are those of `sn_vectors`.
+//! The contracts of `kernel_calls` say what each of them does; here calls reply as their manual pages say, memory holds
+//! what was put there under the rights that it was given, tasks begin with the pages, strings and random bytes of their
+//! images, runs of instructions stop where they should, and instructions are done in shared areas. Guests are those of
+//! `sn_vectors`, and others of words that an assembler made.
 //!
 //! Expected values are from outside: the RISC-V and ELF-64 manuals, the Linux manual pages by hand, and for random
 //! bytes another implementation of ChaCha20.
@@ -11,10 +12,30 @@
 #[cfg(test)]
 mod arguments;
 #[cfg(test)]
+mod asked;
+#[cfg(test)]
+mod breaks;
+#[cfg(test)]
 mod buffers;
+#[cfg(test)]
+mod calling;
+#[cfg(test)]
+mod contents;
 #[cfg(test)]
 mod guests;
 #[cfg(test)]
 mod machine;
 #[cfg(test)]
+mod places;
+#[cfg(test)]
 mod random;
+#[cfg(test)]
+mod randoms;
+#[cfg(test)]
+mod refusals;
+#[cfg(test)]
+mod reservations;
+#[cfg(test)]
+mod runs;
+#[cfg(test)]
+mod shared;

@@ -3,8 +3,8 @@
 use crate::guests::{
     expect_bytes, expect_pages, expect_register, expect_rights, expect_unmapped, opened,
 };
-use kernel_calls::{Beginning, Ran, args_of, call_of, next, reply, run};
-use kernel_model::{Args, GuestSpace, Next};
+use kernel_calls::{Beginning, Ran, args_of, call_of, reply, run, step};
+use kernel_model::{Args, GuestSpace, Named, Next};
 use mm_areas::Rights;
 use rv_table::{Reg, Regs};
 use sn_base::Memory;
@@ -88,9 +88,10 @@ fn expect_run(
     Ok(())
 }
 
-/// What the next instruction comes to.
-fn told_next(alloc: Global, registers: &Regs, space: &mut GuestSpace) -> Result<Next, Memory> {
-    next(alloc, 1, registers, space)
+/// What the next instruction comes to, where there is no shared area.
+fn told_next(alloc: Global, registers: &mut Regs, space: &mut GuestSpace) -> Result<Next, Memory> {
+    let mut areas = Named::new(alloc);
+    step(alloc, 1, registers, space, &mut areas)
 }
 
 /// That the next instruction comes to that.
@@ -100,7 +101,7 @@ fn expect_next(
     guest: &mut Beginning,
     wanted: Next,
 ) -> Result<(), Fail> {
-    let told = told_next(alloc, &guest.registers, &mut guest.space)?;
+    let told = told_next(alloc, &mut guest.registers, &mut guest.space)?;
     assert_eq!(rt; told, wanted);
     Ok(())
 }

@@ -22,7 +22,7 @@ use task_table::{Status, Tasks};
 
 /// What an opening record has beside the mounts and the task's words.
 #[derive(Clone, Copy)]
-struct Drawn {
+pub struct Drawn {
     roots: u64,
     name: &'static [u8],
     ino: u64,
@@ -30,7 +30,7 @@ struct Drawn {
 }
 
 /// The record of the opening of `/init`, with its number 2 drawn.
-const DRAWN: Drawn = Drawn {
+pub const DRAWN: Drawn = Drawn {
     roots: 1,
     name: b"init",
     ino: 2,
@@ -109,7 +109,7 @@ fn open_under(
 }
 
 /// An opening of a program with these strings in its environment.
-fn open_with(
+pub fn open_with(
     alloc: Global,
     env: List<Text>,
     child: Option<Tree>,
@@ -229,7 +229,7 @@ fn call(alloc: Global, no: u64, a0: u64, reply: i64, rise: u64) -> Result<Entry,
 }
 
 /// Does an entry, and answers whether it fits.
-fn done(alloc: Global, plain: &mut Plain, entry: &Entry) -> Result<bool, Fail> {
+pub fn done(alloc: Global, plain: &mut Plain, entry: &Entry) -> Result<bool, Fail> {
     if plain.kernel.entries >= 100 {
         return Err(Fail::new("too many entries"));
     }

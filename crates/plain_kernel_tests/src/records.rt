@@ -8,6 +8,7 @@ use mount_file::{Mount, Mounts, Program};
 use plain_kernel::{OpeningErr, Plain};
 use sn_base::{List, Memory};
 use sn_text::{Folder, Route, Text, name_of};
+use sn_vectors::image_of;
 use sn_vectors::images::GUEST;
 use std::alloc::Global;
 use std::test::Fail;
@@ -65,6 +66,20 @@ pub fn root_of(alloc: Global, child: Option<Tree>) -> Result<List<Tree>, Fail> {
     let mut trees = List::new(alloc);
     trees.push(root)?;
     Ok(trees)
+}
+
+/// The file of a guest of these words.
+pub fn file_of(alloc: Global, words: &[u32]) -> Result<Option<Tree>, Fail> {
+    let file = List::from_vec(image_of(alloc, words)?);
+    Ok(Some(Tree::file(0o755, file)))
+}
+
+/// That nothing was drawn and nothing met.
+pub fn nothing_given(alloc: Global) -> Given {
+    Given {
+        fresh: List::new(alloc),
+        rises: List::new(alloc),
+    }
 }
 
 /// The guest's file.

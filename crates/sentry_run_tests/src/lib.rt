@@ -4,7 +4,8 @@
 //! trace, and programs, mount files and folders that can't be run are refused with the status of their cause. Each call
 //! of the host, the source and the sink fails in turn, and a sink takes a piece at a time. Words are read as a command,
 //! the text of a state and a trace is printed, and each cause has its status and its line. Guests are those of
-//! `sn_vectors`.
+//! `sn_vectors`, and some that use memory; a plain kernel does their traces too, entry by entry, and comes to the same
+//! text.
 //!
 //! Expected values are from outside: the RISC-V and ELF-64 manuals, the Linux manual pages by hand, and for random
 //! bytes another implementation of ChaCha20.
@@ -19,6 +20,10 @@ mod hosts;
 #[cfg(test)]
 mod lines;
 #[cfg(test)]
+mod memory;
+#[cfg(test)]
+mod memory_guests;
+#[cfg(test)]
 mod mount_files;
 #[cfg(test)]
 mod mounts;
@@ -30,6 +35,8 @@ mod placed;
 mod prints;
 #[cfg(test)]
 mod refusals;
+#[cfg(test)]
+mod replays;
 #[cfg(test)]
 mod running;
 #[cfg(test)]

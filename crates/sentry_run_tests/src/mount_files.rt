@@ -29,3 +29,13 @@ folder = \"root\"
 [[task]]
 path = \"/init\"
 ";
+
+/// The same as the first with the bytes 0 to 31 as its seed.
+pub const COUNTED_SEED: &[u8] = b"entries = 4096
+seed = \"000102030405060708090a0b0c0d0e0f101112131415161718191a1b1c1d1e1f\"
+[[mount]]
+at = \"/\"
+folder = \"root\"
+[[task]]
+path = \"/init\"
+";

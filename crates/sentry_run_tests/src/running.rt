@@ -41,7 +41,7 @@ pub fn source_of(alloc: Global, mounts: &[u8]) -> Result<MemSource, Fail> {
 }
 
 /// The run itself.
-fn outcome_of<K: Sink>(
+pub fn outcome_of<K: Sink>(
     alloc: Global,
     words: &[&str],
     files: &mut MemSource,

@@ -40,6 +40,7 @@ fn kernel(alloc: Global, console: &[u8], tasks: Tasks) -> Result<Kernel, Memory>
         tasks,
         registers: Map::new(alloc),
         spaces: Named::new(alloc),
+        areas: Named::new(alloc),
         nodes: Map::new(alloc),
         console: List::from_slice(alloc, console)?,
         failed: Map::new(alloc),
