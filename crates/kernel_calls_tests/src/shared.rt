@@ -265,3 +265,20 @@ fn shared_memory_may_lie_anywhere(rt: HostRuntime) -> Result<(), Fail> {
     let mut guest = new_guest(rt.alloc())?;
     expect_in_the_heap(&rt, &mut guest)
 }
+
+/// A page of an area that no call has made: neither a call nor an instruction reaches it.
+fn expect_lacking(rt: &impl Abort, guest: &mut Guest) -> Result<(), Fail> {
+    let again = map_again(guest, 99, THERE, 4096)?;
+    assert_eq!(rt; again, THERE);
+    guest.expect_refused(rt, THERE)?;
+    guest.expect_reply(rt, getrandom(THERE, 1, 0), -14)?;
+    guest.expect_reply(rt, getrandom(THERE, 0, 0), 0)?;
+    guest.expect_does(rt, LOAD, THERE, 0, Next::Traps(11))?;
+    guest.expect_does(rt, STORE, THERE, 0, Next::Traps(11))
+}
+
+#[test]
+fn an_area_that_is_not_there_is_reached_by_nothing(rt: HostRuntime) -> Result<(), Fail> {
+    let mut guest = new_guest(rt.alloc())?;
+    expect_lacking(&rt, &mut guest)
+}

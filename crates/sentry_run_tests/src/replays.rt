@@ -25,7 +25,7 @@ struct Ran {
 }
 
 /// A run of a guest with these instructions, with its trace in its text.
-fn ran(alloc: Global, mounts: &[u8], words: &[u32]) -> Result<Ran, Fail> {
+fn run_of(alloc: Global, mounts: &[u8], words: &[u32]) -> Result<Ran, Fail> {
     let mut world = world_with(alloc, guest(alloc, words)?)?;
     let mut files = source_of(alloc, mounts)?;
     let mut out = MemSink::new(alloc);
@@ -112,7 +112,7 @@ pub fn expect_replayed(
     mounts: &[u8],
     words: &[u32],
 ) -> Result<(), Fail> {
-    let ran = ran(alloc, mounts, words)?;
+    let ran = run_of(alloc, mounts, words)?;
     let trees = trees_of(alloc, words)?;
     let mut plain = opened_as(alloc, &ran.outcome, &trees)?;
     expect_same(rt, alloc, &mut plain, &ran)
