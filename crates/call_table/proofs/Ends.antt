@@ -52,7 +52,8 @@ module _ (list : TaskTable) (group : ℕ) (status : Status) where
 
       kept : (orphaned group before).memory ≡ before.memory
       kept =
-          elim (before.parent == group) as (λ b. (cond b (record before { parent = 0 }) before).memory ≡ before.memory) [
+          elim (before.parent == group)
+          as (λ b. (cond b (record before { parent = 0 }) before).memory ≡ before.memory) [
             | true ↦ refl
             | false ↦ refl
           ]

@@ -133,9 +133,9 @@ memories_stay spaces place index after p i a e =
 
 -- registers and a memory that are set
 pub home_run : (list : TaskTable) (registers registers' : map.FinMap nat_cmp Regs)
-    (spaces spaces' : NamedMap AddressSpace) (task : ℕ) (after : Regs) (place index : ℕ) (left : AddressSpace) → AreAtHome list registers spaces
-    → registers' ≡ map.insert registers task after → spaces' ≡ with_named spaces place index left
-    → AreAtHome list registers' spaces'
+    (spaces spaces' : NamedMap AddressSpace) (task : ℕ) (after : Regs) (place index : ℕ) (left : AddressSpace)
+    → AreAtHome list registers spaces → registers' ≡ map.insert registers task after
+    → spaces' ≡ with_named spaces place index left → AreAtHome list registers' spaces'
 home_run list registers registers' spaces spaces' task after place index left home e f =
     subst (λ x. AreAtHome list x spaces') (sym e)
     (subst (λ x. AreAtHome list (map.insert registers task after) x) (sym f)

@@ -1,19 +1,26 @@
 -- What calls come to, as their rows have it.
-use Rattle.std.proofs.Common.{◌≡◌, ℕ, ℤ, List, [], ◌∷◌, ◌++◌, length, Option, Some, None, refl, ap, sym, ◌∙◌}
+use Rattle.std.proofs.Common.{◌≡◌, ◌≢◌, ◌==◌, ℕ, ℤ, min, true, false, List, [], ◌∷◌, Option, Some, None, Result, Ok}
+use Rattle.std.proofs.Common.{Err, refl, ap, sym, ◌∙◌}
+use Rattle.std.specs.Prelude.{IfSome}
+use Rattle.std.proofs.lemmas.Bool.{ne_eqb}
+use Rattle.mm_areas.specs.declared.fault.AreaErr.{AreaErr}
 use Rattle.sn_errno.specs.declared.errno.Errno.{Errno}
+use Rattle.sn_errno.specs.declared.errno.Errno.TheVariants.{ENOSYS}
 use Rattle.sn_errno.specs.Errors.{reply_of}
 use Rattle.mm_space.specs.Handing.{AreaState, InHand}
-use Rattle.mm_space.specs.Spaces.{AddressSpace, Reach}
+use Rattle.mm_space.specs.Spaces.{AddressSpace}
 use Rattle.kernel_model.specs.Names.{NamedMap, get_named, with_named}
 use Rattle.kernel_model.specs.declared.caller.Caller.{Caller}
 use Rattle.kernel_model.specs.declared.kernel.Kernel.{Kernel}
 use Rattle.kernel_model.specs.declared.kernel.Part.TheVariants.{OfArea, OfSpace}
 use Rattle.kernel_model.specs.calls.Answers.{Answer, replies, refuses}
-use Rattle.kernel_model.specs.calls.Memory.{remaps}
-use Rattle.kernel_model.specs.entries.Areas.{area_changes, reach_changes}
-use Rattle.kernel_model.specs.entries.Parts.{parts, Prog, outcome_in, Change, changed}
+use Rattle.kernel_model.specs.calls.Console.{descriptor, is_written_to, to_console, write_row}
+use Rattle.kernel_model.specs.calls.Memory.{remaps, unless_refused}
+use Rattle.kernel_model.specs.entries.Areas.{area_changes, bytes_read}
+use Rattle.kernel_model.specs.entries.Parts.{Parts, parts, Prog, done, outcome_in, Change, changed}
 use Rattle.kernel_model.proofs.ChildLaws.{changed-append}
 use Rattle.kernel_model.proofs.NamedMaps.{with_same}
+use Rattle.kernel_model.proofs.Trees.{outcome-bind}
 use Rattle.kernel_calls.specs.Lending.{with_hand, AreThose}
 use Rattle.kernel_calls.specs.Prepared.{Answers, HasSpace, IsCalling, answer_of, changes_of, with_memory}
 use Rattle.kernel_calls.specs.declared.context.Context.{Context}
@@ -70,6 +77,45 @@ module _ (row : Prog Answer) (p : Prepared) (c : Caller) (k : Kernel) (old space
     done_is = does ∙ ap (λ e. changed (changes_of e c.group (parts k)) (with_memory c space areas k)) (sym none);
   }
 
+-- ---- rows of what may be refused by the address space
+
+-- nothing is refused where the code was not
+pub no_fault : (fault : Option AreaErr) (r : Result (Unit {0}) AreaErr) (u : Unit {0}) → r ≡ Ok u
+    → IfSome fault (λ f. r ≡ Err f) → fault ≡ None
+no_fault None r u is faulty = refl
+no_fault (Some f) r u is faulty = absurd (cc (is, faulty))
+
+module _ (refusal : AddressSpace → Option Errno) (p : Prepared) (c : Caller) (k : Kernel) (old space : AddressSpace)
+    (areas : NamedMap AreaState) (has : HasSpace c k old) (none : p.effect ≡ Nothing) where
+  -- a call that is refused
+  pub answers_if_refused : (answer : Answer) (errno : Errno) → refusal old ≡ Some errno → p.reply ≡ reply_of errno
+      → space ≡ old → areas ≡ k.areas → Answers (done (unless_refused (refusal c.space) answer)) p c k space areas
+  answers_if_refused answer errno is reply same shared =
+      answers_refused (done (unless_refused (refusal c.space) answer)) p c k old space areas has errno
+      (ap (λ s. unless_refused (refusal s) answer) has.space ∙ ap (λ o. unless_refused o answer) is) reply none same
+      shared
+
+  -- one that leaves another address space, and no other areas
+  pub answers_unless_refused : (to : AddressSpace → AddressSpace) (value : ℤ) → refusal old ≡ None → p.reply ≡ value
+      → space ≡ to old → areas ≡ k.areas
+      → Answers (done (unless_refused (refusal c.space) (remaps c (to c.space) value []))) p c k space areas
+  answers_unless_refused to value free reply is shared =
+      answers_remapped (done (unless_refused (refusal c.space) (remaps c (to c.space) value []))) p c k old space areas
+      has []
+      (ap (λ s. unless_refused (refusal s) (remaps c (to s) value [])) has.space
+      ∙ ap (λ o. unless_refused o (remaps c (to old) value [])) free
+      ∙ ap (λ s. remaps c s value []) (sym is) ∙ ap (λ v. remaps c space v []) (sym reply))
+      none (ap (λ m. with_memory c space m k) (sym shared))
+
+-- a call that the kernel does not have
+pub answers_lacking : (row : Prog Answer) (p : Prepared) (c : Caller) (k : Kernel) (space : AddressSpace)
+    (areas : NamedMap AreaState) → c.space ≡ space → get_named k.spaces c.memory.place c.memory.index ≡ Some c.space
+    → k.areas ≡ areas → outcome_in (parts k) row ≡ refuses ENOSYS → p.reply ≡ reply_of ENOSYS → p.effect ≡ Nothing
+    → Answers row p c k space areas
+answers_lacking row p c k space areas own there shared is reply none =
+    answers_refused row p c k space space areas (record { space = own; there = there }) ENOSYS is reply none refl
+    (sym shared)
+
 -- areas that were in hand, put back
 pub areas_changed : (hand : List InHand) (k : Kernel)
     → changed (area_changes hand) k ≡ record k { areas = with_hand hand k.areas }
@@ -77,3 +123,15 @@ areas_changed [] k = refl
 areas_changed (h ∷ hand) k =
     changed-append (area_changes hand) ((OfArea h.name, Some h.state) ∷ []) k
     ∙ ap (λ m. changed ((OfArea h.name, Some h.state) ∷ []) m) (areas_changed hand k)
+
+-- ---- the console
+
+-- a write of bytes to a descriptor that is open for it
+pub console_written : (s : Parts) (fd buffer count : ℕ) (space : AddressSpace) (o : Option (List ℕ))
+    → is_written_to (descriptor fd) ≡ true → count ≢ 0
+    → outcome_in s (bytes_read space buffer (min count 65536)) ≡ o
+    → outcome_in s (write_row fd buffer count space) ≡ outcome_in s (to_console o)
+console_written s fd buffer count space o out some is =
+    let more : (count == 0) ≡ false = ne_eqb count 0 some in
+    rw (out, more) (outcome-bind s (bytes_read space buffer (min count 65536)) to_console
+    ∙ ap (λ x. outcome_in s (to_console x)) is)

@@ -18,7 +18,7 @@ same_word seed other word same small =
     let d : slice_index seed (4 * word + 3) ≡ slice_index other (4 * word + 3) = same (4 * word + 3) (omega arith) in
     omega arith
 
-same_key : (seed other : List ℕ) → SameBytes seed other → key_of seed ≡ key_of other
+pub same_key : (seed other : List ℕ) → SameBytes seed other → key_of seed ≡ key_of other
 same_key seed other same =
     let a = same_word seed other 0 same (omega arith) in
     let b = same_word seed other 1 same (omega arith) in

@@ -4,14 +4,15 @@ use Rattle.std.proofs.Common.{sym, ◌∙◌, ◌⊎◌, inl, inr, subst}
 use Rattle.std.specs.Prelude.{is_some, unwrap_or, IsTrue, ◌==◌, ◌&&◌}
 use Rattle.std.specs.Ordering.{nat_cmp}
 use Rattle.std.specs.FinMap.{FinMap, get, insert, empty}
-use Rattle.std.proofs.lemmas.Bool.{eqb-true, eqb-false}
+use Rattle.std.proofs.lemmas.Bool.{eqb-false}
 use Rattle.sn_base.proofs.Maps.{get-insert_same, get-insert_other, insert-insert, same_by_get}
 use Rattle.rv_table.specs.declared.error.Area.{Area}
 use Rattle.mm_space.specs.Handing.{AreaState, InHand, area_in, zero_area}
 use Rattle.mm_space.specs.Sight.{is_area}
-use Rattle.kernel_model.specs.Names.{NamedMap, get_named, has_named, with_named}
+use Rattle.kernel_model.specs.Names.{NamedMap, get_named, has_named, with_named, without_named}
 use Rattle.kernel_model.proofs.NamedMaps.{same_or_other, one_name_or_two, get-with, get-with_same, get-with_other, with_same}
-use Rattle.kernel_calls.specs.Lending.{with_hand, AreThere, names, IsLent}
+use Rattle.kernel_model.proofs.NamedMaps.{get-without_same, get-without_other}
+use Rattle.kernel_calls.specs.Lending.{with_hand, AreAlike, AreThere, names, IsLent}
 use Rattle.kernel_calls.specs.Trying.{AreLent}
 
 -- ---- values set one behind another
@@ -241,3 +242,23 @@ pub lent_left : (hand left : List InHand) (areas all : NamedMap AreaState) → A
     → names left ≡ names hand → with_hand left areas ≡ with_hand left all
 lent_left hand left areas all lent same =
     sym (over_hand left hand areas same) ∙ ap (with_hand left) lent.back
+
+-- ---- one that was set and taken out
+
+nothing_there : (o : Option AreaState) → is_some o ≡ false → o ≡ None
+nothing_there None e = refl
+nothing_there (Some state) e = absurd (cc e)
+
+-- where nothing was, all is as it was
+pub taken_out : (m : NamedMap AreaState) (place index : ℕ) (v : AreaState) → has_named m place index ≡ false
+    → AreAlike (without_named (with_named m place index v) place index) m
+taken_out m place index v has p i =
+    elim (one_name_or_two place index p i) [
+      | inl e ↦
+          let here : get_named (without_named (with_named m place index v) place index) place index
+          ≡ get_named m place index
+          = get-without_same (with_named m place index v) place index
+          ∙ sym (nothing_there (get_named m place index) has) in
+          rw (← e.0, ← e.1) here
+      | inr d ↦ get-without_other (with_named m place index v) place index p i d ∙ get-with_other m place index p i v d
+    ]

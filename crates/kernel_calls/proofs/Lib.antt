@@ -5,6 +5,8 @@ pub mod Effects
 pub mod Executables
 pub mod Keys
 pub mod Lendings
+pub mod RandomRows
+pub mod RandomWords
 pub mod Runs
 pub mod SteppedLaws
 pub mod Strings

@@ -1,5 +1,5 @@
 -- Shared areas that are handed in, and taken back.
-use Rattle.std.specs.Prelude.{◌≡◌, ⊤, ℕ, List, [], ◌∷◌, ◌++◌, map, Option, Some, None, IsTrue}
+use Rattle.std.specs.Prelude.{◌≡◌, ⊤, ℕ, List, [], ◌∷◌, ◌++◌, map, Some, None, IsTrue}
 use Rattle.rv_table.specs.declared.error.Area.{Area}
 use Rattle.mm_space.specs.Handing.{AreaState, InHand, area_in, zero_area}
 use Rattle.kernel_model.specs.Names.{NamedMap, get_named, has_named, with_named}

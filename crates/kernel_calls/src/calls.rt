@@ -26,6 +26,7 @@ use std::alloc::Global;
 /// `write`, `exit_group`, `brk`, `mmap`, `munmap`, `mprotect` and `getrandom`. Any other answers ENOSYS. What is mapped
 /// and what lies in memory is changed at once; what is to be done to the console or the task list is told, and then
 /// nothing has changed so far. Of the console it reads only how many bytes that has. An `Err` changes nothing.
+#[tactic(auto, using(crate::proofs::Answering::answers_lacking))]
 pub fn call(
     alloc: Global,
     context: &Context<'_>,
@@ -51,6 +52,7 @@ pub fn call(
 
 /// A call of the table, a row a call.
 #[rattlefmt::skip]
+#[tactic(auto, using(crate::proofs::Answering::answers_lacking))]
 fn known(
     alloc: Global,
     context: &Context<'_>,

@@ -46,5 +46,5 @@ pub use instructions::{Ran, run};
 pub use opened_task::{Beginning, opened};
 pub use prepared::{Effect, Prepared, commit};
 pub use random::opening_random;
-pub use stepping::step;
 pub use registers::{args_of, call_of, reply};
+pub use stepping::step;

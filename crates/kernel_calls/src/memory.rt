@@ -3,7 +3,8 @@
 ghost use Rattle.std.specs.Prelude.{◌≡◌, false, IfOk, OnErr};
 ghost use Rattle.kernel_model.specs.declared.caller.Caller.{Caller as ACaller};
 ghost use Rattle.kernel_model.specs.declared.kernel.Kernel.{Kernel as AKernel};
-ghost use Rattle.kernel_model.specs.calls.Memory.{area_errno, brk_row, is_no_protection, mprotect_row, munmap_row, rights_in};
+ghost use Rattle.kernel_model.specs.calls.Memory.{area_errno, brk_row, is_no_protection, mprotect_row, munmap_row};
+ghost use Rattle.kernel_model.specs.calls.Memory.{rights_in};
 ghost use Rattle.kernel_calls.specs.Prepared.{Answers, HasSpace};
 ghost use Rattle.kernel_calls.specs.declared.prepared.Effect.TheVariants.{Nothing};
 
@@ -59,10 +60,7 @@ pub(crate) fn mprotect(
     if is_no_protection(protection) {
         return refused(Errno::EINVAL);
     }
-    match space
-        .space
-        .protect(address, length, rights_in(protection))
-    {
+    match space.space.protect(address, length, rights_in(protection)) {
         Ok(()) => replied(0),
         Err(fault) => refused(area_errno(fault)),
     }

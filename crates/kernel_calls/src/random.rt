@@ -56,6 +56,7 @@ pub(crate) fn getrandom(
 }
 
 /// So many random bytes for the entry of a place.
+#[tactic(auto, using(crate::proofs::RandomWords::random_by_words))]
 fn random_at(alloc: Global, seed: &[u8], place: u64, count: u64) -> Result<List<u8>, Memory>
     requires { count ≤ 256 }
     ensures { IfOk result (λ bytes. bytes ≡ random_at seed.now place count) }
@@ -65,6 +66,7 @@ fn random_at(alloc: Global, seed: &[u8], place: u64, count: u64) -> Result<List<
 }
 
 /// So many words of a stream, from its first on, each with its lowest byte first.
+#[tactic(auto, using(crate::proofs::RandomWords::no_words, crate::proofs::RandomWords::words_more))]
 fn words_of(alloc: Global, seed: &[u8; 32], stream: u64, count: u64) -> Result<List<u8>, Memory>
     requires { count ≤ 64 }
     ensures { IfOk result (λ bytes. bytes ≡ words_of seed.now stream count) }

@@ -41,7 +41,15 @@ pub fn step(
         ((registers.new ≡ registers.old) × (space.new ≡ space.old) × (areas.new ≡ areas.old)) }
 {
     let mut handed = Handed::none(alloc);
-    let next = step_with(alloc, task, registers, space, areas, &mut handed, MOST_AREAS);
+    let next = step_with(
+        alloc,
+        task,
+        registers,
+        space,
+        areas,
+        &mut handed,
+        MOST_AREAS,
+    );
     take_back(areas, &mut handed);
     next
 }

@@ -1,4 +1,5 @@
 -- Lemmas of the definitions of the one-thread kernel, by subject.
+pub mod AreaCopies
 pub mod CallLemmas
 pub mod ChildLaws
 pub mod ChildSteps

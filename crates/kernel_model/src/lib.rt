@@ -22,6 +22,7 @@
 //! Standards: RISC-V Unprivileged ISA 20191213, ELF-64 Object File Format, Linux man-pages sections 2, 3 and 7.
 #![tactic(auto)]
 
+mod area_copies;
 mod caller;
 mod entry;
 mod guest_area;

@@ -14,7 +14,7 @@ use std::marker::Model;
 /// places to finite maps from indices. A place whose last thing is gone keeps its empty map.
 #[derive(Debug, Drop)]
 pub struct Named<V> {
-    places: Map<Map<V>>,
+    pub(crate) places: Map<Map<V>>,
 }
 
 impl<V> Model for Named<V> {

@@ -7,6 +7,7 @@ pub mod Numberings
 pub mod NumberRuns
 pub mod OpenedTasks
 pub mod OptionLemmas
+pub mod RunLemmas
 pub mod SpaceLemmas
 pub mod StepLemmas
 pub mod WalkLemmas

@@ -1,31 +1,41 @@
 -- What an entry does, piece by piece.
 use Rattle.std.proofs.Common.{◌≡◌, ℕ, ◌+◌, Bool, true, false, cond, List, [], ◌∷◌, ◌++◌, Option, Some, None, refl, ap}
-use Rattle.std.proofs.Common.{sym, ◌∙◌, ◌↔◌, subst, option_map, is_some, unwrap_or, ℤ}
+use Rattle.std.proofs.Common.{sym, ◌∙◌, ◌↔◌, subst, option_map, is_some, unwrap_or, ℤ, eq-eqb}
 use Rattle.std.specs.Prelude.{IsTrue, not, ◌&&◌, Result, Ok}
 use Rattle.std.specs.Ordering.{int_eq}
 use Rattle.sn_base.specs.declared.memory.Memory.{Memory}
 use Rattle.sn_errno.specs.declared.errno.Errno.TheVariants.{EIO}
 use Rattle.sn_errno.specs.Errors.{reply_of}
+use Rattle.rv_table.specs.declared.regs.Regs.{Regs}
+use Rattle.mm_space.specs.Handing.{AreaState}
+use Rattle.mm_space.specs.Spaces.{AddressSpace}
+use Rattle.kernel_model.specs.Names.{NamedMap}
 use Rattle.kernel_model.specs.declared.caller.Caller.{Caller}
 use Rattle.kernel_model.specs.declared.entry.Args.{Args}
 use Rattle.kernel_model.specs.declared.entry.Entry.{Entry}
 use Rattle.kernel_model.specs.declared.entry.Entry.TheVariants.{Call}
 use Rattle.kernel_model.specs.declared.kernel.Kernel.{Kernel}
 use Rattle.kernel_model.specs.declared.kernel.Part.{Part}
-use Rattle.kernel_model.specs.declared.kernel.Part.TheVariants.{OfTasks, OfTask, OfSpace, OfNode, OfConsole, OfFaults}
+use Rattle.kernel_model.specs.declared.kernel.Part.TheVariants.{OfTasks, OfTask, OfSpace, OfArea, OfNode, OfConsole}
+use Rattle.kernel_model.specs.declared.kernel.Part.TheVariants.{OfFaults}
+use Rattle.kernel_model.specs.declared.traps.Next.TheVariants.{Calls}
 use Rattle.kernel_model.specs.declared.opening.Fresh.{Fresh}
 use Rattle.kernel_model.specs.declared.opening.Given.{Given}
 use Rattle.kernel_model.specs.calls.Answers.{Replies, replies}
 use Rattle.kernel_model.specs.calls.Callers.{Context, context_of, caller_of}
 use Rattle.kernel_model.specs.calls.Table.{call_row}
+use Rattle.kernel_model.specs.entries.Areas.{Stands, next_row}
 use Rattle.kernel_model.specs.entries.Given.{has_any, is_in_order, Nodes_so_far, faulted, risen, number_all, all_known}
 use Rattle.kernel_model.specs.entries.Parts.{Holds, Parts, parts, done, outcome_in, Change, put, changed}
-use Rattle.kernel_model.specs.entries.Steps.{by_given, failing, refused_with, going_on, replied_by, next_in, stands_at}
+use Rattle.kernel_model.specs.entries.Steps.{by_given, failing, refused_with, going_on, replied_by, same_args, stands_at, call_at}
 use Rattle.kernel_model.specs.entries.Steps.{row_of, task_of, if_live, entry_row, stepped, step}
 use Rattle.kernel_model.specs.laws.InPlace.{with_nodes, numbered, changed_by}
-use Rattle.kernel_model.specs.machine.Registers.{replied}
-use Rattle.kernel_model.proofs.CallLemmas.{call_drawing, call_failing, call_quiet}
+use Rattle.kernel_model.specs.machine.Registers.{args_of, call_of, replied}
+use Rattle.kernel_model.proofs.CallLemmas.{call_disordered, call_drawing, call_failing, call_quiet}
 use Rattle.kernel_model.proofs.Trees.{outcome-bind}
+use Rattle.kernel_calls.specs.Prepared.{changes_of, with_memory}
+use Rattle.kernel_calls.specs.declared.prepared.Effect.{Effect}
+use Rattle.kernel_calls.specs.declared.prepared.Effect.TheVariants.{Nothing, TakesBytes, EndsGroup}
 use Rattle.plain_kernel.specs.Doing.{Does}
 use Rattle.plain_kernel.proofs.FaultLemmas.{faulted_unnumbered, faulted_unknown, faulted_risen}
 use Rattle.plain_kernel.proofs.Numberings.{with_nodes_first, changed-append}
@@ -50,15 +60,38 @@ module _ (k kept : Kernel) (e : Entry) (number : ℕ) (found : Option Caller) (s
 
 -- ---- a call
 
--- the row of a call that its task stands at
+-- a task whose next instruction is a call stands at one of that number and with those arguments
+pub stands_calling : (number called : ℕ) (args with : Args) (before after : Regs) (told : Bool) → after ≡ before
+    → called ≡ call_of after → called ≡ number → with ≡ args_of after → told ≡ same_args with args
+    → told ≡ stands_at number args before Calls
+stands_calling number called args with before after told same at is those alike =
+    alike
+    ∙ ap (λ w. same_args w args) those
+    ∙ ap (λ b. b && same_args (args_of after) args) (sym (eq-eqb (call_of after) number (sym at ∙ is)))
+    ∙ ap (λ r. stands_at number args r Calls) same
+
+-- the row of a call, by whether its task stands at it
+module _ (s : Parts) (context : Context) (c : Caller) (e : Entry) (task no : ℕ) (args : Args) (given : Given)
+    (reply : ℤ) (is : e ≡ Call task no args given reply) (b : Bool)
+    (at : stands_at no args c.registers (outcome_in s (next_row c)).next ≡ b) where
+  row_standing : outcome_in s (row_of context e c)
+      ≡ outcome_in s (cond b (by_given context c no args reply given) (done None))
+  row_standing =
+      ap (λ x. outcome_in s (row_of context x c)) is
+      ∙ outcome-bind s (next_row c) (λ (x : Stands). call_at context c no args reply given x.next)
+      ∙ ap (λ b. outcome_in s (cond b (by_given context c no args reply given) (done None))) at
+
 module _ (s : Parts) (context : Context) (c : Caller) (e : Entry) (task no : ℕ) (args : Args) (given : Given)
     (reply told : ℤ) (is : e ≡ Call task no args given reply) (value : told ≡ reply)
-    (at : stands_at no args c.registers (next_in c) ≡ true) where
+    (at : stands_at no args c.registers (outcome_in s (next_row c)).next ≡ true) where
   row_given : outcome_in s (row_of context e c) ≡ outcome_in s (by_given context c no args told given)
   row_given =
-      ap (λ x. outcome_in s (row_of context x c)) is
-      ∙ ap (λ b. outcome_in s (cond b (by_given context c no args reply given) (done None))) at
+      row_standing s context c e task no args given reply is true at
       ∙ ap (λ v. outcome_in s (by_given context c no args v given)) (sym value)
+
+  -- of one whose record is in disorder,
+  pub row_disordered : is_in_order given ≡ false → outcome_in s (row_of context e c) ≡ None
+  row_disordered o = row_given ∙ call_disordered s context c no args told given o
 
   -- of one that met a rise,
   pub row_failing : is_in_order given ≡ true → has_any given.rises ≡ true
@@ -79,13 +112,24 @@ module _ (s : Parts) (context : Context) (c : Caller) (e : Entry) (task no : ℕ
         ∙ call_quiet s context c no args told v changes given row
         (ap (λ b. not b && not (has_any given.fresh)) unfailed ∙ ap not f)
 
+-- an entry of a call at which its task does not stand fits nothing
+module _ (k kept : Kernel) (e : Entry) (number : ℕ) (found : Caller) (same : kept ≡ k) (of : number ≡ task_of e)
+    (some : outcome_in (parts k) (caller_of number) ≡ Some found) (task no : ℕ) (args : Args) (given : Given)
+    (reply : ℤ) (is : e ≡ Call task no args given reply)
+    (elsewhere : stands_at no args found.registers (outcome_in (parts kept) (next_row found)).next ≡ false) where
+  pub entry_elsewhere : Does (outcome_in (parts k) (entry_row (context_of k) e)) k kept (Ok false)
+  entry_elsewhere =
+      entry_does k kept e number (Some found) same of some kept (Ok false)
+      (row_standing (parts kept) (context_of kept) found e task no args given reply is false elsewhere, refl)
+
 -- an entry of a call, by what was done over the kernel and for the caller that were found and left as they were
 module _ (k kept : Kernel) (e : Entry) (number : ℕ) (found c : Caller) (same : kept ≡ k) (of : number ≡ task_of e)
     (some : outcome_in (parts k) (caller_of number) ≡ Some found) (stay : c ≡ found) (task no : ℕ) (args : Args)
     (given : Given) (reply told : ℤ) (is : e ≡ Call task no args given reply) (value : told ≡ reply)
-    (stands : stands_at no args found.registers (next_in found) ≡ true) where
-  stands_still : stands_at no args c.registers (next_in c) ≡ true
-  stands_still = ap (λ (x : Caller). stands_at no args x.registers (next_in x)) stay ∙ stands
+    (stands : stands_at no args found.registers (outcome_in (parts kept) (next_row found)).next ≡ true) where
+  stands_still : stands_at no args c.registers (outcome_in (parts kept) (next_row c)).next ≡ true
+  stands_still =
+      ap (λ (x : Caller). stands_at no args x.registers (outcome_in (parts kept) (next_row x)).next) stay ∙ stands
 
   row_does : (row : Option (List Change)) (left : Kernel) (r : Result Bool Memory)
       → outcome_in (parts kept) (row_of (context_of kept) e c) ≡ row → Does row kept left r
@@ -93,6 +137,14 @@ module _ (k kept : Kernel) (e : Entry) (number : ℕ) (found c : Caller) (same :
   row_does row left r row_is does =
       entry_does k kept e number (Some c) same of (some ∙ ap (λ x. Some x) (sym stay)) left r
       (subst (λ (o : Option (List Change)). Does o kept left r) (sym row_is) does)
+
+  -- one whose record is in disorder,
+  pub entry_disordered : is_in_order given ≡ false
+      → Does (outcome_in (parts k) (entry_row (context_of k) e)) k kept (Ok false)
+  entry_disordered o =
+      row_does None kept (Ok false)
+      (row_disordered (parts kept) (context_of kept) c e task no args given reply told is value stands_still o)
+      (refl, refl)
 
   -- one that met a rise,
   pub entry_failing : is_in_order given ≡ true → has_any given.rises ≡ true → (left : Kernel) (r : Result Bool Memory)
@@ -140,6 +192,27 @@ call_done k c reply value changes after left agrees does goes =
     ∙ ap (λ x. Some x) (changed-append changes (going_on c value) k)
     ∙ ap (λ x. Some (put (OfTask c.task) (Some (replied c.registers value)) x)) does
     ∙ ap (λ x. Some x) (sym goes)
+
+-- a call's effect is the same in a state with other memory
+pub effect_apart : (effect : Effect) (group : ℕ) (k : Kernel) (c : Caller) (space : AddressSpace)
+    (areas : NamedMap AreaState)
+    → changes_of effect group (parts k) ≡ changes_of effect group (parts (with_memory c space areas k))
+effect_apart Nothing group k c space areas = refl
+effect_apart (TakesBytes bytes) group k c space areas = refl
+effect_apart (EndsGroup status) group k c space areas = refl
+
+-- what a call does for its task as the call left it, it does for the task as it was before
+pub answered : (k left : Kernel) (c after : Caller) (effect : Effect) (areas : NamedMap AreaState) (reply value : ℤ)
+    (changes : List Change) (r : Result Bool Memory) → after ≡ record c { space = after.space }
+    → changed changes k ≡ changed (changes_of effect c.group (parts k)) (with_memory c after.space areas k)
+    → ((cs : List Change)
+    → changed cs k ≡ changed (changes_of effect after.group (parts k)) (with_memory after after.space areas k)
+    → Does (replied_by after reply cs (Replies value)) k left r)
+    → Does (replied_by c reply changes (Replies value)) k left r
+answered k left c after effect areas reply value changes r is told does =
+    subst (λ (x : Caller). (cs : List Change)
+    → changed cs k ≡ changed (changes_of effect x.group (parts k)) (with_memory x after.space areas k)
+    → Does (replied_by x reply cs (Replies value)) k left r) is does changes told
 
 -- ---- a call in which a host call failed
 
@@ -221,6 +294,7 @@ entries_put : (p : Part) (content : Holds p) (k : Kernel) → (put p content k).
 entries_put OfTasks content k = refl
 entries_put (OfTask n) content k = refl
 entries_put (OfSpace n) content k = refl
+entries_put (OfArea n) content k = refl
 entries_put (OfNode n) content k = refl
 entries_put OfConsole content k = refl
 entries_put OfFaults content k = refl

@@ -48,6 +48,7 @@ pub(crate) fn bare(alloc: Global, mounts: &Mounts, trees: &[Tree]) -> Result<Ker
         tasks: Tasks::new(alloc),
         registers: Map::new(alloc),
         spaces: Named::new(alloc),
+        areas: Named::new(alloc),
         nodes,
         console: List::new(alloc),
         failed: Map::new(alloc),

@@ -1,12 +1,12 @@
-//! Who calls: the live task of a number, as an entry of it finds it.
+//! Who calls: the live task of a number, as an entry of it finds it; and copies of the shared areas, for it to work on.
 
-ghost use Rattle.std.specs.Prelude.{◌≡◌, IfOk, IfSome, OnSome};
+ghost use Rattle.std.specs.Prelude.{◌≡◌, Some, IfOk, IfSome, OnSome};
 ghost use Rattle.kernel_model.specs.Names.{get_named};
 ghost use Rattle.kernel_model.specs.calls.Callers.{caller_of};
 ghost use Rattle.kernel_model.specs.entries.Parts.{outcome_in, parts};
 ghost use Rattle.plain_kernel.specs.Doing.{IsThere};
 
-use kernel_model::{Caller, GuestSpace, Kernel};
+use kernel_model::{Caller, GuestArea, GuestSpace, Kernel, Named};
 use sn_base::Memory;
 use std::alloc::Global;
 use task_table::Made;
@@ -19,6 +19,8 @@ pub(crate) fn caller(
 ) -> Result<Option<Caller>, Memory>
     ensures caller { IfOk result (λ found. outcome_in (parts kernel.old) (caller_of number) ≡ found) }
     ensures there { IfOk result (λ found. IfSome found (λ one. IsThere one kernel.old)) }
+    ensures space { IfOk result (λ found. IfSome found (λ one.
+        get_named kernel.old.spaces one.memory.place one.memory.index ≡ Some one.space)) }
     ensures kept { kernel.new ≡ kernel.old }
 {
     let Some(task) = kernel.tasks.task(number).copied() else {
@@ -58,4 +60,12 @@ fn copied_space(
         Some(space) => Ok(Some(space.copy(alloc)?)),
         None => Ok(None),
     }
+}
+
+/// A copy of all the shared areas. The kernel stays as it is.
+pub(crate) fn copied_areas(alloc: Global, kernel: &mut Kernel) -> Result<Named<GuestArea>, Memory>
+    ensures copied { IfOk result (λ copy. copy ≡ kernel.old.areas) }
+    ensures kept { kernel.new ≡ kernel.old }
+{
+    kernel.areas.copy(alloc)
 }

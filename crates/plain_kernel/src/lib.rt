@@ -2,8 +2,9 @@
 //!
 //! A caller opens a `Plain` by the record of an opening, over a tree for each mount, and has it do entries one after
 //! another; it answers whether each of them fits. Its state is a `Kernel` of `kernel_model`, for everybody to see. The
-//! work of a call is done by the functions of `kernel_calls`, over parts that are taken out of that state. Nothing of
-//! the program's run stands on this crate: it shows that the definitions can be obeyed, and tests run traces on it.
+//! work of instructions and calls is done by the functions of `kernel_calls`, over copies of the caller's address space
+//! and of the shared areas, which take their places once the entry is seen to fit. Nothing of the program's run stands
+//! on this crate: it shows that the definitions can be obeyed, and tests run traces on it.
 //!
 //! Proved: `Plain::opening` and `Plain::step` are the definitions (`ok`, `refused`, `fits`), and a refused step or one
 //! out of memory changes nothing (`ok`, `err`).

@@ -1,28 +1,33 @@
 //! What an entry does to a kernel.
 
-ghost use Rattle.std.specs.Prelude.{◌≡◌, true, IfOk};
+ghost use Rattle.std.specs.Prelude.{◌≡◌, ◌<◌, true, Some, List as Items, IfOk};
 ghost use Rattle.std.specs.Ordering.{int_eq};
 ghost use Rattle.sn_errno.specs.Errors.{reply_of};
 ghost use Rattle.sn_errno.specs.declared.errno.Errno.TheVariants.{EIO};
-ghost use Rattle.kernel_calls.specs.Prepared.{changes_of};
+ghost use Rattle.kernel_calls.specs.Prepared.{Answers, changes_of, with_memory};
+ghost use Rattle.kernel_model.specs.Names.{get_named};
+ghost use Rattle.kernel_model.specs.declared.kernel.Kernel.{Kernel as AKernel};
 ghost use Rattle.kernel_model.specs.calls.Answers.{Replies};
 ghost use Rattle.kernel_model.specs.calls.Callers.{context_of};
-ghost use Rattle.kernel_model.specs.entries.Parts.{outcome_in, parts};
-ghost use Rattle.kernel_model.specs.entries.Steps.{entry_row, failing, next_in, replied_by, stands_at};
+ghost use Rattle.kernel_model.specs.calls.Table.{call_row};
+ghost use Rattle.kernel_model.specs.entries.Areas.{next_row};
+ghost use Rattle.kernel_model.specs.entries.Parts.{Change, changed, outcome_in, parts};
+ghost use Rattle.kernel_model.specs.entries.Steps.{entry_row, failing, replied_by, stands_at};
 ghost use Rattle.plain_kernel.specs.Doing.{Does, IsThere};
 
-use crate::callers::caller;
+use crate::callers::{caller, copied_areas};
 use crate::entries::{end_task, go_on, run_task, same_args};
 use crate::faults::{faulted, is_in_order};
-use kernel_calls::{Prepared, args_of, call, call_of, commit, next};
-use kernel_model::{Args, Caller, Entry, Given, Kernel, Next};
+use kernel_calls::{Context, Prepared, args_of, call, call_of, commit, step};
+use kernel_model::{Args, Caller, Entry, Given, GuestArea, Kernel, Named, Next};
 use sn_base::Memory;
 use sn_errno::{Errno, Reply};
 use std::alloc::Global;
 
-/// Does what an entry does, but for the count of entries, and answers whether the entry fits. A refusal or want of
-/// memory leaves the kernel as it was.
+/// Does what an entry does, but for the count of entries, and answers whether the entry fits. It works on copies of the
+/// caller's address space and of the shared areas, so that a refusal or want of memory leaves the kernel as it was.
 pub(crate) fn change(alloc: Global, kernel: &mut Kernel, entry: &Entry) -> Result<bool, Memory>
+    requires { kernel.old.entries < 1048576 }
     ensures { Does (outcome_in (parts kernel.old) (entry_row (context_of kernel.old) entry.now))
         kernel.old kernel.new result }
 {
@@ -39,7 +44,8 @@ pub(crate) fn change(alloc: Global, kernel: &mut Kernel, entry: &Entry) -> Resul
             reply,
             ..
         } => {
-            let stands = stands_at(alloc, &mut caller, *no, args)?;
+            let mut areas = copied_areas(alloc, kernel)?;
+            let stands = stands_at(alloc, &mut caller, &mut areas, *no, args)?;
             if !stands {
                 return Ok(false);
             }
@@ -49,42 +55,96 @@ pub(crate) fn change(alloc: Global, kernel: &mut Kernel, entry: &Entry) -> Resul
             if !given.rises.is_empty() {
                 return failing(alloc, kernel, caller, *reply, given);
             }
-            let prepared = call(alloc, *no, args, &caller.space, kernel.console.len())?;
+            let prepared = prepare(alloc, kernel, &mut caller, &mut areas, *no, args)?;
             if !given.fresh.is_empty() {
                 return Ok(false);
             }
-            answer(alloc, kernel, caller, *reply, prepared)
+            answer(alloc, kernel, caller, areas, *reply, prepared)
         }
         Entry::Sleep { .. } => Ok(false),
         Entry::End { signal, .. } => end_task(alloc, kernel, caller, *signal),
     }
 }
 
-/// Whether a task stands at an ECALL, with that call's number and arguments in its registers. Where it does, its
-/// address space stays.
-fn stands_at(alloc: Global, caller: &mut Caller, no: u64, args: &Args) -> Result<bool, Memory>
-    ensures stands { IfOk result (λ b. b ≡ stands_at no args.now caller.old.registers (next_in caller.old)) }
+/// Whether a task stands at an ECALL, with that call's number and arguments in its registers. Where it does, the task and
+/// the shared areas stay.
+fn stands_at(
+    alloc: Global,
+    caller: &mut Caller,
+    areas: &mut Named<GuestArea>,
+    no: u64,
+    args: &Args,
+) -> Result<bool, Memory>
+    ensures stands { IfOk result (λ b. (k : AKernel) → k.areas ≡ areas.old →
+        b ≡ stands_at no args.now caller.old.registers (outcome_in (parts k) (next_row caller.old)).next) }
     ensures kept { IfOk result (λ b. b ≡ true → caller.new ≡ caller.old) }
+    ensures kept_areas { IfOk result (λ b. b ≡ true → areas.new ≡ areas.old) }
 {
-    let registers = caller.registers;
-    match next(alloc, caller.task, &registers, &mut caller.space)? {
-        Next::Calls => Ok(call_of(&registers) == no && same_args(&args_of(&registers), args)),
+    match step(
+        alloc,
+        caller.task,
+        &mut caller.registers,
+        &mut caller.space,
+        areas,
+    )? {
+        Next::Calls => {
+            let registers = caller.registers;
+            Ok(call_of(&registers) == no && same_args(&args_of(&registers), args))
+        }
         Next::Goes => Ok(false),
         Next::Traps(_) => Ok(false),
+        Next::Touches(_) => Ok(false),
     }
 }
 
-/// Does what a call comes to, where its reply is that of the entry.
+/// What a call of a task comes to, over its address space and these shared areas, which it changes.
+fn prepare(
+    alloc: Global,
+    kernel: &Kernel,
+    caller: &mut Caller,
+    areas: &mut Named<GuestArea>,
+    no: u64,
+    args: &Args,
+) -> Result<Prepared, Memory>
+    requires few { kernel.now.entries < 1048576 }
+    requires space { get_named kernel.now.spaces caller.old.memory.place caller.old.memory.index
+        ≡ Some caller.old.space }
+    requires areas { kernel.now.areas ≡ areas.old }
+    ensures row { IfOk result (λ p. Answers (call_row (context_of kernel.now) caller.old no args.now) p
+        caller.old kernel.now caller.new.space areas.new) }
+    ensures kept { caller.new ≡ record caller.old { space = caller.new.space } }
+{
+    let context = Context {
+        task: caller.task,
+        place: kernel.entries + 1,
+        seed: kernel.seed.as_slice(),
+    };
+    call(
+        alloc,
+        &context,
+        no,
+        args,
+        &mut caller.space,
+        areas,
+        kernel.console.len(),
+    )
+}
+
+/// Does what a call of a task comes to, where its reply is that of the entry: the task's memory and the shared areas
+/// are as the call left them.
 fn answer(
     alloc: Global,
     kernel: &mut Kernel,
     caller: Caller,
+    areas: Named<GuestArea>,
     reply: i64,
     prepared: Prepared,
 ) -> Result<bool, Memory>
     requires { IsThere caller kernel.old }
-    ensures { Does (replied_by caller reply (changes_of prepared.effect caller.group (parts kernel.old))
-        (Replies prepared.reply)) kernel.old kernel.new result }
+    ensures { (changes : Items Change) → changed changes kernel.old
+        ≡ changed (changes_of prepared.effect caller.group (parts kernel.old))
+        (with_memory caller caller.space areas kernel.old) →
+        Does (replied_by caller reply changes (Replies prepared.reply)) kernel.old kernel.new result }
 {
     if reply != prepared.reply {
         return Ok(false);
@@ -96,6 +156,10 @@ fn answer(
         &mut kernel.tasks,
         &mut kernel.console,
     )?;
+    kernel
+        .spaces
+        .replace(caller.memory.place, caller.memory.index, caller.space);
+    kernel.areas = areas;
     go_on(kernel, caller.task, caller.registers, prepared.reply);
     Ok(true)
 }

@@ -1,5 +1,5 @@
 -- The last area in hand goes back into its place, and then the others.
-use Rattle.std.proofs.Common.{◌≡◌, ◌<◌, ◌+◌, length, length-append, [], ◌∷◌, ◌++◌, sym, ◌∙◌, ap, subst, arith}
+use Rattle.std.proofs.Common.{◌≡◌, ◌+◌, length, length-append, [], ◌∷◌, sym, ◌∙◌, ap, subst, arith}
 use Rattle.mm_space.specs.Handing.{hand_of, in_hand}
 use Rattle.kernel_calls.specs.Lending.{AreThere, with_hand}
 use Rattle.kernel_calls.proofs.Lendings.{there_rest, back_last}

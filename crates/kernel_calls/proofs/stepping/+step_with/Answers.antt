@@ -4,11 +4,10 @@ use Rattle.std.specs.Prelude.{Result, Ok, Err, IfOk, OnErr, None, is_some}
 use Rattle.std.specs.Bool.{OnTrue, OnFalse}
 use Rattle.mm_space.specs.Handing.{InHand, area_in, hand_of}
 use Rattle.kernel_model.specs.Names.{get_named}
-use Rattle.kernel_model.specs.declared.traps.Next.TheVariants.{Goes, Calls, Traps, Touches}
+use Rattle.kernel_model.specs.declared.traps.Next.TheVariants.{Touches}
 use Rattle.kernel_model.specs.machine.Instructions.{goes_on}
 use Rattle.kernel_model.specs.machine.Spaces.{going_with}
 use Rattle.kernel_calls.specs.Lending.{IsLent, with_hand}
-use Rattle.kernel_calls.specs.Trying.{AreLent, StandsOver}
 use Rattle.kernel_calls.proofs.Lendings.{lent_more, there_same}
 use Rattle.kernel_calls.proofs.Runs.{ran_names}
 use Rattle.kernel_calls.proofs.SteppedLaws.{next_over, stepped_goes, stepped_calls, stepped_traps, stepped_full}

@@ -1,5 +1,4 @@
 -- A run of at most one tells what the next instruction does.
-use Rattle.std.proofs.Common.{◌≡◌, sym}
 use Rattle.std.specs.Prelude.{Result, Ok, Err, IfOk, OnErr}
 use Rattle.mm_space.specs.Handing.{hand_of}
 use Rattle.mm_space.specs.Spaces.{space_of}

@@ -1,12 +1,11 @@
 -- An instruction is tried with nothing in hand first, and what it had in hand at last is put back.
-use Rattle.std.proofs.Common.{◌≡◌, List, refl, ap, sym, ◌∙◌, subst}
-use Rattle.std.specs.Prelude.{Result, Ok, Err, IfOk, OnErr}
+use Rattle.std.proofs.Common.{List, refl, subst}
+use Rattle.std.specs.Prelude.{Result, Ok, Err, IfOk}
 use Rattle.mm_space.specs.Handing.{InHand, hand_of}
 use Rattle.kernel_model.specs.declared.caller.Caller.{Caller}
-use Rattle.kernel_model.specs.declared.kernel.Kernel.{Kernel}
 use Rattle.kernel_calls.specs.Lending.{with_hand}
 use Rattle.kernel_calls.specs.Trying.{Stepped}
-use Rattle.kernel_calls.proofs.SteppedLaws.{next_at, over_at, steps_at, kept_over, some_caller}
+use Rattle.kernel_calls.proofs.SteppedLaws.{next_at, steps_at, kept_over, some_caller}
 use Rattle.kernel_calls.proofs.stepping.step.Goals as goal
 
 on_ok : {A E : Type 0} (P Q : A → Type 0) (r : Result A E) → ((x : A) → P x → Q x) → IfOk r P → IfOk r Q

@@ -1,0 +1,86 @@
+-- Runs, single instructions and ends, piece by piece.
+use Rattle.std.proofs.Common.{◌≡◌, ◌≢◌, ℕ, ◌<◌, ◌≤◌, false, cond, Some, None, ap, sym, ◌∙◌, eq-eqb, arith}
+use Rattle.std.proofs.lemmas.Bool.{ne_eqb}
+use Rattle.rv_table.specs.declared.regs.Regs.{Regs}
+use Rattle.task_table.specs.declared.task.Status.TheVariants.{Killed}
+use Rattle.task_table.specs.Ends.{group_ended}
+use Rattle.task_table.specs.Table.{TaskTable}
+use Rattle.mm_space.specs.Handing.{AreaState}
+use Rattle.mm_space.specs.Spaces.{AddressSpace}
+use Rattle.kernel_calls.proofs.Runs.{step_none}
+use Rattle.kernel_calls.specs.Prepared.{Steps}
+use Rattle.kernel_model.specs.Names.{NamedMap}
+use Rattle.kernel_model.specs.declared.caller.Caller.{Caller}
+use Rattle.kernel_model.specs.declared.kernel.Kernel.{Kernel}
+use Rattle.kernel_model.specs.declared.kernel.Part.TheVariants.{OfTasks, OfTask, OfSpace}
+use Rattle.kernel_model.specs.declared.traps.Next.{Next}
+use Rattle.kernel_model.specs.declared.traps.Next.TheVariants.{Traps}
+use Rattle.kernel_model.specs.calls.Ending.{group_end}
+use Rattle.kernel_model.specs.entries.Areas.{Stands, next_row}
+use Rattle.kernel_model.specs.entries.Parts.{parts, done, look, outcome_in, put, changed}
+use Rattle.kernel_model.specs.entries.Steps.{end_at, end_row, run_alone, step_row}
+use Rattle.kernel_model.specs.laws.InPlace.{changed_by}
+use Rattle.kernel_model.specs.machine.Instructions.{goes_on}
+use Rattle.kernel_model.specs.machine.Spaces.{going_in}
+use Rattle.kernel_model.proofs.Trees.{outcome-bind}
+
+-- of one instruction that did not run, none ran
+pub none_ran : (count n : ℕ) → count ≤ n → count ≢ n → n ≡ 1 → count < 1
+none_ran count n within apart one = omega (arith, within, apart, one)
+
+-- a task that has the registers and the address space that it had is as it was
+pub same_caller : (c : Caller) (r : Regs) (space : AddressSpace)
+    → going_in c.task space r ≡ going_in c.task c.space c.registers → record c { registers = r; space = space } ≡ c
+same_caller c r space same = ap (λ g. record c { registers = g.registers; space = g.acting.reach.space }) same
+
+module _ (c : Caller) (k : Kernel) (next : Next) (is : (outcome_in (parts k) (next_row c)).next ≡ next) where
+  -- an instruction that does not go on is no step
+  pub no_step : goes_on next ≡ false → run_alone 1 c ≡ None → outcome_in (parts k) (step_row c) ≡ None
+  no_step stopped alone = step_none c (parts k) (ap goes_on is ∙ stopped) alone
+
+  -- an end is by what the next instruction does
+  pub end_is : (signal : ℕ)
+      → outcome_in (parts k) (end_row signal c) ≡ outcome_in (parts k) (end_at signal c next)
+  end_is signal =
+      outcome-bind (parts k) (next_row c) (λ (x : Stands). end_at signal c x.next)
+      ∙ ap (λ n. outcome_in (parts k) (end_at signal c n)) is
+
+-- a task whose next instruction traps ends by that signal,
+pub ends : (c : Caller) (k : Kernel) (trap signal : ℕ)
+    → (outcome_in (parts k) (next_row c)).next ≡ Traps trap → trap ≡ signal
+    → outcome_in (parts k) (end_row signal c) ≡ Some (group_end c.group (Killed signal) k.tasks)
+ends c k trap signal is same =
+    end_is c k (Traps trap) is signal
+    ∙ ap (λ b. outcome_in (parts k)
+    (cond b (look OfTasks (λ list. done (Some (group_end c.group (Killed signal) list)))) (done None)))
+    (eq-eqb trap signal same)
+
+-- and its group alone changes,
+pub group_gone : (k kept : Kernel) (tasks : TaskTable) (group signal : ℕ) → kept ≡ k
+    → tasks ≡ group_ended kept.tasks group (Killed signal)
+    → changed (group_end group (Killed signal) k.tasks) k ≡ record kept { tasks = tasks }
+group_gone k kept tasks group signal same is =
+    sym (ap (λ t. record kept { tasks = t }) is
+    ∙ ap (λ (m : Kernel). record m { tasks = group_ended m.tasks group (Killed signal) }) same)
+
+-- and by no other
+pub ends_not : (c : Caller) (k : Kernel) (trap signal : ℕ)
+    → (outcome_in (parts k) (next_row c)).next ≡ Traps trap → trap ≢ signal
+    → outcome_in (parts k) (end_row signal c) ≡ None
+ends_not c k trap signal is apart =
+    end_is c k (Traps trap) is signal
+    ∙ ap (λ b. outcome_in (parts k)
+    (cond b (look OfTasks (λ list. done (Some (group_end c.group (Killed signal) list)))) (done None)))
+    (ne_eqb trap signal apart)
+
+-- a step leaves its task's registers and memory, and the shared areas
+pub step_done : (c : Caller) (k kept left : Kernel) (r : Regs) (space : AddressSpace) (areas : NamedMap AreaState)
+    → kept ≡ k → left ≡ put (OfTask c.task) (Some r) (put (OfSpace c.memory) (Some space) kept)
+    → Steps c k r space areas
+    → changed_by (outcome_in (parts k) (step_row c)) k ≡ Some (record left { areas = areas })
+step_done c k kept left r space areas same is steps =
+    ap (λ o. changed_by o k) steps.row_is
+    ∙ ap (λ m. Some m) (steps.done_is
+    ∙ ap (λ (m : Kernel). record (put (OfTask c.task) (Some r) (put (OfSpace c.memory) (Some space) m)) { areas = areas })
+    (sym same)
+    ∙ ap (λ (m : Kernel). record m { areas = areas }) (sym is))
