@@ -43,7 +43,7 @@ fn lay_four(rt: &impl Abort, guest: &mut Guest) -> Result<(), Fail> {
 fn expect_border(rt: &impl Abort, guest: &mut Guest, end: u64) -> Result<(), Fail> {
     let [a, b, c, d, ..] = end.to_le_bytes();
     let bytes = [0x15, 0x16, 0x17, 0x18, a, b, c, d];
-    guest.expect_bytes(rt, end - 4, &bytes)
+    guest.expect_bytes(rt, end.wrapping_sub(4), &bytes)
 }
 
 /// Writes over each border, over all four pages, and over each end of them, where a byte is not mapped.
