@@ -43,7 +43,7 @@ fn lay_four(rt: &impl Abort, guest: &mut Guest) -> Result<(), Fail> {
 fn expect_border(rt: &impl Abort, guest: &mut Guest, end: u64) -> Result<(), Fail> {
     let [a, b, c, d, ..] = end.to_le_bytes();
     let bytes = [0x15, 0x16, 0x17, 0x18, a, b, c, d];
-    guest.expect_bytes(rt, end - 4, &bytes)
+    guest.expect_bytes(rt, end.wrapping_sub(4), &bytes)
 }
 
 /// Writes over each border, over all four pages, and over each end of them, where a byte is not mapped.
@@ -264,4 +264,21 @@ fn expect_in_the_heap(rt: &impl Abort, guest: &mut Guest) -> Result<(), Fail> {
 fn shared_memory_may_lie_anywhere(rt: HostRuntime) -> Result<(), Fail> {
     let mut guest = new_guest(rt.alloc())?;
     expect_in_the_heap(&rt, &mut guest)
+}
+
+/// A page of an area that no call has made: neither a call nor an instruction reaches it.
+fn expect_lacking(rt: &impl Abort, guest: &mut Guest) -> Result<(), Fail> {
+    let again = map_again(guest, 99, THERE, 4096)?;
+    assert_eq!(rt; again, THERE);
+    guest.expect_refused(rt, THERE)?;
+    guest.expect_reply(rt, getrandom(THERE, 1, 0), -14)?;
+    guest.expect_reply(rt, getrandom(THERE, 0, 0), 0)?;
+    guest.expect_does(rt, LOAD, THERE, 0, Next::Traps(11))?;
+    guest.expect_does(rt, STORE, THERE, 0, Next::Traps(11))
+}
+
+#[test]
+fn an_area_that_is_not_there_is_reached_by_nothing(rt: HostRuntime) -> Result<(), Fail> {
+    let mut guest = new_guest(rt.alloc())?;
+    expect_lacking(&rt, &mut guest)
 }
