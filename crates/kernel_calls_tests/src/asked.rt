@@ -1,9 +1,19 @@
-//! Calls as tests write them: the number, and six arguments.
+//! Calls as tests write them: the number, and six arguments, by the names of the manual pages.
 
 use kernel_model::Args;
 
-/// PROT_READ and PROT_WRITE.
-pub const READ_WRITE: u64 = 3;
+/// The numbers of write, brk, munmap, mmap, mprotect and getrandom.
+pub const WRITE: u64 = 64;
+
+pub const BRK: u64 = 214;
+
+pub const MUNMAP: u64 = 215;
+
+pub const MMAP: u64 = 222;
+
+pub const MPROTECT: u64 = 226;
+
+pub const GETRANDOM: u64 = 278;
 
 /// MAP_PRIVATE and MAP_ANONYMOUS.
 pub const PRIVATE: u64 = 0x22;
@@ -14,6 +24,17 @@ pub const SHARED: u64 = 0x21;
 /// MAP_FIXED.
 pub const FIXED: u64 = 0x10;
 
+/// errno(3): EBADF, ENOMEM, EFAULT, ENODEV and EINVAL, as replies.
+pub const EBADF: i64 = -9;
+
+pub const ENOMEM: i64 = -12;
+
+pub const EFAULT: i64 = -14;
+
+pub const ENODEV: i64 = -19;
+
+pub const EINVAL: i64 = -22;
+
 /// A call: its number and its arguments.
 #[derive(Clone, Copy, Debug)]
 pub struct Asked {
@@ -21,54 +42,9 @@ pub struct Asked {
     pub args: [u64; 6],
 }
 
-/// `brk(address)`
-pub fn brk(address: u64) -> Asked {
-    Asked {
-        number: 214,
-        args: [address, 0, 0, 0, 0, 0],
-    }
-}
-
-/// `munmap(address, length)`
-pub fn munmap(address: u64, length: u64) -> Asked {
-    Asked {
-        number: 215,
-        args: [address, length, 0, 0, 0, 0],
-    }
-}
-
-/// `mmap(address, length, prot, flags, fd, offset)`
-pub fn mmap(args: [u64; 6]) -> Asked {
-    Asked { number: 222, args }
-}
-
-/// The same with the descriptor -1 and the offset 0.
-pub fn map(address: u64, length: u64, protection: u64, flags: u64) -> Asked {
-    mmap([address, length, protection, flags, u64::MAX, 0])
-}
-
-/// `mprotect(address, length, prot)`
-pub fn mprotect(address: u64, length: u64, protection: u64) -> Asked {
-    Asked {
-        number: 226,
-        args: [address, length, protection, 0, 0, 0],
-    }
-}
-
-/// `getrandom(buffer, count, flags)`
-pub fn getrandom(buffer: u64, count: u64, flags: u64) -> Asked {
-    Asked {
-        number: 278,
-        args: [buffer, count, flags, 0, 0, 0],
-    }
-}
-
-/// `write(1, buffer, count)`
-pub fn write(buffer: u64, count: u64) -> Asked {
-    Asked {
-        number: 64,
-        args: [1, buffer, count, 0, 0, 0],
-    }
+/// A call of that number with these arguments.
+pub fn ask(number: u64, args: [u64; 6]) -> Asked {
+    Asked { number, args }
 }
 
 /// Its arguments as a call takes them.

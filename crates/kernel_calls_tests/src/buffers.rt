@@ -1,6 +1,6 @@
 //! What a call takes from a guest's buffer, and what it comes to.
 
-use crate::asked::Asked;
+use crate::asked::{Asked, ask};
 use crate::calling::{Guest, guest_in};
 use crate::guests::{expect_bytes, expect_unreadable, opened, read};
 use kernel_calls::{Effect, Prepared, commit};
@@ -32,11 +32,8 @@ const REPLIES: [(u64, [u64; 3], i64); 9] = [
 /// The four letters with which an image begins.
 const LETTERS: [u8; 4] = [0x7f, 0x45, 0x4c, 0x46];
 
-fn asked(number: u64, [a0, a1, a2]: [u64; 3]) -> Asked {
-    Asked {
-        number,
-        args: [a0, a1, a2, 0, 0, 0],
-    }
+fn asked_of(number: u64, [a0, a1, a2]: [u64; 3]) -> Asked {
+    ask(number, [a0, a1, a2, 0, 0, 0])
 }
 
 /// That no bytes are there even where nothing is mapped.
@@ -69,7 +66,7 @@ fn prepared(
     some: [u64; 3],
     console: usize,
 ) -> Result<Prepared, Memory> {
-    guest.prepared_over(asked(no, some), console)
+    guest.prepared(asked_of(no, some), console)
 }
 
 /// That a call returns that, and does nothing.

@@ -1,15 +1,15 @@
 //! A guest that calls, and does one instruction after another. What a call or an instruction comes to says nothing of
-//! how it came to be, so that no test's proof has its contract before it; and each expectation is a call there.
+//! how it came to be, so that no test's proof has its contract before it.
 
-use crate::asked::{Asked, args_of, write};
+use crate::asked::{Asked, WRITE, args_of, ask};
 use crate::guests::opened;
 use kernel_calls::{Beginning, Context, Effect, Prepared, Ran, call, run, step};
 use kernel_model::{GuestArea, GuestSpace, Named, Next};
-use rv_table::Regs;
+use mm_areas::{AreaErr, Backing, Rights};
+use rv_table::{Area, Regs};
 use sn_base::{List, Memory};
 use sn_vectors::image_of;
 use std::alloc::Global;
-use std::process::Abort;
 use std::test::Fail;
 
 /// The break's start of a guest whose image has one page.
@@ -20,9 +20,6 @@ pub const MAPPINGS_END: u64 = 0x3f_fff0_0000;
 
 /// The first address behind the stack.
 pub const TOP: u64 = 1 << 38;
-
-/// The seed of most calls.
-const ZEROS: [u8; 32] = [0; 32];
 
 /// What the guest's code has: each instruction takes an address in a0 and a value in a1, and gives a value in a2.
 #[rattlefmt::skip]
@@ -57,7 +54,8 @@ pub const ADD_WORD: u64 = 65_684;
 
 pub const JUMP: u64 = 65_688;
 
-/// A guest: its registers, its memory, the shared areas there are, and the place of its last call's entry.
+/// A guest: its registers, its memory, the shared areas there are, the place of its last call's entry, the seed of its
+/// calls, and the kind of mappings that it makes where a test tries both.
 #[derive(Drop)]
 pub struct Guest {
     pub alloc: Global,
@@ -65,6 +63,8 @@ pub struct Guest {
     pub space: GuestSpace,
     pub areas: Named<GuestArea>,
     pub place: u64,
+    pub seed: [u8; 32],
+    pub kind: u64,
 }
 
 /// One that was opened so, and has not called.
@@ -76,6 +76,8 @@ fn guest_from(alloc: Global, beginning: Beginning) -> Guest {
         space,
         areas: Named::new(alloc),
         place: 0,
+        seed: [0; 32],
+        kind: 0,
     }
 }
 
@@ -106,18 +108,13 @@ fn taken(prepared: Prepared) -> Option<List<u8>> {
 }
 
 impl Guest {
-    /// What a call comes to, of the entry of a place, by a seed, over a console of so many bytes.
-    pub fn prepared(
-        &mut self,
-        seed: &[u8],
-        place: u64,
-        asked: Asked,
-        console: usize,
-    ) -> Result<Prepared, Memory> {
+    /// What its next call comes to, over a console of so many bytes.
+    pub fn prepared(&mut self, asked: Asked, console: usize) -> Result<Prepared, Memory> {
+        self.place = self.place.wrapping_add(1);
         let context = Context {
             task: 1,
-            place,
-            seed,
+            place: self.place,
+            seed: &self.seed,
         };
         let args = args_of(&asked);
         call(
@@ -131,51 +128,32 @@ impl Guest {
         )
     }
 
-    /// What its next call comes to, over a console of so many bytes.
-    pub fn prepared_over(&mut self, asked: Asked, console: usize) -> Result<Prepared, Memory> {
-        self.place = self.place.wrapping_add(1);
-        self.prepared(&ZEROS, self.place, asked, console)
-    }
-
-    /// The reply of a call of the entry of a place, by a seed.
-    pub fn reply_by(&mut self, seed: &[u8], place: u64, asked: Asked) -> Result<i64, Memory> {
-        let prepared = self.prepared(seed, place, asked, 0)?;
-        Ok(prepared.reply)
-    }
-
     /// The reply of its next call.
     pub fn reply(&mut self, asked: Asked) -> Result<i64, Memory> {
-        let prepared = self.prepared_over(asked, 0)?;
+        let prepared = self.prepared(asked, 0)?;
         Ok(prepared.reply)
     }
 
     /// The bytes that a write to the console takes, or `None` where it is refused.
     pub fn written(&mut self, at: u64, count: u64) -> Result<Option<List<u8>>, Memory> {
-        let prepared = self.prepared_over(write(at, count), 0)?;
+        let prepared = self.prepared(ask(WRITE, [1, at, count, 0, 0, 0]), 0)?;
         Ok(taken(prepared))
     }
 
-    /// That a call has that reply.
-    pub fn expect_reply(&mut self, rt: &impl Abort, asked: Asked, reply: i64) -> Result<(), Fail> {
-        let told = self.reply(asked)?;
-        assert_eq!(rt; told, reply, "{asked:?}");
-        Ok(())
+    /// Stands at an instruction, with an address in a0 and a value in a1.
+    pub fn stand(&mut self, instruction: u64, address: u64, value: u64) {
+        self.registers.pc = instruction;
+        self.registers.x[10] = address;
+        self.registers.x[11] = value;
     }
 
-    /// That a write takes these bytes.
-    pub fn expect_bytes(&mut self, rt: &impl Abort, at: u64, bytes: &[u8]) -> Result<(), Fail> {
-        let found = self.written(at, bytes.len() as u64)?.ok_or("refused")?;
-        assert_eq!(rt; found.as_slice(), bytes, "at {at:x}");
-        Ok(())
+    /// What a2 has.
+    pub fn given(&self) -> u64 {
+        self.registers.x[12]
     }
 
-    /// That a write of a byte there is refused.
-    pub fn expect_refused(&mut self, rt: &impl Abort, at: u64) -> Result<(), Fail> {
-        self.expect_reply(rt, write(at, 1), -14)
-    }
-
-    /// Does the next instruction as another task's.
-    pub fn step_as(&mut self, task: u32) -> Result<Next, Memory> {
+    /// Does the next instruction as a task's, with the shared areas that it touches.
+    pub fn step(&mut self, task: u32) -> Result<Next, Memory> {
         step(
             self.alloc,
             task,
@@ -190,79 +168,17 @@ impl Guest {
         run(self.alloc, 1, &mut self.registers, &mut self.space, most)
     }
 
-    /// Stands at an instruction, with an address in a0 and a value in a1.
-    pub fn stand(&mut self, instruction: u64, address: u64, value: u64) {
-        self.registers.pc = instruction;
-        self.registers.x[10] = address;
-        self.registers.x[11] = value;
+    /// Maps the area that the call of a place made once more, at an address.
+    pub fn map_again(&mut self, place: u64, at: u64, length: u64) -> Result<u64, AreaErr> {
+        let area = Area { place, index: 0 };
+        let rights = Rights::READ | Rights::WRITE;
+        self.space
+            .space
+            .map(self.alloc, Some(at), length, rights, Backing::Of(area))
     }
 
-    /// Does an instruction with an address and a value, as a task's.
-    pub fn does_as(
-        &mut self,
-        task: u32,
-        instruction: u64,
-        address: u64,
-        value: u64,
-    ) -> Result<Next, Memory> {
-        self.stand(instruction, address, value);
-        self.step_as(task)
-    }
-
-    /// That an instruction comes to that.
-    pub fn expect_does(
-        &mut self,
-        rt: &impl Abort,
-        instruction: u64,
-        address: u64,
-        value: u64,
-        next: Next,
-    ) -> Result<(), Fail> {
-        let told = self.does_as(1, instruction, address, value)?;
-        assert_eq!(rt; told, next, "at {address:x}");
-        Ok(())
-    }
-
-    /// That an instruction goes on, and gives that value.
-    pub fn expect_gives(
-        &mut self,
-        rt: &impl Abort,
-        instruction: u64,
-        address: u64,
-        value: u64,
-        gives: u64,
-    ) -> Result<(), Fail> {
-        self.expect_does(rt, instruction, address, value, Next::Goes)?;
-        assert_eq!(rt; self.registers.x[12], gives, "at {address:x}");
-        Ok(())
-    }
-
-    /// That eight bytes are stored there.
-    pub fn expect_stores(&mut self, rt: &impl Abort, at: u64, value: u64) -> Result<(), Fail> {
-        self.expect_does(rt, STORE, at, value, Next::Goes)
-    }
-
-    /// That these eight bytes are loaded there.
-    pub fn expect_loads(&mut self, rt: &impl Abort, at: u64, value: u64) -> Result<(), Fail> {
-        self.expect_gives(rt, LOAD, at, 0, value)
-    }
-
-    /// That the next instructions run so, so many at most.
-    pub fn expect_runs(&mut self, rt: &impl Abort, most: u32, wanted: Ran) -> Result<(), Fail> {
-        let told = self.run(most)?;
-        assert_eq!(rt; told, wanted);
-        Ok(())
-    }
-
-    /// That the next instruction alone, with the shared areas that it touches, comes to that.
-    pub fn expect_steps(&mut self, rt: &impl Abort, next: Next) -> Result<(), Fail> {
-        let told = self.step_as(1)?;
-        assert_eq!(rt; told, next, "at {:x}", self.registers.pc);
-        Ok(())
-    }
-
-    /// That so many pages are mapped.
-    pub fn expect_pages(&self, rt: &impl Abort, count: u64) {
-        assert_eq!(rt; self.space.space.areas().len(), count);
+    /// How many pages are mapped.
+    pub fn pages(&self) -> u64 {
+        self.space.space.areas().len()
     }
 }

@@ -1,9 +1,10 @@
 //! The bytes that getrandom puts, against another ChaCha20 with a counter and a stream of 64 bits: some forty lines of
 //! Python after the cipher's public definition, with the seed as its key and the place of the entry as its stream.
 
-use crate::asked::{PRIVATE, READ_WRITE, SHARED, getrandom, map};
-use crate::calling::{Guest, MAPPINGS_END, TOP, new_guest};
-use sn_base::{List, Memory};
+use crate::acts::{Act, expect_acts};
+use crate::asked::{PRIVATE, SHARED};
+use crate::calling::{MAPPINGS_END, TOP, new_guest};
+use std::alloc::Global;
 use std::process::Abort;
 use std::test::Fail;
 
@@ -52,110 +53,121 @@ const ZEROS_8: [u8; 16] = [
 /// Where they are put: 1,000 bytes below the end of the stack's last page but one.
 const AT: u64 = TOP - 5096;
 
-/// The bytes that a getrandom of so many at a place puts, by a seed.
-fn put(guest: &mut Guest, seed: &[u8], place: u64, count: u64) -> Result<List<u8>, Memory> {
-    let reply = guest.reply_by(seed, place, getrandom(AT, count, 0))?;
-    match guest.written(AT, reply.cast_unsigned())? {
-        Some(bytes) => Ok(bytes),
-        None => Ok(List::new(guest.alloc)),
-    }
-}
-
-/// That they are these.
-fn expect_put(
+/// That a guest of a seed, whose next call is of that place, does these.
+fn expect_by(
     rt: &impl Abort,
-    guest: &mut Guest,
-    seed: &[u8],
+    alloc: Global,
+    seed: [u8; 32],
     place: u64,
-    bytes: &[u8],
+    acts: &[Act],
 ) -> Result<(), Fail> {
-    let found = put(guest, seed, place, bytes.len() as u64)?;
-    assert_eq!(rt; found.as_slice(), bytes, "place {place}");
-    Ok(())
+    let mut guest = new_guest(alloc)?;
+    guest.seed = seed;
+    guest.place = place.wrapping_sub(1);
+    guest.expect_acts(rt, acts)
 }
 
-#[test]
-fn the_bytes_are_those_of_the_seeds_and_the_places_stream(rt: HostRuntime) -> Result<(), Fail> {
-    let mut guest = new_guest(rt.alloc())?;
-    expect_put(&rt, &mut guest, &COUNTED, 7, &COUNTED_7)?;
-    expect_put(&rt, &mut guest, &ZEROS, 7, &ZEROS_7)?;
-    expect_put(&rt, &mut guest, &ZEROS, 8, &ZEROS_8)?;
-    expect_put(&rt, &mut guest, &COUNTED, 7, &COUNTED_7[..255])?;
-    expect_put(&rt, &mut guest, &ZEROS[..31], 8, &ZEROS_8[..1])
-}
-
-/// 300 bytes asked for: 256 are put, and the bytes before and behind stay.
-fn expect_256(rt: &impl Abort, guest: &mut Guest) -> Result<(), Fail> {
-    guest.expect_stores(rt, AT - 8, u64::MAX)?;
-    guest.expect_stores(rt, AT + 256, u64::MAX)?;
-    let reply = guest.reply_by(&COUNTED, 7, getrandom(AT, 300, 0))?;
-    assert_eq!(rt; reply, 256);
-    guest.expect_bytes(rt, AT, &COUNTED_7)?;
-    guest.expect_loads(rt, AT - 8, u64::MAX)?;
-    guest.expect_loads(rt, AT + 256, u64::MAX)
-}
+/// 300 bytes asked for, between two stores: 256 are put, and what stands before them and behind them stays.
+#[rattlefmt::skip]
+const OF_300: [Act; 6] = [
+    Act::Stores(AT - 8, u64::MAX),
+    Act::Stores(AT + 256, u64::MAX),
+    Act::Random(AT, 300, 256),
+    Act::Bytes(AT, &COUNTED_7),
+    Act::Loads(AT - 8, u64::MAX),
+    Act::Loads(AT + 256, u64::MAX),
+];
 
 #[test]
 fn of_300_bytes_256_are_put(rt: HostRuntime) -> Result<(), Fail> {
-    let mut guest = new_guest(rt.alloc())?;
-    expect_256(&rt, &mut guest)
+    expect_by(&rt, rt.alloc(), COUNTED, 7, &OF_300)
 }
 
-/// That a call by the counted seed at the place 7 has that reply.
-fn expect_counted(
-    rt: &impl Abort,
-    guest: &mut Guest,
-    (at, count): (u64, u64),
-    reply: i64,
-) -> Result<(), Fail> {
-    let told = guest.reply_by(&COUNTED, 7, getrandom(at, count, 0))?;
-    assert_eq!(rt; told, reply, "at {at:x}");
-    Ok(())
+/// 16 bytes of a seed of zeros.
+#[rattlefmt::skip]
+const OF_PLACE_7: [Act; 3] = [
+    Act::Random(AT, 16, 16),
+    Act::Bytes(AT, &ZEROS_7),
+    Act::Loads(AT + 16, 0),
+];
+
+/// The same at the next place, with a write between.
+#[rattlefmt::skip]
+const OF_PLACE_8: [Act; 3] = [
+    Act::Writes(AT, 1, 1),
+    Act::Random(AT, 16, 16),
+    Act::Bytes(AT, &ZEROS_8),
+];
+
+/// A byte, the first of them.
+#[rattlefmt::skip]
+const OF_1: [Act; 2] = [
+    Act::Random(AT, 1, 1),
+    Act::Bytes(AT - 1, &[0, 0x48, 0]),
+];
+
+#[test]
+fn the_bytes_are_those_of_the_seeds_and_the_places_stream(rt: HostRuntime) -> Result<(), Fail> {
+    expect_by(&rt, rt.alloc(), ZEROS, 7, &OF_PLACE_7)?;
+    expect_by(&rt, rt.alloc(), ZEROS, 7, &OF_PLACE_7)?;
+    expect_by(&rt, rt.alloc(), ZEROS, 7, &OF_PLACE_8)?;
+    expect_by(&rt, rt.alloc(), COUNTED, 7, &OF_1)
 }
 
-/// One that is refused puts nothing: the page behind the buffer's first is not there.
-fn expect_nothing_put(rt: &impl Abort, guest: &mut Guest) -> Result<(), Fail> {
-    guest.expect_stores(rt, TOP - 8, 1)?;
-    expect_counted(rt, guest, (TOP - 8, 9), -14)?;
-    expect_counted(rt, guest, (TOP - 8, 300), -14)?;
-    guest.expect_loads(rt, TOP - 8, 1)?;
-    expect_counted(rt, guest, (TOP - 8, 1), 1)?;
-    guest.expect_loads(rt, TOP - 8, 0x48)
-}
+/// One that is refused puts nothing: the page behind the buffer's first is not there, or the flags are others.
+#[rattlefmt::skip]
+const NOTHING: [Act; 6] = [
+    Act::Stores(TOP - 8, 1),
+    Act::Random(TOP - 8, 9, -14),
+    Act::Random(TOP - 8, 300, -14),
+    Act::Calls(278, [TOP - 8, 8, 8, 0, 0, 0], -22),
+    Act::Random(TOP - 8, 0, 0),
+    Act::Loads(TOP - 8, 1),
+];
 
 #[test]
 fn a_getrandom_that_is_refused_puts_nothing(rt: HostRuntime) -> Result<(), Fail> {
-    let mut guest = new_guest(rt.alloc())?;
-    expect_nothing_put(&rt, &mut guest)
+    expect_acts(&rt, rt.alloc(), &NOTHING)
 }
 
-/// A private page between two shared ones, the second and the third of three mappings one under the other.
-fn lay(rt: &impl Abort, guest: &mut Guest) -> Result<(), Fail> {
-    for (flags, at) in [
-        (SHARED, MAPPINGS_END - 4096),
-        (PRIVATE, MAPPINGS_END - 8192),
-        (SHARED, MAPPINGS_END - 12_288),
-    ] {
-        guest.expect_reply(rt, map(0, 4096, READ_WRITE, flags), at.cast_signed())?;
-    }
-    Ok(())
-}
+/// A private page between two shared ones, three mappings one under the other; and 256 bytes over each border.
+const UPPER: u64 = MAPPINGS_END - 4096;
 
-/// 256 bytes over each border of two of them.
-fn expect_over_borders(rt: &impl Abort, guest: &mut Guest) -> Result<(), Fail> {
-    for end in [MAPPINGS_END - 4096, MAPPINGS_END - 8192] {
-        expect_counted(rt, guest, (end - 100, 256), 256)?;
-        guest.expect_bytes(rt, end - 100, &COUNTED_7)?;
-    }
-    guest.expect_bytes(rt, MAPPINGS_END - 4096, &COUNTED_7[100..])?;
-    expect_counted(rt, guest, (MAPPINGS_END - 255, 256), -14)?;
-    expect_counted(rt, guest, (MAPPINGS_END - 256, 256), 256)?;
-    guest.expect_bytes(rt, MAPPINGS_END - 256, &COUNTED_7)
+const LOWER: u64 = MAPPINGS_END - 8192;
+
+#[rattlefmt::skip]
+const LAID: [Act; 3] = [
+    Act::Map(0, 4096, 3, SHARED, UPPER),
+    Act::Map(0, 4096, 3, PRIVATE, LOWER),
+    Act::Map(0, 4096, 3, SHARED, LOWER - 4096),
+];
+
+#[rattlefmt::skip]
+const OVER_UPPER: [Act; 3] = [
+    Act::Random(UPPER - 100, 256, 256),
+    Act::Bytes(UPPER - 100, &COUNTED_7),
+    Act::Bytes(UPPER - 101, &[0, 0x48]),
+];
+
+#[rattlefmt::skip]
+const OVER_LOWER: [Act; 4] = [
+    Act::Random(LOWER - 255, 256, 256),
+    Act::Bytes(LOWER - 255, &COUNTED_7),
+    Act::Bytes(LOWER, &[0x28, 0]),
+    Act::Random(LOWER - 4097, 256, -14),
+];
+
+/// That the three pages are laid, and then, from the call of the place 7 on, these are done.
+fn expect_over(rt: &impl Abort, alloc: Global, acts: &[Act]) -> Result<(), Fail> {
+    let mut guest = new_guest(alloc)?;
+    guest.expect_acts(rt, &LAID)?;
+    guest.seed = COUNTED;
+    guest.place = 6;
+    guest.expect_acts(rt, acts)
 }
 
 #[test]
 fn bytes_are_put_over_private_and_shared_pages(rt: HostRuntime) -> Result<(), Fail> {
-    let mut guest = new_guest(rt.alloc())?;
-    lay(&rt, &mut guest)?;
-    expect_over_borders(&rt, &mut guest)
+    expect_over(&rt, rt.alloc(), &OVER_UPPER)?;
+    expect_over(&rt, rt.alloc(), &OVER_LOWER)
 }

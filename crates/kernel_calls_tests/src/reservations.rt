@@ -1,12 +1,11 @@
 //! What ends a reservation of the task's own: each change of what is mapped that meets its page.
 
-use crate::asked::{
-    Asked, FIXED, PRIVATE, READ_WRITE, SHARED, brk, getrandom, map, mmap, mprotect, munmap, write,
-};
+use crate::acts::{Act, expect_acts, expect_acts_of};
+use crate::asked::{FIXED, PRIVATE, SHARED, ask};
 use crate::calling::{
-    Guest, HEAP, LOAD, MAPPINGS_END, RESERVE, STORE, STORE_RESERVED, STORE_RESERVED_WORD, new_guest,
+    Guest, HEAP, MAPPINGS_END, RESERVE, STORE_RESERVED, STORE_RESERVED_WORD, new_guest,
 };
-use kernel_model::Next;
+use std::alloc::Global;
 use std::process::Abort;
 use std::test::Fail;
 
@@ -57,112 +56,93 @@ const CALLS: [(u64, [u64; 6], u64); 28] = [
     (1000, [0, 0, 0, 0, 0, 0], 0),
 ];
 
-/// Maps three new pages of a kind, in the place of those that are there.
-fn lay(rt: &impl Abort, guest: &mut Guest, flags: u64) -> Result<(), Fail> {
-    let three = map(BEFORE, 12_288, READ_WRITE, flags | FIXED);
-    guest.expect_reply(rt, three, BEFORE.cast_signed())
-}
-
-/// That a store-conditional gives that after a call.
+/// That a store-conditional gives that after a call, over three new pages of the guest's kind.
 fn expect_after(
     rt: &impl Abort,
     guest: &mut Guest,
     (number, args, gives): (u64, [u64; 6], u64),
 ) -> Result<(), Fail> {
-    guest.expect_gives(rt, RESERVE, PLACE, 0, 0)?;
-    let _ = guest.reply(Asked { number, args })?;
-    guest.expect_gives(rt, STORE_RESERVED, PLACE, 5, gives)?;
-    guest.expect_gives(rt, STORE_RESERVED, PLACE, 6, 1)
+    guest.expect_act(rt, Act::Lay(BEFORE, 12_288, 3))?;
+    guest.expect_act(rt, Act::Gives(RESERVE, PLACE, 0, 0))?;
+    let _ = guest.reply(ask(number, args))?;
+    guest.expect_act(rt, Act::Gives(STORE_RESERVED, PLACE, 5, gives))?;
+    guest.expect_act(rt, Act::Gives(STORE_RESERVED, PLACE, 6, 1))
 }
 
 /// That it is so after each call, over pages of a kind.
-fn expect_calls(rt: &impl Abort, guest: &mut Guest, flags: u64) -> Result<(), Fail> {
+fn expect_calls(rt: &impl Abort, alloc: Global, kind: u64) -> Result<(), Fail> {
+    let mut guest = new_guest(alloc)?;
+    guest.kind = kind;
     for row in CALLS {
-        lay(rt, guest, flags)?;
-        expect_after(rt, guest, row)?;
+        expect_after(rt, &mut guest, row)?;
     }
     Ok(())
 }
 
 #[test]
-fn a_reservation_is_lost_with_a_change_of_its_private_page_alone(
-    rt: HostRuntime,
-) -> Result<(), Fail> {
-    let mut guest = new_guest(rt.alloc())?;
-    expect_calls(&rt, &mut guest, PRIVATE)
-}
-
-#[test]
-fn a_reservation_is_lost_with_a_change_of_its_shared_page_alone(
-    rt: HostRuntime,
-) -> Result<(), Fail> {
-    let mut guest = new_guest(rt.alloc())?;
-    expect_calls(&rt, &mut guest, SHARED)
-}
-
-/// Moves the break, and tells nothing of where it is.
-fn put_break(guest: &mut Guest, to: u64) -> Result<(), Fail> {
-    let _ = guest.reply(brk(to))?;
-    Ok(())
+fn a_reservation_is_lost_with_a_change_of_its_page_alone(rt: HostRuntime) -> Result<(), Fail> {
+    expect_calls(&rt, rt.alloc(), PRIVATE)?;
+    expect_calls(&rt, rt.alloc(), SHARED)
 }
 
 /// A page of the heap goes and comes back by the break, which keeps a reservation there; so that it is lost where the
 /// page is unmapped before.
-fn expect_lost_by_munmap(rt: &impl Abort, guest: &mut Guest) -> Result<(), Fail> {
-    put_break(guest, HEAP + 4096)?;
-    guest.expect_gives(rt, RESERVE, HEAP, 0, 0)?;
-    put_break(guest, HEAP)?;
-    guest.expect_does(rt, STORE_RESERVED, HEAP, 5, Next::Traps(11))?;
-    put_break(guest, HEAP + 4096)?;
-    guest.expect_gives(rt, STORE_RESERVED, HEAP, 5, 0)?;
-    guest.expect_gives(rt, RESERVE, HEAP, 0, 5)?;
-    guest.expect_reply(rt, munmap(HEAP, 1), 0)?;
-    put_break(guest, HEAP)?;
-    put_break(guest, HEAP + 4096)?;
-    guest.expect_gives(rt, STORE_RESERVED, HEAP, 5, 1)?;
-    guest.expect_loads(rt, HEAP, 0)
-}
+#[rattlefmt::skip]
+const UNMAPPED: [Act; 12] = [
+    Act::Brk(HEAP + 4096, HEAP + 4096),
+    Act::Gives(RESERVE, HEAP, 0, 0),
+    Act::Brk(HEAP, HEAP),
+    Act::Traps(STORE_RESERVED, HEAP, 11),
+    Act::Brk(HEAP + 4096, HEAP + 4096),
+    Act::Gives(STORE_RESERVED, HEAP, 5, 0),
+    Act::Gives(RESERVE, HEAP, 0, 5),
+    Act::Unmap(HEAP, 1),
+    Act::Brk(HEAP, HEAP),
+    Act::Brk(HEAP + 4096, HEAP + 4096),
+    Act::Gives(STORE_RESERVED, HEAP, 5, 1),
+    Act::Loads(HEAP, 0),
+];
 
 #[test]
 fn munmap_ends_a_reservation_and_the_break_keeps_it(rt: HostRuntime) -> Result<(), Fail> {
-    let mut guest = new_guest(rt.alloc())?;
-    expect_lost_by_munmap(&rt, &mut guest)
+    expect_acts(&rt, rt.alloc(), &UNMAPPED)
 }
 
 /// Calls on other pages, a write of its bytes, and a load and a store of its own.
-fn expect_kept_elsewhere(rt: &impl Abort, guest: &mut Guest) -> Result<(), Fail> {
-    lay(rt, guest, PRIVATE)?;
-    guest.expect_gives(rt, RESERVE, PLACE, 0, 0)?;
-    guest.expect_reply(rt, mprotect(HEAP - 4096, 4096, 5), 0)?;
-    guest.expect_reply(
-        rt,
-        mmap([0, 4096, 3, PRIVATE, 0, 0]),
-        BEFORE.wrapping_sub(4096).cast_signed(),
-    )?;
-    guest.expect_reply(rt, getrandom(BEHIND, 256, 0), 256)?;
-    guest.expect_reply(rt, write(PLACE, 8), 8)?;
-    guest.expect_does(rt, STORE, PLACE, 9, Next::Goes)?;
-    guest.expect_does(rt, LOAD, PLACE, 0, Next::Goes)?;
-    guest.expect_gives(rt, STORE_RESERVED, PLACE, 5, 0)
-}
+#[rattlefmt::skip]
+const ELSEWHERE: [Act; 10] = [
+    Act::Lay(BEFORE, 12_288, 3),
+    Act::Gives(RESERVE, PLACE, 0, 0),
+    Act::Protect(HEAP - 4096, 4096, 5),
+    Act::Map(0, 4096, 3, PRIVATE, BEFORE - 4096),
+    Act::Random(BEHIND, 256, 256),
+    Act::Writes(PLACE, 8, 8),
+    Act::Stores(PLACE, 9),
+    Act::Loads(PLACE, 9),
+    Act::Gives(STORE_RESERVED, PLACE, 5, 0),
+    Act::Loads(PLACE, 5),
+];
+
+/// A reservation of eight bytes isn't one of four, and is gone then; that of another task stays.
+#[rattlefmt::skip]
+const WIDTHS: [Act; 7] = [
+    Act::Lay(BEFORE, 12_288, 3),
+    Act::Gives(RESERVE, PLACE, 0, 0),
+    Act::Does(2, RESERVE, PLACE),
+    Act::Gives(STORE_RESERVED_WORD, PLACE, 5, 1),
+    Act::Gives(STORE_RESERVED, PLACE, 5, 1),
+    Act::Loads(PLACE, 0),
+    Act::Held(2, PLACE, true),
+];
 
 #[test]
 fn calls_elsewhere_and_its_own_stores_keep_a_reservation(rt: HostRuntime) -> Result<(), Fail> {
-    let mut guest = new_guest(rt.alloc())?;
-    expect_kept_elsewhere(&rt, &mut guest)
-}
-
-/// A reservation of eight bytes isn't one of four, and is gone then.
-fn expect_width(rt: &impl Abort, guest: &mut Guest) -> Result<(), Fail> {
-    lay(rt, guest, SHARED)?;
-    guest.expect_gives(rt, RESERVE, PLACE, 0, 0)?;
-    guest.expect_gives(rt, STORE_RESERVED_WORD, PLACE, 5, 1)?;
-    guest.expect_gives(rt, STORE_RESERVED, PLACE, 5, 1)?;
-    guest.expect_loads(rt, PLACE, 0)
+    expect_acts_of(&rt, rt.alloc(), PRIVATE, &ELSEWHERE)?;
+    expect_acts_of(&rt, rt.alloc(), SHARED, &ELSEWHERE)
 }
 
 #[test]
 fn a_store_conditional_of_another_width_stores_nothing(rt: HostRuntime) -> Result<(), Fail> {
-    let mut guest = new_guest(rt.alloc())?;
-    expect_width(&rt, &mut guest)
+    expect_acts_of(&rt, rt.alloc(), PRIVATE, &WIDTHS)?;
+    expect_acts_of(&rt, rt.alloc(), SHARED, &WIDTHS)
 }

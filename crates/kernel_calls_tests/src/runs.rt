@@ -1,14 +1,13 @@
 //! Runs of instructions that end before one that touches a shared area, and that instruction alone.
 
-use crate::asked::{Asked, READ_WRITE, SHARED, map, mprotect};
+use crate::acts::{Act, expect_acts};
+use crate::asked::SHARED;
 use crate::calling::{
     ADD, ADD_WORD, Guest, JUMP, LOAD, MAPPINGS_END, RESERVE, RESERVE_WORD, STORE, STORE_RESERVED,
     STORE_RESERVED_WORD, guest_of, new_guest,
 };
-use kernel_calls::Ran;
 use kernel_model::Next;
 use rv_table::Area;
-use std::alloc::Global;
 use std::process::Abort;
 use std::test::Fail;
 
@@ -22,22 +21,6 @@ const FIRST: Area = Area { place: 1, index: 0 };
 
 const SECOND: Area = Area { place: 2, index: 0 };
 
-/// What a run comes to that stops so.
-fn stop(count: u32, next: Next) -> Ran {
-    Ran { count, next }
-}
-
-/// That a call answers that address.
-fn expect_at(rt: &impl Abort, guest: &mut Guest, asked: Asked, at: u64) -> Result<(), Fail> {
-    guest.expect_reply(rt, asked, at.cast_signed())
-}
-
-/// Maps both, with rights.
-fn lay(rt: &impl Abort, guest: &mut Guest, rights: u64) -> Result<(), Fail> {
-    expect_at(rt, guest, map(0, 4096, rights, SHARED), UPPER)?;
-    expect_at(rt, guest, map(0, 4096, rights, SHARED), LOWER)
-}
-
 /// Counts a number of the shared page up, between instructions on registers alone.
 #[rattlefmt::skip]
 const COUNTS_UP: [u32; 7] = [
@@ -50,45 +33,46 @@ const COUNTS_UP: [u32; 7] = [
     0x0000_0073, // ecall
 ];
 
-/// The same guest, with a0 at the upper page.
-fn counting(rt: &impl Abort, alloc: Global) -> Result<Guest, Fail> {
-    let mut guest = guest_of(alloc, &COUNTS_UP)?;
-    lay(rt, &mut guest, READ_WRITE)?;
-    guest.registers.x[10] = UPPER;
-    Ok(guest)
-}
-
-/// That the guest stands so far behind its first instruction, with that value in a2.
-fn expect_stands(rt: &impl Abort, guest: &Guest, behind: u64, value: u64) {
-    assert_eq!(rt; guest.registers.pc, 65_656u64.wrapping_add(behind));
-    assert_eq!(rt; guest.registers.x[12], value);
-}
-
 /// Two instructions, the load alone, one instruction, the store alone, and one up to the call. A run that stands at the
-/// shared page has none, however often it is tried.
-fn expect_counted(rt: &impl Abort, guest: &mut Guest) -> Result<(), Fail> {
-    guest.expect_runs(rt, 1, stop(1, Next::Goes))?;
-    guest.expect_runs(rt, 10_000, stop(1, Next::Touches(FIRST)))?;
-    guest.expect_runs(rt, 10_000, stop(0, Next::Touches(FIRST)))?;
-    expect_stands(rt, guest, 8, 0);
-    guest.expect_steps(rt, Next::Goes)?;
-    expect_stands(rt, guest, 12, 0);
-    guest.expect_runs(rt, 10_000, stop(1, Next::Touches(FIRST)))?;
-    guest.expect_runs(rt, 1, stop(0, Next::Touches(FIRST)))?;
-    guest.expect_runs(rt, 0, stop(0, Next::Goes))?;
-    guest.expect_steps(rt, Next::Goes)?;
-    expect_stands(rt, guest, 20, 1);
-    guest.expect_runs(rt, 10_000, stop(1, Next::Calls))?;
-    guest.expect_steps(rt, Next::Calls)?;
-    expect_stands(rt, guest, 24, 1);
-    guest.expect_bytes(rt, UPPER, &[0, 0, 0, 0, 0, 0, 0, 0, 1, 0, 0, 0])
+/// shared page has none, however often it is tried; one of none goes nowhere.
+#[rattlefmt::skip]
+const COUNTED: [Act; 14] = [
+    Act::Map(0, 4096, 3, SHARED, UPPER),
+    Act::Stands(65_656, UPPER, 0),
+    Act::Runs(1, 1, Next::Goes),
+    Act::Runs(10_000, 1, Next::Touches(FIRST)),
+    Act::Runs(10_000, 0, Next::Touches(FIRST)),
+    Act::Steps(Next::Goes),
+    Act::Runs(10_000, 1, Next::Touches(FIRST)),
+    Act::Runs(1, 0, Next::Touches(FIRST)),
+    Act::Runs(0, 0, Next::Goes),
+    Act::Steps(Next::Goes),
+    Act::Runs(10_000, 1, Next::Calls),
+    Act::Steps(Next::Calls),
+    Act::Runs(10_000, 0, Next::Calls),
+    Act::Bytes(UPPER, &[0, 0, 0, 0, 0, 0, 0, 0, 1, 0, 0, 0]),
+];
+
+/// That the guest stands at its call, with what it stored in a2.
+fn expect_at_call(rt: &impl Abort, guest: &Guest) {
+    assert_eq!(rt; guest.registers.pc, 65_680);
+    assert_eq!(rt; guest.given(), 1);
 }
 
 #[test]
 fn a_run_ends_before_a_shared_page_and_a_step_goes_over_it(rt: HostRuntime) -> Result<(), Fail> {
-    let mut guest = counting(&rt, rt.alloc())?;
-    expect_counted(&rt, &mut guest)
+    let mut guest = guest_of(rt.alloc(), &COUNTS_UP)?;
+    guest.expect_acts(&rt, &COUNTED)?;
+    expect_at_call(&rt, &guest);
+    Ok(())
 }
+
+/// Both mappings, with the rights to read and write.
+#[rattlefmt::skip]
+const BOTH: [Act; 2] = [
+    Act::Map(0, 4096, 3, SHARED, UPPER),
+    Act::Map(0, 4096, 3, SHARED, LOWER),
+];
 
 /// Instructions with an address and a value; the area that a run of them asks for first, with none in hand; and what a2
 /// then has. The values go on from one row to the next: RISC-V Unprivileged ISA, 8.2 and 8.4. A store leaves a2.
@@ -114,23 +98,12 @@ const TOUCHES: [(u64, u64, u64, Area, u64); 18] = [
     (LOAD, UPPER - 1, 0, SECOND, 0x0011_1111_1122),
 ];
 
-/// That a run at the instruction touches that area, and that the instruction alone goes on, and leaves that in a2.
-fn expect_touches(
-    rt: &impl Abort,
-    guest: &mut Guest,
-    (instruction, address, value, area, gives): (u64, u64, u64, Area, u64),
-) -> Result<(), Fail> {
-    guest.stand(instruction, address, value);
-    guest.expect_runs(rt, 1, stop(0, Next::Touches(area)))?;
-    guest.expect_gives(rt, instruction, address, value, gives)?;
-    assert_eq!(rt; guest.registers.pc, instruction.wrapping_add(4));
-    Ok(())
-}
-
-/// That each of the list is so.
-fn expect_each(rt: &impl Abort, guest: &mut Guest) -> Result<(), Fail> {
-    for row in TOUCHES {
-        expect_touches(rt, guest, row)?;
+/// That a run at each instruction touches its area, and that the instruction alone goes on, and leaves that in a2.
+fn expect_touches(rt: &impl Abort, guest: &mut Guest) -> Result<(), Fail> {
+    for (instruction, at, value, area, gives) in TOUCHES {
+        guest.expect_act(rt, Act::Stands(instruction, at, value))?;
+        guest.expect_act(rt, Act::Runs(1, 0, Next::Touches(area)))?;
+        guest.expect_act(rt, Act::Gives(instruction, at, value, gives))?;
     }
     Ok(())
 }
@@ -140,121 +113,103 @@ fn loads_stores_and_atomic_instructions_are_done_in_shared_areas(
     rt: HostRuntime,
 ) -> Result<(), Fail> {
     let mut guest = new_guest(rt.alloc())?;
-    lay(&rt, &mut guest, READ_WRITE)?;
-    expect_each(&rt, &mut guest)
+    guest.expect_acts(&rt, &BOTH)?;
+    expect_touches(&rt, &mut guest)
 }
 
 /// Instructions that trap, with the signal of docs/GUESTS.md: in the upper page, which may be read, in the lower, which
-/// may be written, and over its lower end, where nothing is mapped. Alignment goes before rights.
+/// may be written, and over both ends, where nothing is mapped. Alignment goes before rights. The pages still have
+/// zeros then.
 #[rattlefmt::skip]
-const TRAPS: [(u64, u64, u8); 17] = [
-    (STORE, UPPER, 11),
-    (STORE, UPPER + 1, 11),
-    (ADD, UPPER, 11),
-    (STORE_RESERVED, UPPER, 11),
-    (LOAD, LOWER, 11),
-    (RESERVE, LOWER, 11),
-    (ADD, LOWER, 11),
-    (LOAD, LOWER + 4092, 11),
-    (STORE, LOWER + 4092, 11),
-    (STORE, LOWER - 1, 11),
-    (LOAD, UPPER + 4089, 11),
-    (ADD, UPPER + 4, 7),
-    (ADD, LOWER + 1, 7),
-    (ADD_WORD, UPPER + 2, 7),
-    (RESERVE, UPPER + 4, 7),
-    (STORE_RESERVED, LOWER + 4, 7),
-    (STORE_RESERVED_WORD, LOWER + 2, 7),
+const TRAPS: [Act; 24] = [
+    Act::Map(0, 4096, 1, SHARED, UPPER),
+    Act::Map(0, 4096, 3, SHARED, LOWER),
+    Act::Protect(LOWER, 4096, 2),
+    Act::Traps(STORE, UPPER, 11),
+    Act::Traps(STORE, UPPER + 1, 11),
+    Act::Traps(ADD, UPPER, 11),
+    Act::Traps(STORE_RESERVED, UPPER, 11),
+    Act::Traps(LOAD, LOWER, 11),
+    Act::Traps(RESERVE, LOWER, 11),
+    Act::Traps(ADD, LOWER, 11),
+    Act::Traps(LOAD, LOWER + 4092, 11),
+    Act::Traps(STORE, LOWER + 4092, 11),
+    Act::Traps(STORE, LOWER - 1, 11),
+    Act::Traps(LOAD, UPPER + 4089, 11),
+    Act::Traps(ADD, UPPER + 4, 7),
+    Act::Traps(ADD, LOWER + 1, 7),
+    Act::Traps(ADD_WORD, UPPER + 2, 7),
+    Act::Traps(RESERVE, UPPER + 4, 7),
+    Act::Traps(RESERVE_WORD, LOWER + 2, 7),
+    Act::Traps(STORE_RESERVED, LOWER + 4, 7),
+    Act::Traps(STORE_RESERVED_WORD, LOWER + 2, 7),
+    Act::Protect(LOWER, 8192, 1),
+    Act::Bytes(LOWER, &[0; 16]),
+    Act::Bytes(LOWER + 4088, &[0; 16]),
 ];
-
-/// That an instruction traps in a run and alone, and changes no register.
-fn expect_traps(
-    rt: &impl Abort,
-    guest: &mut Guest,
-    (instruction, address, signal): (u64, u64, u8),
-) -> Result<(), Fail> {
-    guest.stand(instruction, address, 1);
-    let before = guest.registers;
-    guest.expect_runs(rt, 10, stop(0, Next::Traps(signal)))?;
-    guest.expect_steps(rt, Next::Traps(signal))?;
-    assert!(rt; guest.registers == before);
-    Ok(())
-}
-
-/// That each of the list is so, and the pages still have zeros.
-fn expect_each_trap(rt: &impl Abort, guest: &mut Guest) -> Result<(), Fail> {
-    guest.expect_reply(rt, mprotect(UPPER, 4096, 1), 0)?;
-    guest.expect_reply(rt, mprotect(LOWER, 4096, 2), 0)?;
-    for row in TRAPS {
-        expect_traps(rt, guest, row)?;
-    }
-    guest.expect_reply(rt, mprotect(LOWER, 8192, 1), 0)?;
-    guest.expect_bytes(rt, LOWER, &[0; 16])?;
-    guest.expect_bytes(rt, UPPER, &[0; 16])
-}
 
 #[test]
 fn an_access_without_the_right_or_off_its_width_traps(rt: HostRuntime) -> Result<(), Fail> {
-    let mut guest = new_guest(rt.alloc())?;
-    lay(&rt, &mut guest, READ_WRITE)?;
-    expect_each_trap(&rt, &mut guest)
+    expect_acts(&rt, rt.alloc(), &TRAPS)
 }
 
-/// Words, two by two, for the upper page: what the first of them comes to alone. One loads from the page of another
-/// area.
+/// Pairs of words in the upper page, with what the first of each comes to alone: a load from the page of the other area,
+/// an addition, a call, and words that trap with the signals 5, 4 and 7. A run ends behind the jump there.
 #[rattlefmt::skip]
-const WORDS: [(u64, Next); 6] = [
-    (0x0000_0013_0005_3603, Next::Goes),      // ld a2, 0(a0); nop
-    (0x0000_0013_0016_0613, Next::Goes),      // addi a2, a2, 1; nop
-    (0x0000_0013_0000_0073, Next::Calls),     // ecall; nop
-    (0x0000_0013_0010_0073, Next::Traps(5)),  // ebreak; nop
-    (0x0000_0013_0000_0000, Next::Traps(4)),  // no instruction; nop
-    (0x0000_0013_0020_006f, Next::Traps(7)),  // j .+2; nop
+const WORDS: [Act; 20] = [
+    Act::Map(0, 4096, 7, SHARED, UPPER),
+    Act::Map(0, 4096, 3, SHARED, LOWER),
+    Act::Stores(LOWER, 1234),
+    Act::Stores(UPPER, 0x0016_0613_0005_3603), // ld a2, 0(a0); addi a2, a2, 1
+    Act::Stores(UPPER + 8, 0x0010_0073_0000_0073), // ecall; ebreak
+    Act::Stores(UPPER + 16, 0x0020_006f_0000_0000), // no instruction; j .+2
+    Act::Stands(JUMP, UPPER, 0),
+    Act::Runs(10, 1, Next::Touches(FIRST)),
+    Act::Stands(UPPER, LOWER, 0),
+    Act::Steps(Next::Goes),
+    Act::Runs(10, 0, Next::Touches(FIRST)),
+    Act::Steps(Next::Goes),
+    Act::Runs(10, 0, Next::Touches(FIRST)),
+    Act::Steps(Next::Calls),
+    Act::Stands(UPPER + 12, 0, 0),
+    Act::Steps(Next::Traps(5)),
+    Act::Stands(UPPER + 16, 0, 0),
+    Act::Steps(Next::Traps(4)),
+    Act::Stands(UPPER + 20, 0, 0),
+    Act::Steps(Next::Traps(7)),
 ];
 
-/// That a word that stands in the upper page runs alone so, with a0 at the lower page.
-fn expect_word(rt: &impl Abort, guest: &mut Guest, (words, next): (u64, Next)) -> Result<(), Fail> {
-    guest.expect_stores(rt, UPPER + 16, words)?;
-    guest.stand(JUMP, UPPER + 16, 0);
-    guest.expect_runs(rt, 10, stop(1, Next::Touches(FIRST)))?;
-    guest.registers.x[10] = LOWER;
-    guest.expect_steps(rt, next)
-}
-
-/// That each of the list is so; and that the load has loaded.
-fn expect_words(rt: &impl Abort, guest: &mut Guest) -> Result<(), Fail> {
-    guest.expect_stores(rt, LOWER, 1234)?;
-    for row in WORDS {
-        expect_word(rt, guest, row)?;
-    }
-    assert_eq!(rt; guest.registers.x[12], 1235);
-    Ok(())
+/// That the load loaded, and the addition added.
+fn expect_added(rt: &impl Abort, guest: &Guest) {
+    assert_eq!(rt; guest.given(), 1235);
 }
 
 #[test]
 fn instructions_are_fetched_from_a_shared_page(rt: HostRuntime) -> Result<(), Fail> {
     let mut guest = new_guest(rt.alloc())?;
-    lay(&rt, &mut guest, 7)?;
-    expect_words(&rt, &mut guest)
+    guest.expect_acts(&rt, &WORDS)?;
+    expect_added(&rt, &guest);
+    Ok(())
 }
 
-/// Without the right to be executed the word traps, and with it the last page's access does that is not there.
-fn expect_no_fetch(rt: &impl Abort, guest: &mut Guest) -> Result<(), Fail> {
-    guest.expect_stores(rt, UPPER, 0x0000_0013_0005_3603)?;
-    guest.expect_does(rt, JUMP, UPPER, 0, Next::Goes)?;
-    guest.expect_runs(rt, 10, stop(0, Next::Traps(11)))?;
-    guest.expect_steps(rt, Next::Traps(11))?;
-    guest.expect_reply(rt, mprotect(UPPER, 4096, 4), 0)?;
-    guest.registers.x[10] = LOWER - 8;
-    guest.expect_runs(rt, 10, stop(0, Next::Touches(FIRST)))?;
-    guest.expect_steps(rt, Next::Traps(11))?;
-    guest.registers.x[10] = LOWER;
-    guest.expect_steps(rt, Next::Goes)
-}
+/// Without the right to be executed a word traps, in a run too; with that right alone it is done, but for a load where
+/// nothing is mapped, which is told once the word's area is in hand.
+#[rattlefmt::skip]
+const NO_FETCH: [Act; 11] = [
+    Act::Map(0, 4096, 3, SHARED, UPPER),
+    Act::Map(0, 4096, 3, SHARED, LOWER),
+    Act::Stores(UPPER, 0x0000_0013_0005_3603), // ld a2, 0(a0); nop
+    Act::Does(1, JUMP, UPPER),
+    Act::Runs(10, 0, Next::Traps(11)),
+    Act::Steps(Next::Traps(11)),
+    Act::Protect(UPPER, 4096, 4),
+    Act::Stands(UPPER, LOWER - 8, 0),
+    Act::Runs(10, 0, Next::Touches(FIRST)),
+    Act::Steps(Next::Traps(11)),
+    Act::Gives(UPPER, LOWER, 0, 0),
+];
 
 #[test]
 fn a_shared_page_may_be_fetched_from_by_its_right_alone(rt: HostRuntime) -> Result<(), Fail> {
-    let mut guest = new_guest(rt.alloc())?;
-    lay(&rt, &mut guest, READ_WRITE)?;
-    expect_no_fetch(&rt, &mut guest)
+    expect_acts(&rt, rt.alloc(), &NO_FETCH)
 }

@@ -1,11 +1,11 @@
 //! Shared areas: buffers of calls that lie there, and one area at two addresses.
 
-use crate::asked::{Asked, FIXED, PRIVATE, READ_WRITE, SHARED, getrandom, map, munmap, write};
+use crate::acts::{Act, expect_acts};
+use crate::asked::{FIXED, PRIVATE, SHARED};
 use crate::calling::{
     ADD, Guest, HEAP, LOAD, MAPPINGS_END, RESERVE, STORE, STORE_RESERVED, new_guest,
 };
 use kernel_model::Next;
-use mm_areas::{AreaErr, Backing, Rights};
 use rv_table::Area;
 use std::process::Abort;
 use std::test::Fail;
@@ -19,175 +19,133 @@ const OTHER: u64 = MAPPINGS_END - 8192;
 
 const HIGH: u64 = MAPPINGS_END - 4096;
 
-/// That a call answers that address.
-fn expect_at(rt: &impl Abort, guest: &mut Guest, asked: Asked, at: u64) -> Result<(), Fail> {
-    guest.expect_reply(rt, asked, at.cast_signed())
-}
+/// Eight bytes, of which four lie before a border and four behind it, and the next eight of them.
+const MARK: u64 = 0x1817_1615_1413_1211;
 
-/// Maps them, the highest first, and has each end with one value and begin with another.
-fn lay_four(rt: &impl Abort, guest: &mut Guest) -> Result<(), Fail> {
-    for (flags, at) in [
-        (PRIVATE, HIGH),
-        (SHARED, OTHER),
-        (SHARED, ONE),
-        (PRIVATE, LOW),
-    ] {
-        expect_at(rt, guest, map(0, 4096, READ_WRITE, flags), at)?;
-        guest.expect_stores(rt, at, at)?;
-        guest.expect_stores(rt, at + 4088, 0x1817_1615_1413_1211)?;
-    }
-    Ok(())
-}
+const NEXT: u64 = 0x2827_2625_2423_2221;
 
-/// Four bytes at the end of a page, and the four first of the page behind it.
-fn expect_border(rt: &impl Abort, guest: &mut Guest, end: u64) -> Result<(), Fail> {
-    let [a, b, c, d, ..] = end.to_le_bytes();
-    let bytes = [0x15, 0x16, 0x17, 0x18, a, b, c, d];
-    guest.expect_bytes(rt, end.wrapping_sub(4), &bytes)
-}
+/// What stands over a border then.
+const OVER: &[u8] = &[
+    0x11, 0x12, 0x13, 0x14, 0x15, 0x16, 0x17, 0x18, 0x21, 0x22, 0x23, 0x24, 0x25, 0x26, 0x27, 0x28,
+];
 
-/// Writes over each border, over all four pages, and over each end of them, where a byte is not mapped.
-fn expect_buffers(rt: &impl Abort, guest: &mut Guest) -> Result<(), Fail> {
-    expect_border(rt, guest, ONE)?;
-    expect_border(rt, guest, OTHER)?;
-    expect_border(rt, guest, HIGH)?;
-    guest.expect_reply(rt, write(LOW, 16_384), 16_384)?;
-    guest.expect_reply(rt, write(LOW, 16_385), -14)?;
-    guest.expect_reply(rt, write(LOW - 1, 16_384), -14)?;
-    guest.expect_reply(rt, write(HIGH + 4095, 2), -14)?;
-    guest.expect_reply(rt, munmap(OTHER, 4096), 0)?;
-    guest.expect_reply(rt, write(LOW, 16_384), -14)?;
-    guest.expect_reply(rt, write(LOW, 8193), -14)?;
-    guest.expect_reply(rt, write(LOW, 8192), 8192)?;
-    guest.expect_reply(rt, write(OTHER + 4095, 2), -14)?;
-    guest.expect_reply(rt, write(HIGH, 4096), 4096)
-}
+/// Bytes over each border, and writes over all four pages, over each end of them, and over a hole among them.
+#[rattlefmt::skip]
+const BUFFERS: [Act; 28] = [
+    Act::Map(0, 4096, 3, PRIVATE, HIGH),
+    Act::Map(0, 4096, 3, SHARED, OTHER),
+    Act::Map(0, 4096, 3, SHARED, ONE),
+    Act::Map(0, 4096, 3, PRIVATE, LOW),
+    Act::Stores(ONE - 8, MARK), Act::Stores(ONE, NEXT), Act::Bytes(ONE - 8, OVER),
+    Act::Stores(OTHER - 12, MARK), Act::Stores(OTHER - 4, NEXT), Act::Bytes(OTHER - 12, OVER),
+    Act::Stores(HIGH - 4, MARK), Act::Stores(HIGH + 4, NEXT), Act::Bytes(HIGH - 4, OVER),
+    Act::Writes(LOW, 16_384, 16_384),
+    Act::Writes(LOW + 5, 16_379, 16_379),
+    Act::Writes(LOW, 16_385, -14),
+    Act::Writes(LOW - 1, 16_384, -14),
+    Act::Writes(HIGH + 4095, 2, -14),
+    Act::Unmap(OTHER, 4096),
+    Act::Writes(LOW, 16_384, -14),
+    Act::Writes(LOW, 8193, -14),
+    Act::Writes(LOW, 8192, 8192),
+    Act::Writes(OTHER, 1, -14),
+    Act::Writes(OTHER + 4095, 2, -14),
+    Act::Writes(HIGH, 4096, 4096),
+    Act::Protect(ONE, 4096, 2),
+    Act::Writes(LOW, 4096, 4096),
+    Act::Writes(LOW, 4097, -14),
+];
 
 #[test]
 fn a_buffer_over_private_and_shared_pages_is_taken_whole_or_not_at_all(
     rt: HostRuntime,
 ) -> Result<(), Fail> {
-    let mut guest = new_guest(rt.alloc())?;
-    lay_four(&rt, &mut guest)?;
-    expect_buffers(&rt, &mut guest)
+    expect_acts(&rt, rt.alloc(), &BUFFERS)
 }
 
-/// 17 shared pages, each of its own call, of which a write takes 65,536 bytes from the midst of the first on; and one
-/// of 16 pages less a byte.
-fn expect_seventeen(rt: &impl Abort, guest: &mut Guest) -> Result<(), Fail> {
+/// 17 shared pages, one behind another, each of a call of its own.
+fn lay_seventeen(rt: &impl Abort, guest: &mut Guest) -> Result<(), Fail> {
     for number in 0..17u64 {
         let at = number.wrapping_mul(4096).wrapping_add(1 << 37);
-        let mapped = map(at, 4096, READ_WRITE, SHARED | FIXED);
-        expect_at(rt, guest, mapped, at)?;
+        guest.expect_act(rt, Act::Map(at, 4096, 3, SHARED | FIXED, at))?;
     }
-    let first = 1 << 37;
-    guest.expect_stores(rt, first + 2048, 1)?;
-    guest.expect_reply(rt, write(first + 2048, 65_536), 65_536)?;
-    guest.expect_reply(rt, write(first + 2048, u64::MAX), 65_536)?;
-    guest.expect_reply(rt, write(first + 4096, 65_536), 65_536)?;
-    guest.expect_reply(rt, write(first + 4097, 65_535), 65_535)?;
-    guest.expect_reply(rt, write(first + 4097, 65_536), -14)
+    Ok(())
 }
+
+/// Where they begin.
+const BEGIN: u64 = 1 << 37;
+
+/// A write takes 65,536 bytes from the midst of the first on, or as many up to the end of the last.
+#[rattlefmt::skip]
+const SEVENTEEN: [Act; 5] = [
+    Act::Writes(BEGIN + 2048, 65_536, 65_536),
+    Act::Writes(BEGIN + 2048, u64::MAX, 65_536),
+    Act::Writes(BEGIN + 4096, 65_536, 65_536),
+    Act::Writes(BEGIN + 4097, 65_535, 65_535),
+    Act::Writes(BEGIN + 4097, 65_536, -14),
+];
 
 #[test]
 fn a_buffer_may_lie_in_seventeen_areas(rt: HostRuntime) -> Result<(), Fail> {
     let mut guest = new_guest(rt.alloc())?;
-    expect_seventeen(&rt, &mut guest)
+    lay_seventeen(&rt, &mut guest)?;
+    guest.expect_acts(&rt, &SEVENTEEN)
 }
 
-/// Maps the area that the call of a place made once more, at an address.
-fn map_again(guest: &mut Guest, place: u64, at: u64, length: u64) -> Result<u64, AreaErr> {
-    let area = Area { place, index: 0 };
-    let rights = Rights::READ | Rights::WRITE;
-    guest
-        .space
-        .space
-        .map(guest.alloc, Some(at), length, rights, Backing::Of(area))
-}
-
-/// An area of two pages at two addresses: where the call puts it, and where its first page is mapped again.
+/// An area of two pages at two addresses: where the first call puts it, and where its first page is mapped again.
 const HERE: u64 = MAPPINGS_END - 8192;
 
 const THERE: u64 = 1 << 37;
 
-fn map_twice(rt: &impl Abort, guest: &mut Guest) -> Result<(), Fail> {
-    expect_at(rt, guest, map(0, 8192, READ_WRITE, SHARED), HERE)?;
-    let again = map_again(guest, guest.place, THERE, 4096)?;
-    assert_eq!(rt; again, THERE);
-    Ok(())
-}
-
-/// What is stored by one address is loaded and written by the other; the second page is seen here alone.
-fn expect_one_area(rt: &impl Abort, guest: &mut Guest) -> Result<(), Fail> {
-    guest.expect_stores(rt, HERE + 8, 5)?;
-    guest.expect_loads(rt, THERE + 8, 5)?;
-    guest.expect_gives(rt, ADD, THERE + 8, 30, 5)?;
-    guest.expect_bytes(rt, HERE + 8, &[35, 0, 0, 0, 0, 0, 0, 0])?;
-    guest.expect_reply(rt, getrandom(THERE + 8, 8, 0), 8)?;
-    guest.expect_does(rt, LOAD, HERE + 8, 0, Next::Goes)?;
-    let value = guest.registers.x[12];
-    guest.expect_loads(rt, THERE + 8, value)?;
-    guest.expect_stores(rt, HERE + 4096, 6)?;
-    guest.expect_does(rt, LOAD, THERE + 4096, 0, Next::Traps(11))?;
-    guest.expect_bytes(rt, HERE + 4096, &[6, 0, 0, 0])
-}
+/// What is stored by one address is loaded and written by the other; the second page is here alone.
+#[rattlefmt::skip]
+const TWICE: [Act; 14] = [
+    Act::Map(0, 8192, 3, SHARED, HERE),
+    Act::Again(1, THERE, 4096),
+    Act::Stores(HERE + 8, 5),
+    Act::Loads(THERE + 8, 5),
+    Act::Gives(ADD, THERE + 8, 30, 5),
+    Act::Bytes(HERE + 8, &[35, 0, 0, 0, 0, 0, 0, 0]),
+    Act::Stores(THERE + 4088, MARK),
+    Act::Loads(HERE + 4088, MARK),
+    Act::Random(THERE + 4088, 1, 1),
+    Act::Bytes(HERE + 4089, &[0x12, 0x13, 0x14, 0x15, 0x16, 0x17, 0x18, 0]),
+    Act::Stores(HERE + 4096, 6),
+    Act::Traps(LOAD, THERE + 4096, 11),
+    Act::Bytes(HERE + 4096, &[6, 0, 0, 0]),
+    Act::Pages(68),
+];
 
 #[test]
 fn what_is_stored_in_an_area_by_one_address_is_read_by_the_other(
     rt: HostRuntime,
 ) -> Result<(), Fail> {
-    let mut guest = new_guest(rt.alloc())?;
-    map_twice(&rt, &mut guest)?;
-    expect_one_area(&rt, &mut guest)
+    expect_acts(&rt, rt.alloc(), &TWICE)
 }
 
 /// The area stays while nobody maps it, and is mapped again with its bytes; each mapping with MAP_SHARED has an area of
-/// its own.
-fn expect_areas_stay(rt: &impl Abort, guest: &mut Guest) -> Result<(), Fail> {
-    let place = guest.place;
-    guest.expect_stores(rt, THERE, 9)?;
-    guest.expect_reply(rt, munmap(HERE, 8192), 0)?;
-    guest.expect_loads(rt, THERE, 9)?;
-    guest.expect_reply(rt, munmap(THERE, 4096), 0)?;
-    expect_at(rt, guest, map(0, 8192, READ_WRITE, SHARED), HERE)?;
-    guest.expect_loads(rt, HERE, 0)?;
-    let again = map_again(guest, place, THERE, 8192)?;
-    assert_eq!(rt; again, THERE);
-    guest.expect_loads(rt, THERE, 9)?;
-    guest.expect_stores(rt, HERE, 4)?;
-    guest.expect_loads(rt, THERE, 9)
-}
+/// its own, of its own length.
+#[rattlefmt::skip]
+const STAYS: [Act; 14] = [
+    Act::Map(0, 8192, 3, SHARED, HERE),
+    Act::Again(1, THERE, 4096),
+    Act::Stores(THERE, 9),
+    Act::Unmap(HERE, 8192),
+    Act::Loads(THERE, 9),
+    Act::Unmap(THERE, 4096),
+    Act::Map(0, 8192, 3, SHARED, HERE),
+    Act::Loads(HERE, 0),
+    Act::Again(1, THERE, 12_288),
+    Act::Loads(THERE, 9),
+    Act::Stores(HERE, 4),
+    Act::Loads(THERE, 9),
+    Act::Writes(THERE, 8192, 8192),
+    Act::Writes(THERE, 8193, -14),
+];
 
 #[test]
 fn an_area_stays_while_nobody_maps_it(rt: HostRuntime) -> Result<(), Fail> {
-    let mut guest = new_guest(rt.alloc())?;
-    map_twice(&rt, &mut guest)?;
-    expect_areas_stay(&rt, &mut guest)
-}
-
-/// That a reservation of a task is still there, or not, and that nothing was stored where it is not.
-fn expect_held(
-    rt: &impl Abort,
-    guest: &mut Guest,
-    (task, at): (u32, u64),
-    is_held: bool,
-) -> Result<(), Fail> {
-    let told = guest.does_as(task, STORE_RESERVED, at, 77)?;
-    assert_eq!(rt; told, Next::Goes);
-    assert_eq!(rt; guest.registers.x[12] == 0, is_held, "at {at:x}");
-    Ok(())
-}
-
-/// That an instruction of a task goes on.
-fn expect_goes(
-    rt: &impl Abort,
-    guest: &mut Guest,
-    task: u32,
-    (instruction, at): (u64, u64),
-) -> Result<(), Fail> {
-    let told = guest.does_as(task, instruction, at, 1)?;
-    assert_eq!(rt; told, Next::Goes);
-    Ok(())
+    expect_acts(&rt, rt.alloc(), &STAYS)
 }
 
 /// What a task does to eight bytes that task 1 has reserved by the address here, and whether the reservation is still
@@ -212,9 +170,9 @@ const MEETINGS: [(u32, u64, u64, bool); 12] = [
 /// That each of them is so.
 fn expect_meetings(rt: &impl Abort, guest: &mut Guest) -> Result<(), Fail> {
     for (task, instruction, at, is_held) in MEETINGS {
-        expect_goes(rt, guest, 1, (RESERVE, HERE + 16))?;
-        expect_goes(rt, guest, task, (instruction, at))?;
-        expect_held(rt, guest, (1, HERE + 16), is_held)?;
+        guest.expect_act(rt, Act::Does(1, RESERVE, HERE + 16))?;
+        guest.expect_act(rt, Act::Does(task, instruction, at))?;
+        guest.expect_act(rt, Act::Held(1, HERE + 16, is_held))?;
     }
     Ok(())
 }
@@ -222,63 +180,82 @@ fn expect_meetings(rt: &impl Abort, guest: &mut Guest) -> Result<(), Fail> {
 #[test]
 fn another_tasks_store_by_either_address_ends_a_reservation(rt: HostRuntime) -> Result<(), Fail> {
     let mut guest = new_guest(rt.alloc())?;
-    map_twice(&rt, &mut guest)?;
+    guest.expect_acts(&rt, &TWICE)?;
     expect_meetings(&rt, &mut guest)
 }
 
 /// A reservation is of one address: by the other nothing is stored. It goes with the page that it was made by, and stays
 /// where the other is unmapped.
-fn expect_one_address(rt: &impl Abort, guest: &mut Guest) -> Result<(), Fail> {
-    expect_goes(rt, guest, 1, (RESERVE, HERE))?;
-    expect_held(rt, guest, (1, THERE), false)?;
-    expect_held(rt, guest, (1, HERE), false)?;
-    guest.expect_loads(rt, HERE, 0)?;
-    expect_goes(rt, guest, 1, (RESERVE, HERE))?;
-    expect_goes(rt, guest, 2, (RESERVE, THERE))?;
-    guest.expect_reply(rt, munmap(THERE, 4096), 0)?;
-    let again = map_again(guest, 1, THERE, 4096)?;
-    assert_eq!(rt; again, THERE);
-    expect_held(rt, guest, (2, THERE), false)?;
-    expect_held(rt, guest, (1, HERE), true)?;
-    guest.expect_loads(rt, THERE, 77)
-}
+#[rattlefmt::skip]
+const ONE_ADDRESS: [Act; 13] = [
+    Act::Map(0, 8192, 3, SHARED, HERE),
+    Act::Again(1, THERE, 4096),
+    Act::Does(1, RESERVE, HERE),
+    Act::Held(1, THERE, false),
+    Act::Held(1, HERE, false),
+    Act::Loads(HERE, 0),
+    Act::Does(1, RESERVE, HERE),
+    Act::Does(2, RESERVE, THERE),
+    Act::Unmap(THERE, 4096),
+    Act::Again(1, THERE, 4096),
+    Act::Held(2, THERE, false),
+    Act::Held(1, HERE, true),
+    Act::Loads(THERE, 77),
+];
 
 #[test]
 fn a_reservation_in_an_area_is_of_one_address(rt: HostRuntime) -> Result<(), Fail> {
-    let mut guest = new_guest(rt.alloc())?;
-    map_twice(&rt, &mut guest)?;
-    expect_one_address(&rt, &mut guest)
+    expect_acts(&rt, rt.alloc(), &ONE_ADDRESS)
 }
 
-/// The heap's first page is shared memory too, once that is mapped over it.
-fn expect_in_the_heap(rt: &impl Abort, guest: &mut Guest) -> Result<(), Fail> {
-    let mapped = map(HEAP, 4096, READ_WRITE, SHARED | FIXED);
-    expect_at(rt, guest, mapped, HEAP)?;
-    guest.expect_stores(rt, HEAP, 3)?;
-    let again = map_again(guest, 1, THERE, 4096)?;
-    assert_eq!(rt; again, THERE);
-    guest.expect_loads(rt, THERE, 3)
-}
+/// Both tasks reserve the same eight bytes; the first that stores ends the other's reservation.
+#[rattlefmt::skip]
+const BOTH: [Act; 8] = [
+    Act::Map(0, 8192, 3, SHARED, HERE),
+    Act::Again(1, THERE, 4096),
+    Act::Does(1, RESERVE, HERE),
+    Act::Does(2, RESERVE, THERE),
+    Act::Held(2, THERE, true),
+    Act::Held(1, HERE, false),
+    Act::Gives(STORE_RESERVED, HERE, 5, 1),
+    Act::Loads(HERE, 77),
+];
 
 #[test]
-fn shared_memory_may_lie_anywhere(rt: HostRuntime) -> Result<(), Fail> {
-    let mut guest = new_guest(rt.alloc())?;
-    expect_in_the_heap(&rt, &mut guest)
+fn of_two_tasks_that_reserve_one_stores(rt: HostRuntime) -> Result<(), Fail> {
+    expect_acts(&rt, rt.alloc(), &BOTH)
+}
+
+/// The heap's first page is shared memory, once that is mapped over it.
+#[rattlefmt::skip]
+const IN_THE_HEAP: [Act; 5] = [
+    Act::Brk(HEAP + 1, HEAP + 1),
+    Act::Map(HEAP, 4096, 3, SHARED | FIXED, HEAP),
+    Act::Stores(HEAP, 3),
+    Act::Again(2, THERE, 4096),
+    Act::Loads(THERE, 3),
+];
+
+#[test]
+fn shared_memory_may_lie_in_the_heap(rt: HostRuntime) -> Result<(), Fail> {
+    expect_acts(&rt, rt.alloc(), &IN_THE_HEAP)
 }
 
 /// A page of an area that no call has made: neither a call nor an instruction reaches it.
-fn expect_lacking(rt: &impl Abort, guest: &mut Guest) -> Result<(), Fail> {
-    let again = map_again(guest, 99, THERE, 4096)?;
-    assert_eq!(rt; again, THERE);
-    guest.expect_refused(rt, THERE)?;
-    guest.expect_reply(rt, getrandom(THERE, 1, 0), -14)?;
-    guest.expect_reply(rt, getrandom(THERE, 0, 0), 0)?;
-    guest.expect_does(rt, LOAD, THERE, 0, Next::Traps(11))?;
-    guest.expect_does(rt, STORE, THERE, 0, Next::Traps(11))
-}
+#[rattlefmt::skip]
+const LACKING: [Act; 9] = [
+    Act::Again(99, THERE, 4096),
+    Act::Writes(THERE, 1, -14),
+    Act::Random(THERE, 1, -14),
+    Act::Random(THERE, 0, 0),
+    Act::Stands(LOAD, THERE, 0),
+    Act::Runs(1, 0, Next::Touches(Area { place: 99, index: 0 })),
+    Act::Steps(Next::Traps(11)),
+    Act::Stands(STORE, THERE, 0),
+    Act::Steps(Next::Traps(11)),
+];
 
 #[test]
 fn an_area_that_is_not_there_is_reached_by_nothing(rt: HostRuntime) -> Result<(), Fail> {
-    let mut guest = new_guest(rt.alloc())?;
-    expect_lacking(&rt, &mut guest)
+    expect_acts(&rt, rt.alloc(), &LACKING)
 }
