@@ -3,8 +3,8 @@
 //! A caller sees nothing: this crate has tests alone, of the calls that `call_table` gives others.
 //!
 //! Tried: a guest that writes to the console and exits, entry by entry and in turns; a trace that is full before the
-//! guest's end; a guest that traps; random bytes by two seeds; loads, stores and a call in a shared page; and the kernel
-//! that is left.
+//! guest's end; a guest that traps; random bytes by two seeds; loads, stores and a call in a shared page; and the
+//! kernel that is left.
 //!
 //! Not tried: more tasks than one, which no call makes so far.
 //!

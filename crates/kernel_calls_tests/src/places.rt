@@ -16,8 +16,8 @@ const THIRD: u64 = MAPPINGS_END - 12_288;
 const FOURTH: u64 = MAPPINGS_END - 16_384;
 
 /// Mappings one after another, each with the address where it goes: the highest free range, whatever the address that
-/// is asked for, the flags that aren't looked at, the descriptor and the offset are. Such flags are MAP_GROWSDOWN 0x100,
-/// MAP_NORESERVE 0x4000, MAP_POPULATE 0x8000, MAP_FIXED_NOREPLACE 0x100000, and bits above the low 32.
+/// is asked for, the flags that aren't looked at, the descriptor and the offset are. Such flags are MAP_GROWSDOWN
+/// 0x100, MAP_NORESERVE 0x4000, MAP_POPULATE 0x8000, MAP_FIXED_NOREPLACE 0x100000, and bits above the low 32.
 #[rattlefmt::skip]
 const PLACES: [Act; 13] = [
     Act::Calls(MMAP, [0, 4096, 3, PRIVATE, u64::MAX, 0], 0x3f_ffef_f000),
@@ -92,8 +92,8 @@ fn fixed_mappings_lie_between_4096_and_2_to_the_38(rt: HostRuntime) -> Result<()
 const FULL_HEAP: u64 = HEAP + 1000 * 4096;
 
 /// One page of the image, 64 of the stack, 1,000 of the heap, 5,000 private ones, 5,000 shared ones, and 5,319 with
-/// MAP_FIXED are 16,384; there is no room for one more, of any sort. With MAP_FIXED a page goes in the place of another,
-/// and two over one don't; a page that is given back makes room.
+/// MAP_FIXED are 16,384; there is no room for one more, of any sort. With MAP_FIXED a page goes in the place of
+/// another, and two over one don't; a page that is given back makes room.
 #[rattlefmt::skip]
 const FULL: [Act; 18] = [
     Act::Brk(FULL_HEAP, FULL_HEAP),

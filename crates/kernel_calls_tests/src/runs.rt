@@ -153,8 +153,8 @@ fn an_access_without_the_right_or_off_its_width_traps(rt: HostRuntime) -> Result
     expect_acts(&rt, rt.alloc(), &TRAPS)
 }
 
-/// Pairs of words in the upper page, with what the first of each comes to alone: a load from the page of the other area,
-/// an addition, a call, and words that trap with the signals 5, 4 and 7. A run ends behind the jump there.
+/// Pairs of words in the upper page, with what the first of each comes to alone: a load from the page of the other
+/// area, an addition, a call, and words that trap with the signals 5, 4 and 7. A run ends behind the jump there.
 #[rattlefmt::skip]
 const WORDS: [Act; 20] = [
     Act::Map(0, 4096, 7, SHARED, UPPER),

@@ -184,8 +184,8 @@ fn another_tasks_store_by_either_address_ends_a_reservation(rt: HostRuntime) -> 
     expect_meetings(&rt, &mut guest)
 }
 
-/// A reservation is of one address: by the other nothing is stored. It goes with the page that it was made by, and stays
-/// where the other is unmapped.
+/// A reservation is of one address: by the other nothing is stored. It goes with the page that it was made by, and
+/// stays where the other is unmapped.
 #[rattlefmt::skip]
 const ONE_ADDRESS: [Act; 13] = [
     Act::Map(0, 8192, 3, SHARED, HERE),

@@ -257,8 +257,8 @@ fn each_instruction_in_a_shared_page_is_a_run_of_one(rt: HostRuntime) -> Result<
     expect_run(&rt, rt.alloc(), &JUMPS, &JUMPING, Status::Exited(33))
 }
 
-/// That the console has the first bytes of the stream 2 of the key of zeros, by another ChaCha20: the getrandom is done as
-/// the second entry that fits, whatever was refused before it.
+/// That the console has the first bytes of the stream 2 of the key of zeros, by another ChaCha20: the getrandom is
+/// done as the second entry that fits, whatever was refused before it.
 fn expect_console(rt: &impl Abort, plain: &Plain) {
     let bytes = b"\xd0\xc5\xb9\xb7\x44";
     assert_eq!(rt; plain.kernel.console.as_slice(), bytes.as_slice());

@@ -1,11 +1,11 @@
 //! Guests that use memory: words that an assembler made. What they print and exit with is what an emulator of Linux's
 //! calls for RISC-V showed, but for the random bytes.
 
-/// Takes 16 bytes of heap, maps two pages and a shared one in the place of the lower, and stores `h` in the heap, `p` at
-/// the begin of the upper page and `s` at the end of the shared one. There it adds 10 by LR and SC, and 10 by an AMO. It
-/// writes the last byte of the shared page and the first of the upper, puts seven random bytes before the `h`, and writes
-/// these eight. Then it takes the right to write from both pages, has getrandom refused there, unmaps both, and exits
-/// with what memory held, 20, and the reply of the getrandom, -14: 6.
+/// Takes 16 bytes of heap, maps two pages and a shared one in the place of the lower, and stores `h` in the heap, `p`
+/// at the begin of the upper page and `s` at the end of the shared one. There it adds 10 by LR and SC, and 10 by an
+/// AMO. It writes the last byte of the shared page and the first of the upper, puts seven random bytes before the
+/// `h`, and writes these eight. Then it takes the right to write from both pages, has getrandom refused there, unmaps
+/// both, and exits with what memory held, 20, and the reply of the getrandom, -14: 6.
 #[rattlefmt::skip]
 pub const MEMORY: [u32; 64] = [
     0x0d60_0893, // li a7, 214
