@@ -80,7 +80,7 @@ fn mark(alloc: Global, frames: &mut Frames, head: u8, tail: u8) -> Result<(), Fa
 }
 
 /// Puts a byte into a page, where there is that page.
-fn put_byte(
+pub fn put_byte(
     alloc: Global,
     frames: &mut Frames,
     (page, offset): (usize, usize),

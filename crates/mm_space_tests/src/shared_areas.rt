@@ -1,6 +1,6 @@
 //! Shared areas in several address spaces, and in several places of one.
 
-use crate::fixture::{FIRST, SECOND, area};
+use crate::fixture::{FIRST, SECOND, area, put_byte};
 use crate::guest::{Guest, area_of, expect_same, load, put_of};
 use crate::pair::{SHORT, Side, pair};
 use mm_areas::{Areas, Backing, Rights};
@@ -308,8 +308,8 @@ fn a_copy_of_an_area_goes_its_own_way(rt: HostRuntime) -> Result<(), Fail> {
     let alloc = rt.alloc();
     let mut area = touched(alloc, 7)?;
     let mut copy = area.copy(alloc)?;
-    area.frames.write_byte(alloc, 0, 0, 1)?;
-    copy.frames.write_byte(alloc, 0, 1, 2)?;
+    put_byte(alloc, &mut area.frames, (0, 0), 1)?;
+    put_byte(alloc, &mut copy.frames, (0, 1), 2)?;
     assert_eq!(rt;
         (area.frames.byte(0, 0), area.frames.byte(0, 1)),
         (Some(1), Some(0))
