@@ -1,6 +1,6 @@
 pub mod Arrays
 pub mod Faults
+pub mod Forms
 pub mod Hex
 pub mod Names
-pub mod OneTask
 pub mod Views

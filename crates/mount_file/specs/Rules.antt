@@ -1,5 +1,6 @@
 -- The rules of the mounts and tasks of one mount file together. Where no source is named: profile.
-use Rattle.std.specs.Prelude.{ℕ, nat_lt, List, [], ◌∷◌, length, Bool, true, false, ◌||◌, not, Option, Some, None, is_none, if◌then◌else◌}
+use Rattle.std.specs.Prelude.{ℕ, nat_lt, List, [], ◌∷◌, length, Bool, true, false, ◌||◌, not, Option, Some, None}
+use Rattle.std.specs.Prelude.{is_none, if◌then◌else◌}
 use Rattle.std.specs.List.{list_any, starts_with}
 use Rattle.std.specs.Str.{bytes_eq}
 use Rattle.mount_file.specs.declared.mounts.Mounts.{Mounts}
@@ -13,7 +14,7 @@ abbrev pub most_mounts : ℕ
 most_mounts = 1
 
 abbrev pub most_tasks : ℕ
-most_tasks = 1
+most_tasks = 64
 
 -- two places are the same: None is `/`
 -- mount(8)

@@ -1,5 +1,7 @@
 -- What the values of a mount file mean, and which are outside their form. Where no source is named: profile.
-use Rattle.std.specs.Prelude.{ℕ, pos, negsuc, ℤ, ◌+◌, ◌*◌, ◌-◌, nat_eq, nat_le, List, [], ◌∷◌, length, Bool, true, false, ◌&&◌, ◌==◌, Option, Some, None, if◌then◌else◌, option_and_then, option_map, is_none}
+use Rattle.std.specs.Prelude.{ℕ, pos, negsuc, ℤ, ◌+◌, ◌*◌, ◌-◌, nat_eq, nat_le, List, [], ◌∷◌, length, Bool, true}
+use Rattle.std.specs.Prelude.{false, ◌&&◌, ◌==◌, Option, Some, None, if◌then◌else◌, option_and_then, option_map}
+use Rattle.std.specs.Prelude.{is_none}
 use Rattle.std.specs.List.{list_all, slice_split}
 use Rattle.toml.specs.Data.{Data, string, Items, no_items, item}
 use Rattle.sn_text.specs.Names.{name_fault_of, has_byte}

@@ -1,11 +1,12 @@
 //! What a mount file says, as records, and why one is refused.
 
-ghost use Rattle.std.specs.Prelude.{◌≡◌};
+ghost use Rattle.std.specs.Prelude.{◌≡◌, IfOk};
 ghost use Rattle.mount_file.specs.Read.{fault_of_name};
 ghost use Rattle.mount_file.specs.declared.mounts.MountFault.TheVariants.{Memory as WantOfMemory};
 
 use sn_base::{List, Memory};
 use sn_text::{Folder, Name, NameFault, Text};
+use std::alloc::Global;
 
 /// A mounted folder. `at` is `None` for the mount at `/`, and else the name of a directory in `/`.
 #[derive(Drop)]
@@ -13,6 +14,34 @@ pub struct Mount {
     pub at: Option<Name>,
     pub folder: Folder,
     pub write: bool,
+}
+
+impl Mount {
+    /// The same mount, in memory of its own.
+    pub fn copy(&self, alloc: Global) -> Result<Mount, Memory>
+        ensures { IfOk result (λ m. m ≡ self.now) }
+    {
+        let at = match &self.at {
+            Some(name) => Some(name.copy(alloc)?),
+            None => None,
+        };
+        Ok(Mount {
+            at,
+            folder: self.folder.copy(alloc)?,
+            write: self.write,
+        })
+    }
+}
+
+/// The same mounts, in memory of their own.
+pub fn copied_mounts(alloc: Global, mounts: &[Mount]) -> Result<List<Mount>, Memory>
+    ensures { IfOk result (λ ms. ms ≡ mounts.now) }
+{
+    let mut copies = List::new(alloc);
+    for mount in mounts {
+        copies.push(mount.copy(alloc)?)?;
+    }
+    Ok(copies)
 }
 
 /// A task of the mount file: the path of its image, its arguments and its environment.

@@ -1,7 +1,7 @@
 //! The reader: a mount file's bytes to what they say, or to their first fault.
 
 ghost use Rattle.std.specs.Prelude.{◌≡◌, ◌⊎◌, Err, IfOk, IfErr};
-ghost use Rattle.mount_file.specs.Form.{HasOneTask};
+ghost use Rattle.mount_file.specs.Form.{HasForm};
 ghost use Rattle.mount_file.specs.MountFile.{IsMountFile, IsFaultOf, ruled, document_read};
 ghost use Rattle.mount_file.specs.Read.{Reads};
 ghost use Rattle.mount_file.specs.declared.mounts.MountFault.{MountFault as Fault};
@@ -20,10 +20,10 @@ const LONGEST: usize = 65536;
 
 /// What a mount file's bytes say, or their first fault, in the order of `MountFault`. Want of memory is told where
 /// there is no room to read them in, whatever they say.
-#[tactic(auto, using(crate::proofs::Faults::fault_told, crate::proofs::OneTask::one_task_read))]
+#[tactic(auto, using(crate::proofs::Faults::fault_told, crate::proofs::Forms::form_read))]
 pub fn read_mounts(alloc: Global, bytes: &[u8]) -> Result<Mounts, MountFault>
     ensures ok { IfOk result (λ m. IsMountFile bytes.now m) }
-    ensures form { IfOk result HasOneTask }
+    ensures form { IfOk result HasForm }
     ensures fault { IfErr result (λ f. (f ≡ Memory) ⊎ IsFaultOf bytes.now f) }
     ensures faulty { (f : Fault) → IsFaultOf bytes.now f → (result ≡ Err f) ⊎ (result ≡ Err Memory) }
 {

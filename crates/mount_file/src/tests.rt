@@ -30,6 +30,16 @@ fn fault_of(alloc: Global, parts: [&str; 4]) -> Result<Option<MountFault>, Fail>
     Ok(read_mounts(alloc, text.as_bytes()).err())
 }
 
+/// So many tasks, `/task0` and so on.
+fn tasks_of(alloc: Global, count: usize) -> Result<String, Fail> {
+    let mut tasks = String::new(alloc);
+    for number in 0..count {
+        let task = format!(in alloc; "[[task]]\npath = \"/task{number}\"\n")?;
+        tasks.push_str(task.as_str())?;
+    }
+    Ok(tasks)
+}
+
 /// Whether texts are these.
 fn are(texts: &List<Text>, expected: &[&str]) -> bool {
     texts.len() == expected.len()

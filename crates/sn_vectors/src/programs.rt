@@ -1,4 +1,5 @@
 //! Programs as lists of words, with what they do. `image_of` makes files of them.
+
 use crate::words::{ECALL, LI_A0_0, LI_A0_1, LI_A1_0, LI_A2_0, LI_A7_EXIT_GROUP, LI_A7_WRITE};
 
 /// A program that runs to its end: its words, from its entry on; the bytes that it writes to descriptor 1; and the
@@ -90,3 +91,93 @@ pub const ATOMICS: Program = Program {
     writes: b"",
     status: 45,
 };
+
+/// Puts five random bytes below its stack pointer, writes them to descriptor 1, and exits with 0.
+#[rattlefmt::skip]
+pub const WRITES_RANDOM_BYTES: &[u32] = &[
+    0xff01_0513, // addi a0, sp, -16
+    0x0050_0593, // li a1, 5
+    0x0000_0613, // li a2, 0
+    0x1160_0893, // li a7, 278
+    0x0000_0073, // ecall
+    0x0005_0613, // mv a2, a0
+    0xff01_0593, // addi a1, sp, -16
+    0x0010_0513, // li a0, 1
+    0x0400_0893, // li a7, 64
+    0x0000_0073, // ecall
+    0x0000_0513, // li a0, 0
+    0x05e0_0893, // li a7, 94
+    0x0000_0073, // ecall
+];
+
+/// Maps a shared page, stores 3 there and loads it, and exits with 6.
+#[rattlefmt::skip]
+pub const STORES_IN_A_SHARED_PAGE: &[u32] = &[
+    0x0000_0513, // li a0, 0
+    0x0000_15b7, // lui a1, 1
+    0x0030_0613, // li a2, 3
+    0x0210_0693, // li a3, 0x21
+    0x0de0_0893, // li a7, 222
+    0x0000_0073, // ecall
+    0x0030_0293, // li t0, 3
+    0x0055_3023, // sd t0, 0(a0)
+    0x0005_3303, // ld t1, 0(a0)
+    0x0062_8533, // add a0, t0, t1
+    0x05e0_0893, // li a7, 94
+    0x0000_0073, // ecall
+];
+
+/// Maps a shared page that may be read, loads from it, and stores there: signal 11.
+#[rattlefmt::skip]
+pub const STORES_WITHOUT_THE_RIGHT: &[u32] = &[
+    0x0000_0513, // li a0, 0
+    0x0000_15b7, // lui a1, 1
+    0x0010_0613, // li a2, 1
+    0x0210_0693, // li a3, 0x21
+    0x0de0_0893, // li a7, 222
+    0x0000_0073, // ecall
+    0x0085_3283, // ld t0, 8(a0)
+    0x0012_8293, // addi t0, t0, 1
+    0x0055_3423, // sd t0, 8(a0)
+];
+
+/// Maps a shared page, stores four of its words there, and jumps to them: they exit with 33.
+#[rattlefmt::skip]
+pub const JUMPS_INTO_A_SHARED_PAGE: &[u32] = &[
+    0x0000_0513, // li a0, 0
+    0x0000_15b7, // lui a1, 1
+    0x0070_0613, // li a2, 7
+    0x0210_0693, // li a3, 0x21
+    0x0de0_0893, // li a7, 222
+    0x0000_0073, // ecall
+    0x0005_0413, // mv s0, a0
+    0x0000_0297, // auipc t0, 0
+    0x0202_b303, // ld t1, 32(t0)
+    0x0282_b383, // ld t2, 40(t0)
+    0x0064_3023, // sd t1, 0(s0)
+    0x0074_3423, // sd t2, 8(s0)
+    0x0004_0067, // jr s0
+    0x0000_0013, // nop
+    0x0000_0013, // nop
+    0x0210_0513, // li a0, 33
+    0x05e0_0893, // li a7, 94
+    0x0000_0073, // ecall
+    0x0010_0073, // ebreak
+];
+
+/// Has the time put below its stack pointer, writes its 16 bytes to descriptor 1, and exits with its own number.
+#[rattlefmt::skip]
+pub const TELLS_THE_TIME: &[u32] = &[
+    0xff01_0593, // addi a1, sp, -16
+    0x0010_0513, // li a0, 1
+    0x0710_0893, // li a7, 113
+    0x0000_0073, // ecall
+    0x0100_0613, // li a2, 16
+    0x0010_0513, // li a0, 1
+    0x0400_0893, // li a7, 64
+    0x0000_0073, // ecall
+    0x0b20_0893, // li a7, 178
+    0x0000_0073, // ecall
+    0x05e0_0893, // li a7, 94
+    0x0000_0073, // ecall
+];

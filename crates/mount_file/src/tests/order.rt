@@ -2,6 +2,10 @@
 
 use super::*;
 
+/// Two mounts at `/`.
+const ROOTS: &str =
+    "[[mount]]\nat = \"/\"\nfolder = \"a\"\n[[mount]]\nat = \"/\"\nfolder = \"b\"\n";
+
 /// How a file of bytes is refused.
 fn refused(alloc: Global, bytes: &[u8]) -> Option<MountFault> {
     read_mounts(alloc, bytes).err()
@@ -45,8 +49,6 @@ fn of_two_faults_of_the_bytes_the_first_in_order_is_told(rt: HostRuntime) -> Res
 fn of_two_faults_of_a_document_the_first_in_order_is_told(rt: HostRuntime) -> Result<(), Fail> {
     let alloc = rt.alloc();
     let at_d = "[[mount]]\nat = \"/d\"\nfolder = \"a\"\n[[mount]]\nat = \"/d\"\nfolder = \"b\"\n";
-    let roots = "[[mount]]\nat = \"/\"\nfolder = \"a\"\n[[mount]]\nat = \"/\"\nfolder = \"b\"\n";
-    let tasks = "[[task]]\npath = \"/init\"\n[[task]]\npath = \"/init\"\n";
     let files = [
         (
             ["entries = 0\nx = 1\n", SEED, MOUNT, TASK],
@@ -61,14 +63,12 @@ fn of_two_faults_of_a_document_the_first_in_order_is_told(rt: HostRuntime) -> Re
             ],
             MountFault::Field,
         ),
-        (["entries = 0\n", SEED, roots, TASK], MountFault::Range),
+        (["entries = 0\n", SEED, ROOTS, TASK], MountFault::Range),
         (
             [ENTRIES, SEED, at_d, "[[task]]\npath = \"init\"\n"],
             MountFault::Range,
         ),
         ([ENTRIES, SEED, at_d, TASK], MountFault::NoRoot),
-        ([ENTRIES, SEED, "mount = []\n", tasks], MountFault::NoRoot),
-        ([ENTRIES, SEED, roots, tasks], MountFault::Twice),
     ];
     for (parts, fault) in files {
         assert_eq!(rt;
@@ -79,6 +79,27 @@ fn of_two_faults_of_a_document_the_first_in_order_is_told(rt: HostRuntime) -> Re
             parts[1],
             parts[2],
             parts[3]
+        );
+    }
+    Ok(())
+}
+
+#[test]
+fn too_many_tasks_are_told_after_all_other_faults(rt: HostRuntime) -> Result<(), Fail> {
+    let alloc = rt.alloc();
+    let tasks = tasks_of(alloc, 65)?;
+    for (entries, mounts, fault) in [
+        ("entries = 0\nx = 1\n", MOUNT, MountFault::Field),
+        ("entries = 0\n", MOUNT, MountFault::Range),
+        (ENTRIES, "mount = []\n", MountFault::NoRoot),
+        (ENTRIES, ROOTS, MountFault::Twice),
+        (ENTRIES, MOUNT, MountFault::TooMany),
+    ] {
+        let text = format!(in alloc; "{entries}{SEED}{mounts}{tasks}")?;
+        assert_eq!(rt;
+            refused(alloc, text.as_bytes()),
+            Some(fault),
+            "{entries}{mounts}"
         );
     }
     Ok(())

@@ -57,12 +57,21 @@ fn two_mounts_that_share_no_place_and_no_folder_are_too_many_so_far(
 }
 
 #[test]
-fn two_tasks_are_too_many_so_far(rt: HostRuntime) -> Result<(), Fail> {
+fn sixty_five_tasks_are_too_many(rt: HostRuntime) -> Result<(), Fail> {
     let alloc = rt.alloc();
-    let tasks = format!(in alloc; "{TASK}[[task]]\npath = \"/second\"\n")?;
-    assert_eq!(rt;
-        fault_of(alloc, [ENTRIES, SEED, MOUNT, tasks.as_str()])?,
-        Some(MountFault::TooMany)
-    );
+    for (count, fault) in [
+        (1, None),
+        (2, None),
+        (64, None),
+        (65, Some(MountFault::TooMany)),
+        (66, Some(MountFault::TooMany)),
+    ] {
+        let tasks = tasks_of(alloc, count)?;
+        assert_eq!(rt;
+            fault_of(alloc, [ENTRIES, SEED, MOUNT, tasks.as_str()])?,
+            fault,
+            "{count}"
+        );
+    }
     Ok(())
 }

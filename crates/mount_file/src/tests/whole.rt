@@ -102,3 +102,54 @@ fn a_task_is_given_its_arguments_and_its_environment(rt: HostRuntime) -> Result<
     }
     Ok(())
 }
+
+#[test]
+fn two_tasks_are_read_in_the_order_of_the_file(rt: HostRuntime) -> Result<(), Fail> {
+    let alloc = rt.alloc();
+    let second = "[[task]]\npath = \"/second\"\nargs = [\"b\"]\nenv = [\"B=2\"]\n";
+    let text = format!(in alloc; "{ENTRIES}{SEED}{MOUNT}{TASK}{second}")?;
+    let Ok(mounts) = read_mounts(alloc, text.as_bytes()) else {
+        return Err(Fail::from("refused"));
+    };
+    let [task, other] = mounts.tasks.as_slice() else {
+        return Err(Fail::from("tasks"));
+    };
+    assert!(rt; task.path.as_bytes() == b"/init".as_slice());
+    assert!(rt; are(&task.args, &["/init"]) && are(&task.env, &[]));
+    assert!(rt; other.path.as_bytes() == b"/second".as_slice());
+    assert!(rt; are(&other.args, &["b"]) && are(&other.env, &["B=2"]));
+    Ok(())
+}
+
+#[test]
+fn sixty_four_tasks_are_read_each_with_its_path(rt: HostRuntime) -> Result<(), Fail> {
+    let alloc = rt.alloc();
+    let tasks = tasks_of(alloc, 64)?;
+    let text = format!(in alloc; "{ENTRIES}{SEED}{MOUNT}{tasks}")?;
+    let Ok(mounts) = read_mounts(alloc, text.as_bytes()) else {
+        return Err(Fail::from("refused"));
+    };
+    assert_eq!(rt; mounts.tasks.len(), 64);
+    for (number, task) in mounts.tasks.as_slice().iter().enumerate() {
+        let path = format!(in alloc; "/task{number}")?;
+        assert!(rt; task.path.as_bytes() == path.as_bytes(), "{number}");
+    }
+    Ok(())
+}
+
+#[test]
+fn mounts_are_copied_whole(rt: HostRuntime) -> Result<(), Fail> {
+    let alloc = rt.alloc();
+    let text = format!(in alloc; "{ENTRIES}{SEED}{MOUNT}write = true\n{TASK}")?;
+    let Ok(mounts) = read_mounts(alloc, text.as_bytes()) else {
+        return Err(Fail::from("refused"));
+    };
+    let Ok(copies) = copied_mounts(alloc, mounts.mounts.as_slice()) else {
+        return Err(Fail::from("memory"));
+    };
+    let [copy] = copies.as_slice() else {
+        return Err(Fail::from("copies"));
+    };
+    assert!(rt; copy.at.is_none() && is_folder(&copy.folder, false, &["root"]) && copy.write);
+    Ok(())
+}

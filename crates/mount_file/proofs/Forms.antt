@@ -1,4 +1,4 @@
--- A mount file that is read has one mount, at `/`, and one task, whose path is `/` and a name.
+-- A mount file that is read has one mount, at `/`, and at most 64 tasks, each with a path of `/` and a name.
 use Rattle.std.proofs.Common.{◌≡◌, ℕ, ℤ, pos, negsuc, ◌≤◌, nat_le, List, [], ◌∷◌, length, Bool, true}
 use Rattle.std.proofs.Common.{false, ◌&&◌, ◌||◌, ◌==◌, not, Option, Some, None, option_map, option_and_then, is_none}
 use Rattle.std.proofs.Common.{inl, inr, Result, Ok, Err, IfOk, refl, ap, sym, subst, ◌∙◌, arith}
@@ -10,7 +10,7 @@ use Rattle.std.proofs.lemmas.Bool.Decides.{nat_tests}
 use Rattle.sn_text.specs.Names.{name_fault_of, IsName}
 use Rattle.sn_text.specs.declared.fault.NameFault.{NameFault}
 use Rattle.toml.specs.Data.{Members, Items, no_items, item, as_str, as_integer, as_array, as_table, get_member}
-use Rattle.mount_file.specs.Form.{HasOneTask}
+use Rattle.mount_file.specs.Form.{HasForm, IsNamed, AreNamed}
 use Rattle.mount_file.specs.Keys.{has_keys}
 use Rattle.mount_file.specs.MountFile.{ruled, document_read, IsMountFile}
 use Rattle.mount_file.specs.Read.{Reads}
@@ -47,30 +47,19 @@ seed_long digits bytes is =
     let (test, found) = chosen (length digits == 64) (hex_bytes digits) bytes is in
     omega (arith, eqb-true (length digits) 64 test, hex_bytes_length digits bytes found)
 
--- a path of `/` and a name
-abbrev OfName : List ℕ → Type 0
-OfName path = (name : List ℕ) × IsName name × (path ≡ 47 ∷ name)
+no_fault : (o : Option NameFault) → is_none o ≡ true → o ≡ None
+no_fault None is = refl
+no_fault (Some e) is = cc
 
-named : (o : Option NameFault) → is_none o ≡ true → o ≡ None
-named None is = refl
-named (Some e) is = cc
-
-path_of_name : (bytes path : List ℕ) → path_in bytes ≡ Some path → OfName path
+path_of_name : (bytes path : List ℕ) → path_in bytes ≡ Some path
+    → (name : List ℕ) × IsName name × (path ≡ 47 ∷ name)
 path_of_name [] path is = cc
 path_of_name (slash ∷ name) path is =
     let (tests, same) = chosen ((slash == 47) && is_name name) (Some (slash ∷ name)) path is in
     let (first, rest) = and_parts (slash == 47) (is_name name) tests in
-    (name, named (name_fault_of name) rest, sym (same_Some _ _ same) ∙ ap (λ s. s ∷ name) (eqb-true slash 47 first))
+    (name, no_fault (name_fault_of name) rest, sym (same_Some _ _ same) ∙ ap (λ s. s ∷ name) (eqb-true slash 47 first))
 
--- a program with a path of `/` and a name
-record Named (program : Program) : Type 0 where
-  pub name : List ℕ
-  pub is_name : IsName name
-  pub args : List (List ℕ)
-  pub env : List (List ℕ)
-  pub program_is : program ≡ record { path = 47 ∷ name; args = args; env = env }
-
-task_named : (members : Members) (program : Program) → task_in members ≡ Some program → Named program
+task_named : (members : Members) (program : Program) → task_in members ≡ Some program → IsNamed program
 task_named members program is =
     option_and_then_some _ (option_and_then path_in (option_and_then as_str (get_member (codes "path") members)))
     program is (λ path found more.
@@ -79,29 +68,16 @@ task_named members program is =
     option_and_then_some path_in (option_and_then as_str (get_member (codes "path") members)) path found
     (λ bytes _ is_path.
     let (name, is_name, path_is) = path_of_name bytes path is_path in
-    record {
-      name = name;
-      is_name = is_name;
-      args = args;
-      env = env;
-      program_is = sym same ∙ ap (λ (p : List ℕ). record { path = p; args = args; env = env }) path_is;
-    }))))
+    (name, is_name, sym (ap (λ (p : Program). p.path) same) ∙ path_is)))))
 
-empty : {A : Type 0} (xs : List A) → length xs ≡ 0 → xs ≡ []
-empty [] is = refl
-empty (x ∷ xs) is = absurd (omega arith)
-
--- where each of an array's tables is read, and there is one, it is that one
-each_one : {A P : Type 0} (read : Members → Option A) (items : Items) (xs : List A) → each_in read items ≡ Some xs
-    → length xs ≡ 1
-    → ((members : Members) (x : A) → read members ≡ Some x → xs ≡ x ∷ [] → P) → P
-each_one read no_items xs is one next = let none : [] ≡ xs = same_Some _ _ is in absurd (omega (arith, ap length none))
-each_one read (item value rest) xs is one next =
-    option_and_then_some _ (option_and_then read (as_table value)) xs is (λ x found more.
-    mapped _ (each_in read rest) xs more (λ others _ same.
-    option_and_then_some read (as_table value) x found (λ members _ is_x.
-    let others_are : others ≡ [] = empty others (omega (arith, one, ap length same)) in
-    next members x is_x (sym same ∙ ap (λ ys. x ∷ ys) others_are))))
+-- where each of an array's tables is read, each of the tasks has such a path
+each_named : (items : Items) (tasks : List Program) → each_in task_in items ≡ Some tasks → AreNamed tasks
+each_named no_items tasks is = subst AreNamed (same_Some _ _ is) tt
+each_named (item value rest) tasks is =
+    option_and_then_some _ (option_and_then task_in (as_table value)) tasks is (λ task found more.
+    mapped _ (each_in task_in rest) tasks more (λ others read same.
+    option_and_then_some task_in (as_table value) task found (λ members _ task_is.
+    subst AreNamed same (task_named members task task_is, each_named rest others read))))
 
 some_long : (ts us : List Program) → some_tasks ts ≡ Some us → (ts ≡ us) × (1 ≤ length us)
 some_long [] us is = cc
@@ -111,9 +87,8 @@ some_long (t ∷ ts) us is = let same : (t ∷ ts) ≡ us = same_Some _ _ is in 
 record Parts (m : Mounts) : Type 0 where
   pub entries : (1 ≤ m.entries) × (m.entries ≤ 1048576)
   pub seed : length m.seed ≡ 32
-  pub items : Items
-  pub tasks : each_in task_in items ≡ Some m.tasks
   pub some : 1 ≤ length m.tasks
+  pub named : AreNamed m.tasks
 
 parts : (d : Members) (m : Mounts) → mounts_in d ≡ Some m → Parts m
 parts d m is =
@@ -132,13 +107,12 @@ parts d m is =
     (option_and_then as_array (get_member (codes "task") d))) tasks t (λ all a kept.
     option_and_then_some (each_in task_in) (option_and_then as_array (get_member (codes "task") d)) all a
     (λ items _ each.
-    let (all_are, one) = some_long all tasks kept in
+    let (all_are, some) = some_long all tasks kept in
     subst Parts same (record {
       entries = entries_few z entries few;
       seed = seed_long digits seed long;
-      items = items;
-      tasks = each ∙ ap Some all_are;
-      some = one;
+      some = some;
+      named = each_named items tasks (each ∙ ap Some all_are);
     })))))))))
 
 -- mounts that are answered break no rule
@@ -162,7 +136,7 @@ unbroken true true many is = cc
 unbroken true false true is = cc
 unbroken true false false is = (refl, refl)
 
-few : (m : Mounts) → has_too_many m ≡ false → (length m.mounts ≤ 1) × (length m.tasks ≤ 1)
+few : (m : Mounts) → has_too_many m ≡ false → (length m.mounts ≤ 1) × (length m.tasks ≤ 64)
 few m is = grind (arith, nat_tests)
 
 either : (b : Bool) → (b || false) ≡ true → b ≡ true
@@ -179,15 +153,13 @@ one_mount [] root few = cc
 one_mount (mount ∷ []) root few = (mount, refl, at_none mount.at (either (is_none mount.at) root))
 one_mount (mount ∷ other ∷ ms) root few = absurd (omega arith)
 
-one_task_in : (d : Members) (m : Mounts) → document_read d ≡ Ok m → HasOneTask m
-one_task_in d m is =
+form_in : (d : Members) (m : Mounts) → document_read d ≡ Ok m → HasForm m
+form_in d m is =
     let (says, no_rule) = answered (has_keys d) (mounts_in d) m is in
     let (root, not_many) = unbroken (has_root m.mounts) (has_clash m.mounts) (has_too_many m) no_rule in
     let (few_mounts, few_tasks) = few m not_many in
     let p = parts d m says in
     let (mount, mounts_are, at_root) = one_mount m.mounts root few_mounts in
-    each_one task_in p.items m.tasks p.tasks (omega (arith, few_tasks, p.some)) (λ members task task_is tasks_are.
-    let t = task_named members task task_is in
     record {
       some_entries = p.entries.0;
       few_entries = p.entries.1;
@@ -195,18 +167,16 @@ one_task_in d m is =
       mount = mount;
       mounts_are = mounts_are;
       at_root = at_root;
-      name = t.name;
-      is_name = t.is_name;
-      args = t.args;
-      env = t.env;
-      tasks_are = tasks_are ∙ ap (λ (x : Program). x ∷ []) t.program_is;
-    })
+      some_tasks = p.some;
+      few_tasks = few_tasks;
+      named = p.named;
+    }
 
-pub one_task_of : (bytes : List ℕ) (m : Mounts) → IsMountFile bytes m → HasOneTask m
-one_task_of bytes m is = one_task_in is.document m is.read
+pub form_of : (bytes : List ℕ) (m : Mounts) → IsMountFile bytes m → HasForm m
+form_of bytes m is = form_in is.document m is.read
 
 -- so has what a read of a document answers
-pub one_task_read : (d : Members) (r : Result Mounts MountFault) → Reads (document_read d) r → IfOk r HasOneTask
-one_task_read d (Ok m) (inl same) = one_task_in d m (sym same)
-one_task_read d (Ok m) (inr memory) = cc
-one_task_read d (Err f) reads = tt
+pub form_read : (d : Members) (r : Result Mounts MountFault) → Reads (document_read d) r → IfOk r HasForm
+form_read d (Ok m) (inl same) = form_in d m (sym same)
+form_read d (Ok m) (inr memory) = cc
+form_read d (Err f) reads = tt
