@@ -1,111 +1,88 @@
 //! Changes of what is mapped, as loads and fetches see them.
 
-use crate::fixture::{SECOND, guest};
-use crate::guest::{Guest, expect_same};
-use mm_areas::{AreaErr, Backing, Rights};
+use crate::acts::{Act, Begins, Case, expect_cases};
+use crate::guest::{EXECUTE, READ, SECOND};
+use mm_areas::{AreaErr, Backing};
 use rv_table::MemErr;
-use std::process::Abort;
 use std::test::Fail;
 
-/// Unmaps the page 17.
-fn expect_unmapped(rt: &impl Abort, guest: &mut Guest) {
-    guest.expect_load(rt, 0x1_1000, 1, Ok(9));
-    expect_same(
-        rt,
-        guest.unmap(0x1_1001, 1),
-        Err(AreaErr::Invalid),
-        0x1_1001,
-    );
-    guest.expect_load(rt, 0x1_1000, 1, Ok(9));
-    expect_same(rt, guest.unmap(0x1_1000, 1), Ok(()), 0x1_1000);
-    let fault = Err(MemErr::Fault { addr: 0x1_1000 });
-    guest.expect_load(rt, 0x1_0ffe, 4, fault);
-}
-
-/// Maps it again.
-fn expect_zeros(rt: &impl Abort, guest: &mut Guest) {
-    let rights = Rights::READ | Rights::EXECUTE;
-    let again = guest.map(Some(0x1_1000), 1, rights, Backing::Zeros);
-    expect_same(rt, again, Ok(0x1_1000), 0x1_1000);
-    guest.expect_load(rt, 0x1_0ffe, 4, Ok(0x0807));
-    guest.expect_fetch(rt, 0x1_0ffe, Ok(0x0807));
-}
-
-#[test]
-fn what_was_unmapped_and_mapped_again_is_zeros(rt: HostRuntime) -> Result<(), Fail> {
-    let mut guest = guest(rt.alloc())?;
-    expect_unmapped(&rt, &mut guest);
-    expect_zeros(&rt, &mut guest);
-    Ok(())
-}
+/// Unmaps the page 17, and maps it again.
+#[rattlefmt::skip]
+const UNMAPPED: &[Act] = &[
+    Act::Loads(0x1_1000, 1, Ok(9)),
+    Act::Unmaps(0x1_1001, 1, Err(AreaErr::Invalid)),
+    Act::Loads(0x1_1000, 1, Ok(9)),
+    Act::Unmaps(0x1_1000, 1, Ok(())),
+    Act::Loads(0x1_0ffe, 4, Err(MemErr::Fault { addr: 0x1_1000 })),
+    Act::Maps(Some(0x1_1000), 1, READ | EXECUTE, Backing::Zeros, Ok(0x1_1000)),
+    Act::Loads(0x1_0ffe, 4, Ok(0x0807)),
+    Act::Fetches(0x1_0ffe, Ok(0x0807)),
+];
 
 /// Takes rights from the pages 18 and 22.
-fn expect_missed(rt: &impl Abort, guest: &mut Guest) {
-    let hole = guest.protect(0x1_2000, 8192, Rights::READ);
-    expect_same(rt, hole, Err(AreaErr::Hole), 0x1_2000);
-    guest.expect_fetch(rt, 0x1_2000, Ok(0));
-    let done = guest.protect(0x1_2000, 4096, Rights::READ);
-    expect_same(rt, done, Ok(()), 0x1_2000);
-    let fault = Err(MemErr::Fault { addr: 0x1_2000 });
-    guest.expect_fetch(rt, 0x1_2000, fault);
-    guest.expect_load(rt, 0x1_2000, 8, Ok(0));
-    let done = guest.protect(0x1_6000, 4096, Rights::EXECUTE);
-    expect_same(rt, done, Ok(()), 0x1_6000);
-    guest.expect_fetch(rt, 0x1_6000, Err(MemErr::Shared(SECOND)));
-}
-
-#[test]
-fn a_right_that_was_taken_is_missed(rt: HostRuntime) -> Result<(), Fail> {
-    let mut guest = guest(rt.alloc())?;
-    expect_missed(&rt, &mut guest);
-    Ok(())
-}
+#[rattlefmt::skip]
+const PROTECTED: &[Act] = &[
+    Act::Protects(0x1_2000, 8192, READ, Err(AreaErr::Hole)),
+    Act::Fetches(0x1_2000, Ok(0)),
+    Act::Protects(0x1_2000, 4096, READ, Ok(())),
+    Act::Fetches(0x1_2000, Err(MemErr::Fault { addr: 0x1_2000 })),
+    Act::Loads(0x1_2000, 8, Ok(0)),
+    Act::Protects(0x1_6000, 4096, EXECUTE, Ok(())),
+    Act::Fetches(0x1_6000, Err(MemErr::Shared(SECOND))),
+];
 
 /// Maps twice where the space is free, and nothing once.
-fn expect_highest(rt: &impl Abort, guest: &mut Guest) {
-    let first = guest.map(None, 4096, Rights::READ, Backing::Zeros);
-    expect_same(rt, first, Ok(0x3f_ffef_f000), 1);
-    let second = guest.map(None, 4097, Rights::READ, Backing::Of(SECOND));
-    expect_same(rt, second, Ok(0x3f_ffef_d000), 2);
-    guest.expect_load(rt, 0x3f_ffef_eff8, 8, Err(MemErr::Shared(SECOND)));
-    guest.expect_load(rt, 0x3f_ffef_fff8, 8, Ok(0));
-    let refused = guest.map(None, 0, Rights::READ, Backing::Zeros);
-    expect_same(rt, refused, Err(AreaErr::Invalid), 3);
-    expect_same(rt, guest.space.areas().len(), 10, 0);
-}
+#[rattlefmt::skip]
+const MAPPED: &[Act] = &[
+    Act::Maps(None, 4096, READ, Backing::Zeros, Ok(0x3f_ffef_f000)),
+    Act::Maps(None, 4097, READ, Backing::Of(SECOND), Ok(0x3f_ffef_d000)),
+    Act::Loads(0x3f_ffef_eff8, 8, Err(MemErr::Shared(SECOND))),
+    Act::Loads(0x3f_ffef_fff8, 8, Ok(0)),
+    Act::Maps(None, 0, READ, Backing::Zeros, Err(AreaErr::Invalid)),
+    Act::Pages(10),
+];
+
+/// Moves the break up, and no further, and down again.
+#[rattlefmt::skip]
+const MOVED: &[Act] = &[
+    Act::Breaks(0, 4096),
+    Act::Breaks(4097, 4097),
+    Act::Loads(8185, 8, Err(MemErr::Fault { addr: 8192 })),
+    Act::Loads(4096, 8, Ok(0)),
+    Act::Breaks(1 << 37, 4097),
+    Act::Breaks(0x1_0001, 4097),
+    Act::Breaks(0x1_0000, 0x1_0000),
+    Act::Loads(0x0_fff8, 8, Ok(0)),
+    Act::Breaks(4096, 4096),
+    Act::Loads(4096, 1, Err(MemErr::Fault { addr: 4096 })),
+    Act::Loads(0x1_0ff8, 1, Ok(1)),
+];
+
+#[rattlefmt::skip]
+const CASES: [Case; 4] = [
+    Case {
+        name: "what_was_unmapped_and_mapped_again_is_zeros",
+        begins: Begins::Fixture,
+        acts: UNMAPPED,
+    },
+    Case {
+        name: "a_right_that_was_taken_is_missed",
+        begins: Begins::Fixture,
+        acts: PROTECTED,
+    },
+    Case {
+        name: "a_new_mapping_goes_to_the_highest_free_range",
+        begins: Begins::Fixture,
+        acts: MAPPED,
+    },
+    Case {
+        name: "the_break_moves_up_and_down_and_no_further_than_it_may",
+        begins: Begins::Fixture,
+        acts: MOVED,
+    },
+];
 
 #[test]
-fn a_new_mapping_goes_to_the_highest_free_range(rt: HostRuntime) -> Result<(), Fail> {
-    let mut guest = guest(rt.alloc())?;
-    expect_highest(&rt, &mut guest);
-    Ok(())
-}
-
-/// Moves the break up, and no further.
-fn expect_moved_up(rt: &impl Abort, guest: &mut Guest) {
-    guest.expect_break(rt, 0, 4096);
-    guest.expect_break(rt, 4097, 4097);
-    let fault = Err(MemErr::Fault { addr: 8192 });
-    guest.expect_load(rt, 8185, 8, fault);
-    guest.expect_load(rt, 4096, 8, Ok(0));
-    guest.expect_break(rt, 1 << 37, 4097);
-    guest.expect_break(rt, 0x1_0001, 4097);
-    guest.expect_break(rt, 0x1_0000, 0x1_0000);
-    guest.expect_load(rt, 0x0_fff8, 8, Ok(0));
-}
-
-/// Moves it down again.
-fn expect_moved_down(rt: &impl Abort, guest: &mut Guest) {
-    guest.expect_break(rt, 4096, 4096);
-    let fault = Err(MemErr::Fault { addr: 4096 });
-    guest.expect_load(rt, 4096, 1, fault);
-    guest.expect_load(rt, 0x1_0ff8, 1, Ok(1));
-}
-
-#[test]
-fn the_break_moves_up_and_down_and_no_further_than_it_may(rt: HostRuntime) -> Result<(), Fail> {
-    let mut guest = guest(rt.alloc())?;
-    expect_moved_up(&rt, &mut guest);
-    expect_moved_down(&rt, &mut guest);
-    Ok(())
+fn loads_and_fetches_see_each_change_of_what_is_mapped(rt: HostRuntime) -> Result<(), Fail> {
+    expect_cases(&rt, rt.alloc(), &CASES)
 }

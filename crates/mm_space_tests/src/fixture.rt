@@ -9,34 +9,24 @@
 //! | 22 | read | the page 0 of `SECOND` |
 //! | 24 | read, execute | the page 0 of `SECOND` |
 
-use crate::guest::{Guest, area_of, areas_of};
-use mm_areas::{Areas, Backing, Rights};
+use crate::guest::{EXECUTE, FIRST, Guest, Mapped, READ, SECOND, WRITE, area_of, areas_of};
+use mm_areas::{Areas, Backing};
 use mm_frames::Frames;
 use mm_space::HandedArea;
 use rv_table::Area;
 use std::alloc::Global;
 use std::test::Fail;
 
-pub(crate) const FIRST: Area = Area { place: 3, index: 0 };
-
-pub(crate) const SECOND: Area = Area { place: 3, index: 1 };
-
 /// What is mapped.
-fn areas(alloc: Global) -> Result<Areas, Fail> {
-    let code = Rights::READ | Rights::EXECUTE;
-    let both = Rights::READ | Rights::WRITE;
-    areas_of(
-        alloc,
-        &[
-            (0x1_0000, 4096, code, Backing::Zeros),
-            (0x1_1000, 4096, both, Backing::Zeros),
-            (0x1_2000, 4096, Rights::EXECUTE, Backing::Zeros),
-            (0x1_4000, 8192, Rights::READ, Backing::Of(FIRST)),
-            (0x1_6000, 4096, Rights::READ, Backing::Of(SECOND)),
-            (0x1_8000, 4096, code, Backing::Of(SECOND)),
-        ],
-    )
-}
+#[rattlefmt::skip]
+const MAPPED: [Mapped; 6] = [
+    (0x1_0000, 4096, READ | EXECUTE, Backing::Zeros),
+    (0x1_1000, 4096, READ | WRITE, Backing::Zeros),
+    (0x1_2000, 4096, EXECUTE, Backing::Zeros),
+    (0x1_4000, 8192, READ, Backing::Of(FIRST)),
+    (0x1_6000, 4096, READ, Backing::Of(SECOND)),
+    (0x1_8000, 4096, READ | EXECUTE, Backing::Of(SECOND)),
+];
 
 /// Puts the bytes 1 to 16 there.
 fn fill(alloc: Global, areas: &mut Areas) -> Result<(), Fail> {
@@ -51,13 +41,14 @@ fn fill(alloc: Global, areas: &mut Areas) -> Result<(), Fail> {
 }
 
 /// A guest with that space, and no area in hand.
-pub(crate) fn guest(alloc: Global) -> Result<Guest, Fail> {
-    let mut areas = areas(alloc)?;
+pub(crate) fn fixture(alloc: Global) -> Result<Guest, Fail> {
+    let mut areas = areas_of(alloc, &MAPPED)?;
     fill(alloc, &mut areas)?;
     Ok(Guest::of(alloc, areas))
 }
 
-/// An area of so many pages, of which the first holds `head` at its begin and the last `tail` at its end.
+/// An area of so many pages, of which the first holds `head` at its begin and the last `tail` at its end, if there are
+/// any.
 pub(crate) fn area(
     alloc: Global,
     name: Area,
@@ -71,12 +62,12 @@ pub(crate) fn area(
 }
 
 fn mark(alloc: Global, frames: &mut Frames, head: u8, tail: u8) -> Result<(), Fail> {
-    if frames.len() == 0 {
-        return Err(Fail::from("there are pages"));
+    let pages = frames.len();
+    if pages == 0 {
+        return Ok(());
     }
-    let last = frames.len() - 1;
     put_byte(alloc, frames, (0, 0), head)?;
-    put_byte(alloc, frames, (last, 4095), tail)
+    put_byte(alloc, frames, (pages - 1, 4095), tail)
 }
 
 /// Puts a byte into a page, where there is that page.

@@ -1,49 +1,50 @@
-//! A guest's memory as the tests reach it: an address space with the areas in hand. Each call is a function of its own,
-//! and so is each expectation: a test's proof has calls of them, and neither contracts nor the steps of an assertion.
+//! A guest's memory as the tests reach it: an address space with the areas in hand, and beside them two more spaces and
+//! other areas. What a call comes to says nothing of how it came to be, so that no test's proof has its contract before
+//! it.
 
 ghost use Rattle.rv_table.specs.Words.{IsWidth};
 
 use mm_areas::{AreaErr, Areas, Backing, Rights};
 use mm_frames::Frames;
-use mm_space::{Handed, HandedArea, SharedArea, Space};
-use rv_atomic::{AreaReservations, Reservation};
-use rv_table::{Area, MemErr};
+use mm_space::{Handed, HandedArea, Hints, SharedArea, Space};
+use rv_atomic::AreaReservations;
+use rv_table::{Area, Instr, MemErr};
 use std::alloc::Global;
-use std::fmt::Debug;
-use std::process::Abort;
+use std::mem;
 use std::test::Fail;
 
-/// That what is told of an address, or of a page's number, is as expected.
-pub(crate) fn expect_same<T: Copy + Debug + PartialEq>(
-    rt: &impl Abort,
-    told: T,
-    expected: T,
-    at: u64,
-) {
-    assert_eq!(rt; told, expected, "at {at:x}");
+pub(crate) const FIRST: Area = Area { place: 3, index: 0 };
+
+pub(crate) const SECOND: Area = Area { place: 3, index: 1 };
+
+/// Rights, by the bits of mmap(2).
+pub(crate) const READ: u8 = 1;
+
+pub(crate) const WRITE: u8 = 2;
+
+pub(crate) const EXECUTE: u8 = 4;
+
+/// The rights of these bits.
+pub(crate) fn rights(bits: u8) -> Rights {
+    Rights::of(bits & READ != 0, bits & WRITE != 0, bits & EXECUTE != 0)
 }
 
 /// What is mapped somewhere: where it begins, how long it is, its rights, and what it has.
-pub(crate) type Mapped = (u64, u64, Rights, Backing);
+pub(crate) type Mapped = (u64, u64, u8, Backing);
 
 /// Areas with that.
 pub(crate) fn areas_of(alloc: Global, rows: &[Mapped]) -> Result<Areas, Fail> {
     let mut areas = Areas::new(alloc, 4096);
-    map_each(alloc, &mut areas, rows)?;
-    Ok(areas)
-}
-
-fn map_each(alloc: Global, areas: &mut Areas, rows: &[Mapped]) -> Result<(), Fail> {
     for row in rows {
-        map_range(alloc, areas, *row)?;
+        map_range(alloc, &mut areas, *row)?;
     }
-    Ok(())
+    Ok(areas)
 }
 
 /// Maps a range.
 pub(crate) fn map_range(alloc: Global, areas: &mut Areas, range: Mapped) -> Result<(), Fail> {
-    let (at, length, rights, backing) = range;
-    areas.map(alloc, Some(at), length, rights, backing)?;
+    let (at, length, bits, backing) = range;
+    areas.map(alloc, Some(at), length, rights(bits), backing)?;
     Ok(())
 }
 
@@ -59,7 +60,7 @@ pub(crate) fn area_of(alloc: Global, name: Area, frames: Frames) -> HandedArea {
 }
 
 /// A width that an access has: that one, or 8.
-pub(crate) fn width_of(width: u8) -> u8
+fn width_of(width: u8) -> u8
     ensures { IsWidth result }
 {
     match width {
@@ -70,13 +71,8 @@ pub(crate) fn width_of(width: u8) -> u8
     }
 }
 
-/// A load of so many bytes, of a width that an access has.
-pub(crate) fn load(space: &Space, handed: &Handed, at: u64, width: u8) -> Result<u64, MemErr> {
-    space.load(handed, at, width_of(width))
-}
-
 /// A store of so many of a number's bytes, of a width that an access has, by a task.
-#[derive(Clone, Copy, Debug)]
+#[derive(Clone, Copy)]
 pub(crate) struct Put {
     pub(crate) task: u32,
     pub(crate) at: u64,
@@ -84,58 +80,31 @@ pub(crate) struct Put {
     pub(crate) value: u64,
 }
 
-impl Put {
-    pub(crate) fn make(
-        self,
-        alloc: Global,
-        space: &mut Space,
-        handed: &mut Handed,
-    ) -> Result<(), MemErr> {
-        let width = width_of(self.width);
-        space.store(alloc, handed, self.task, self.at, width, self.value)
-    }
+/// What a word is, of those that the tests store.
+#[derive(Clone, Copy, PartialEq, Eq)]
+pub(crate) enum Word {
+    Addi,
+    Sub,
+    Ecall,
+    Illegal,
+    Other,
+    Missing,
 }
 
-/// Task 1's store of a number.
-pub(crate) fn put_of(at: u64, width: u8, value: u64) -> Put {
-    Put {
-        task: 1,
-        at,
-        width,
-        value,
-    }
-}
-
-/// A task's reservation of so many bytes.
-pub(crate) fn reserved(task: u32, address: u64, width: u8) -> Reservation {
-    Reservation {
-        task,
-        address,
-        width,
-    }
-}
-
-/// Reserves that, and tells whether it was done.
-pub(crate) fn has_reserved(space: &mut Space, handed: &mut Handed, reserved: Reservation) -> bool {
-    let Reservation {
-        task,
-        address,
-        width,
-    } = reserved;
-    space.reserve(handed, task, address, width).is_ok()
-}
-
-/// Whether that was reserved, which it then isn't.
-pub(crate) fn take(space: &mut Space, handed: &mut Handed, reserved: Reservation) -> bool {
-    space.take(handed, reserved.task, reserved.address, reserved.width)
-}
-
-/// An address space and the areas in hand.
+/// An address space and the areas in hand, hints, two more spaces, and areas that aren't in hand.
 #[derive(Drop)]
 pub(crate) struct Guest {
     pub(crate) alloc: Global,
     pub(crate) space: Space,
     pub(crate) handed: Handed,
+    pub(crate) hints: Hints,
+    pub(crate) others: [Space; 2],
+    pub(crate) aside: Handed,
+}
+
+/// A space with that mapped.
+pub(crate) fn space_of(alloc: Global, rows: &[Mapped]) -> Result<Space, Fail> {
+    Ok(Space::of(alloc, areas_of(alloc, rows)?))
 }
 
 impl Guest {
@@ -145,36 +114,69 @@ impl Guest {
             alloc,
             space: Space::of(alloc, areas),
             handed: Handed::none(alloc),
+            hints: Hints::new(),
+            others: [
+                Space::of(alloc, Areas::new(alloc, 4096)),
+                Space::of(alloc, Areas::new(alloc, 4096)),
+            ],
+            aside: Handed::none(alloc),
         }
     }
 
     /// Hands an area in.
-    pub(crate) fn hand(&mut self, area: HandedArea) -> Result<(), Fail> {
+    pub(crate) fn hand(&mut self, area: HandedArea) -> Result<bool, Fail> {
         self.handed.push(area)?;
-        Ok(())
+        Ok(true)
     }
 
-    /// A child of its space.
-    pub(crate) fn child(&mut self) -> Result<Space, Fail> {
-        Ok(self.space.fork(self.alloc)?)
+    /// A child of its space is one of the others.
+    pub(crate) fn fork(&mut self, which: usize) -> Result<bool, Fail> {
+        let child = self.space.fork(self.alloc)?;
+        if which < 2 {
+            self.others[which] = child;
+        }
+        Ok(true)
+    }
+
+    /// One of the others ends: nothing is mapped in it.
+    pub(crate) fn end(&mut self, which: usize) -> Result<bool, Fail> {
+        if which < 2 {
+            self.others[which] = Space::of(self.alloc, Areas::new(self.alloc, 4096));
+        }
+        Ok(true)
+    }
+
+    /// Its space and one of the others change places.
+    pub(crate) fn turn(&mut self, which: usize) -> Result<bool, Fail> {
+        if which < 2 {
+            mem::swap(&mut self.others[which], &mut self.space);
+        }
+        Ok(true)
+    }
+
+    /// The areas in hand and those that aren't change places.
+    pub(crate) fn swap_areas(&mut self) -> Result<bool, Fail> {
+        mem::swap(&mut self.handed, &mut self.aside);
+        Ok(true)
     }
 
     pub(crate) fn map(
         &mut self,
         at: Option<u64>,
         length: u64,
-        rights: Rights,
+        bits: u8,
         backing: Backing,
     ) -> Result<u64, AreaErr> {
-        self.space.map(self.alloc, at, length, rights, backing)
+        self.space
+            .map(self.alloc, at, length, rights(bits), backing)
     }
 
     pub(crate) fn unmap(&mut self, at: u64, length: u64) -> Result<(), AreaErr> {
         self.space.unmap(at, length)
     }
 
-    pub(crate) fn protect(&mut self, at: u64, length: u64, rights: Rights) -> Result<(), AreaErr> {
-        self.space.protect(at, length, rights)
+    pub(crate) fn protect(&mut self, at: u64, length: u64, bits: u8) -> Result<(), AreaErr> {
+        self.space.protect(at, length, rights(bits))
     }
 
     /// Moves the break, and tells where it is then, unless memory is wanting.
@@ -182,13 +184,19 @@ impl Guest {
         self.space.brk(self.alloc, to).ok()
     }
 
-    pub(crate) fn load(&self, at: u64, width: u8) -> Result<u64, MemErr> {
-        load(&self.space, &self.handed, at, width)
+    /// How many pages are mapped.
+    pub(crate) fn pages(&self) -> u64 {
+        self.space.areas().len()
     }
 
-    /// A load of eight bytes in another space over the same areas.
-    pub(crate) fn load_of(&self, other: &Space, at: u64) -> Result<u64, MemErr> {
-        load(other, &self.handed, at, 8)
+    /// Whether a page has its bytes for itself.
+    pub(crate) fn is_own(&self, page: u64) -> bool {
+        self.space.areas().is_own(page)
+    }
+
+    /// A load of so many bytes, of a width that an access has.
+    pub(crate) fn load(&self, at: u64, width: u8) -> Result<u64, MemErr> {
+        self.space.load(&self.handed, at, width_of(width))
     }
 
     pub(crate) fn fetch(&self, at: u64) -> Result<u32, MemErr> {
@@ -196,11 +204,29 @@ impl Guest {
     }
 
     pub(crate) fn store(&mut self, put: Put) -> Result<(), MemErr> {
-        put.make(self.alloc, &mut self.space, &mut self.handed)
+        let Put {
+            task,
+            at,
+            width,
+            value,
+        } = put;
+        self.space.store(
+            self.alloc,
+            &mut self.handed,
+            task,
+            at,
+            width_of(width),
+            value,
+        )
     }
 
     pub(crate) fn writable(&mut self, at: u64, count: u8) -> Result<(), MemErr> {
         self.space.writable(self.alloc, &mut self.handed, at, count)
+    }
+
+    /// Whether a run of so many bytes may be accessed by a right.
+    pub(crate) fn allowed(&self, bits: u8, at: u64, count: usize) -> Result<(), MemErr> {
+        self.space.allowed(&self.handed, rights(bits), at, count)
     }
 
     /// Puts a run of bytes, by a task.
@@ -209,70 +235,105 @@ impl Guest {
             .write(self.alloc, &mut self.handed, task, at, bytes)
     }
 
+    /// Whether these bytes can be read.
+    pub(crate) fn has_bytes(&self, at: u64, bytes: &[u8]) -> Result<bool, Fail> {
+        let mut found = vec![in self.alloc; 0; bytes.len()]?;
+        let told = self.space.read(&self.handed, at, &mut found);
+        Ok(told.is_ok() && found.as_slice() == bytes)
+    }
+
     /// Reserves something, and tells whether it was done.
-    pub(crate) fn has_reserved(&mut self, reserved: Reservation) -> bool {
-        has_reserved(&mut self.space, &mut self.handed, reserved)
+    pub(crate) fn reserve(&mut self, task: u32, at: u64, width: u8) -> bool {
+        self.space
+            .reserve(&mut self.handed, task, at, width)
+            .is_ok()
     }
 
-    pub(crate) fn take(&mut self, reserved: Reservation) -> bool {
-        take(&mut self.space, &mut self.handed, reserved)
+    /// Whether something was reserved, which it then isn't.
+    pub(crate) fn take(&mut self, task: u32, at: u64, width: u8) -> bool {
+        self.space.take(&mut self.handed, task, at, width)
     }
 
-    /// That a load of so many bytes is answered so.
-    pub(crate) fn expect_load(
-        &self,
-        rt: &impl Abort,
-        at: u64,
-        width: u8,
-        expected: Result<u64, MemErr>,
-    ) {
-        expect_same(rt, self.load(at, width), expected, at);
+    /// How many reservations there are in an area in hand.
+    pub(crate) fn reservations(&self, name: Area) -> Option<usize> {
+        Some(self.handed.get(name)?.reservations.len())
     }
 
-    /// That a load of eight bytes in another space is answered so.
-    pub(crate) fn expect_load_of(
-        &self,
-        rt: &impl Abort,
-        other: &Space,
-        at: u64,
-        expected: Result<u64, MemErr>,
-    ) {
-        expect_same(rt, self.load_of(other, at), expected, at);
+    /// How many pages an area in hand has.
+    pub(crate) fn area_pages(&self, name: Area) -> Option<usize> {
+        Some(self.handed.get(name)?.frames.len())
     }
 
-    /// That a fetch is answered so.
-    pub(crate) fn expect_fetch(&self, rt: &impl Abort, at: u64, expected: Result<u32, MemErr>) {
-        expect_same(rt, self.fetch(at), expected, at);
+    /// A byte of the first page of an area in hand.
+    pub(crate) fn area_byte(&self, name: Area, offset: usize) -> Option<u8> {
+        self.handed.get(name)?.frames.byte(0, offset)
     }
 
-    /// That a store is answered so.
-    pub(crate) fn expect_store(&mut self, rt: &impl Abort, put: Put, expected: Result<(), MemErr>) {
-        expect_same(rt, self.store(put), expected, put.at);
+    /// A load by a hint.
+    pub(crate) fn load_near(&mut self, at: u64, width: u8) -> Option<u64> {
+        self.space.load_near(&mut self.hints, at, width_of(width))
     }
 
-    /// That the question whether so many bytes may be written is answered so.
-    pub(crate) fn expect_writable(
-        &mut self,
-        rt: &impl Abort,
-        at: u64,
-        count: u8,
-        expected: Result<(), MemErr>,
-    ) {
-        expect_same(rt, self.writable(at, count), expected, at);
+    /// A store by a hint.
+    pub(crate) fn store_near(&mut self, put: Put) -> bool {
+        let width = width_of(put.width);
+        self.space
+            .store_near(&mut self.hints, put.task, put.at, width, put.value)
     }
 
-    /// That the break is at an address once it was to move to another.
-    pub(crate) fn expect_break(&mut self, rt: &impl Abort, to: u64, at: u64) {
-        expect_same(rt, self.brk(to), Some(at), to);
+    /// A store-conditional by a hint.
+    pub(crate) fn conditional_near(&mut self, put: Put) -> Option<bool> {
+        let width = width_of(put.width);
+        self.space
+            .conditional_near(&mut self.hints, put.task, put.at, width, put.value)
     }
 
-    /// That something can be reserved.
-    pub(crate) fn expect_reserved(&mut self, rt: &impl Abort, reserved: Reservation) {
-        expect_same(rt, self.has_reserved(reserved), true, reserved.address);
+    pub(crate) fn decode(&mut self, page: u64) -> bool {
+        self.space.decode(self.alloc, page)
     }
 
-    /// That something is reserved, or not; then it isn't.
-    pub(crate) fn expect_taken(&mut self, rt: &impl Abort, reserved: Reservation, is_held: bool) {
-        expect_same(rt, self.take(reserved), is_held, reserved.address);
+    /// Whether the words of a page are there.
+    pub(crate) fn has_words(&self, page: u64) -> bool {
+        self.space.words(page).is_some()
+    }
+
+    /// How many of 200 pages from the page 256 on have their words there.
+    pub(crate) fn decoded(&self) -> u64 {
+        let mut count = 0u64;
+        for page in 256..456 {
+            if self.has_words(page) {
+                count = count.wrapping_add(1);
+            }
+        }
+        count
+    }
+
+    /// The instruction that a word of the page 256 is, where the page's words are there.
+    fn instr(&self, index: usize) -> Option<Instr> {
+        self.space.words(256)?.get(index).copied()
+    }
+
+    /// What it is.
+    pub(crate) fn word(&self, index: usize) -> Word {
+        match self.instr(index) {
+            Some(Instr::Addi { .. }) => Word::Addi,
+            Some(Instr::Sub { .. }) => Word::Sub,
+            Some(Instr::Ecall) => Word::Ecall,
+            Some(Instr::Illegal) => Word::Illegal,
+            Some(_) => Word::Other,
+            None => Word::Missing,
+        }
+    }
+
+    /// Takes the words of the page 256, decodes the page 320, which has their place, and puts the words back: whether
+    /// the first was without its words meanwhile, and the second could be decoded.
+    pub(crate) fn put_back(&mut self) -> bool {
+        let row = self.space.take_words(256);
+        let is_taken = self.space.words(256).is_none();
+        let is_decoded = self.space.decode(self.alloc, 320);
+        if let Some(row) = row {
+            self.space.put_words(256, row);
+        }
+        is_taken && is_decoded
     }
 }

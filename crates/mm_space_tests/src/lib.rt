@@ -17,6 +17,8 @@
 #[cfg(test)]
 mod accesses;
 #[cfg(test)]
+mod acts;
+#[cfg(test)]
 mod changes;
 #[cfg(test)]
 mod decoded;
@@ -40,8 +42,6 @@ mod reservations;
 mod run_fixture;
 #[cfg(test)]
 mod shared_areas;
-#[cfg(test)]
-mod spaces;
 #[cfg(test)]
 mod stores;
 #[cfg(test)]

@@ -10,14 +10,11 @@
 //! two pages, and `SHORT`, of one; `SECOND` isn't handed in. The tasks 1 and 2 have reserved the first page's last
 //! eight bytes, the task 3 the second page's first eight, and the task 4 the first eight at 0x1_4000.
 
-use crate::fixture::{FIRST, SECOND};
-use crate::guest::{Guest, area_of, map_range, reserved};
-use mm_areas::{Areas, Backing, Rights};
+use crate::guest::{FIRST, Guest, READ, SECOND, WRITE, area_of, map_range};
+use mm_areas::{Areas, Backing};
 use mm_frames::Frames;
-use mm_space::Space;
 use rv_table::{Area, MemErr};
 use std::alloc::Global;
-use std::process::Abort;
 use std::test::Fail;
 
 pub(crate) const THIRD: Area = Area { place: 3, index: 2 };
@@ -31,7 +28,7 @@ pub(crate) const LOW: u64 = 0xa8a7_a6a5_a4a3_a2a1;
 pub(crate) const HIGH: u64 = 0xb8b7_b6b5_b4b3_b2b1;
 
 /// What a page is.
-#[derive(Clone, Copy, Debug, PartialEq, Eq)]
+#[derive(Clone, Copy, PartialEq, Eq)]
 pub(crate) enum Side {
     Private,
     ReadOnly,
@@ -42,9 +39,15 @@ pub(crate) enum Side {
 /// A guest with two such pages.
 pub(crate) fn pair(alloc: Global, first: Side, second: Side) -> Result<Guest, Fail> {
     let mut guest = Guest::of(alloc, areas(alloc, first, second)?);
-    hand_areas(&mut guest)?;
-    if has_reserved_four(&mut guest) {
-        Ok(guest)
+    begin(&mut guest)?;
+    Ok(guest)
+}
+
+/// Hands the areas in, and has the four tasks reserve.
+fn begin(guest: &mut Guest) -> Result<(), Fail> {
+    hand_areas(guest)?;
+    if has_reserved_four(guest) {
+        Ok(())
     } else {
         Err(Fail::from("they reserve"))
     }
@@ -81,48 +84,10 @@ fn hand_areas(guest: &mut Guest) -> Result<(), Fail> {
 
 /// Whether the four tasks could reserve.
 fn has_reserved_four(guest: &mut Guest) -> bool {
-    guest.has_reserved(reserved(1, 0x1_0ff8, 8))
-        && guest.has_reserved(reserved(2, 0x1_0ff8, 8))
-        && guest.has_reserved(reserved(3, 0x1_1000, 8))
-        && guest.has_reserved(reserved(4, 0x1_4000, 8))
-}
-
-impl Guest {
-    /// The two pages' bytes are as expected where they meet, and zeros behind and before; those beside are zeros.
-    pub(crate) fn expect_bytes(
-        &self,
-        rt: &impl Abort,
-        first: Result<u64, MemErr>,
-        second: Result<u64, MemErr>,
-    ) {
-        self.expect_load(rt, 0x1_0ff8, 8, first);
-        self.expect_load(rt, 0x1_1000, 8, second);
-        self.expect_load(rt, 0x1_4000, 8, Ok(0));
-        self.expect_zeros(rt, first.is_ok(), 0x1_0ff0, 0x1_0000);
-        self.expect_zeros(rt, second.is_ok(), 0x1_1008, 0x1_1ff8);
-    }
-
-    /// That eight bytes at each of two addresses are zeros, if they may be read.
-    fn expect_zeros(&self, rt: &impl Abort, is_readable: bool, one: u64, other: u64) {
-        if is_readable {
-            self.expect_load(rt, one, 8, Ok(0));
-            self.expect_load(rt, other, 8, Ok(0));
-        }
-    }
-
-    /// Whether the tasks 1, 2 and 3 still have what they reserved, each as expected; the task 4 has.
-    pub(crate) fn expect_held(&mut self, rt: &impl Abort, held: [bool; 3]) {
-        self.expect_taken(rt, reserved(1, 0x1_0ff8, 8), held[0]);
-        self.expect_taken(rt, reserved(2, 0x1_0ff8, 8), held[1]);
-        self.expect_taken(rt, reserved(3, 0x1_1000, 8), held[2]);
-        self.expect_taken(rt, reserved(4, 0x1_4000, 8), true);
-    }
-
-    /// That another space over the same areas has those bytes where the pages meet.
-    pub(crate) fn expect_bytes_of(&self, rt: &impl Abort, other: &Space, first: u64, second: u64) {
-        self.expect_load_of(rt, other, 0x1_0ff8, Ok(first));
-        self.expect_load_of(rt, other, 0x1_1000, Ok(second));
-    }
+    guest.reserve(1, 0x1_0ff8, 8)
+        && guest.reserve(2, 0x1_0ff8, 8)
+        && guest.reserve(3, 0x1_1000, 8)
+        && guest.reserve(4, 0x1_4000, 8)
 }
 
 /// What the first page's last eight bytes are, before a store.
@@ -167,14 +132,13 @@ fn lay(
     length: u64,
     side: Side,
 ) -> Result<(), Fail> {
-    let both = Rights::READ | Rights::WRITE;
-    let (rights, backing) = match side {
-        Side::Private => (both, Backing::Zeros),
-        Side::ReadOnly => (Rights::READ, Backing::Zeros),
-        Side::Of(area) => (both, Backing::Of(area)),
+    let (bits, backing) = match side {
+        Side::Private => (READ | WRITE, Backing::Zeros),
+        Side::ReadOnly => (READ, Backing::Zeros),
+        Side::Of(area) => (READ | WRITE, Backing::Of(area)),
         Side::Missing => return unmap(areas, address, length),
     };
-    map_range(alloc, areas, (address, length, rights, backing))
+    map_range(alloc, areas, (address, length, bits, backing))
 }
 
 fn unmap(areas: &mut Areas, address: u64, length: u64) -> Result<(), Fail> {
@@ -186,7 +150,8 @@ fn unmap(areas: &mut Areas, address: u64, length: u64) -> Result<(), Fail> {
 /// 0xb8.
 fn hand(guest: &mut Guest, name: Area, pages: usize) -> Result<(), Fail> {
     let frames = frames(guest.alloc, pages)?;
-    guest.hand(area_of(guest.alloc, name, frames))
+    guest.hand(area_of(guest.alloc, name, frames))?;
+    Ok(())
 }
 
 fn frames(alloc: Global, pages: usize) -> Result<Frames, Fail> {

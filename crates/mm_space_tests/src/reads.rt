@@ -1,10 +1,10 @@
 //! Runs of bytes: whether all of them may be accessed, and what they are.
 
-use crate::fixture::{FIRST, SECOND};
-use crate::guest::{Guest, expect_same};
-use crate::run_fixture::{Hand, guest, pattern};
-use mm_areas::Rights;
-use rv_table::{Area, MemErr};
+use crate::acts::{Act, Begins, Case, begin, expect_cases};
+use crate::guest::{EXECUTE, FIRST, Guest, READ, SECOND, WRITE};
+use crate::run_fixture::{Hand, pattern};
+use rv_table::MemErr;
+use std::alloc::Global;
 use std::process::Abort;
 use std::test::Fail;
 
@@ -18,31 +18,30 @@ fn difference(at: u64, bytes: &[u8]) -> Option<usize> {
     None
 }
 
-/// What a run came to: whether it may be read, what reading it is answered, the first byte read that isn't the
-/// pattern's, and whether each byte is still what it was before.
-#[derive(Clone, Copy)]
-struct Told {
-    allowed: Result<(), MemErr>,
-    read: Result<(), MemErr>,
-    differs: Option<usize>,
-    is_untouched: bool,
+/// Whether each byte is still what it was before a run was read there.
+fn are_untouched(bytes: &[u8]) -> bool {
+    for byte in bytes {
+        if *byte != 0xee {
+            return false;
+        }
+    }
+    true
 }
 
-/// Reads a run of so many bytes.
-fn read(guest: &Guest, at: u64, count: usize) -> Result<Told, Fail> {
+/// Whether a run of so many bytes may be read, is answered so, and is then the pattern's, or untouched.
+fn reads_so(
+    guest: &Guest,
+    (at, count): (u64, usize),
+    told: Result<(), MemErr>,
+) -> Result<bool, Fail> {
     let mut buffer = vec![in guest.alloc; 0xee; count]?;
-    let allowed = allowed(guest, Rights::READ, at, count);
     let read = guest.space.read(&guest.handed, at, &mut buffer);
-    Ok(Told {
-        allowed,
-        read,
-        differs: difference(at, &buffer),
-        is_untouched: buffer.iter().all(|byte| *byte == 0xee),
-    })
-}
-
-fn allowed(guest: &Guest, right: Rights, at: u64, count: usize) -> Result<(), MemErr> {
-    guest.space.allowed(&guest.handed, right, at, count)
+    let is_so = if told.is_ok() {
+        difference(at, &buffer).is_none()
+    } else {
+        are_untouched(&buffer)
+    };
+    Ok(is_so && read == told && guest.allowed(READ, at, count) == told)
 }
 
 #[rattlefmt::skip]
@@ -55,23 +54,6 @@ const WHOLE: [(u64, usize); 27] = [
     (0x21_1000, 8192), (0x21_1fff, 2), (0x21_2fff, 1), (0x21_6000, 4096),
     (0x1f_f800, 65_536),
 ];
-
-/// That each of these runs may be read, and is the pattern's.
-fn expect_whole(rt: &impl Abort, guest: &Guest) -> Result<(), Fail> {
-    for &(at, count) in &WHOLE {
-        let told = read(guest, at, count)?;
-        expect_same(rt, told.allowed, Ok(()), at);
-        expect_same(rt, told.read, Ok(()), at);
-        expect_same(rt, told.differs, None, at);
-    }
-    Ok(())
-}
-
-#[test]
-fn a_run_is_the_bytes_that_lie_there_one_behind_another(rt: HostRuntime) -> Result<(), Fail> {
-    let guest = guest(rt.alloc(), Hand::Both)?;
-    expect_whole(&rt, &guest)
-}
 
 #[rattlefmt::skip]
 const REFUSED: [(u64, usize, MemErr); 17] = [
@@ -97,60 +79,82 @@ const REFUSED: [(u64, usize, MemErr); 17] = [
     (0x1f_efff, 2, MemErr::Fault { addr: 0x1f_efff }),
 ];
 
-/// That each of these runs is refused so.
-fn expect_refused(rt: &impl Abort, guest: &Guest) -> Result<(), Fail> {
-    for &(at, count, expected) in &REFUSED {
-        let told = read(guest, at, count)?;
-        expect_same(rt, told.allowed, Err(expected), at);
-        expect_same(rt, told.read, Err(expected), at);
-        expect_same(rt, told.is_untouched, true, at);
+#[rattlefmt::skip]
+const ASKED: [(u64, usize, MemErr); 2] = [
+    (0x1f_ffff, 0x1_2001, MemErr::Shared(SECOND)),
+    (0x20_0000, 0x1_2001, MemErr::Shared(FIRST)),
+];
+
+/// That each of these runs may be read, and is the pattern's.
+fn expect_whole(rt: &impl Abort, guest: &Guest, rows: &[(u64, usize)]) -> Result<(), Fail> {
+    for &(at, count) in rows {
+        assert!(rt; reads_so(guest, (at, count), Ok(()))?, "{count} at {at:x}");
     }
     Ok(())
 }
 
-#[test]
-fn a_run_that_is_refused_moves_nothing(rt: HostRuntime) -> Result<(), Fail> {
-    let guest = guest(rt.alloc(), Hand::First)?;
-    expect_refused(&rt, &guest)
-}
-
-/// That a run of 0x1_2001 bytes needs an area that isn't in hand.
-fn expect_asked(rt: &impl Abort, guest: &Guest, at: u64, area: Area) -> Result<(), Fail> {
-    let told = read(guest, at, 0x1_2001)?;
-    expect_same(rt, told.read, Err(MemErr::Shared(area)), at);
+/// That each of these runs is refused so.
+fn expect_refused(
+    rt: &impl Abort,
+    guest: &Guest,
+    rows: &[(u64, usize, MemErr)],
+) -> Result<(), Fail> {
+    for &(at, count, refusal) in rows {
+        assert!(rt;
+            reads_so(guest, (at, count), Err(refusal))?,
+            "{count} at {at:x}"
+        );
+    }
     Ok(())
 }
 
+fn expect_whole_of(rt: &impl Abort, alloc: Global, rows: &[(u64, usize)]) -> Result<(), Fail> {
+    let guest = begin(alloc, Begins::Runs(Hand::Both))?;
+    expect_whole(rt, &guest, rows)
+}
+
+fn expect_refused_of(
+    rt: &impl Abort,
+    alloc: Global,
+    hand: Hand,
+    rows: &[(u64, usize, MemErr)],
+) -> Result<(), Fail> {
+    let guest = begin(alloc, Begins::Runs(hand))?;
+    expect_refused(rt, &guest, rows)
+}
+
 #[test]
-fn of_two_areas_the_first_is_asked_for(rt: HostRuntime) -> Result<(), Fail> {
-    let guest = guest(rt.alloc(), Hand::Nothing)?;
-    expect_asked(&rt, &guest, 0x1f_ffff, SECOND)?;
-    expect_asked(&rt, &guest, 0x20_0000, FIRST)
+fn a_run_is_the_bytes_that_lie_there_one_behind_another(rt: HostRuntime) -> Result<(), Fail> {
+    expect_whole_of(&rt, rt.alloc(), &WHOLE)
 }
 
 #[rattlefmt::skip]
-const BY_RIGHT: [(Rights, u64, usize, Result<(), MemErr>); 9] = [
-    (Rights::WRITE, 0x20_0000, 65_536, Ok(())),
-    (Rights::WRITE, 0x21_6fff, 4097, Ok(())),
-    (Rights::WRITE, 0x21_7fff, 2, Err(MemErr::Shared(SECOND))),
-    (Rights::WRITE, 0x1f_ffff, 2, Err(MemErr::Fault { addr: 0x1f_ffff })),
-    (Rights::WRITE, 0x21_2fff, 2, Err(MemErr::Fault { addr: 0x21_3000 })),
-    (Rights::EXECUTE, 0x20_0000, 1, Err(MemErr::Fault { addr: 0x20_0000 })),
-    (Rights::EXECUTE, 0x20_0000, 0, Ok(())),
-    (Rights::READ, 0x21_4000, 0, Ok(())),
-    (Rights::READ, u64::MAX, 0, Ok(())),
+const BY_RIGHT: &[Act] = &[
+    Act::Allows(WRITE, 0x20_0000, 65_536, Ok(())),
+    Act::Allows(WRITE, 0x21_6fff, 4097, Ok(())),
+    Act::Allows(WRITE, 0x21_7fff, 2, Err(MemErr::Shared(SECOND))),
+    Act::Allows(WRITE, 0x1f_ffff, 2, Err(MemErr::Fault { addr: 0x1f_ffff })),
+    Act::Allows(WRITE, 0x21_2fff, 2, Err(MemErr::Fault { addr: 0x21_3000 })),
+    Act::Allows(EXECUTE, 0x20_0000, 1, Err(MemErr::Fault { addr: 0x20_0000 })),
+    Act::Allows(EXECUTE, 0x20_0000, 0, Ok(())),
+    Act::Allows(READ, 0x21_4000, 0, Ok(())),
+    Act::Allows(READ, u64::MAX, 0, Ok(())),
 ];
 
-/// That each of these questions is answered so.
-fn expect_by_right(rt: &impl Abort, guest: &Guest) {
-    for &(right, at, count, expected) in &BY_RIGHT {
-        expect_same(rt, allowed(guest, right, at, count), expected, at);
-    }
-}
+#[rattlefmt::skip]
+const CASES: [Case; 1] = [
+    Case {
+        name: "a_run_needs_the_right_that_is_asked",
+        begins: Begins::Runs(Hand::First),
+        acts: BY_RIGHT,
+    },
+];
 
 #[test]
-fn a_run_needs_the_right_that_is_asked(rt: HostRuntime) -> Result<(), Fail> {
-    let guest = guest(rt.alloc(), Hand::First)?;
-    expect_by_right(&rt, &guest);
-    Ok(())
+fn a_run_that_is_refused_moves_nothing_and_needs_the_right_and_the_first_area(
+    rt: HostRuntime,
+) -> Result<(), Fail> {
+    expect_refused_of(&rt, rt.alloc(), Hand::First, &REFUSED)?;
+    expect_refused_of(&rt, rt.alloc(), Hand::Nothing, &ASKED)?;
+    expect_cases(&rt, rt.alloc(), &CASES)
 }

@@ -1,15 +1,26 @@
 //! Reservations: which stores end them, and what a store-conditional is told.
 
-use crate::fixture::FIRST;
-use crate::guest::{Guest, Put, expect_same, has_reserved, reserved, take};
-use crate::pair::{Side, THIRD, pair};
-use crate::spaces::{Spaces, guest};
-use mm_space::Handed;
-use rv_atomic::Reservation;
-use rv_table::Area;
+use crate::acts::{Act, Begins, Case, begin, expect_cases};
+use crate::guest::{FIRST, Guest, Mapped, READ, SECOND, WRITE, space_of};
+use crate::pair::{Side, THIRD};
+use mm_areas::Backing;
 use std::alloc::Global;
 use std::process::Abort;
 use std::test::Fail;
+
+/// Six pages to be read and written: two private ones at 0x1_0000, and `FIRST`'s two at 0x4_0000 and once more at
+/// 0x7_0000.
+#[rattlefmt::skip]
+const SIX_PAGES: &[Mapped] = &[
+    (0x1_0000, 8192, READ | WRITE, Backing::Zeros),
+    (0x4_0000, 8192, READ | WRITE, Backing::Of(FIRST)),
+    (0x7_0000, 8192, READ | WRITE, Backing::Of(FIRST)),
+];
+
+pub(crate) const SPACE: Begins = Begins::With(SIX_PAGES);
+
+/// Both areas in hand.
+const HANDED: [Act; 2] = [Act::Hands(SECOND, 2, 0, 0), Act::Hands(FIRST, 2, 0, 0)];
 
 /// Stores about the granule of the eight bytes from 8 on: where each begins, of how many bytes, and whether another
 /// task's reservation of the granule stays.
@@ -53,82 +64,164 @@ const PAGES: [(u64, u64); 6] = [
     (0x7_1000, 0x7_1000),
 ];
 
-/// In private pages and in an area's, another task's store ends it or not as expected, from the other space in the area
-/// alone; the task's own ends none.
-fn expect_each_page(
+/// Another task's store ends a reservation or not, here, and from the other space where the page isn't private; the
+/// task's own ends none.
+fn expect_page(
     rt: &impl Abort,
-    spaces: &mut Spaces,
-    (from, count): (u8, u8),
-    (at, width): (u8, u8),
+    guest: &mut Guest,
+    (from, count): (u64, u8),
+    (at, width): (u64, u8),
     stays: bool,
-) {
-    for (page, stored) in PAGES {
-        let reserved = reserved(1, page + u64::from(from), count);
-        let put = Put {
-            task: 2,
-            at: stored + u64::from(at),
-            width,
-            value: 0,
-        };
-        let own = Put { task: 1, ..put };
-        let apart = page < 0x4_0000;
-        spaces.expect_here(rt, reserved, put, stays);
-        spaces.expect_there(rt, reserved, put, stays || apart);
-        spaces.expect_here(rt, reserved, own, true);
-    }
+) -> Result<(), Fail> {
+    let acts = [
+        Act::Reserves(1, from, count),
+        Act::Stores(2, at, width, 0, Ok(())),
+        Act::Takes(1, from, count, stays),
+        Act::Reserves(1, from, count),
+        Act::Turns(0),
+        Act::Stores(2, at, width, 0, Ok(())),
+        Act::Turns(0),
+        Act::Takes(1, from, count, stays || from < 0x4_0000),
+        Act::Reserves(1, from, count),
+        Act::Stores(1, at, width, 0, Ok(())),
+        Act::Takes(1, from, count, true),
+    ];
+    guest.expect(rt, "about a granule", &acts)
 }
 
-/// The same for each of these loads and stores.
-fn expect_about(rt: &impl Abort, spaces: &mut Spaces) {
-    for (at, width, stays) in ABOUT_A_GRANULE {
-        for reserved in WITHIN_A_GRANULE {
-            expect_each_page(rt, spaces, reserved, (at, width), stays);
-        }
+/// The same in private pages and in an area's.
+fn expect_each_page(
+    rt: &impl Abort,
+    guest: &mut Guest,
+    (from, count): (u8, u8),
+    (at, width, stays): (u8, u8, bool),
+    pages: &[(u64, u64)],
+) -> Result<(), Fail> {
+    for (page, stored) in pages {
+        let from = page.wrapping_add(u64::from(from));
+        let at = stored.wrapping_add(u64::from(at));
+        expect_page(rt, guest, (from, count), (at, width), stays)?;
     }
+    Ok(())
+}
+
+/// The same for each of these loads and a store.
+fn expect_each_load(
+    rt: &impl Abort,
+    guest: &mut Guest,
+    loads: &[(u8, u8)],
+    row: (u8, u8, bool),
+) -> Result<(), Fail> {
+    for reserved in loads {
+        expect_each_page(rt, guest, *reserved, row, &PAGES)?;
+    }
+    Ok(())
+}
+
+/// The same for each of these stores.
+fn expect_about(rt: &impl Abort, guest: &mut Guest, rows: &[(u8, u8, bool)]) -> Result<(), Fail> {
+    guest.expect(rt, "in hand", &HANDED)?;
+    for row in rows {
+        expect_each_load(rt, guest, &WITHIN_A_GRANULE, *row)?;
+    }
+    Ok(())
+}
+
+/// The same where both areas are in hand, and there is another space with the same pages.
+fn expect_about_both(rt: &impl Abort, alloc: Global, rows: &[(u8, u8, bool)]) -> Result<(), Fail> {
+    let other = space_of(alloc, SIX_PAGES)?;
+    let mut guest = begin(alloc, SPACE)?;
+    guest.others[0] = other;
+    expect_about(rt, &mut guest, rows)
 }
 
 #[test]
 fn another_tasks_store_to_any_byte_of_the_granule_ends_a_reservation(
     rt: HostRuntime,
 ) -> Result<(), Fail> {
-    let mut spaces = Spaces::of(rt.alloc())?;
-    expect_about(&rt, &mut spaces);
-    Ok(())
+    expect_about_both(&rt, rt.alloc(), &ABOUT_A_GRANULE)
 }
 
-/// Reserves on both sides of a page's end, and beside.
-fn reserve_about(rt: &impl Abort, guest: &mut Guest, base: u64) {
-    guest.expect_reserved(rt, reserved(1, base.wrapping_add(0xff8), 8));
-    guest.expect_reserved(rt, reserved(2, base.wrapping_add(0x1000), 4));
-    guest.expect_reserved(rt, reserved(3, base.wrapping_add(0xff0), 8));
-    guest.expect_reserved(rt, reserved(4, base.wrapping_add(0x1008), 8));
-}
+/// Reserves on both sides of a page's end, and beside; a store over that page's end ends those on both sides.
+#[rattlefmt::skip]
+const OVER_THE_END: &[Act] = &[
+    Act::Hands(SECOND, 2, 0, 0), Act::Hands(FIRST, 2, 0, 0),
+    Act::Reserves(1, 0x1_0ff8, 8), Act::Reserves(2, 0x1_1000, 4),
+    Act::Reserves(3, 0x1_0ff0, 8), Act::Reserves(4, 0x1_1008, 8),
+    Act::Stores(5, 0x1_0fff, 2, 0, Ok(())),
+    Act::Takes(1, 0x1_0ff8, 8, false), Act::Takes(2, 0x1_1000, 4, false),
+    Act::Takes(3, 0x1_0ff0, 8, true), Act::Takes(4, 0x1_1008, 8, true),
+    Act::Reserves(1, 0x4_0ff8, 8), Act::Reserves(2, 0x4_1000, 4),
+    Act::Reserves(3, 0x4_0ff0, 8), Act::Reserves(4, 0x4_1008, 8),
+    Act::Stores(5, 0x4_0fff, 2, 0, Ok(())),
+    Act::Takes(1, 0x4_0ff8, 8, false), Act::Takes(2, 0x4_1000, 4, false),
+    Act::Takes(3, 0x4_0ff0, 8, true), Act::Takes(4, 0x4_1008, 8, true),
+];
 
-/// That a store over that page's end ends those on both sides.
-fn expect_over_the_end(rt: &impl Abort, guest: &mut Guest, base: u64) {
-    reserve_about(rt, guest, base);
-    let put = Put {
-        task: 5,
-        at: base.wrapping_add(0xfff),
-        width: 2,
-        value: 0,
-    };
-    guest.expect_store(rt, put, Ok(()));
-    guest.expect_taken(rt, reserved(1, base.wrapping_add(0xff8), 8), false);
-    guest.expect_taken(rt, reserved(2, base.wrapping_add(0x1000), 4), false);
-    guest.expect_taken(rt, reserved(3, base.wrapping_add(0xff0), 8), true);
-    guest.expect_taken(rt, reserved(4, base.wrapping_add(0x1008), 8), true);
-}
+/// Tasks 1 and 2 in one space, in a private page; then task 1 here and task 2 in a child, in an area.
+#[rattlefmt::skip]
+const OF_TWO: &[Act] = &[
+    Act::Hands(SECOND, 2, 0, 0), Act::Hands(FIRST, 2, 0, 0),
+    Act::Forks(0),
+    Act::Reserves(1, 0x1_0008, 8), Act::Reserves(2, 0x1_0008, 8),
+    Act::Takes(2, 0x1_0008, 8, true), Act::Stores(2, 0x1_0008, 8, 7, Ok(())),
+    Act::Takes(1, 0x1_0008, 8, false),
+    Act::Reserves(1, 0x4_0008, 8),
+    Act::Turns(0), Act::Reserves(2, 0x4_0008, 8), Act::Turns(0),
+    Act::Takes(1, 0x4_0008, 8, true), Act::Stores(1, 0x4_0008, 8, 7, Ok(())),
+    Act::Turns(0), Act::Takes(2, 0x4_0008, 8, false),
+];
 
-#[test]
-fn a_store_over_a_pages_end_ends_the_reservations_on_both_sides(
-    rt: HostRuntime,
-) -> Result<(), Fail> {
-    let mut guest = guest(rt.alloc())?;
-    expect_over_the_end(&rt, &mut guest, 0x1_0000);
-    expect_over_the_end(&rt, &mut guest, 0x4_0000);
-    Ok(())
-}
+/// The child stores, and then reserves while its parent stores.
+#[rattlefmt::skip]
+const APART: &[Act] = &[
+    Act::Forks(0),
+    Act::Turns(0),
+    Act::Takes(1, 0x1_0ff8, 8, false),
+    Act::Stores(9, 0x1_0ff8, 8, 0, Ok(())), Act::Stores(9, 0x1_4000, 8, 0, Ok(())),
+    Act::Turns(0),
+    Act::Takes(1, 0x1_0ff8, 8, true), Act::Takes(2, 0x1_0ff8, 8, true),
+    Act::Takes(3, 0x1_1000, 8, true), Act::Takes(4, 0x1_4000, 8, true),
+    Act::Turns(0), Act::Reserves(9, 0x1_0ff8, 8), Act::Turns(0),
+    Act::Stores(1, 0x1_0ff8, 8, 0, Ok(())),
+    Act::Turns(0), Act::Takes(9, 0x1_0ff8, 8, true),
+];
+
+/// Reserves with the areas in hand and takes without them, and the other way round.
+#[rattlefmt::skip]
+const AT_BOTH_ENDS: &[Act] = &[
+    Act::Hands(SECOND, 2, 0, 0), Act::Hands(FIRST, 2, 0, 0),
+    Act::Reserves(1, 0x4_0008, 8),
+    Act::SwapsAreas, Act::Takes(1, 0x4_0008, 8, false), Act::SwapsAreas,
+    Act::Takes(1, 0x4_0008, 8, false),
+    Act::SwapsAreas, Act::Reserves(1, 0x4_0008, 8), Act::SwapsAreas,
+    Act::Takes(1, 0x4_0008, 8, false),
+    Act::SwapsAreas, Act::Reserves(1, 0x1_0008, 8), Act::Takes(1, 0x1_0008, 8, true),
+];
+
+#[rattlefmt::skip]
+const CASES: [Case; 4] = [
+    Case {
+        name: "a_store_over_a_pages_end_ends_the_reservations_on_both_sides",
+        begins: SPACE,
+        acts: OVER_THE_END,
+    },
+    Case {
+        name: "two_tasks_reserve_one_granule_and_the_first_to_store_wins",
+        begins: SPACE,
+        acts: OF_TWO,
+    },
+    Case {
+        name: "a_child_has_no_reservations_and_its_stores_end_none_of_its_parents",
+        begins: Begins::Pair(Side::Private, Side::Of(THIRD)),
+        acts: APART,
+    },
+    Case {
+        name: "a_reservation_in_an_area_counts_only_where_the_area_is_in_hand_at_both_ends",
+        begins: SPACE,
+        acts: AT_BOTH_ENDS,
+    },
+];
 
 /// What a store-conditional is told, once a load has reserved the eight bytes at 8: of which address and of how many
 /// bytes it is.
@@ -142,37 +235,34 @@ const CONDITIONALS: [(u64, u8, bool); 6] = [
 ];
 
 /// That a store-conditional is told that, from a base on.
-fn expect_told(rt: &impl Abort, guest: &mut Guest, base: u64, (at, width): (u64, u8), told: bool) {
+fn expect_told(
+    rt: &impl Abort,
+    guest: &mut Guest,
+    base: u64,
+    (at, width, told): (u64, u8, bool),
+) -> Result<(), Fail> {
     let at = base.wrapping_add(at);
     let held = base.wrapping_add(8);
-    guest.expect_reserved(rt, reserved(1, held, 8));
-    guest.expect_taken(rt, reserved(2, at, width), false);
-    guest.expect_taken(rt, reserved(1, at, width), told);
-    guest.expect_taken(rt, reserved(1, held, 8), false);
+    let acts = [
+        Act::Reserves(1, held, 8),
+        Act::Takes(2, at, width, false),
+        Act::Takes(1, at, width, told),
+        Act::Takes(1, held, 8, false),
+    ];
+    guest.expect(rt, "told", &acts)
 }
 
-fn expect_conditionals(rt: &impl Abort, guest: &mut Guest) {
-    for (at, width, told) in CONDITIONALS {
-        for base in [0x1_0000, 0x4_0000, 0x7_1000] {
-            expect_told(rt, guest, base, (at, width), told);
-        }
-    }
-}
-
-/// That so many reservations are left in an area.
-fn expect_left(rt: &impl Abort, handed: &Handed, name: Area, count: usize) {
-    let left = handed.get(name).map(|area| area.reservations.len());
-    expect_same(rt, left, Some(count), u64::from(name.index));
-}
-
-#[test]
-fn a_reservation_is_of_just_its_address_and_width_and_serves_once(
-    rt: HostRuntime,
+/// That a reservation is of just its address and width, and serves once.
+fn expect_each_told(
+    rt: &impl Abort,
+    guest: &mut Guest,
+    base: u64,
+    rows: &[(u64, u8, bool)],
 ) -> Result<(), Fail> {
-    let mut guest = guest(rt.alloc())?;
-    expect_conditionals(&rt, &mut guest);
-    expect_left(&rt, &guest.handed, FIRST, 0);
-    Ok(())
+    for row in rows {
+        expect_told(rt, guest, base, *row)?;
+    }
+    guest.expect(rt, "none left", &[Act::Left(FIRST, 0)])
 }
 
 /// Two loads that reserve one after the other, in private pages and in an area.
@@ -188,143 +278,53 @@ const IN_TURN: [(u64, u64); 9] = [
     (0x4_0ff8, 0x4_1000),
 ];
 
-/// Reserves four bytes at each of some addresses in turn, by task 1.
-fn reserve_in_turn(rt: &impl Abort, guest: &mut Guest, places: &[u64]) {
-    for at in places {
-        guest.expect_reserved(rt, reserved(1, *at, 4));
-    }
-}
-
 /// That the last of two, and of three, counts.
-fn expect_last(rt: &impl Abort, guest: &mut Guest, (first, second): (u64, u64)) {
-    reserve_in_turn(rt, guest, &[first, second]);
-    guest.expect_taken(rt, reserved(1, first, 4), false);
-    reserve_in_turn(rt, guest, &[first, second]);
-    guest.expect_taken(rt, reserved(1, second, 4), true);
-    reserve_in_turn(rt, guest, &[first, second, first]);
-    guest.expect_taken(rt, reserved(1, first, 4), true);
-}
-
-fn expect_each_last(rt: &impl Abort, guest: &mut Guest) {
-    for places in IN_TURN {
-        expect_last(rt, guest, places);
-    }
-}
-
-#[test]
-fn a_second_reservation_stands_in_the_place_of_the_first(rt: HostRuntime) -> Result<(), Fail> {
-    let mut guest = guest(rt.alloc())?;
-    expect_each_last(&rt, &mut guest);
-    Ok(())
-}
-
-/// A task's store of eight bytes.
-fn put_of(task: u32, at: u64, value: u64) -> Put {
-    Put {
-        task,
-        at,
-        width: 8,
-        value,
-    }
-}
-
-/// Tasks 1 and 2 in one space, in a private page.
-fn expect_first_of_two(rt: &impl Abort, guest: &mut Guest) {
-    guest.expect_reserved(rt, reserved(1, 0x1_0008, 8));
-    guest.expect_reserved(rt, reserved(2, 0x1_0008, 8));
-    guest.expect_taken(rt, reserved(2, 0x1_0008, 8), true);
-    guest.expect_store(rt, put_of(2, 0x1_0008, 7), Ok(()));
-    guest.expect_taken(rt, reserved(1, 0x1_0008, 8), false);
-}
-
-/// Task 1 here and task 2 there, in an area.
-fn expect_first_of_both(rt: &impl Abort, spaces: &mut Spaces) {
-    spaces.guest.expect_reserved(rt, reserved(1, 0x4_0008, 8));
-    spaces.expect_reserved_there(rt, reserved(2, 0x4_0008, 8));
-    spaces
-        .guest
-        .expect_taken(rt, reserved(1, 0x4_0008, 8), true);
-    let put = put_of(1, 0x4_0008, 7);
-    spaces.guest.expect_store(rt, put, Ok(()));
-    spaces.expect_taken_there(rt, reserved(2, 0x4_0008, 8), false);
-}
-
-#[test]
-fn two_tasks_reserve_one_granule_and_the_first_to_store_wins(rt: HostRuntime) -> Result<(), Fail> {
-    let mut spaces = Spaces::forked(rt.alloc())?;
-    expect_first_of_two(&rt, &mut spaces.guest);
-    expect_first_of_both(&rt, &mut spaces);
-    Ok(())
-}
-
-/// Two pages, and a child.
-fn pair_and_child(alloc: Global) -> Result<Spaces, Fail> {
-    let mut guest = pair(alloc, Side::Private, Side::Of(THIRD))?;
-    let other = guest.child()?;
-    Ok(Spaces { guest, other })
-}
-
-/// The child stores, and then reserves while its parent stores.
-fn expect_apart(rt: &impl Abort, spaces: &mut Spaces) {
-    spaces.expect_taken_there(rt, reserved(1, 0x1_0ff8, 8), false);
-    spaces.expect_store_there(rt, put_of(9, 0x1_0ff8, 0));
-    spaces.expect_store_there(rt, put_of(9, 0x1_4000, 0));
-    spaces.guest.expect_held(rt, [true, true, true]);
-    spaces.expect_reserved_there(rt, reserved(9, 0x1_0ff8, 8));
-    let put = put_of(1, 0x1_0ff8, 0);
-    spaces.guest.expect_store(rt, put, Ok(()));
-    spaces.expect_taken_there(rt, reserved(9, 0x1_0ff8, 8), true);
-}
-
-#[test]
-fn a_child_has_no_reservations_and_its_stores_end_none_of_its_parents(
-    rt: HostRuntime,
-) -> Result<(), Fail> {
-    let mut spaces = pair_and_child(rt.alloc())?;
-    expect_apart(&rt, &mut spaces);
-    Ok(())
-}
-
-/// That something is reserved, or not, where no area is in hand.
-fn expect_taken_without(
+fn expect_last(
     rt: &impl Abort,
     guest: &mut Guest,
-    none: &mut Handed,
-    reserved: Reservation,
-    is_held: bool,
-) {
-    let told = take(&mut guest.space, none, reserved);
-    expect_same(rt, told, is_held, reserved.address);
+    (first, second): (u64, u64),
+) -> Result<(), Fail> {
+    let acts = [
+        Act::Reserves(1, first, 4),
+        Act::Reserves(1, second, 4),
+        Act::Takes(1, first, 4, false),
+        Act::Reserves(1, first, 4),
+        Act::Reserves(1, second, 4),
+        Act::Takes(1, second, 4, true),
+        Act::Reserves(1, first, 4),
+        Act::Reserves(1, second, 4),
+        Act::Reserves(1, first, 4),
+        Act::Takes(1, first, 4, true),
+    ];
+    guest.expect(rt, "in turn", &acts)
 }
 
-/// That something can be reserved where no area is in hand.
-fn expect_reserved_without(
-    rt: &impl Abort,
-    guest: &mut Guest,
-    none: &mut Handed,
-    reserved: Reservation,
-) {
-    let told = has_reserved(&mut guest.space, none, reserved);
-    expect_same(rt, told, true, reserved.address);
+/// That a second reservation stands in the place of the first.
+fn expect_each_last(rt: &impl Abort, guest: &mut Guest, rows: &[(u64, u64)]) -> Result<(), Fail> {
+    for places in rows {
+        expect_last(rt, guest, *places)?;
+    }
+    Ok(())
 }
 
-/// Reserves with the areas in hand and takes without them, and the other way round.
-fn expect_in_hand(rt: &impl Abort, guest: &mut Guest, none: &mut Handed) {
-    guest.expect_reserved(rt, reserved(1, 0x4_0008, 8));
-    expect_taken_without(rt, guest, none, reserved(1, 0x4_0008, 8), false);
-    guest.expect_taken(rt, reserved(1, 0x4_0008, 8), false);
-    expect_reserved_without(rt, guest, none, reserved(1, 0x4_0008, 8));
-    guest.expect_taken(rt, reserved(1, 0x4_0008, 8), false);
-    expect_reserved_without(rt, guest, none, reserved(1, 0x1_0008, 8));
-    expect_taken_without(rt, guest, none, reserved(1, 0x1_0008, 8), true);
+/// All of it, in private pages and in an area's.
+fn expect_each(rt: &impl Abort, guest: &mut Guest) -> Result<(), Fail> {
+    guest.expect(rt, "in hand", &HANDED)?;
+    expect_each_told(rt, guest, 0x1_0000, &CONDITIONALS)?;
+    expect_each_told(rt, guest, 0x4_0000, &CONDITIONALS)?;
+    expect_each_told(rt, guest, 0x7_1000, &CONDITIONALS)?;
+    expect_each_last(rt, guest, &IN_TURN)
+}
+
+fn expect_of_six(rt: &impl Abort, alloc: Global) -> Result<(), Fail> {
+    let mut guest = begin(alloc, SPACE)?;
+    expect_each(rt, &mut guest)
 }
 
 #[test]
-fn a_reservation_in_an_area_counts_only_where_the_area_is_in_hand_at_both_ends(
+fn a_reservation_is_of_just_its_address_and_width_serves_once_and_ends_by_others_stores(
     rt: HostRuntime,
 ) -> Result<(), Fail> {
-    let mut guest = guest(rt.alloc())?;
-    let mut none = Handed::none(rt.alloc());
-    expect_in_hand(&rt, &mut guest, &mut none);
-    Ok(())
+    expect_cases(&rt, rt.alloc(), &CASES)?;
+    expect_of_six(&rt, rt.alloc())
 }

@@ -12,9 +12,8 @@
 //! | 21_8000 to 21_8fff | read, write | the page 0 of `SECOND` |
 //! | 21_9000 to 21_9fff | read, write | the page 0 of `SECOND` once more |
 
-use crate::fixture::{FIRST, SECOND};
-use crate::guest::{Guest, area_of, areas_of};
-use mm_areas::{Areas, Backing, Rights};
+use crate::guest::{FIRST, Guest, Mapped, READ, SECOND, WRITE, area_of, areas_of};
+use mm_areas::{Areas, Backing};
 use mm_frames::Frames;
 use rv_table::Area;
 use std::alloc::Global;
@@ -45,22 +44,17 @@ fn fill(alloc: Global, areas: &mut Areas, page: u64) -> Result<(), Fail> {
 }
 
 /// What is mapped.
-fn mapped(alloc: Global) -> Result<Areas, Fail> {
-    let both = Rights::READ | Rights::WRITE;
-    areas_of(
-        alloc,
-        &[
-            (0x1f_f000, 4096, Rights::READ, Backing::Of(SECOND)),
-            (0x20_0000, 0x1_1000, both, Backing::Zeros),
-            (0x21_1000, 0x3000, both, Backing::Of(FIRST)),
-            (0x21_5000, 4096, both, Backing::Of(SECOND)),
-            (0x21_6000, 4096, both, Backing::Zeros),
-            (0x21_7000, 4096, Rights::WRITE, Backing::Zeros),
-            (0x21_8000, 4096, both, Backing::Of(SECOND)),
-            (0x21_9000, 4096, both, Backing::Of(SECOND)),
-        ],
-    )
-}
+#[rattlefmt::skip]
+const MAPPED: [Mapped; 8] = [
+    (0x1f_f000, 4096, READ, Backing::Of(SECOND)),
+    (0x20_0000, 0x1_1000, READ | WRITE, Backing::Zeros),
+    (0x21_1000, 0x3000, READ | WRITE, Backing::Of(FIRST)),
+    (0x21_5000, 4096, READ | WRITE, Backing::Of(SECOND)),
+    (0x21_6000, 4096, READ | WRITE, Backing::Zeros),
+    (0x21_7000, 4096, WRITE, Backing::Zeros),
+    (0x21_8000, 4096, READ | WRITE, Backing::Of(SECOND)),
+    (0x21_9000, 4096, READ | WRITE, Backing::Of(SECOND)),
+];
 
 /// Puts the pattern into each private page.
 fn fill_each(alloc: Global, areas: &mut Areas) -> Result<(), Fail> {
@@ -72,7 +66,7 @@ fn fill_each(alloc: Global, areas: &mut Areas) -> Result<(), Fail> {
 }
 
 /// Which areas are in hand.
-#[derive(Clone, Copy, Debug, PartialEq, Eq)]
+#[derive(Clone, Copy, PartialEq, Eq)]
 pub(crate) enum Hand {
     Nothing,
     First,
@@ -80,8 +74,8 @@ pub(crate) enum Hand {
 }
 
 /// A guest with that space, and these areas in hand.
-pub(crate) fn guest(alloc: Global, hand: Hand) -> Result<Guest, Fail> {
-    let mut areas = mapped(alloc)?;
+pub(crate) fn run_guest(alloc: Global, hand: Hand) -> Result<Guest, Fail> {
+    let mut areas = areas_of(alloc, &MAPPED)?;
     fill_each(alloc, &mut areas)?;
     let mut guest = Guest::of(alloc, areas);
     hand_in(&mut guest, hand)?;
@@ -101,7 +95,8 @@ fn hand_in(guest: &mut Guest, hand: Hand) -> Result<(), Fail> {
 /// Hands in an area of so many pages with the pattern from an address on.
 fn hand_area(guest: &mut Guest, name: Area, pages: usize, at: u64) -> Result<(), Fail> {
     let frames = frames(guest.alloc, pages, at)?;
-    guest.hand(area_of(guest.alloc, name, frames))
+    guest.hand(area_of(guest.alloc, name, frames))?;
+    Ok(())
 }
 
 fn frames(alloc: Global, pages: usize, at: u64) -> Result<Frames, Fail> {

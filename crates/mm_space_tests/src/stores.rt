@@ -1,9 +1,8 @@
 //! Stores, over the end of a page and within one, and whether they may be made.
 
-use crate::fixture::{FIRST, SECOND};
-use crate::guest::{Guest, Put, expect_same, put_of};
+use crate::acts::{Act, Begins, Case, expect_cases};
+use crate::guest::{FIRST, Guest, SECOND};
 use crate::pair::{HIGH, LOW, SHORT, Side, THIRD, first_bytes, pair, second_bytes};
-use mm_space::Space;
 use rv_table::MemErr;
 use std::alloc::Global;
 use std::process::Abort;
@@ -15,8 +14,9 @@ const VALUE: u64 = 0x8877_6655_4433_2211;
 /// The two pages of a guest.
 type Sides = (Side, Side);
 
-/// A store, and the last eight bytes of the first page and the first eight of the second after it.
-type Stored = (Put, u64, u64);
+/// A store of task 1: where, of how many bytes of which number; and the last eight bytes of the first page and the
+/// first eight of the second after it.
+type Stored = (u64, u8, u64, u64, u64);
 
 /// Each store over the end of the first page, with that page's last eight bytes and the second's first eight after it.
 #[rattlefmt::skip]
@@ -44,22 +44,82 @@ const WRITABLE: [Sides; 6] = [
     (Side::Of(SHORT), Side::Of(THIRD)),
 ];
 
-#[test]
-fn a_store_over_a_pages_end_puts_its_bytes_on_both_pages_lowest_first(
-    rt: HostRuntime,
+/// The two pages' bytes are as expected where they meet, and zeros behind and before; those beside are zeros.
+fn expect_bytes(
+    rt: &impl Abort,
+    guest: &mut Guest,
+    first: Result<u64, MemErr>,
+    second: Result<u64, MemErr>,
 ) -> Result<(), Fail> {
-    for sides in WRITABLE {
-        each_puts_its_bytes(&rt, rt.alloc(), sides)?;
-    }
-    Ok(())
+    let acts = [
+        Act::Loads(0x1_0ff8, 8, first),
+        Act::Loads(0x1_1000, 8, second),
+        Act::Loads(0x1_4000, 8, Ok(0)),
+    ];
+    guest.expect(rt, "where the pages meet", &acts)?;
+    expect_zeros(rt, guest, first.is_ok(), (0x1_0ff0, 0x1_0000))?;
+    expect_zeros(rt, guest, second.is_ok(), (0x1_1008, 0x1_1ff8))
 }
 
-fn each_puts_its_bytes(rt: &impl Abort, alloc: Global, sides: Sides) -> Result<(), Fail> {
-    for (at, width, low, high) in OVER_THE_END {
-        let stored = (put_of(at, width, VALUE), low, high);
-        expect_put(rt, alloc, sides, stored)?;
+/// That eight bytes at each of two addresses are zeros, if they may be read.
+fn expect_zeros(
+    rt: &impl Abort,
+    guest: &mut Guest,
+    is_readable: bool,
+    (one, other): (u64, u64),
+) -> Result<(), Fail> {
+    if !is_readable {
+        return Ok(());
     }
-    Ok(())
+    guest.expect(
+        rt,
+        "zeros",
+        &[Act::Loads(one, 8, Ok(0)), Act::Loads(other, 8, Ok(0))],
+    )
+}
+
+/// Whether the tasks 1, 2 and 3 still have what they reserved, each as expected; the task 4 has.
+fn expect_held(
+    rt: &impl Abort,
+    guest: &mut Guest,
+    [first, second, third]: [bool; 3],
+) -> Result<(), Fail> {
+    let acts = [
+        Act::Takes(1, 0x1_0ff8, 8, first),
+        Act::Takes(2, 0x1_0ff8, 8, second),
+        Act::Takes(3, 0x1_1000, 8, third),
+        Act::Takes(4, 0x1_4000, 8, true),
+    ];
+    guest.expect(rt, "held", &acts)
+}
+
+/// That a store is made, the pages then have those bytes, and the tasks those reservations.
+fn expect_stored(
+    rt: &impl Abort,
+    guest: &mut Guest,
+    (at, width, value, low, high): Stored,
+    held: [bool; 3],
+) -> Result<(), Fail> {
+    guest.expect(rt, "stored", &[Act::Stores(1, at, width, value, Ok(()))])?;
+    expect_bytes(rt, guest, Ok(low), Ok(high))?;
+    expect_held(rt, guest, held)
+}
+
+/// That a child's private pages stay as they were, and others have those bytes.
+fn expect_child(
+    rt: &impl Abort,
+    guest: &mut Guest,
+    (first, second): Sides,
+    (low, high): (u64, u64),
+) -> Result<(), Fail> {
+    let first = if first == Side::Private { LOW } else { low };
+    let second = if second == Side::Private { HIGH } else { high };
+    let acts = [
+        Act::Turns(0),
+        Act::Loads(0x1_0ff8, 8, Ok(first)),
+        Act::Loads(0x1_1000, 8, Ok(second)),
+    ];
+    guest.expect(rt, "a child", &acts)
 }
 
 /// That a store over the end is made, and ends the reservations that it meets.
@@ -67,13 +127,82 @@ fn expect_put(
     rt: &impl Abort,
     alloc: Global,
     (first, second): Sides,
-    (put, low, high): Stored,
+    (at, width, low, high): (u64, u8, u64, u64),
 ) -> Result<(), Fail> {
     let mut guest = pair(alloc, first, second)?;
-    guest.expect_store(rt, put, Ok(()));
-    guest.expect_bytes(rt, Ok(low), Ok(high));
-    guest.expect_held(rt, [true, false, false]);
+    expect_stored(
+        rt,
+        &mut guest,
+        (at, width, VALUE, low, high),
+        [true, false, false],
+    )
+}
+
+/// That a store may be made, which then has the bytes of both pages for itself, if they are private.
+fn expect_own_then(
+    rt: &impl Abort,
+    guest: &mut Guest,
+    (first, second): Sides,
+    (at, width, low, high): (u64, u8, u64, u64),
+) -> Result<(), Fail> {
+    let acts = [
+        Act::Forks(0),
+        Act::Owns(16, false),
+        Act::Owns(17, false),
+        Act::Asks(at, width, Ok(())),
+        Act::Owns(16, first == Side::Private),
+        Act::Owns(17, second == Side::Private),
+        Act::Turns(0),
+        Act::Owns(16, false),
+        Act::Owns(17, false),
+        Act::Turns(0),
+    ];
+    guest.expect(rt, "asked", &acts)?;
+    expect_bytes(rt, guest, Ok(LOW), Ok(HIGH))?;
+    expect_held(rt, guest, [true, true, true])?;
+    guest.expect(rt, "stored", &[Act::Stores(1, at, width, VALUE, Ok(()))])?;
+    expect_bytes(rt, guest, Ok(low), Ok(high))?;
+    expect_child(rt, guest, (first, second), (low, high))
+}
+
+fn expect_own_of(
+    rt: &impl Abort,
+    alloc: Global,
+    sides: Sides,
+    row: (u64, u8, u64, u64),
+) -> Result<(), Fail> {
+    let mut guest = pair(alloc, sides.0, sides.1)?;
+    expect_own_then(rt, &mut guest, sides, row)
+}
+
+/// Each of these stores.
+fn expect_each_put(
+    rt: &impl Abort,
+    alloc: Global,
+    sides: Sides,
+    rows: &[(u64, u8, u64, u64)],
+) -> Result<(), Fail> {
+    for row in rows {
+        expect_put(rt, alloc, sides, *row)?;
+        expect_own_of(rt, alloc, sides, *row)?;
+    }
     Ok(())
+}
+
+/// The same on each of these pairs; and stores within a page.
+fn expect_writable(rt: &impl Abort, alloc: Global, pairs: &[Sides]) -> Result<(), Fail> {
+    for sides in pairs {
+        expect_each_put(rt, alloc, *sides, &OVER_THE_END)?;
+        expect_each_within(rt, alloc, *sides, &WITHIN)?;
+    }
+    Ok(())
+}
+
+#[test]
+fn a_store_puts_its_bytes_lowest_first_over_a_pages_end_too_and_leaves_the_bytes_beside(
+    rt: HostRuntime,
+) -> Result<(), Fail> {
+    expect_writable(&rt, rt.alloc(), &WRITABLE)
 }
 
 /// Pairs of which the second page may not be written, or lies in an area that isn't handed in, with what is answered.
@@ -96,16 +225,6 @@ const REFUSED: [(Side, Side, MemErr); 15] = [
     (Side::Of(SECOND), Side::Of(SECOND), MemErr::Shared(SECOND)),
 ];
 
-#[test]
-fn where_the_second_page_may_not_be_written_its_first_byte_is_the_fault_and_nothing_changes(
-    rt: HostRuntime,
-) -> Result<(), Fail> {
-    for (first, second, refusal) in REFUSED {
-        each_is_refused(&rt, rt.alloc(), (first, second), Some(refusal))?;
-    }
-    Ok(())
-}
-
 /// Pairs of which the first page may not be written.
 const BARRED: [Sides; 6] = [
     (Side::Missing, Side::Private),
@@ -116,121 +235,82 @@ const BARRED: [Sides; 6] = [
     (Side::ReadOnly, Side::Of(SECOND)),
 ];
 
-#[test]
-fn where_the_first_page_may_not_be_written_the_stores_address_is_the_fault_and_nothing_changes(
-    rt: HostRuntime,
+/// That a store is refused so, and the question, and nothing changes.
+fn expect_refused(
+    rt: &impl Abort,
+    guest: &mut Guest,
+    (first, second): Sides,
+    (at, width): (u64, u8),
+    refusal: MemErr,
 ) -> Result<(), Fail> {
-    for sides in BARRED {
-        each_is_refused(&rt, rt.alloc(), sides, None)?;
-    }
-    Ok(())
+    guest.expect(rt, "asked", &[Act::Asks(at, width, Err(refusal))])?;
+    expect_bytes(rt, guest, first_bytes(first), second_bytes(second))?;
+    guest.expect(
+        rt,
+        "stored",
+        &[Act::Stores(1, at, width, VALUE, Err(refusal))],
+    )?;
+    expect_bytes(rt, guest, first_bytes(first), second_bytes(second))?;
+    let (one, other) = (first != Side::Of(SECOND), second != Side::Of(SECOND));
+    expect_held(rt, guest, [one, one, other])
+}
+
+fn expect_refused_of(
+    rt: &impl Abort,
+    alloc: Global,
+    sides: Sides,
+    place: (u64, u8),
+    refusal: MemErr,
+) -> Result<(), Fail> {
+    let mut guest = pair(alloc, sides.0, sides.1)?;
+    expect_refused(rt, &mut guest, sides, place, refusal)
 }
 
 /// Stores over the end are refused, with a fault where they begin if no answer is given, and so is the question.
-fn each_is_refused(
+fn expect_each_refused(
     rt: &impl Abort,
     alloc: Global,
     sides: Sides,
     refusal: Option<MemErr>,
+    rows: &[(u64, u8, u64, u64)],
 ) -> Result<(), Fail> {
-    for (at, width, _, _) in OVER_THE_END {
+    for &(at, width, _, _) in rows {
         let refusal = refusal.unwrap_or(MemErr::Fault { addr: at });
-        expect_refused(rt, alloc, sides, put_of(at, width, VALUE), refusal)?;
+        expect_refused_of(rt, alloc, sides, (at, width), refusal)?;
     }
     Ok(())
 }
 
-/// That a store is refused so, and the question, and nothing changes.
-fn expect_refused(
+/// That on each of these pairs each store is refused.
+fn expect_second(
     rt: &impl Abort,
     alloc: Global,
-    (first, second): Sides,
-    put: Put,
-    refusal: MemErr,
+    rows: &[(Side, Side, MemErr)],
 ) -> Result<(), Fail> {
-    let mut guest = pair(alloc, first, second)?;
-    guest.expect_writable(rt, put.at, put.width, Err(refusal));
-    guest.expect_bytes(rt, first_bytes(first), second_bytes(second));
-    guest.expect_store(rt, put, Err(refusal));
-    guest.expect_bytes(rt, first_bytes(first), second_bytes(second));
-    let (one, other) = (first != Side::Of(SECOND), second != Side::Of(SECOND));
-    guest.expect_held(rt, [one, one, other]);
+    for &(first, second, refusal) in rows {
+        expect_each_refused(rt, alloc, (first, second), Some(refusal), &OVER_THE_END)?;
+    }
+    Ok(())
+}
+
+fn expect_first(rt: &impl Abort, alloc: Global, pairs: &[Sides]) -> Result<(), Fail> {
+    for sides in pairs {
+        expect_each_refused(rt, alloc, *sides, None, &OVER_THE_END)?;
+    }
     Ok(())
 }
 
 #[test]
-fn what_may_be_written_has_its_bytes_for_itself_once_that_was_asked(
+fn where_a_page_may_not_be_written_its_first_byte_is_the_fault_and_nothing_changes(
     rt: HostRuntime,
 ) -> Result<(), Fail> {
-    for sides in WRITABLE {
-        each_may_be_written(&rt, rt.alloc(), sides)?;
-    }
-    Ok(())
-}
-
-fn each_may_be_written(rt: &impl Abort, alloc: Global, sides: Sides) -> Result<(), Fail> {
-    for (at, width, low, high) in OVER_THE_END {
-        let stored = (put_of(at, width, VALUE), low, high);
-        expect_own_then(rt, alloc, sides, stored)?;
-    }
-    Ok(())
-}
-
-/// That a space has the bytes of the first page for itself, or not, and those of the second.
-fn expect_own(rt: &impl Abort, space: &Space, (first, second): (bool, bool)) {
-    expect_same(rt, space.areas().is_own(16), first, 16);
-    expect_same(rt, space.areas().is_own(17), second, 17);
-}
-
-/// That a store may be made, which then has the bytes of both pages for itself, if they are private.
-fn expect_own_then(
-    rt: &impl Abort,
-    alloc: Global,
-    (first, second): Sides,
-    stored: Stored,
-) -> Result<(), Fail> {
-    let mut guest = pair(alloc, first, second)?;
-    let child = guest.child()?;
-    let private = (first == Side::Private, second == Side::Private);
-    expect_asked(rt, &mut guest, &child, private, stored.0);
-    expect_stored_beside(rt, &mut guest, &child, private, stored);
-    Ok(())
-}
-
-/// Asks for it.
-fn expect_asked(
-    rt: &impl Abort,
-    guest: &mut Guest,
-    child: &Space,
-    private: (bool, bool),
-    put: Put,
-) {
-    expect_own(rt, &guest.space, (false, false));
-    guest.expect_writable(rt, put.at, put.width, Ok(()));
-    expect_own(rt, &guest.space, private);
-    expect_own(rt, child, (false, false));
-    guest.expect_bytes(rt, Ok(LOW), Ok(HIGH));
-    guest.expect_held(rt, [true, true, true]);
-}
-
-/// Makes it: a child's private pages stay as they were.
-fn expect_stored_beside(
-    rt: &impl Abort,
-    guest: &mut Guest,
-    child: &Space,
-    private: (bool, bool),
-    (put, low, high): Stored,
-) {
-    guest.expect_store(rt, put, Ok(()));
-    guest.expect_bytes(rt, Ok(low), Ok(high));
-    let first = if private.0 { LOW } else { low };
-    let second = if private.1 { HIGH } else { high };
-    guest.expect_bytes_of(rt, child, first, second);
+    expect_second(&rt, rt.alloc(), &REFUSED)?;
+    expect_first(&rt, rt.alloc(), &BARRED)
 }
 
 /// Stores within a page: of how many of a number's bytes, and the same eight bytes of the two pages after each.
 #[rattlefmt::skip]
-const WITHIN: [(u64, u8, u64, u64, u64); 18] = [
+const WITHIN: [Stored; 18] = [
     (0x1_0ff8, 1, VALUE, 0xa8a7_a6a5_a4a3_a211, HIGH),
     (0x1_0fff, 1, VALUE, 0x11a7_a6a5_a4a3_a2a1, HIGH),
     (0x1_1000, 1, VALUE, LOW, 0xb8b7_b6b5_b4b3_b211),
@@ -251,113 +331,110 @@ const WITHIN: [(u64, u8, u64, u64, u64); 18] = [
     (0x1_1006, 2, u64::MAX, LOW, 0xffff_b6b5_b4b3_b2b1),
 ];
 
-#[test]
-fn a_store_within_a_page_leaves_the_bytes_beside(rt: HostRuntime) -> Result<(), Fail> {
-    for sides in WRITABLE {
-        each_leaves_the_bytes_beside(&rt, rt.alloc(), sides)?;
-    }
-    Ok(())
-}
-
-/// Stores within a page, once where it has its bytes for itself, and once where it shares them with a child's. The
-/// other tasks' reservations of eight bytes are lost where those have changed.
-fn each_leaves_the_bytes_beside(rt: &impl Abort, alloc: Global, sides: Sides) -> Result<(), Fail> {
-    for (at, width, value, low, high) in WITHIN {
-        let stored = (put_of(at, width, value), low, high);
-        expect_within(rt, alloc, sides, stored)?;
-        expect_within_parent(rt, alloc, sides, stored)?;
-    }
-    Ok(())
-}
-
-/// That a store is made, and the reservations of what it changes are lost.
-fn expect_changed(rt: &impl Abort, guest: &mut Guest, (put, low, high): Stored) {
-    guest.expect_store(rt, put, Ok(()));
-    guest.expect_bytes(rt, Ok(low), Ok(high));
-    guest.expect_held(rt, [true, low == LOW, high == HIGH]);
-}
-
+/// Stores within a page, which has its bytes for itself. The other tasks' reservations of eight bytes are lost where
+/// those have changed.
 fn expect_within(
     rt: &impl Abort,
     alloc: Global,
     (first, second): Sides,
     stored: Stored,
 ) -> Result<(), Fail> {
+    let (_, _, _, low, high) = stored;
     let mut guest = pair(alloc, first, second)?;
-    expect_changed(rt, &mut guest, stored);
-    Ok(())
+    expect_stored(rt, &mut guest, stored, [true, low == LOW, high == HIGH])
+}
+
+/// The same where it shares them with a child's.
+fn expect_parent(
+    rt: &impl Abort,
+    guest: &mut Guest,
+    sides: Sides,
+    stored: Stored,
+) -> Result<(), Fail> {
+    let (_, _, _, low, high) = stored;
+    guest.expect(rt, "a parent", &[Act::Forks(0)])?;
+    expect_stored(rt, guest, stored, [true, low == LOW, high == HIGH])?;
+    expect_child(rt, guest, sides, (low, high))
 }
 
 fn expect_within_parent(
     rt: &impl Abort,
     alloc: Global,
-    (first, second): Sides,
-    (put, low, high): Stored,
+    sides: Sides,
+    stored: Stored,
 ) -> Result<(), Fail> {
-    let mut guest = pair(alloc, first, second)?;
-    let child = guest.child()?;
-    expect_changed(rt, &mut guest, (put, low, high));
-    let first = if first == Side::Private { LOW } else { low };
-    let second = if second == Side::Private { HIGH } else { high };
-    guest.expect_bytes_of(rt, &child, first, second);
-    Ok(())
+    let mut guest = pair(alloc, sides.0, sides.1)?;
+    expect_parent(rt, &mut guest, sides, stored)
 }
 
-/// Stores at the end of all addresses and at their begin, where nothing is mapped, with the fault of each.
-const AROUND: [(u64, u8, u64); 8] = [
-    (u64::MAX, 1, u64::MAX),
-    (u64::MAX, 2, u64::MAX),
-    (u64::MAX, 8, u64::MAX),
-    (0xffff_ffff_ffff_fffe, 4, 0xffff_ffff_ffff_fffe),
-    (0xffff_ffff_ffff_fff9, 8, 0xffff_ffff_ffff_fff9),
-    (0xffff_ffff_ffff_fff8, 8, 0xffff_ffff_ffff_fff8),
-    (0, 1, 0),
-    (0, 8, 0),
-];
-
-/// That each store is refused so, and the question.
-fn expect_around(rt: &impl Abort, guest: &mut Guest) {
-    for (at, width, addr) in AROUND {
-        let fault = Err(MemErr::Fault { addr });
-        guest.expect_store(rt, put_of(at, width, VALUE), fault);
-        guest.expect_writable(rt, at, width, fault);
+fn expect_each_within(
+    rt: &impl Abort,
+    alloc: Global,
+    sides: Sides,
+    rows: &[Stored],
+) -> Result<(), Fail> {
+    for stored in rows {
+        expect_within(rt, alloc, sides, *stored)?;
+        expect_within_parent(rt, alloc, sides, *stored)?;
     }
-    guest.expect_bytes(rt, Ok(LOW), Ok(HIGH));
-    guest.expect_held(rt, [true, true, true]);
-}
-
-#[test]
-fn a_store_over_the_end_of_all_addresses_is_a_fault(rt: HostRuntime) -> Result<(), Fail> {
-    let mut guest = pair(rt.alloc(), Side::Private, Side::Private)?;
-    expect_around(&rt, &mut guest);
     Ok(())
 }
+
+/// Stores at the end of all addresses and at their begin, where nothing is mapped, with the fault of each; and the
+/// question.
+#[rattlefmt::skip]
+const AROUND: &[Act] = &[
+    Act::Stores(1, u64::MAX, 1, VALUE, Err(MemErr::Fault { addr: u64::MAX })),
+    Act::Asks(u64::MAX, 1, Err(MemErr::Fault { addr: u64::MAX })),
+    Act::Stores(1, u64::MAX, 2, VALUE, Err(MemErr::Fault { addr: u64::MAX })),
+    Act::Asks(u64::MAX, 2, Err(MemErr::Fault { addr: u64::MAX })),
+    Act::Stores(1, u64::MAX, 8, VALUE, Err(MemErr::Fault { addr: u64::MAX })),
+    Act::Asks(u64::MAX, 8, Err(MemErr::Fault { addr: u64::MAX })),
+    Act::Stores(1, 0xffff_ffff_ffff_fffe, 4, VALUE, Err(MemErr::Fault { addr: 0xffff_ffff_ffff_fffe })),
+    Act::Asks(0xffff_ffff_ffff_fffe, 4, Err(MemErr::Fault { addr: 0xffff_ffff_ffff_fffe })),
+    Act::Stores(1, 0xffff_ffff_ffff_fff9, 8, VALUE, Err(MemErr::Fault { addr: 0xffff_ffff_ffff_fff9 })),
+    Act::Asks(0xffff_ffff_ffff_fff9, 8, Err(MemErr::Fault { addr: 0xffff_ffff_ffff_fff9 })),
+    Act::Stores(1, 0xffff_ffff_ffff_fff8, 8, VALUE, Err(MemErr::Fault { addr: 0xffff_ffff_ffff_fff8 })),
+    Act::Asks(0xffff_ffff_ffff_fff8, 8, Err(MemErr::Fault { addr: 0xffff_ffff_ffff_fff8 })),
+    Act::Stores(1, 0, 1, VALUE, Err(MemErr::Fault { addr: 0 })),
+    Act::Asks(0, 1, Err(MemErr::Fault { addr: 0 })),
+    Act::Stores(1, 0, 8, VALUE, Err(MemErr::Fault { addr: 0 })),
+    Act::Asks(0, 8, Err(MemErr::Fault { addr: 0 })),
+    Act::Loads(0x1_0ff8, 8, Ok(LOW)), Act::Loads(0x1_1000, 8, Ok(HIGH)), Act::Loads(0x1_4000, 8, Ok(0)),
+    Act::Loads(0x1_0ff0, 8, Ok(0)), Act::Loads(0x1_0000, 8, Ok(0)),
+    Act::Loads(0x1_1008, 8, Ok(0)), Act::Loads(0x1_1ff8, 8, Ok(0)),
+    Act::Takes(1, 0x1_0ff8, 8, true), Act::Takes(2, 0x1_0ff8, 8, true), Act::Takes(3, 0x1_1000, 8, true),
+    Act::Takes(4, 0x1_4000, 8, true),
+];
 
 /// How many bytes may be written from an address on, which needn't be as many as an access has.
-const COUNTS: [(u64, u8, Result<(), MemErr>); 7] = [
-    (0, 0, Ok(())),
-    (0x1_0fff, 1, Ok(())),
-    (0x1_0f80, 255, Ok(())),
-    (0x1_1f01, 255, Ok(())),
-    (0x1_1f02, 255, Err(MemErr::Fault { addr: 0x1_2000 })),
-    (0x1_1ffd, 4, Err(MemErr::Fault { addr: 0x1_2000 })),
-    (0x0_fff0, 255, Err(MemErr::Fault { addr: 0x0_fff0 })),
+#[rattlefmt::skip]
+const COUNTS: &[Act] = &[
+    Act::Asks(0, 0, Ok(())),
+    Act::Asks(0x1_0fff, 1, Ok(())),
+    Act::Asks(0x1_0f80, 255, Ok(())),
+    Act::Asks(0x1_1f01, 255, Ok(())),
+    Act::Asks(0x1_1f02, 255, Err(MemErr::Fault { addr: 0x1_2000 })),
+    Act::Asks(0x1_1ffd, 4, Err(MemErr::Fault { addr: 0x1_2000 })),
+    Act::Asks(0x0_fff0, 255, Err(MemErr::Fault { addr: 0x0_fff0 })),
+    Act::Loads(0x1_0ff8, 8, Ok(LOW)), Act::Loads(0x1_1000, 8, Ok(HIGH)), Act::Loads(0x1_4000, 8, Ok(0)),
+    Act::Loads(0x1_0ff0, 8, Ok(0)), Act::Loads(0x1_0000, 8, Ok(0)),
+    Act::Loads(0x1_1008, 8, Ok(0)), Act::Loads(0x1_1ff8, 8, Ok(0)),
 ];
 
-/// That each question is answered so.
-fn expect_counts(rt: &impl Abort, guest: &mut Guest) {
-    for (at, count, expected) in COUNTS {
-        guest.expect_writable(rt, at, count, expected);
-    }
-    guest.expect_bytes(rt, Ok(LOW), Ok(HIGH));
-}
-
-#[test]
-fn each_of_so_many_bytes_is_asked_for(rt: HostRuntime) -> Result<(), Fail> {
-    let mut guest = pair(rt.alloc(), Side::Private, Side::Of(FIRST))?;
-    expect_counts(&rt, &mut guest);
-    Ok(())
-}
+#[rattlefmt::skip]
+const CASES: [Case; 2] = [
+    Case {
+        name: "a_store_over_the_end_of_all_addresses_is_a_fault",
+        begins: Begins::Pair(Side::Private, Side::Private),
+        acts: AROUND,
+    },
+    Case {
+        name: "each_of_so_many_bytes_is_asked_for",
+        begins: Begins::Pair(Side::Private, Side::Of(FIRST)),
+        acts: COUNTS,
+    },
+];
 
 /// What may be written within the first page, by what it is, where the page behind it may be written.
 fn within(side: Side, at: u64) -> Result<(), MemErr> {
@@ -381,36 +458,38 @@ const WITHIN_THE_FIRST: [(u64, u8); 6] = [
     (0x1_0000, 8), (0x1_0ff8, 8), (0x1_0ffc, 4), (0x1_0ffe, 2), (0x1_0fff, 1), (0x1_0001, 3),
 ];
 
-/// That each is answered by what the page is, twice.
-fn expect_by_right(rt: &impl Abort, guest: &mut Guest, side: Side) {
-    for (at, width) in WITHIN_THE_FIRST {
-        guest.expect_writable(rt, at, width, within(side, at));
-        // now the page has its bytes for itself at any rate
-        guest.expect_writable(rt, at, width, within(side, at));
+/// That each is answered by what the page is, twice: the second time it has its bytes for itself at any rate.
+fn expect_by_right(
+    rt: &impl Abort,
+    guest: &mut Guest,
+    side: Side,
+    rows: &[(u64, u8)],
+) -> Result<(), Fail> {
+    for &(at, width) in rows {
+        let told = within(side, at);
+        guest.expect(
+            rt,
+            "by right",
+            &[Act::Asks(at, width, told), Act::Asks(at, width, told)],
+        )?;
     }
+    guest.expect(rt, "by right", &[Act::Asks(0x1_1ff8, 8, Ok(()))])?;
+    expect_bytes(rt, guest, first_bytes(side), Ok(HIGH))
 }
 
-/// The same where the first page is that.
 fn expect_of_side(rt: &impl Abort, alloc: Global, side: Side) -> Result<(), Fail> {
     let mut guest = pair(alloc, side, Side::Private)?;
-    expect_by_right(rt, &mut guest, side);
-    guest.expect_writable(rt, 0x1_1ff8, 8, Ok(()));
-    guest.expect_bytes(rt, first_bytes(side), Ok(HIGH));
-    Ok(())
+    expect_by_right(rt, &mut guest, side, &WITHIN_THE_FIRST)
 }
 
 #[test]
-fn a_page_that_has_its_bytes_for_itself_may_be_written_by_its_right(
+fn each_byte_is_asked_for_by_its_pages_right_and_none_past_the_end_of_all_addresses(
     rt: HostRuntime,
 ) -> Result<(), Fail> {
-    for side in [
-        Side::Private,
-        Side::ReadOnly,
-        Side::Missing,
-        Side::Of(FIRST),
-        Side::Of(SECOND),
-    ] {
-        expect_of_side(&rt, rt.alloc(), side)?;
-    }
-    Ok(())
+    expect_cases(&rt, rt.alloc(), &CASES)?;
+    expect_of_side(&rt, rt.alloc(), Side::Private)?;
+    expect_of_side(&rt, rt.alloc(), Side::ReadOnly)?;
+    expect_of_side(&rt, rt.alloc(), Side::Missing)?;
+    expect_of_side(&rt, rt.alloc(), Side::Of(FIRST))?;
+    expect_of_side(&rt, rt.alloc(), Side::Of(SECOND))
 }

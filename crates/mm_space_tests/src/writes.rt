@@ -1,9 +1,8 @@
 //! Runs of bytes put into memory.
 
-use crate::fixture::SECOND;
-use crate::guest::{Guest, expect_same, reserved};
-use crate::run_fixture::{Hand, guest, pattern};
-use mm_space::{Handed, Space};
+use crate::acts::{Act, Begins, Case, begin, expect_cases};
+use crate::guest::{Guest, SECOND};
+use crate::run_fixture::{Hand, pattern};
 use rv_table::MemErr;
 use std::alloc::Global;
 use std::process::Abort;
@@ -29,13 +28,6 @@ fn put(guest: &mut Guest, task: u32, at: u64, count: usize) -> Result<Result<(),
     Ok(guest.write(task, at, &bytes))
 }
 
-/// The bytes of the private pages and of `FIRST`.
-fn bytes_of(alloc: Global, space: &Space, handed: &Handed) -> Result<Vec<u8>, Fail> {
-    let mut bytes = vec![in alloc; 0; 0x1_3000]?;
-    space.read(handed, 0x20_0000, &mut bytes)?;
-    Ok(bytes)
-}
-
 /// What a byte is to be once so many bytes from an address on were put.
 fn expected_byte(address: u64, (at, count): (u64, usize)) -> u8 {
     if address >= at && address - at < count as u64 {
@@ -57,19 +49,15 @@ fn first_other(bytes: &[u8], run: (u64, usize)) -> Option<u64> {
 }
 
 /// The same of the private pages and of `FIRST`.
-fn difference(
-    alloc: Global,
-    (space, handed): (&Space, &Handed),
-    run: (u64, usize),
-) -> Result<Option<u64>, Fail> {
-    let bytes = bytes_of(alloc, space, handed)?;
+fn difference(guest: &Guest, run: (u64, usize)) -> Result<Option<u64>, Fail> {
+    let mut bytes = vec![in guest.alloc; 0; 0x1_3000]?;
+    guest.space.read(&guest.handed, 0x20_0000, &mut bytes)?;
     Ok(first_other(&bytes, run))
 }
 
 /// That the private pages and `FIRST` are as they are to be once so many bytes from an address on were put.
 fn expect_as_put(rt: &impl Abort, guest: &Guest, run: (u64, usize)) -> Result<(), Fail> {
-    let differs = difference(guest.alloc, (&guest.space, &guest.handed), run)?;
-    expect_same(rt, differs, None, run.0);
+    assert_eq!(rt; difference(guest, run)?, None, "{} at {:x}", run.1, run.0);
     Ok(())
 }
 
@@ -82,24 +70,15 @@ const WHOLE: [(u64, usize); 23] = [
     (0x21_0fff, 4097), (0x21_0fff, 8193), (0x21_1000, 8192), (0x21_1fff, 2), (0x21_2fff, 1),
 ];
 
-/// That a run can be put, and the bytes around it stay.
-fn expect_put(rt: &impl Abort, alloc: Global, run: (u64, usize)) -> Result<(), Fail> {
-    let mut guest = guest(alloc, Hand::First)?;
-    expect_put_in(rt, &mut guest, run)
-}
-
-fn expect_put_in(rt: &impl Abort, guest: &mut Guest, run: (u64, usize)) -> Result<(), Fail> {
-    let told = put(guest, 1, run.0, run.1)?;
-    expect_same(rt, told, Ok(()), run.0);
-    expect_as_put(rt, guest, run)
-}
-
-#[test]
-fn a_run_is_put_in_its_place_and_the_bytes_around_it_stay(rt: HostRuntime) -> Result<(), Fail> {
-    for run in WHOLE {
-        expect_put(&rt, rt.alloc(), run)?;
-    }
-    Ok(())
+/// That a run can be put by a task, and the bytes around it stay.
+fn expect_put(
+    rt: &impl Abort,
+    guest: &mut Guest,
+    task: u32,
+    (at, count): (u64, usize),
+) -> Result<(), Fail> {
+    assert_eq!(rt; put(guest, task, at, count)?, Ok(()), "{count} at {at:x}");
+    expect_as_put(rt, guest, (at, count))
 }
 
 #[rattlefmt::skip]
@@ -122,116 +101,134 @@ const REFUSED: [(u64, usize, MemErr); 13] = [
     (0x21_4fff, 2, MemErr::Fault { addr: 0x21_4fff }),
 ];
 
-/// That each of these runs is refused so, and puts nothing.
-fn expect_refused(rt: &impl Abort, guest: &mut Guest) -> Result<(), Fail> {
-    for &(at, count, expected) in &REFUSED {
-        let told = put(guest, 1, at, count)?;
-        expect_same(rt, told, Err(expected), at);
-        expect_as_put(rt, guest, (0, 0))?;
+/// That a run is refused so, and puts nothing.
+fn expect_refused(
+    rt: &impl Abort,
+    guest: &mut Guest,
+    (at, count, refusal): (u64, usize, MemErr),
+) -> Result<(), Fail> {
+    assert_eq!(rt;
+        put(guest, 1, at, count)?,
+        Err(refusal),
+        "{count} at {at:x}"
+    );
+    expect_as_put(rt, guest, (0, 0))
+}
+
+/// That each of these runs can be put.
+fn expect_whole(rt: &impl Abort, alloc: Global, rows: &[(u64, usize)]) -> Result<(), Fail> {
+    for run in rows {
+        expect_whole_run(rt, alloc, *run)?;
     }
     Ok(())
 }
 
-#[test]
-fn a_run_that_is_refused_puts_nothing(rt: HostRuntime) -> Result<(), Fail> {
-    let mut guest = guest(rt.alloc(), Hand::First)?;
-    expect_refused(&rt, &mut guest)
+fn expect_whole_run(rt: &impl Abort, alloc: Global, run: (u64, usize)) -> Result<(), Fail> {
+    let mut guest = begin(alloc, Begins::Runs(Hand::First))?;
+    expect_put(rt, &mut guest, 1, run)
 }
 
-/// That these bytes can be put.
-fn expect_written(rt: &impl Abort, guest: &mut Guest, at: u64, bytes: &[u8]) {
-    expect_same(rt, guest.write(1, at, bytes), Ok(()), at);
-}
-
-/// So many bytes at an address, and what reading them was answered.
-fn read<const N: usize>(guest: &Guest, at: u64) -> (Result<(), MemErr>, [u8; N]) {
-    let mut bytes = [0; N];
-    let told = guest.space.read(&guest.handed, at, &mut bytes);
-    (told, bytes)
-}
-
-/// That four bytes can be read.
-fn expect_four(rt: &impl Abort, guest: &Guest, at: u64, bytes: [u8; 4]) {
-    let (told, found) = read::<4>(guest, at);
-    expect_same(rt, told, Ok(()), at);
-    expect_same(rt, found, bytes, at);
-}
-
-/// That one byte can be read.
-fn expect_one(rt: &impl Abort, guest: &Guest, at: u64, byte: u8) {
-    let (told, found) = read::<1>(guest, at);
-    expect_same(rt, told, Ok(()), at);
-    expect_same(rt, found, [byte], at);
-}
-
-/// Puts four bytes at the end of one page of the area, of which the last lies in the page behind.
-fn expect_everywhere(rt: &impl Abort, guest: &mut Guest) {
-    expect_written(rt, guest, 0x21_5ffd, &[1, 2, 3, 4]);
-    for page in [0x1f_f000, 0x21_5000, 0x21_8000, 0x21_9000] {
-        let before = pattern(0x1f_fffc);
-        expect_four(rt, guest, page + 0xffc, [before, 1, 2, 3]);
+/// That each of these is refused.
+fn expect_each_refused(
+    rt: &impl Abort,
+    guest: &mut Guest,
+    rows: &[(u64, usize, MemErr)],
+) -> Result<(), Fail> {
+    for row in rows {
+        expect_refused(rt, guest, *row)?;
     }
-    expect_one(rt, guest, 0x21_6000, 4);
-}
-
-#[test]
-fn a_run_in_an_area_is_there_wherever_the_area_is_mapped(rt: HostRuntime) -> Result<(), Fail> {
-    let mut guest = guest(rt.alloc(), Hand::Both)?;
-    expect_everywhere(&rt, &mut guest);
     Ok(())
 }
+
+fn expect_refused_of(
+    rt: &impl Abort,
+    alloc: Global,
+    rows: &[(u64, usize, MemErr)],
+) -> Result<(), Fail> {
+    let mut guest = begin(alloc, Begins::Runs(Hand::First))?;
+    expect_each_refused(rt, &mut guest, rows)
+}
+
+#[test]
+fn a_run_is_put_in_its_place_and_no_other_byte_and_a_refused_one_puts_nothing(
+    rt: HostRuntime,
+) -> Result<(), Fail> {
+    expect_whole(&rt, rt.alloc(), &WHOLE)?;
+    expect_refused_of(&rt, rt.alloc(), &REFUSED)
+}
+
+/// Puts four bytes at the end of one page of the area, of which the last lies in the page behind. The byte before them
+/// is the pattern's at 0x1f_fffc.
+#[rattlefmt::skip]
+const EVERYWHERE: &[Act] = &[
+    Act::Puts(1, 0x21_5ffd, &[1, 2, 3, 4], Ok(())),
+    Act::Reads(0x1f_fffc, &[20, 1, 2, 3]),
+    Act::Reads(0x21_5ffc, &[20, 1, 2, 3]),
+    Act::Reads(0x21_8ffc, &[20, 1, 2, 3]),
+    Act::Reads(0x21_9ffc, &[20, 1, 2, 3]),
+    Act::Reads(0x21_6000, &[4]),
+];
+
+#[rattlefmt::skip]
+const CASES: [Case; 1] = [
+    Case {
+        name: "a_run_in_an_area_is_there_wherever_the_area_is_mapped",
+        begins: Begins::Runs(Hand::Both),
+        acts: EVERYWHERE,
+    },
+];
 
 /// A page of ones, and a 2 and a 3.
 fn page_and_two(alloc: Global) -> Result<Vec<u8>, Fail> {
-    let mut bytes = vec![in alloc; 1; 4098]?;
-    for (index, byte) in [(4096, 2), (4097, 3)] {
-        if index < bytes.len() {
-            bytes[index] = byte;
-        }
-    }
+    let mut bytes = vec![in alloc; 1; 4096]?;
+    bytes.push(2)?;
+    bytes.push(3)?;
     Ok(bytes)
 }
 
-/// Puts the page 0 of the area, and its first two bytes once more.
-fn expect_later(rt: &impl Abort, guest: &mut Guest) -> Result<(), Fail> {
-    let bytes = page_and_two(guest.alloc)?;
-    expect_written(rt, guest, 0x21_8000, &bytes);
-    for page in [0x21_5000, 0x21_8000, 0x21_9000] {
-        expect_four(rt, guest, page, [2, 3, 1, 1]);
-    }
-    Ok(())
+/// The page 0 of the area then.
+#[rattlefmt::skip]
+const LATER: [Act; 3] = [
+    Act::Reads(0x21_5000, &[2, 3, 1, 1]), Act::Reads(0x21_8000, &[2, 3, 1, 1]), Act::Reads(0x21_9000, &[2, 3, 1, 1]),
+];
+
+/// That where two addresses are one place the later byte stays.
+fn expect_later(rt: &impl Abort, alloc: Global) -> Result<(), Fail> {
+    let bytes = page_and_two(alloc)?;
+    let mut guest = begin(alloc, Begins::Runs(Hand::Both))?;
+    assert_eq!(rt; guest.write(1, 0x21_8000, &bytes), Ok(()));
+    guest.expect(rt, "later", &LATER)
 }
 
 #[test]
-fn where_two_addresses_are_one_place_the_later_byte_stays(rt: HostRuntime) -> Result<(), Fail> {
-    let mut guest = guest(rt.alloc(), Hand::Both)?;
-    expect_later(&rt, &mut guest)
+fn a_run_in_an_area_is_there_wherever_it_is_mapped_and_the_later_byte_stays(
+    rt: HostRuntime,
+) -> Result<(), Fail> {
+    expect_cases(&rt, rt.alloc(), &CASES)?;
+    expect_later(&rt, rt.alloc())
 }
 
-/// Puts others into a child.
-fn put_in_child(guest: &mut Guest, child: &mut Space) -> Result<Result<(), MemErr>, Fail> {
-    let bytes = others(guest.alloc, 0x20_0abc, 8192)?;
-    Ok(child.write(guest.alloc, &mut guest.handed, 2, 0x20_0abc, &bytes))
-}
-
-fn expect_apart(rt: &impl Abort, guest: &mut Guest, child: &mut Space) -> Result<(), Fail> {
-    let run = (0x20_0abc, 8192);
-    expect_same(rt, put_in_child(guest, child)?, Ok(()), run.0);
-    let differs = difference(guest.alloc, (child, &guest.handed), run)?;
-    expect_same(rt, differs, None, run.0);
+/// That a child that is written leaves its parent its bytes.
+fn expect_apart(rt: &impl Abort, guest: &mut Guest) -> Result<(), Fail> {
+    guest.expect(rt, "a child", &[Act::Forks(0), Act::Turns(0)])?;
+    expect_put(rt, guest, 2, (0x20_0abc, 8192))?;
+    guest.expect(rt, "the parent", &[Act::Turns(0)])?;
     expect_as_put(rt, guest, (0, 0))
+}
+
+fn expect_child(rt: &impl Abort, alloc: Global) -> Result<(), Fail> {
+    let mut guest = begin(alloc, Begins::Runs(Hand::First))?;
+    expect_apart(rt, &mut guest)
 }
 
 #[test]
 fn a_child_that_is_written_leaves_its_parent_its_bytes(rt: HostRuntime) -> Result<(), Fail> {
-    let mut guest = guest(rt.alloc(), Hand::First)?;
-    let mut child = guest.child()?;
-    expect_apart(&rt, &mut guest, &mut child)
+    expect_child(&rt, rt.alloc())
 }
 
 /// Task 1 reserves eight bytes; a task puts a run; whether task 1 has its reservation then.
 #[rattlefmt::skip]
-const RESERVED: [(u64, u32, u64, usize, bool); 14] = [
+const RESERVED: [Met; 14] = [
     (0x20_1000, 2, 0x20_0ff0, 16, true),
     (0x20_1000, 2, 0x20_0ff0, 17, false),
     (0x20_1000, 2, 0x20_1007, 1, false),
@@ -249,34 +246,34 @@ const RESERVED: [(u64, u32, u64, usize, bool); 14] = [
     (0x21_1ff8, 2, 0x21_0ff8, 4096, true),
 ];
 
+/// Where task 1 reserves; the run and its task; and whether the reservation is there then.
+type Met = (u64, u32, u64, usize, bool);
+
 /// That a run of so many bytes ends task 1's reservation or not.
 fn expect_met(
     rt: &impl Abort,
     guest: &mut Guest,
-    at_first: u64,
-    (task, at, count): (u32, u64, usize),
-    is_held: bool,
+    (reserved, task, at, count, is_held): Met,
 ) -> Result<(), Fail> {
-    guest.expect_reserved(rt, reserved(1, at_first, 8));
-    let told = put(guest, task, at, count)?;
-    expect_same(rt, told, Ok(()), at);
-    guest.expect_taken(rt, reserved(1, at_first, 8), is_held);
+    assert!(rt; guest.reserve(1, reserved, 8));
+    assert_eq!(rt; put(guest, task, at, count)?, Ok(()), "{count} at {at:x}");
+    assert_eq!(rt; guest.take(1, reserved, 8), is_held, "{count} at {at:x}");
     Ok(())
 }
 
-fn expect_met_or_not(
-    rt: &impl Abort,
-    alloc: Global,
-    (at_first, task, at, count, is_held): (u64, u32, u64, usize, bool),
-) -> Result<(), Fail> {
-    let mut guest = guest(alloc, Hand::Both)?;
-    expect_met(rt, &mut guest, at_first, (task, at, count), is_held)
+fn expect_met_or_not(rt: &impl Abort, alloc: Global, row: Met) -> Result<(), Fail> {
+    let mut guest = begin(alloc, Begins::Runs(Hand::Both))?;
+    expect_met(rt, &mut guest, row)
+}
+
+fn expect_each_met(rt: &impl Abort, alloc: Global, rows: &[Met]) -> Result<(), Fail> {
+    for row in rows {
+        expect_met_or_not(rt, alloc, *row)?;
+    }
+    Ok(())
 }
 
 #[test]
 fn a_run_ends_the_reservations_of_others_that_it_meets(rt: HostRuntime) -> Result<(), Fail> {
-    for row in RESERVED {
-        expect_met_or_not(&rt, rt.alloc(), row)?;
-    }
-    Ok(())
+    expect_each_met(&rt, rt.alloc(), &RESERVED)
 }
