@@ -9,6 +9,7 @@ use Rattle.sn_errno.specs.declared.errno.Errno.TheVariants.{ENOSYS}
 use Rattle.sn_errno.specs.Errors.{reply_of}
 use Rattle.mm_space.specs.Handing.{AreaState, InHand}
 use Rattle.mm_space.specs.Spaces.{AddressSpace}
+use Rattle.task_table.specs.Table.{TaskTable}
 use Rattle.kernel_model.specs.Names.{NamedMap, get_named, with_named}
 use Rattle.kernel_model.specs.declared.caller.Caller.{Caller}
 use Rattle.kernel_model.specs.declared.kernel.Kernel.{Kernel}
@@ -29,8 +30,8 @@ use Rattle.kernel_calls.specs.declared.prepared.Prepared.{Prepared}
 
 -- a task that calls has its address space in the kernel
 pub has_space : (c : Caller) (k : Kernel) (context : Context) (space : AddressSpace) (areas : NamedMap AreaState)
-    (console : ℕ) → IsCalling c k context space areas console → HasSpace c k space
-has_space c k context space areas console calling = record { space = calling.space; there = calling.there }
+    (list : TaskTable) (console : ℕ) → IsCalling c k context space areas list console → HasSpace c k space
+has_space c k context space areas list console calling = record { space = calling.space; there = calling.there }
 
 -- the areas of a kernel, as a state
 pub are_those : (k : Kernel) (areas : NamedMap AreaState) → k.areas ≡ areas → AreThose (parts k) areas
@@ -66,6 +67,12 @@ module _ (row : Prog Answer) (p : Prepared) (c : Caller) (k : Kernel) (old space
       (is ∙ ap (λ v. replies v []) (sym reply)
       ∙ ap (λ e. replies p.reply (changes_of e c.group (parts k))) (sym none)) same shared
 
+  -- one that is told its reply, and changes nothing
+  pub answers_told_as : outcome_in (parts k) row ≡ replies p.reply [] → p.effect ≡ Nothing → space ≡ old
+      → areas ≡ k.areas → Answers row p c k space areas
+  answers_told_as is none same shared =
+      answers_kept (is ∙ ap (λ e. replies p.reply (changes_of e c.group (parts k))) (sym none)) same shared
+
   -- one that leaves another address space, with these changes of areas
   pub answers_remapped : (changes : List Change) → outcome_in (parts k) row ≡ remaps c space p.reply changes
       → p.effect ≡ Nothing
@@ -76,6 +83,13 @@ module _ (row : Prog Answer) (p : Prepared) (c : Caller) (k : Kernel) (old space
     row_is = is;
     done_is = does ∙ ap (λ e. changed (changes_of e c.group (parts k)) (with_memory c space areas k)) (sym none);
   }
+
+-- a call that is told a number, in a state that has the caller's address space
+pub answers_told : (row : Prog Answer) (p : Prepared) (c : Caller) (k : Kernel) (own : AddressSpace) → HasSpace c k own
+    → (value : ℤ) → outcome_in (parts k) row ≡ replies value [] → p.reply ≡ value → p.effect ≡ Nothing
+    → Answers row p c k own k.areas
+answers_told row p c k own has value is reply none =
+    answers_told_as row p c k own own k.areas has (is ∙ ap (λ v. replies v []) (sym reply)) none refl refl
 
 -- ---- rows of what may be refused by the address space
 

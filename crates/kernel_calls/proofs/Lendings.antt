@@ -10,7 +10,8 @@ use Rattle.rv_table.specs.declared.error.Area.{Area}
 use Rattle.mm_space.specs.Handing.{AreaState, InHand, area_in, zero_area}
 use Rattle.mm_space.specs.Sight.{is_area}
 use Rattle.kernel_model.specs.Names.{NamedMap, get_named, has_named, with_named, without_named}
-use Rattle.kernel_model.proofs.NamedMaps.{same_or_other, one_name_or_two, get-with, get-with_same, get-with_other, with_same}
+use Rattle.kernel_model.proofs.NamedMaps.{same_or_other, one_name_or_two, get-with, get-with_same, get-with_other}
+use Rattle.kernel_model.proofs.NamedMaps.{with_same}
 use Rattle.kernel_model.proofs.NamedMaps.{get-without_same, get-without_other}
 use Rattle.kernel_calls.specs.Lending.{with_hand, AreAlike, AreThere, names, IsLent}
 use Rattle.kernel_calls.specs.Trying.{AreLent}
@@ -104,7 +105,8 @@ over_one [] m place index v w = with-with m place index v w
 over_one (h ∷ hand) m place index v w =
     elim (one_name_or_two h.name.place h.name.index place index) [
       | inl e ↦ here (over_one hand m place index v w) e.0 e.1
-      | inr d ↦ with-swap (with_hand hand (with_named m place index v)) h.name.place h.name.index place index h.state w d
+      | inr d ↦
+          with-swap (with_hand hand (with_named m place index v)) h.name.place h.name.index place index h.state w d
           ∙ ap (λ n. with_named n h.name.place h.name.index h.state) (over_one hand m place index v w)
           ∙ sym (with-swap (with_hand hand m) h.name.place h.name.index place index h.state w d)
     ]
@@ -224,7 +226,8 @@ pub lent_more : (name : Area) (hand hand' : List InHand) (areas areas' all : Nam
     → IsLent name hand hand' areas areas' → AreLent hand areas all → AreLent hand' areas' all
 lent_more name hand hand' areas areas' all lent before = record {
   there = subst (λ x. AreThere x areas') (sym lent.handed) (subst (λ x. AreThere (hand
-      ++ record { name = name; state = lent.state } ∷ []) x) (sym lent.left) (there_more hand (record { name = name; state = lent.state })
+      ++ record { name = name; state = lent.state } ∷ []) x) (sym lent.left)
+      (there_more hand (record { name = name; state = lent.state })
       (with_named areas name.place name.index (zero_area 0))
       (there_with hand areas name.place name.index (zero_area 0) before.there)
       (ap is_some (get-with_same areas name.place name.index (zero_area 0)))));

@@ -3,6 +3,7 @@ pub mod AccessLaws
 pub mod Answering
 pub mod Effects
 pub mod Executables
+pub mod Filling
 pub mod Keys
 pub mod Lendings
 pub mod RandomRows
@@ -10,4 +11,5 @@ pub mod RandomWords
 pub mod Runs
 pub mod SteppedLaws
 pub mod Strings
+pub mod TimeRows
 pub mod Tries

@@ -14,7 +14,8 @@ use Rattle.rv_exec.specs.Execution as done
 use Rattle.mm_areas.specs.Pages.{Held, Bytes, PageOf, Mapped}
 use Rattle.mm_space.specs.Accesses.{page_number, page_offset}
 use Rattle.mm_space.specs.Handing.{AreaState, InHand, area_in}
-use Rattle.mm_space.specs.Puts.{changed_in_hand, with_area, put_in_area, put_held, put_mapped, put_byte, put_bytes, put_run}
+use Rattle.mm_space.specs.Puts.{changed_in_hand, with_area, put_in_area, put_held, put_mapped, put_byte, put_bytes}
+use Rattle.mm_space.specs.Puts.{put_run}
 use Rattle.mm_space.specs.Reserves.{reserve_in_area, reserve_held, reserve_mapped, leave_in_area, leave_held}
 use Rattle.mm_space.specs.Reserves.{leave_mapped}
 use Rattle.mm_space.specs.Sight.{is_area}
@@ -300,7 +301,8 @@ module _ (c : Caller) (s : Parts) where
   still_here hand stopped =
       ap (option_map (run_changes c)) (stopped_none (going_with c.task c.space hand c.registers) stopped)
 
-  still_by : (most : ℕ) (hand : List InHand) → IsStill (outcome_in s (tried_with (next_tried c) stands_lacking most hand))
+  still_by : (most : ℕ) (hand : List InHand)
+      → IsStill (outcome_in s (tried_with (next_tried c) stands_lacking most hand))
   unfolding tried_with
   still_by zero hand = by (next_of (acting_with c.task c.space hand) c.registers) refl
     where

@@ -30,17 +30,19 @@ changes_of (EndsGroup status) group s = group_end group status (s OfTasks)
 abbrev pub answer_of : Prepared → (group : ℕ) → Parts → Answer
 answer_of p group s = replies p.reply (changes_of p.effect group s)
 
--- a task at a call, in a kernel: with its number, with its address space and the shared areas as they are, with so many
--- bytes on the console, and the key and the place of the call's entry
+-- a task at a call, in a kernel: with its number and its group's, with its address space and the shared areas as they
+-- are, with that task list and so many bytes on the console, and the key and the place of the call's entry
 -- syscall(2); profile
 pub record IsCalling (c : Caller) (k : Kernel) (context : Context) (own : AddressSpace) (shared : NamedMap AreaState)
-    (taken : ℕ) : Type 0 where
+    (list : TaskTable) (taken : ℕ) : Type 0 where
   pub task : c.task ≡ context.task
+  pub group : c.group ≡ context.group
   pub place : k.entries + 1 ≡ context.place
   pub seed : k.seed ≡ context.seed.now
   pub space : c.space ≡ own
   pub there : get_named k.spaces c.memory.place c.memory.index ≡ Some c.space
   pub areas : k.areas ≡ shared
+  pub tasks : k.tasks ≡ list
   pub console : length k.console ≡ taken
 
 -- a task whose address space is this, in a kernel that has it
@@ -86,8 +88,8 @@ EndsLive (TakesBytes bytes) group list = ⊤
 EndsLive (EndsGroup status) group list =
     IsTrue (map.contains_key list.groups group) × IsFalse (has_ended list.groups group)
 
--- a task before its next instruction, in a kernel: with its number, registers and address space, and the shared areas as
--- they are
+-- a task before its next instruction, in a kernel: with its number, registers and address space, and the shared areas
+-- as they are
 -- RISC-V Unprivileged ISA 20191213, 1.2
 pub record IsAt (c : Caller) (k : Kernel) (number : ℕ) (before : Regs) (own : AddressSpace)
     (shared : NamedMap AreaState) : Type 0 where

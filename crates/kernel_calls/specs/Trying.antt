@@ -18,8 +18,8 @@ use Rattle.kernel_model.specs.entries.Areas.{stands_lacking, next_tried, access_
 use Rattle.kernel_model.specs.entries.Parts.{Parts, outcome_in}
 use Rattle.kernel_calls.specs.Lending.{AreThere, AreThose, with_hand}
 
--- an access with some areas in hand comes to those in hand at last, where each byte may be accessed so; the state has all
--- areas in their places
+-- an access with some areas in hand comes to those in hand at last, where each byte may be accessed so; the state has
+-- all areas in their places
 -- profile
 abbrev pub by_right : Bool → List InHand → Option (List InHand)
 by_right allowed hand = if allowed then Some hand else None
@@ -49,7 +49,8 @@ pub record StandsOver (c : Caller) (number : ℕ) (before : Regs) (own : Address
   pub registers : c.registers ≡ before
   pub space : c.space ≡ own
 
--- what an instruction has left, with what was in hand for it: where it went on, what it does, and else nothing has changed
+-- what an instruction has left, with what was in hand for it: where it went on, what it does, and else nothing has
+-- changed
 -- RISC-V Unprivileged ISA 20191213, 1.2
 abbrev pub Left : Caller → Next → (last : List InHand) → Regs → AddressSpace → (hand' : List InHand)
     → (areas' all : NamedMap AreaState) → Type 0

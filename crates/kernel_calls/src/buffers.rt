@@ -1,22 +1,30 @@
 //! Guests' buffers, which may lie in shared areas: these are handed in as they are asked for.
 
-ghost use Rattle.std.specs.Prelude.{◌≡◌, [], length, IfOk, IfSome, OnErr};
+ghost use Rattle.std.specs.Prelude.{◌≡◌, ℕ, [], length, IfOk, IfSome, OnErr};
 ghost use Rattle.std.specs.Bool.{OnTrue, OnFalse};
+ghost use Rattle.task_table.specs.Table.{TaskTable};
 ghost use Rattle.mm_space.specs.Accesses.{readable, writable};
 ghost use Rattle.mm_space.specs.Handing.{hand_of};
 ghost use Rattle.kernel_model.specs.declared.caller.Caller.{Caller as ACaller};
 ghost use Rattle.kernel_model.specs.declared.kernel.Kernel.{Kernel as AKernel};
+ghost use Rattle.kernel_model.specs.calls.Buffers.{fills};
 ghost use Rattle.kernel_model.specs.entries.Areas.{bytes_read, bytes_with, bytes_written};
 ghost use Rattle.kernel_model.specs.entries.Parts.{Parts, outcome_in};
 ghost use Rattle.kernel_calls.specs.Lending.{AreThere, AreThose, with_hand};
+ghost use Rattle.kernel_calls.specs.Prepared.{Answers, IsCalling};
 ghost use Rattle.kernel_calls.specs.Trying.{Accesses, IsAllowed, Wrote};
+ghost use Rattle.kernel_calls.specs.declared.prepared.Effect.TheVariants.{Nothing};
 
+use crate::calls::refused;
 use crate::lending::{MOST_AREAS, hand_in, take_back};
+use crate::memory::replied;
+use crate::{Context, Prepared};
 use kernel_model::{GuestArea, GuestSpace, Named};
 use mm_areas::Rights;
 use mm_space::Handed;
 use rv_table::MemErr;
 use sn_base::{List, Memory};
+use sn_errno::Errno;
 use std::alloc::Global;
 
 /// So many bytes from an address on, or `None` where one of them may not be read. Addresses go round at 2^64. The areas
@@ -73,6 +81,31 @@ fn read_with(
     match space.space.read(handed, at, buffer.as_mut_slice()) {
         Ok(()) => Ok(Some(List::from_vec(buffer))),
         Err(_) => unreachable!(),
+    }
+}
+
+/// A call that puts bytes into its caller's buffer, and replies a number.
+///
+/// EFAULT: a byte of the buffer that may not be written.
+pub(crate) fn fill(
+    alloc: Global,
+    context: &Context<'_>,
+    space: &mut GuestSpace,
+    areas: &mut Named<GuestArea>,
+    at: u64,
+    bytes: &[u8],
+    reply: u32,
+) -> Result<Prepared, Memory>
+    ensures row { IfOk result (λ p. (c : ACaller) (k : AKernel) (list : TaskTable) (console : ℕ) →
+        IsCalling c k context.now space.old areas.old list console →
+        Answers (fills c at bytes.now reply) p c k space.new areas.new) }
+    ensures effect { IfOk result (λ p. p.effect ≡ Nothing) }
+    ensures err { OnErr result ((space.new ≡ space.old) × (areas.new ≡ areas.old)) }
+{
+    if write(alloc, context.task, space, areas, at, bytes)? {
+        Ok(replied(i64::from(reply)))
+    } else {
+        Ok(refused(Errno::EFAULT))
     }
 }
 

@@ -12,20 +12,23 @@ ghost use Rattle.kernel_calls.specs.declared.prepared.Effect.TheVariants.{Nothin
 
 use crate::Context;
 use crate::console::write;
-use crate::ending::exit_group;
+use crate::ending::{exit_group, set_robust_list};
+use crate::identity::{getpid, getppid, gettid, owner, uname};
 use crate::mapping::mmap;
 use crate::memory::{brk, mprotect, munmap};
 use crate::prepared::{Effect, Prepared};
 use crate::random::getrandom;
+use crate::time::{clock_gettime, sched_yield};
 use kernel_model::{Args, GuestArea, GuestSpace, Named};
 use sn_base::Memory;
 use sn_errno::{CallNo, Errno, Reply};
 use std::alloc::Global;
+use task_table::Tasks;
 
-/// The call of a number, of a task with that memory and with the shared areas there are, as far as the kernel has it:
-/// `write`, `exit_group`, `brk`, `mmap`, `munmap`, `mprotect` and `getrandom`. Any other answers ENOSYS. What is mapped
-/// and what lies in memory is changed at once; what is to be done to the console or the task list is told, and then
-/// nothing has changed so far. Of the console it reads only how many bytes that has. An `Err` changes nothing.
+/// The call of a number, of a task with that memory, with the shared areas there are and with that task list, as far as
+/// the kernel has it: the table below has a row a call. Any other answers ENOSYS. What is mapped and what lies in
+/// memory is changed at once; what is to be done to the console or the task list is told, and then nothing has changed
+/// so far. Of the console it reads only how many bytes that has. An `Err` changes nothing.
 #[tactic(auto, using(crate::proofs::Answering::answers_lacking))]
 pub fn call(
     alloc: Global,
@@ -34,10 +37,11 @@ pub fn call(
     args: &Args,
     space: &mut GuestSpace,
     areas: &mut Named<GuestArea>,
+    tasks: &Tasks,
     console: usize,
 ) -> Result<Prepared, Memory>
     ensures row { IfOk result (λ p. (c : ACaller) (k : AKernel) →
-        IsCalling c k context.now space.old areas.old console →
+        IsCalling c k context.now space.old areas.old tasks.now console →
         Answers (call_row (context_of k) c number args.now) p c k space.new areas.new) }
     ensures apart { IfOk result (λ p. HasEffect p.effect → (space.new ≡ space.old) × (areas.new ≡ areas.old)) }
     ensures few { IfOk result (λ p. TakesFew p.effect) }
@@ -45,7 +49,7 @@ pub fn call(
     ensures err_areas { OnErr result (AreAlike areas.new areas.old) }
 {
     match CallNo::of(number) {
-        Some(call) => known(alloc, context, call, args, space, areas, console),
+        Some(call) => known(alloc, context, call, args, space, areas, tasks, console),
         None => Ok(refused(Errno::ENOSYS)),
     }
 }
@@ -60,10 +64,11 @@ fn known(
     args: &Args,
     space: &mut GuestSpace,
     areas: &mut Named<GuestArea>,
+    tasks: &Tasks,
     console: usize,
 ) -> Result<Prepared, Memory>
     ensures row { IfOk result (λ p. (c : ACaller) (k : AKernel) →
-        IsCalling c k context.now space.old areas.old console →
+        IsCalling c k context.now space.old areas.old tasks.now console →
         Answers (row_of_call (context_of k) c args.now call) p c k space.new areas.new) }
     ensures apart { IfOk result (λ p. HasEffect p.effect → (space.new ≡ space.old) × (areas.new ≡ areas.old)) }
     ensures few { IfOk result (λ p. TakesFew p.effect) }
@@ -101,20 +106,20 @@ fn known(
         CallNo::ExitGroup => Ok(exit_group(args.a0)),
         CallNo::SetTidAddress => Ok(refused(Errno::ENOSYS)),
         CallNo::Futex => Ok(refused(Errno::ENOSYS)),
-        CallNo::SetRobustList => Ok(refused(Errno::ENOSYS)),
-        CallNo::ClockGettime => Ok(refused(Errno::ENOSYS)),
-        CallNo::SchedYield => Ok(refused(Errno::ENOSYS)),
+        CallNo::SetRobustList => Ok(set_robust_list()),
+        CallNo::ClockGettime => clock_gettime(alloc, context, args.a0, args.a1, space, areas),
+        CallNo::SchedYield => Ok(sched_yield()),
         CallNo::Kill => Ok(refused(Errno::ENOSYS)),
         CallNo::RtSigaction => Ok(refused(Errno::ENOSYS)),
         CallNo::RtSigprocmask => Ok(refused(Errno::ENOSYS)),
-        CallNo::Uname => Ok(refused(Errno::ENOSYS)),
-        CallNo::Getpid => Ok(refused(Errno::ENOSYS)),
-        CallNo::Getppid => Ok(refused(Errno::ENOSYS)),
-        CallNo::Getuid => Ok(refused(Errno::ENOSYS)),
-        CallNo::Geteuid => Ok(refused(Errno::ENOSYS)),
-        CallNo::Getgid => Ok(refused(Errno::ENOSYS)),
-        CallNo::Getegid => Ok(refused(Errno::ENOSYS)),
-        CallNo::Gettid => Ok(refused(Errno::ENOSYS)),
+        CallNo::Uname => uname(alloc, context, args.a0, space, areas),
+        CallNo::Getpid => Ok(getpid(context)),
+        CallNo::Getppid => Ok(getppid(context, tasks)),
+        CallNo::Getuid => Ok(owner()),
+        CallNo::Geteuid => Ok(owner()),
+        CallNo::Getgid => Ok(owner()),
+        CallNo::Getegid => Ok(owner()),
+        CallNo::Gettid => Ok(gettid(context)),
         CallNo::Brk => brk(alloc, args.a0, space),
         CallNo::Munmap => munmap(args.a0, args.a1, space),
         CallNo::Clone => Ok(refused(Errno::ENOSYS)),

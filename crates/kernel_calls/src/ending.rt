@@ -1,10 +1,15 @@
-//! exit_group.
+//! exit_group and set_robust_list.
 
 ghost use Rattle.std.specs.Prelude.{◌≡◌, ℕ};
-ghost use Rattle.kernel_model.specs.calls.Ending.{exit_group_row};
+ghost use Rattle.mm_space.specs.Spaces.{AddressSpace};
+ghost use Rattle.kernel_model.specs.declared.caller.Caller.{Caller as ACaller};
+ghost use Rattle.kernel_model.specs.declared.kernel.Kernel.{Kernel as AKernel};
+ghost use Rattle.kernel_model.specs.calls.Ending.{exit_group_row, set_robust_list_row};
 ghost use Rattle.kernel_model.specs.entries.Parts.{Parts, outcome_in};
-ghost use Rattle.kernel_calls.specs.Prepared.{TakesFew, answer_of};
+ghost use Rattle.kernel_calls.specs.Prepared.{Answers, HasSpace, TakesFew, answer_of};
+ghost use Rattle.kernel_calls.specs.declared.prepared.Effect.TheVariants.{Nothing};
 
+use crate::memory::replied;
 use crate::prepared::{Effect, Prepared};
 use task_table::Status;
 
@@ -17,4 +22,14 @@ pub(crate) fn exit_group(status: u64) -> Prepared
         reply: 0,
         effect: Effect::EndsGroup(Status::Exited((status % 256) as u8)),
     }
+}
+
+/// set_robust_list(head, length): the list is not looked at.
+#[tactic(auto, using(crate::proofs::Answering::answers_told))]
+pub(crate) fn set_robust_list() -> Prepared
+    ensures row { (c : ACaller) (k : AKernel) (own : AddressSpace) → HasSpace c k own →
+        Answers set_robust_list_row result c k own k.areas }
+    ensures effect { result.effect ≡ Nothing }
+{
+    replied(0)
 }

@@ -16,8 +16,8 @@ use std::alloc::Global;
 /// instruction.
 pub(crate) const MOST_AREAS: u32 = 17;
 
-/// Hands in the area of a name, and answers whether it has: the area is there, and isn't in hand. Until it is taken back
-/// one without a page is in its place.
+/// Hands in the area of a name, and answers whether it has: the area is there, and isn't in hand. Until it is taken
+/// back one without a page is in its place.
 #[tactic(auto, using(kernel_model::proofs::NamedMaps::with_same))]
 pub(crate) fn hand_in(
     alloc: Global,

@@ -4,17 +4,18 @@
 //! the console or the task list, and `commit`, which does that; `args_of`, `call_of` and `reply`, the registers at a
 //! call; `run`, a task's instructions up to one that calls, traps or touches a shared area, and `step`, one instruction
 //! with the shared areas that it touches; and of execve `is_too_long`, `read_executable`, `opened` and
-//! `opening_random`. They know no map of tasks, no host and no trace. What each of them means is said by `kernel_model`.
+//! `opening_random`. They know no tasks' registers, no host and no trace. What each of them means is said by
+//! `kernel_model`.
 //!
-//! Proved: `call` comes to what its row says, in every state that has the address space, the shared areas, the key and
-//! the place that were handed in (`row`). What it leaves to do is told where memory is as it was (`apart`), and is no
-//! more than one write may (`few`); want of memory changes nothing, and no area under its name (`err`, `err_areas`).
-//! `commit` leaves of each kernel what the row's changes do (`ok`). `run` is so many instructions one after another
-//! (`steps`), up to its limit or to one that stops it (`within`, `stopped`), and want of memory leaves what fewer of
-//! them leave (`memory`). `step` tells what the next instruction does (`next`), and where it goes on leaves what its
-//! row leaves (`goes`); otherwise nothing has changed (`kept`, `err`). `read_executable` is the image as execve takes
-//! it (`image`, `pages`), `opened` the definition of what an opening task begins with (`registers`, `space`), and
-//! `opening_random` of its random bytes.
+//! Proved: `call` comes to what its row says, in every state that has the address space, the shared areas, the task
+//! list, the key and the place that were handed in (`row`). What it leaves to do is told where memory is as it was
+//! (`apart`), and is no more than one write may (`few`); want of memory changes nothing, and no area under its name
+//! (`err`, `err_areas`). `commit` leaves of each kernel what the row's changes do (`ok`). `run` is so many instructions
+//! one after another (`steps`), up to its limit or to one that stops it (`within`, `stopped`), and want of memory
+//! leaves what fewer of them leave (`memory`). `step` tells what the next instruction does (`next`), and where it goes
+//! on leaves what its row leaves (`goes`); otherwise nothing has changed (`kept`, `err`). `read_executable` is the
+//! image as execve takes it (`image`, `pages`), `opened` the definition of what an opening task begins with
+//! (`registers`, `space`), and `opening_random` of its random bytes.
 //!
 //! Not said: which tasks there are, what a host is, and what an entry changes.
 //!
@@ -28,6 +29,7 @@ mod console;
 mod context;
 mod ending;
 mod executable;
+mod identity;
 mod instructions;
 mod lending;
 mod mapping;
@@ -37,6 +39,7 @@ mod prepared;
 mod random;
 mod registers;
 mod stepping;
+mod time;
 
 pub use arguments::is_too_long;
 pub use calls::call;

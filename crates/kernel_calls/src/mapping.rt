@@ -9,7 +9,8 @@ ghost use Rattle.kernel_model.specs.declared.caller.Caller.{Caller as ACaller};
 ghost use Rattle.kernel_model.specs.declared.kernel.Kernel.{Kernel as AKernel};
 ghost use Rattle.kernel_model.specs.calls.Callers.{context_of};
 ghost use Rattle.kernel_model.specs.calls.Memory.{address_in, area_made_at, asked_place, file_errno, is_anonymous};
-ghost use Rattle.kernel_model.specs.calls.Memory.{is_fixed, is_of_one_kind, is_private, is_shared, map_refusal, mmap_row};
+ghost use Rattle.kernel_model.specs.calls.Memory.{is_fixed, is_of_one_kind, is_private, is_shared, map_refusal};
+ghost use Rattle.kernel_model.specs.calls.Memory.{mmap_row};
 ghost use Rattle.kernel_calls.specs.Lending.{AreAlike};
 ghost use Rattle.kernel_calls.specs.Prepared.{Answers, HasSpace};
 ghost use Rattle.kernel_calls.specs.declared.prepared.Effect.TheVariants.{Nothing};
@@ -36,9 +37,9 @@ struct Asked {
 /// area of the entry's place. The answer is the address.
 ///
 /// EINVAL: a protection above 7, not just one of MAP_SHARED and MAP_PRIVATE, an offset that is no multiple of 4,096, no
-/// length or one that passes 2^63 in whole pages, with MAP_FIXED an address below 4,096 or no multiple of 4,096, or an end
-/// above 2^38. Without MAP_ANONYMOUS: ENODEV for the descriptors 0 to 2, and EBADF. ENOMEM: more than 16,384 pages, or no
-/// free range.
+/// length or one that passes 2^63 in whole pages, with MAP_FIXED an address below 4,096 or no multiple of 4,096, or an
+/// end above 2^38. Without MAP_ANONYMOUS: ENODEV for the descriptors 0 to 2, and EBADF. ENOMEM: more than 16,384 pages,
+/// or no free range.
 pub(crate) fn mmap(
     alloc: Global,
     place: u64,
@@ -116,8 +117,8 @@ fn map_over(
     }
 }
 
-/// Makes a shared area and maps its pages. The area is made first, and is taken out again where memory is wanting for the
-/// rest.
+/// Makes a shared area and maps its pages. The area is made first, and is taken out again where memory is wanting for
+/// the rest.
 fn map_shared(
     alloc: Global,
     place: u64,

@@ -26,8 +26,8 @@ pub struct Prepared {
     pub effect: Effect,
 }
 
-/// Does what a call of a thread group comes to, to the parts that it changes. Want of memory leaves both, and comes only
-/// where there is something to do.
+/// Does what a call of a thread group comes to, to the parts that it changes. Want of memory leaves both, and comes
+/// only where there is something to do.
 #[tactic(auto, using(crate::proofs::Effects::kernel_kept, crate::proofs::Effects::bytes_taken, crate::proofs::Effects::group_ends))]
 pub fn commit(
     alloc: Global,

@@ -1,6 +1,7 @@
 //! Random bytes: words of the ChaCha20 stream whose key is the mount file's seed.
 
 ghost use Rattle.std.specs.Prelude.{◌≡◌, ℕ, ◌<◌, ◌≤◌, ◌^◌, ◌%◌, min, slice_index, IfOk, OnErr};
+ghost use Rattle.task_table.specs.Table.{TaskTable};
 ghost use Rattle.kernel_model.specs.declared.caller.Caller.{Caller as ACaller};
 ghost use Rattle.kernel_model.specs.declared.kernel.Kernel.{Kernel as AKernel};
 ghost use Rattle.kernel_model.specs.calls.Callers.{context_of};
@@ -9,9 +10,8 @@ ghost use Rattle.kernel_model.specs.machine.Random.{opening_random, random_at, r
 ghost use Rattle.kernel_calls.specs.Prepared.{Answers, IsCalling};
 ghost use Rattle.kernel_calls.specs.declared.prepared.Effect.TheVariants.{Nothing};
 
-use crate::buffers::write;
+use crate::buffers::fill;
 use crate::calls::refused;
-use crate::memory::replied;
 use crate::{Context, Prepared};
 use kernel_model::{GuestArea, GuestSpace, Named};
 use rand_chacha::ChaCha20Rng;
@@ -37,8 +37,8 @@ pub(crate) fn getrandom(
     space: &mut GuestSpace,
     areas: &mut Named<GuestArea>,
 ) -> Result<Prepared, Memory>
-    ensures row { IfOk result (λ p. (c : ACaller) (k : AKernel) (console : ℕ) →
-        IsCalling c k context.now space.old areas.old console →
+    ensures row { IfOk result (λ p. (c : ACaller) (k : AKernel) (list : TaskTable) (console : ℕ) →
+        IsCalling c k context.now space.old areas.old list console →
         Answers (getrandom_row (context_of k) buffer count flags c) p c k space.new areas.new) }
     ensures effect { IfOk result (λ p. p.effect ≡ Nothing) }
     ensures err { OnErr result ((space.new ≡ space.old) × (areas.new ≡ areas.old)) }
@@ -48,11 +48,15 @@ pub(crate) fn getrandom(
     }
     let count = count.min(MOST_BYTES);
     let bytes = random_at(alloc, context.seed, context.place, count)?;
-    if write(alloc, context.task, space, areas, buffer, bytes.as_slice())? {
-        Ok(replied(count as i64))
-    } else {
-        Ok(refused(Errno::EFAULT))
-    }
+    fill(
+        alloc,
+        context,
+        space,
+        areas,
+        buffer,
+        bytes.as_slice(),
+        count as u32,
+    )
 }
 
 /// So many random bytes for the entry of a place.

@@ -54,8 +54,8 @@ pub fn step(
     next
 }
 
-/// Does the next instruction of a task with the shared areas in hand, and with so many more at most that it asks for. They
-/// stay in hand.
+/// Does the next instruction of a task with the shared areas in hand, and with so many more at most that it asks for.
+/// They stay in hand.
 fn step_with(
     alloc: Global,
     task: u32,

@@ -51,6 +51,10 @@ pub enum Act {
     Again(u64, u64, u64),
     /// So many pages are mapped.
     Pages(u64),
+    /// From here on it calls as that task, of that thread group.
+    As(u32, u32),
+    /// The next call's entry has that place.
+    At(u64),
 }
 
 impl Guest {
@@ -210,6 +214,15 @@ impl Guest {
             Act::Steps(next) => self.expect_step(rt, 1, next),
             Act::Again(place, at, length) => self.expect_again(rt, place, at, length),
             Act::Pages(count) => self.expect_pages(rt, count),
+            Act::As(task, group) => {
+                self.task = task;
+                self.group = group;
+                Ok(())
+            }
+            Act::At(place) => {
+                self.place = place.wrapping_sub(1);
+                Ok(())
+            }
         }
     }
 

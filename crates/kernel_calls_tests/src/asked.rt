@@ -2,9 +2,33 @@
 
 use kernel_model::Args;
 
-/// The numbers of write, brk, munmap, mmap, mprotect and getrandom.
+/// The numbers of write, set_robust_list, clock_gettime, sched_yield and uname.
 pub const WRITE: u64 = 64;
 
+pub const SET_ROBUST_LIST: u64 = 99;
+
+pub const CLOCK_GETTIME: u64 = 113;
+
+pub const SCHED_YIELD: u64 = 124;
+
+pub const UNAME: u64 = 160;
+
+/// Of getpid, getppid, getuid, geteuid, getgid, getegid and gettid.
+pub const GETPID: u64 = 172;
+
+pub const GETPPID: u64 = 173;
+
+pub const GETUID: u64 = 174;
+
+pub const GETEUID: u64 = 175;
+
+pub const GETGID: u64 = 176;
+
+pub const GETEGID: u64 = 177;
+
+pub const GETTID: u64 = 178;
+
+/// Of brk, munmap, mmap, mprotect and getrandom.
 pub const BRK: u64 = 214;
 
 pub const MUNMAP: u64 = 215;

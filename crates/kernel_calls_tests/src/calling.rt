@@ -11,6 +11,7 @@ use sn_base::{List, Memory};
 use sn_vectors::image_of;
 use std::alloc::Global;
 use std::test::Fail;
+use task_table::Tasks;
 
 /// The break's start of a guest whose image has one page.
 pub const HEAP: u64 = 69_632;
@@ -54,14 +55,18 @@ pub const ADD_WORD: u64 = 65_684;
 
 pub const JUMP: u64 = 65_688;
 
-/// A guest: its registers, its memory, the shared areas there are, the place of its last call's entry, the seed of its
-/// calls, and the kind of mappings that it makes where a test tries both.
+/// A guest: its registers, its memory, the shared areas and the tasks there are, the task and the thread group that it
+/// calls as, the place of its last call's entry, the seed of its calls, and the kind of mappings that it makes where a
+/// test tries both.
 #[derive(Drop)]
 pub struct Guest {
     pub alloc: Global,
     pub registers: Regs,
     pub space: GuestSpace,
     pub areas: Named<GuestArea>,
+    pub tasks: Tasks,
+    pub task: u32,
+    pub group: u32,
     pub place: u64,
     pub seed: [u8; 32],
     pub kind: u64,
@@ -75,6 +80,9 @@ fn guest_from(alloc: Global, beginning: Beginning) -> Guest {
         registers,
         space,
         areas: Named::new(alloc),
+        tasks: Tasks::new(alloc),
+        task: 1,
+        group: 1,
         place: 0,
         seed: [0; 32],
         kind: 0,
@@ -98,6 +106,13 @@ pub fn new_guest(alloc: Global) -> Result<Guest, Fail> {
     guest_of(alloc, &CODE)
 }
 
+/// The same guest, among tasks.
+pub fn guest_among(alloc: Global, tasks: Tasks) -> Result<Guest, Fail> {
+    let mut guest = new_guest(alloc)?;
+    guest.tasks = tasks;
+    Ok(guest)
+}
+
 /// The bytes that a call takes to the console, or `None`.
 fn taken(prepared: Prepared) -> Option<List<u8>> {
     let Prepared { effect, .. } = prepared;
@@ -112,7 +127,8 @@ impl Guest {
     pub fn prepared(&mut self, asked: Asked, console: usize) -> Result<Prepared, Memory> {
         self.place = self.place.wrapping_add(1);
         let context = Context {
-            task: 1,
+            task: self.task,
+            group: self.group,
             place: self.place,
             seed: &self.seed,
         };
@@ -124,6 +140,7 @@ impl Guest {
             &args,
             &mut self.space,
             &mut self.areas,
+            &self.tasks,
             console,
         )
     }

@@ -1,9 +1,9 @@
 //! Tests of the functions for system calls, over their public calls, with ample memory.
 //!
 //! The contracts of `kernel_calls` say what each of them does; here calls reply as their manual pages say, memory holds
-//! what was put there under the rights that it was given, tasks begin with the pages, strings and random bytes of their
-//! images, runs of instructions stop where they should, and instructions are done in shared areas. Guests are those of
-//! `sn_vectors`, and others of words that an assembler made.
+//! what was put there under the rights that it was given, tasks are told who they are and what time it is, they begin
+//! with the pages, strings and random bytes of their images, runs of instructions stop where they should, and
+//! instructions are done in shared areas. Guests are those of `sn_vectors`, and others of words that an assembler made.
 //!
 //! Expected values are from outside: the RISC-V and ELF-64 manuals, the Linux manual pages by hand, and for random
 //! bytes another implementation of ChaCha20.
@@ -26,6 +26,8 @@ mod contents;
 #[cfg(test)]
 mod guests;
 #[cfg(test)]
+mod identity;
+#[cfg(test)]
 mod machine;
 #[cfg(test)]
 mod places;
@@ -41,3 +43,5 @@ mod reservations;
 mod runs;
 #[cfg(test)]
 mod shared;
+#[cfg(test)]
+mod time;

@@ -8,7 +8,9 @@ use Rattle.std.specs.FinMap as map
 use Rattle.sn_errno.specs.declared.errno.Errno.{Errno}
 use Rattle.sn_errno.specs.declared.errno.Errno.TheVariants.{EIO, ENFILE, EFAULT, EBADF, ENOSYS, ENOSPC, EINVAL}
 use Rattle.sn_errno.specs.declared.calls.CallNo.{CallNo}
-use Rattle.sn_errno.specs.declared.calls.CallNo.TheVariants.{Write, ExitGroup, Brk, Munmap, Mmap, Mprotect}
+use Rattle.sn_errno.specs.declared.calls.CallNo.TheVariants.{Write, ExitGroup, SetRobustList, ClockGettime}
+use Rattle.sn_errno.specs.declared.calls.CallNo.TheVariants.{SchedYield, Uname, Getpid, Getppid, Getuid, Geteuid}
+use Rattle.sn_errno.specs.declared.calls.CallNo.TheVariants.{Getgid, Getegid, Gettid, Brk, Munmap, Mmap, Mprotect}
 use Rattle.sn_errno.specs.declared.calls.CallNo.TheVariants.{Getrandom}
 use Rattle.mm_areas.specs.Mappings.{unmap_fault, pages_in}
 use Rattle.mm_space.specs.Changes.{broken_in, unmapped_in, righted_in}
@@ -25,28 +27,32 @@ use Rattle.kernel_model.specs.declared.entry.Args.{Args}
 use Rattle.kernel_model.specs.declared.entry.Entry.{Entry}
 use Rattle.kernel_model.specs.declared.entry.Entry.TheVariants.{Run, Call, Sleep, End}
 use Rattle.kernel_model.specs.declared.kernel.Kernel.{Kernel}
-use Rattle.kernel_model.specs.declared.kernel.Part.TheVariants.{OfSpace, OfArea, OfNode, OfConsole, OfFaults}
+use Rattle.kernel_model.specs.declared.kernel.Part.TheVariants.{OfTasks, OfSpace, OfArea, OfNode, OfConsole}
+use Rattle.kernel_model.specs.declared.kernel.Part.TheVariants.{OfFaults}
 use Rattle.kernel_model.specs.declared.opening.Given.{Given}
 use Rattle.kernel_model.specs.declared.traps.Next.{Next}
 use Rattle.kernel_model.specs.declared.traps.Next.TheVariants.{Goes, Calls, Traps, Touches}
 use Rattle.kernel_model.specs.machine.Random.{random_at}
 use Rattle.kernel_model.specs.machine.Spaces.{going_in, going_with}
 use Rattle.kernel_model.specs.calls.Answers.{Reply, Replies, NotReady, Answer, refuses, replies, address_reply}
+use Rattle.kernel_model.specs.calls.Buffers.{filled, fills}
 use Rattle.kernel_model.specs.calls.Callers.{Context, context_of, caller_of}
 use Rattle.kernel_model.specs.calls.Console.{is_written_to, descriptor, to_console, appended, write_row}
 use Rattle.kernel_model.specs.calls.Ending.{exit_group_row, group_end}
+use Rattle.kernel_model.specs.calls.Identity.{owner, parent_of, utsname}
 use Rattle.kernel_model.specs.calls.Memory.{mmap_row}
-use Rattle.kernel_model.specs.calls.RandomBytes.{getrandom_row}
 use Rattle.kernel_model.specs.calls.Memory.{remaps, unless_refused, fault_errno, map_refusal, protect_refusal}
-use Rattle.kernel_model.specs.calls.Memory.{is_shared, area_made_at, area_made_by, maps_at, address_in, asked_place, rights_in}
-use Rattle.kernel_model.specs.calls.RandomBytes.{put_random}
+use Rattle.kernel_model.specs.calls.Memory.{is_shared, area_made_at, area_made_by, maps_at, address_in, asked_place}
+use Rattle.kernel_model.specs.calls.Memory.{rights_in}
 use Rattle.kernel_model.specs.calls.Table.{call_row, row_of_call, row_if_known}
+use Rattle.kernel_model.specs.calls.Time.{timespec, time_at}
 use Rattle.kernel_model.specs.entries.Areas.{Stands, next_row, bytes_read, bytes_written, area_changes, reach_changes}
 use Rattle.kernel_model.specs.entries.Given.{has_any, is_in_order, above_last, Nodes_so_far, number_all, node_changes}
 use Rattle.kernel_model.specs.entries.Given.{met, all_known_in, faulted, risen}
 use Rattle.kernel_model.specs.entries.Parts.{Parts, parts, Prog, done, outcome_in, ◌>>=◌, IsIn, Change, changed}
 use Rattle.kernel_model.specs.entries.Parts.{parts_of}
-use Rattle.kernel_model.specs.entries.Steps.{run_changes, run_row, run_alone, or_step, step_row, step_with, end_at, call_at, going_on, replied_by, replied_to}
+use Rattle.kernel_model.specs.entries.Steps.{run_changes, run_row, run_alone, or_step, step_row, step_with, end_at}
+use Rattle.kernel_model.specs.entries.Steps.{call_at, going_on, replied_by, replied_to}
 use Rattle.kernel_model.specs.entries.Steps.{refused_with, failing, exhausted, numbering, by_answer, by_given}
 use Rattle.kernel_model.specs.entries.Steps.{are_named, are_just, row_of, if_live, task_of, entry_row, stepped}
 use Rattle.kernel_model.specs.entries.Steps.{step, stands_at}
@@ -90,6 +96,9 @@ module _ (s : Parts) where
 
   refused_leaves : (errno : Errno) → Leaves (done (refuses errno))
   refused_leaves errno ino is = is
+
+  told_leaves : (value : ℤ) → Leaves (done (replies value []))
+  told_leaves value ino is = is
 
   behind_leaves : {A : Type 0} (first : Prog A) (next : A → Prog Answer) → Leaves (next (outcome_in s first))
       → Leaves (first >>= next)
@@ -155,23 +164,33 @@ module _ (s : Parts) where
       (maps_at context c (address_in c.space (asked_place address flags) length) length protection flags)
       (maps_leave context c (address_in c.space (asked_place address flags) length) length protection flags)
 
-  -- and random bytes an address space and areas
-  put_leaves : (memory : Made) (count : ℕ) (reach : Option Reach) → LeavesNodes (put_random memory count reach).changes
-  put_leaves memory count None ino is = is
-  put_leaves memory count (Some reach) ino (inl e) = absurd (cc e)
-  put_leaves memory count (Some reach) ino (inr is) = areas_leave reach.hand ino is
+  -- and bytes that are put an address space and areas
+  filled_leave : (memory : Made) (reply : ℕ) (reach : Option Reach) → LeavesNodes (filled memory reply reach).changes
+  filled_leave memory reply None ino is = is
+  filled_leave memory reply (Some reach) ino (inl e) = absurd (cc e)
+  filled_leave memory reply (Some reach) ino (inr is) = areas_leave reach.hand ino is
 
-  getrandom_leaves : (context : Context) (buffer count flags : ℕ) (c : Caller)
-      → Leaves (getrandom_row context buffer count flags c)
-  getrandom_leaves context buffer count flags c =
-      either_leaves (nat_lt 7 (flags % 2 ^ 32)) _ _ (refused_leaves EINVAL)
-      (behind_leaves (bytes_written c.task c.space buffer (random_at context.seed context.place (min count 256)))
-      (λ reach. done (put_random c.memory (min count 256) reach)) (put_leaves c.memory (min count 256) (outcome_in s
-      (bytes_written c.task c.space buffer (random_at context.seed context.place (min count 256))))))
+  fill_leaves : (c : Caller) (at : ℕ) (bytes : List ℕ) (reply : ℕ) → Leaves (fills c at bytes reply)
+  fill_leaves c at bytes reply =
+      behind_leaves (bytes_written c.task c.space at bytes) (λ reach. done (filled c.memory reply reach))
+      (filled_leave c.memory reply (outcome_in s (bytes_written c.task c.space at bytes)))
 
   row_leaves : (context : Context) (c : Caller) (args : Args) (call : CallNo) → Leaves (row_of_call context c args call)
   row_leaves context c args Write = write_leaves args.a0 args.a1 args.a2 c.space
   row_leaves context c args ExitGroup = exit_leaves args.a0 c.group
+  row_leaves context c args SetRobustList = told_leaves (pos 0)
+  row_leaves context c args ClockGettime =
+      either_leaves (nat_lt 1 args.a0) _ _ (refused_leaves EINVAL)
+      (fill_leaves c args.a1 (timespec (time_at context.place)) 0)
+  row_leaves context c args SchedYield = told_leaves (pos 0)
+  row_leaves context c args Uname = fill_leaves c args.a0 utsname 0
+  row_leaves context c args Getpid = told_leaves (pos c.group)
+  row_leaves context c args Getppid = told_leaves (pos (parent_of (s OfTasks).groups c.group))
+  row_leaves context c args Getuid = told_leaves (pos owner)
+  row_leaves context c args Geteuid = told_leaves (pos owner)
+  row_leaves context c args Getgid = told_leaves (pos owner)
+  row_leaves context c args Getegid = told_leaves (pos owner)
+  row_leaves context c args Gettid = told_leaves (pos c.task)
   row_leaves context c args Brk =
       remaps_leave c (broken_in c.space args.a0) (address_reply (broken_in c.space args.a0).mapping.program_break) []
       none_leaves
@@ -182,7 +201,9 @@ module _ (s : Parts) where
   row_leaves context c args Mprotect =
       unless_leaves (protect_refusal c.space args.a0 args.a1 args.a2) _
       (remaps_leave c (righted_in c.space args.a0 args.a1 (rights_in args.a2)) (pos 0) [] none_leaves)
-  row_leaves context c args Getrandom = getrandom_leaves context args.a0 args.a1 args.a2 c
+  row_leaves context c args Getrandom =
+      either_leaves (nat_lt 7 (args.a2 % 2 ^ 32)) _ _ (refused_leaves EINVAL)
+      (fill_leaves c args.a0 (random_at context.seed context.place (min args.a1 256)) (min args.a1 256))
   row_leaves context c args _ = refused_leaves ENOSYS
 
   known_leaves : (context : Context) (c : Caller) (args : Args) (call : Option CallNo)

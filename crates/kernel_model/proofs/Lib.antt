@@ -3,9 +3,9 @@ pub mod AreaCopies
 pub mod CallLemmas
 pub mod ChildLaws
 pub mod ChildSteps
+pub mod Failing
 pub mod LocalityLaws
 pub mod NamedMaps
-pub mod OneRoot
-pub mod OneTask
+pub mod OpenedTasks
 pub mod Trees
 pub mod WriteLaws

@@ -8,8 +8,8 @@ use Rattle.std.specs.Cmp.{nat_cmp_total}
 use Rattle.std.specs.FinMap as map
 use Rattle.sn_base.proofs.Maps.{get-insert_same, get-insert_other, get-remove_same, get-remove_other}
 use Rattle.sn_errno.specs.declared.calls.CallNo.{CallNo}
-use Rattle.sn_errno.specs.declared.calls.CallNo.TheVariants.{Write, ExitGroup, Brk, Munmap, Mmap, Mprotect}
-use Rattle.sn_errno.specs.declared.calls.CallNo.TheVariants.{Getrandom}
+use Rattle.sn_errno.specs.declared.calls.CallNo.TheVariants.{Write, ExitGroup, ClockGettime, Uname, Brk, Munmap}
+use Rattle.sn_errno.specs.declared.calls.CallNo.TheVariants.{Mmap, Mprotect, Getrandom}
 use Rattle.sn_errno.specs.declared.errno.Errno.{Errno}
 use Rattle.mm_areas.specs.Mappings.{unmap_fault}
 use Rattle.mm_space.specs.Spaces.{Reach}
@@ -28,11 +28,13 @@ use Rattle.kernel_model.specs.declared.traps.Next.TheVariants.{Goes, Calls, Trap
 use Rattle.kernel_model.specs.machine.Random.{random_at}
 use Rattle.kernel_model.specs.machine.Registers.{args_of, call_of as number_of}
 use Rattle.kernel_model.specs.calls.Answers.{Answer, is_reply}
+use Rattle.kernel_model.specs.calls.Buffers.{filled, fills}
 use Rattle.kernel_model.specs.calls.Callers.{Context, context_of, caller_of}
 use Rattle.kernel_model.specs.calls.Console.{is_written_to, descriptor, to_console}
+use Rattle.kernel_model.specs.calls.Identity.{utsname}
 use Rattle.kernel_model.specs.calls.Memory.{unless_refused, fault_errno, map_refusal, protect_refusal}
-use Rattle.kernel_model.specs.calls.RandomBytes.{put_random}
 use Rattle.kernel_model.specs.calls.Table.{call_row, row_of_call, row_if_known}
+use Rattle.kernel_model.specs.calls.Time.{timespec, time_at}
 use Rattle.kernel_model.specs.entries.Areas.{Stands, next_row, bytes_read, bytes_written}
 use Rattle.kernel_model.specs.entries.Parts.{Holds, Parts, parts, Prog, done, outcome_in, uses, ◌>>=◌, IsIn, AgreeOn}
 use Rattle.kernel_model.specs.entries.Parts.{Change, set_at, area_made, put, changed, parts_of}
@@ -294,9 +296,15 @@ module _ (s : Parts) (context : Context) (caller : Caller) (args : Args) where
   console_answers (Some bytes) =
       either_replies (nat_le (length (s OfConsole) + length bytes) 1048576) _ _ refl refl
 
-  put_replies : (count : ℕ) (reach : Option Reach) → is_reply (put_random caller.memory count reach).reply ≡ true
-  put_replies count None = refl
-  put_replies count (Some reach) = refl
+  filled_replies : (reply : ℕ) (reach : Option Reach) → is_reply (filled caller.memory reply reach).reply ≡ true
+  filled_replies reply None = refl
+  filled_replies reply (Some reach) = refl
+
+  fill_answers : (at : ℕ) (bytes : List ℕ) (reply : ℕ) → Answers (fills caller at bytes reply)
+  fill_answers at bytes reply =
+      behind_answers (bytes_written caller.task caller.space at bytes)
+      (λ reach. done (filled caller.memory reply reach))
+      (filled_replies reply (outcome_in s (bytes_written caller.task caller.space at bytes)))
 
   row_answers : (call : CallNo) → Answers (row_of_call context caller args call)
   row_answers Write =
@@ -306,6 +314,9 @@ module _ (s : Parts) (context : Context) (caller : Caller) (args : Args) where
       (console_answers (outcome_in s (bytes_read caller.space args.a1 (min args.a2 65536))))))
       refl
   row_answers ExitGroup = refl
+  row_answers ClockGettime =
+      either_answers (nat_lt 1 args.a0) _ _ refl (fill_answers args.a1 (timespec (time_at context.place)) 0)
+  row_answers Uname = fill_answers args.a0 utsname 0
   row_answers Brk = refl
   row_answers Munmap = refused_replies (fault_errno (unmap_fault args.a0 args.a1)) _ refl
   row_answers Mmap =
@@ -313,11 +324,7 @@ module _ (s : Parts) (context : Context) (caller : Caller) (args : Args) where
   row_answers Mprotect = refused_replies (protect_refusal caller.space args.a0 args.a1 args.a2) _ refl
   row_answers Getrandom =
       either_answers (nat_lt 7 (args.a2 % 2 ^ 32)) _ _ refl
-      (behind_answers
-      (bytes_written caller.task caller.space args.a0 (random_at context.seed context.place (min args.a1 256)))
-      (λ reach. done (put_random caller.memory (min args.a1 256) reach))
-      (put_replies (min args.a1 256) (outcome_in s
-      (bytes_written caller.task caller.space args.a0 (random_at context.seed context.place (min args.a1 256))))))
+      (fill_answers args.a0 (random_at context.seed context.place (min args.a1 256)) (min args.a1 256))
   row_answers _ = refl
 
   known_answers : (call : Option CallNo) → Answers (row_if_known context caller args call)

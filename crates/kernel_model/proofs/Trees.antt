@@ -9,7 +9,8 @@ pub outcome_alike : {A : Type 0} (a b : Parts) (tree : Prog A) → AgreeOn (uses
 outcome_alike a b (done x) same = (refl, refl)
 outcome_alike {A} a b (look part then) same =
     let here : b part ≡ a part = sym (same part (inl refl)) in
-    let rest : (uses b (then (a part)) ≡ uses a (then (a part))) × (outcome_in b (then (a part)) ≡ outcome_in a (then (a part))) =
+    let rest : (uses b (then (a part)) ≡ uses a (then (a part)))
+    × (outcome_in b (then (a part)) ≡ outcome_in a (then (a part))) =
     outcome_alike a b (then (a part)) (λ q is. same q (inr is)) in (
       ap (λ (c : Holds part). part ∷ uses b (then c)) here ∙ ap (λ (ps : List Part). part ∷ ps) rest.0,
       ap (λ (c : Holds part). outcome_in b (then c)) here ∙ rest.1,

@@ -1,5 +1,4 @@
 -- Steps and openings told without their changes, as the contracts of code that does them in place have them.
 pub mod InPlace
 pub mod Beginnings
-pub mod WalkedIn
 pub mod Children

@@ -1,5 +1,6 @@
 -- write to the console.
-use Rattle.std.specs.Prelude.{ℕ, ◌+◌, ◌%◌, ◌^◌, ◌==◌, ◌||◌, nat_le, min, List, [], ◌∷◌, ◌++◌, length, Bool, Option, Some}
+use Rattle.std.specs.Prelude.{ℕ, ◌+◌, ◌%◌, ◌^◌, ◌==◌, ◌||◌, nat_le, min, List, [], ◌∷◌, ◌++◌, length, Bool, Option}
+use Rattle.std.specs.Prelude.{Some}
 use Rattle.std.specs.Prelude.{None, pos, if◌then◌else◌}
 use Rattle.sn_errno.specs.declared.errno.Errno.TheVariants.{EBADF, EFAULT, ENOSPC}
 use Rattle.mm_space.specs.Spaces.{AddressSpace}

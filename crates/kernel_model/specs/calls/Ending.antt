@@ -1,4 +1,4 @@
--- exit_group, and the end of a thread group.
+-- exit_group, the end of a thread group, and set_robust_list.
 use Rattle.std.specs.Prelude.{ℕ, ◌%◌, List, [], ◌∷◌, pos}
 use Rattle.task_table.specs.declared.task.Status.{Status}
 use Rattle.task_table.specs.declared.task.Status.TheVariants.{Exited}
@@ -18,3 +18,8 @@ group_end group status list = (OfTasks, group_ended list group status) ∷ []
 abbrev pub exit_group_row : (status group : ℕ) → Prog Answer
 exit_group_row status group =
     look OfTasks (λ list. done (replies (pos 0) (group_end group (Exited (status % 256)) list)))
+
+-- set_robust_list(head, length): the list is not looked at, also when the task ends
+-- set_robust_list(2); profile
+abbrev pub set_robust_list_row : Prog Answer
+set_robust_list_row = done (replies (pos 0) [])

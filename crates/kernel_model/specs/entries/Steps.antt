@@ -1,5 +1,6 @@
 -- What an entry does: it is defined exactly where the entry fits the state.
-use Rattle.std.specs.Prelude.{ℕ, ◌+◌, ◌==◌, nat_le, ℤ, List, length, [], ◌∷◌, ◌++◌, Bool, false, ◌&&◌, Option, Some, None}
+use Rattle.std.specs.Prelude.{ℕ, ◌+◌, ◌==◌, nat_le, ℤ, List, length, [], ◌∷◌, ◌++◌, Bool, false, ◌&&◌, Option, Some}
+use Rattle.std.specs.Prelude.{None}
 use Rattle.std.specs.Prelude.{if◌then◌else◌, option_map}
 use Rattle.std.specs.List.{list_all, list_any}
 use Rattle.std.specs.Str.{bytes_eq}
@@ -32,7 +33,8 @@ use Rattle.kernel_model.specs.calls.Table.{call_row}
 use Rattle.kernel_model.specs.entries.Areas.{Stands, next_row, area_changes}
 use Rattle.kernel_model.specs.entries.Given.{has_any, is_in_order, above_last, Nodes_so_far, number_all, node_changes}
 use Rattle.kernel_model.specs.entries.Given.{faulted}
-use Rattle.kernel_model.specs.entries.Parts.{parts, Prog, done, look, outcome_in, uses, ◌>>=◌, Change, changed, parts_of}
+use Rattle.kernel_model.specs.entries.Parts.{parts, Prog, done, look, outcome_in, uses, ◌>>=◌, Change, changed}
+use Rattle.kernel_model.specs.entries.Parts.{parts_of}
 
 -- a task has these registers
 -- profile

@@ -1,7 +1,8 @@
--- The images that an execve may start: those that have room.
-use Rattle.std.specs.Prelude.{◌≡◌, Bool, true, Result, Ok, Err}
+-- What may begin: the images that have room, and a task where there is room for one more.
+use Rattle.std.specs.Prelude.{◌≡◌, ◌<◌, ◌-◌, ◌^◌, Bool, true, Result, Ok, Err}
 use Rattle.sn_errno.specs.declared.errno.Errno.{Errno}
 use Rattle.elf_image.specs.declared.image.Image.{Image as AnImage}
+use Rattle.task_table.specs.Table.{TaskTable, live_count}
 use Rattle.kernel_model.specs.opening.Opening.{has_room}
 
 -- an image has no more pages than may be mapped
@@ -12,3 +13,9 @@ HasRoom image = has_room image ≡ true
 abbrev pub fits : Result AnImage Errno → Bool
 fits (Ok image) = has_room image
 fits (Err errno) = true
+
+-- a task more may be made: fewer live than may live at once, and there is a number for it
+-- profile
+pub record IsRoomFor (list : TaskTable) : Type 0 where
+  pub few : live_count list < 256
+  pub next : list.last < 2 ^ 31 - 1

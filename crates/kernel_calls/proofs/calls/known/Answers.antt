@@ -13,7 +13,7 @@ returns-in-Write-clause-row c =
     let a = c.args in
     IfOk-weaker c.write.result _ _ (λ p row caller k calling.
     answers_kept (row_of_call (context_of k) caller a.args.now a.call) p caller k a.space.now a.space.now _
-    (has_space caller k a.context.now a.space.now a.areas.now a.console calling)
+    (has_space caller k a.context.now a.space.now a.areas.now a.tasks.now a.console calling)
     (ap (λ call. outcome_in (parts k) (row_of_call (context_of k) caller a.args.now call)) c.in-Write.is
     ∙ ap (λ s. outcome_in (parts k) (write_row a.args.now.a0 a.args.now.a1 a.args.now.a2 s)) calling.space
     ∙ row (parts k) caller.group (are_those k a.areas.now calling.areas) calling.console)
@@ -23,6 +23,12 @@ pub returns-in-ExitGroup-clause-row : goal.returns-in-ExitGroup-clause-row
 returns-in-ExitGroup-clause-row c caller k calling =
     let a = c.args in
     answers_kept (row_of_call (context_of k) caller a.args.now a.call) c.exit_group.result caller k a.space.now
-    a.space.now a.areas.now (has_space caller k a.context.now a.space.now a.areas.now a.console calling)
+    a.space.now a.areas.now (has_space caller k a.context.now a.space.now a.areas.now a.tasks.now a.console calling)
     (ap (λ call. outcome_in (parts k) (row_of_call (context_of k) caller a.args.now call)) c.in-ExitGroup.is
     ∙ c.exit_group.ensures.row (parts k) caller.group) refl (sym calling.areas)
+
+pub returns-in-ClockGettime-clause-row : goal.returns-in-ClockGettime-clause-row
+returns-in-ClockGettime-clause-row c =
+    let a = c.args in
+    IfOk-weaker c.clock_gettime.result _ _ (λ p row caller k calling.
+    rw c.in-ClockGettime.is (row caller k a.tasks.now a.console calling)) c.clock_gettime.ensures.row

@@ -23,8 +23,9 @@ loop-index-preserved-in-Continue-branch-3 c =
           c.loop-index.invariant.0 c.in-Some.ensures.value c.copied.ensures.kept,
       c.in_ok-insert.ensures.ok
           ∙ one_more c.args.self.now c.keys-2.inside.items.items c.as_slice.result.now c.loop-index.index
-          c.loop-index.self-inside.places c.loop-index.places c.in-Some.made.now c.in_ok-copy.copy c.loop-index-test.true
-          within (c.as_slice.ensures ∙ sym c.keys-2.view_is) c.loop-index.invariant.0 c.loop-index.invariant.1
+          c.loop-index.self-inside.places c.loop-index.places c.in-Some.made.now c.in_ok-copy.copy
+          c.loop-index-test.true within (c.as_slice.ensures ∙ sym c.keys-2.view_is) c.loop-index.invariant.0
+          c.loop-index.invariant.1
           c.in-Some.ensures.value c.in_ok-copy.ensures.copied,
     )
 

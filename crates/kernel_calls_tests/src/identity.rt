@@ -1,0 +1,230 @@
+//! Who a guest is told that it is, and which system it runs on.
+
+ghost use Rattle.std.specs.Prelude.{◌-◌, ◌<◌, ◌^◌, IsTrue, IsFalse};
+ghost use Rattle.std.specs.FinMap as map;
+ghost use Rattle.task_table.specs.Table.{has_ended, is_live};
+
+use crate::acts::{Act, expect_acts};
+use crate::asked::{
+    EFAULT, GETEGID, GETEUID, GETGID, GETPID, GETPPID, GETTID, GETUID, PRIVATE, SET_ROBUST_LIST,
+    SHARED, UNAME,
+};
+use crate::calling::{HEAP, MAPPINGS_END, TOP, guest_among};
+use std::alloc::Global;
+use std::process::Abort;
+use std::test::Fail;
+use task_table::{Made, Status, Tasks};
+
+/// The memory that tasks are given; no call looks at it.
+const MEMORY: Made = Made { place: 0, index: 1 };
+
+/// Aborts unless a task lives.
+fn expect_live(rt: &impl Abort, tasks: &Tasks, number: u32)
+    ensures { IsTrue (is_live tasks.now.tasks number) }
+{
+    let live = match tasks.task(number) {
+        Some(task) => task.live,
+        None => false,
+    };
+    assert!(rt; live);
+}
+
+/// Aborts unless there is a number left.
+fn expect_next(rt: &impl Abort, tasks: &Tasks)
+    ensures { tasks.now.last < 2 ^ 31 - 1 }
+{
+    let last = tasks.last();
+    assert!(rt; last < 2_147_483_647);
+}
+
+/// Aborts unless a thread group is there and lives.
+fn expect_group(rt: &impl Abort, tasks: &Tasks, number: u32)
+    ensures there { IsTrue (map.contains_key tasks.now.groups number) }
+    ensures lives { IsFalse (has_ended tasks.now.groups number) }
+{
+    let live = match tasks.group(number) {
+        Some(group) => group.ended.is_none(),
+        None => false,
+    };
+    assert!(rt; live);
+}
+
+/// A task opens.
+fn open(rt: &impl Abort, tasks: &mut Tasks) -> Result<(), Fail> {
+    expect_next(rt, tasks);
+    let _ = tasks.open(MEMORY, MEMORY, 1)?;
+    Ok(())
+}
+
+/// A task has a child.
+fn fork(rt: &impl Abort, tasks: &mut Tasks, task: u32) -> Result<(), Fail> {
+    expect_live(rt, tasks, task);
+    expect_next(rt, tasks);
+    let _ = tasks.fork(task, MEMORY, MEMORY, 0)?;
+    Ok(())
+}
+
+/// A task has a thread beside it.
+fn thread(rt: &impl Abort, tasks: &mut Tasks, task: u32) -> Result<(), Fail> {
+    expect_live(rt, tasks, task);
+    expect_next(rt, tasks);
+    let _ = tasks.thread(task, 0)?;
+    Ok(())
+}
+
+/// A thread group ends.
+fn end(rt: &impl Abort, alloc: Global, tasks: &mut Tasks, group: u32) -> Result<(), Fail> {
+    expect_group(rt, tasks, group);
+    let _ = tasks.end_group(alloc, group, Status::Exited(0))?;
+    Ok(())
+}
+
+/// Task 1 has the child 2, and that the child 3 and the thread 4.
+fn family(rt: &impl Abort, alloc: Global) -> Result<Tasks, Fail> {
+    let mut tasks = Tasks::new(alloc);
+    open(rt, &mut tasks)?;
+    fork(rt, &mut tasks, 1)?;
+    fork(rt, &mut tasks, 2)?;
+    thread(rt, &mut tasks, 2)?;
+    Ok(tasks)
+}
+
+/// What each of them is told: its group, its parent's and its own number.
+#[rattlefmt::skip]
+const FAMILY: [Act; 16] = [
+    Act::As(1, 1),
+    Act::Calls(GETPID, [0, 0, 0, 0, 0, 0], 1),
+    Act::Calls(GETPPID, [0, 0, 0, 0, 0, 0], 0),
+    Act::Calls(GETTID, [0, 0, 0, 0, 0, 0], 1),
+    Act::As(2, 2),
+    Act::Calls(GETPID, [7, 7, 7, 7, 7, 7], 2),
+    Act::Calls(GETPPID, [7, 7, 7, 7, 7, 7], 1),
+    Act::Calls(GETTID, [7, 7, 7, 7, 7, 7], 2),
+    Act::As(3, 3),
+    Act::Calls(GETPID, [0, 0, 0, 0, 0, 0], 3),
+    Act::Calls(GETPPID, [0, 0, 0, 0, 0, 0], 2),
+    Act::Calls(GETTID, [0, 0, 0, 0, 0, 0], 3),
+    Act::As(4, 2),
+    Act::Calls(GETPID, [0, 0, 0, 0, 0, 0], 2),
+    Act::Calls(GETPPID, [0, 0, 0, 0, 0, 0], 1),
+    Act::Calls(GETTID, [0, 0, 0, 0, 0, 0], 4),
+];
+
+#[test]
+fn a_thread_has_the_number_and_the_parent_of_its_group(rt: HostRuntime) -> Result<(), Fail> {
+    let tasks = family(&rt, rt.alloc())?;
+    let mut guest = guest_among(rt.alloc(), tasks)?;
+    guest.expect_acts(&rt, &FAMILY)
+}
+
+/// Once the parent has ended.
+#[rattlefmt::skip]
+const ORPHAN: [Act; 4] = [
+    Act::As(3, 3),
+    Act::Calls(GETPID, [0, 0, 0, 0, 0, 0], 3),
+    Act::Calls(GETPPID, [0, 0, 0, 0, 0, 0], 0),
+    Act::Calls(GETTID, [0, 0, 0, 0, 0, 0], 3),
+];
+
+#[test]
+fn a_group_whose_parent_has_ended_has_none(rt: HostRuntime) -> Result<(), Fail> {
+    let mut tasks = family(&rt, rt.alloc())?;
+    end(&rt, rt.alloc(), &mut tasks, 2)?;
+    let mut guest = guest_among(rt.alloc(), tasks)?;
+    guest.expect_acts(&rt, &ORPHAN)
+}
+
+/// The user and the group, the effective ones too; and a list of robust futexes, which may lie anywhere.
+#[rattlefmt::skip]
+const OWNERS: [Act; 8] = [
+    Act::Calls(GETUID, [0, 0, 0, 0, 0, 0], 1000),
+    Act::Calls(GETEUID, [0, 0, 0, 0, 0, 0], 1000),
+    Act::Calls(GETGID, [0, 0, 0, 0, 0, 0], 1000),
+    Act::Calls(GETEGID, [0, 0, 0, 0, 0, 0], 1000),
+    Act::Calls(GETEGID, [1, 2, 3, 4, 5, 6], 1000),
+    Act::Calls(SET_ROBUST_LIST, [TOP - 24, 24, 0, 0, 0, 0], 0),
+    Act::Calls(SET_ROBUST_LIST, [0, 0, 0, 0, 0, 0], 0),
+    Act::Calls(SET_ROBUST_LIST, [u64::MAX, u64::MAX, 0, 0, 0, 0], 0),
+];
+
+#[test]
+fn each_task_is_the_user_and_group_1000(rt: HostRuntime) -> Result<(), Fail> {
+    expect_acts(&rt, rt.alloc(), &OWNERS)
+}
+
+/// Where the system's name is put: 1,000 bytes below the end of the stack's last page but one.
+const AT: u64 = TOP - 5096;
+
+/// Six fields of 65 bytes, by hand from uname(2) and the names of docs/GUESTS.md, between two words that stay.
+#[rattlefmt::skip]
+const NAMES: [Act; 17] = [
+    Act::Stores(AT - 8, u64::MAX),
+    Act::Stores(AT + 390, u64::MAX),
+    Act::Calls(UNAME, [AT, 0, 0, 0, 0, 0], 0),
+    Act::Bytes(AT, b"Linux"),
+    Act::Bytes(AT + 5, &[0; 60]),
+    Act::Bytes(AT + 65, b"sentry"),
+    Act::Bytes(AT + 71, &[0; 59]),
+    Act::Bytes(AT + 130, b"5.15.0"),
+    Act::Bytes(AT + 136, &[0; 59]),
+    Act::Bytes(AT + 195, b"#1"),
+    Act::Bytes(AT + 197, &[0; 63]),
+    Act::Bytes(AT + 260, b"riscv64"),
+    Act::Bytes(AT + 267, &[0; 58]),
+    Act::Bytes(AT + 325, b"(none)"),
+    Act::Bytes(AT + 331, &[0; 59]),
+    Act::Loads(AT - 8, u64::MAX),
+    Act::Loads(AT + 390, u64::MAX),
+];
+
+/// That a guest, which has words of ones where the names will be, is told them.
+fn expect_names(rt: &impl Abort, alloc: Global) -> Result<(), Fail> {
+    let mut guest = guest_among(alloc, Tasks::new(alloc))?;
+    for word in 0..49u64 {
+        let at = word.wrapping_mul(8).wrapping_add(AT);
+        guest.expect_act(rt, Act::Stores(at, u64::MAX))?;
+    }
+    guest.expect_acts(rt, &NAMES)
+}
+
+#[test]
+fn uname_puts_six_fields_of_65_bytes(rt: HostRuntime) -> Result<(), Fail> {
+    expect_names(&rt, rt.alloc())
+}
+
+/// A private page under a shared one, and both under one that may only be read.
+const READ_ONLY: u64 = MAPPINGS_END - 4096;
+
+const SHARED_PAGE: u64 = MAPPINGS_END - 8192;
+
+const PRIVATE_PAGE: u64 = MAPPINGS_END - 12_288;
+
+/// Buffers of uname of which a byte may not be written, where nothing is put; and over a border.
+#[rattlefmt::skip]
+const BUFFERS: [Act; 20] = [
+    Act::Map(0, 4096, 1, PRIVATE, READ_ONLY),
+    Act::Map(0, 4096, 3, SHARED, SHARED_PAGE),
+    Act::Map(0, 4096, 3, PRIVATE, PRIVATE_PAGE),
+    Act::Calls(UNAME, [0, 0, 0, 0, 0, 0], EFAULT),
+    Act::Calls(UNAME, [65_536, 0, 0, 0, 0, 0], EFAULT),
+    Act::Calls(UNAME, [HEAP, 0, 0, 0, 0, 0], EFAULT),
+    Act::Calls(UNAME, [TOP - 389, 0, 0, 0, 0, 0], EFAULT),
+    Act::Calls(UNAME, [u64::MAX, 0, 0, 0, 0, 0], EFAULT),
+    Act::Calls(UNAME, [READ_ONLY, 0, 0, 0, 0, 0], EFAULT),
+    Act::Calls(UNAME, [READ_ONLY - 389, 0, 0, 0, 0, 0], EFAULT),
+    Act::Calls(UNAME, [PRIVATE_PAGE - 1, 0, 0, 0, 0, 0], EFAULT),
+    Act::Bytes(READ_ONLY - 389, &[0; 389]),
+    Act::Bytes(PRIVATE_PAGE, &[0; 389]),
+    Act::Calls(UNAME, [TOP - 390, 0, 0, 0, 0, 0], 0),
+    Act::Calls(UNAME, [READ_ONLY - 390, 0, 0, 0, 0, 0], 0),
+    Act::Bytes(READ_ONLY - 390, b"Linux"),
+    Act::Calls(UNAME, [SHARED_PAGE - 263, 0, 0, 0, 0, 0], 0),
+    Act::Bytes(SHARED_PAGE - 264, b"\0Linux\0"),
+    Act::Bytes(SHARED_PAGE - 3, b"riscv64\0"),
+    Act::Bytes(SHARED_PAGE + 62, b"(none)\0"),
+];
+
+#[test]
+fn uname_puts_nothing_where_a_byte_may_not_be_written(rt: HostRuntime) -> Result<(), Fail> {
+    expect_acts(&rt, rt.alloc(), &BUFFERS)
+}
