@@ -1,5 +1,5 @@
 -- Each live task stays at home: with registers, and with its group's memory.
-use Rattle.std.proofs.Common.{◌≡◌, ℕ, inl, inr, true, false, refl, ap, sym, ◌∙◌, subst}
+use Rattle.std.proofs.Common.{◌≡◌, ◌≢◌, ℕ, ◌+◌, inl, inr, true, false, refl, ap, sym, ◌∙◌, subst}
 use Rattle.std.specs.Prelude.{Option, Some, None, is_some}
 use Rattle.std.specs.Option.{option_map_or}
 use Rattle.std.specs.Ordering.{nat_cmp}
@@ -7,6 +7,7 @@ use Rattle.std.specs.FinMap as map
 use Rattle.sn_base.proofs.Maps.{get_of_empty, get-insert_same, get-insert_other}
 use Rattle.rv_table.specs.declared.regs.Regs.{Regs}
 use Rattle.mm_space.specs.Spaces.{AddressSpace}
+use Rattle.task_table.specs.declared.task.Group.{Group}
 use Rattle.task_table.specs.declared.task.Made.{Made}
 use Rattle.task_table.specs.declared.task.Task.{Task}
 use Rattle.task_table.specs.declared.task.Status.{Status}
@@ -77,39 +78,11 @@ home_committed (EndsGroup status) group k after registers spaces is home =
     subst (λ (x : TaskTable). AreAtHome x registers spaces) is
     (home_ended k.tasks registers spaces home group status)
 
--- the first task is at home
-first_live : (made : Made) (task : ℕ) → is_live (opened no_tasks made made 1).tasks task ≡ true → task ≡ 1
-first_live made task live = elim (same_or_other 1 task) [
-  | inl same ↦ sym same
-  | inr apart ↦ absurd (cc (
-    live,
-    ap (λ o. option_map_or (λ (c : Task). c.live) o false)
-        (get-insert_other map.empty 1 task (record { group = 1; clear = 0; live = true }) apart ∙ get_of_empty task),
-  ))
-]
-
-pub first_at_home : (made : Made) (registers : Regs) (space : AddressSpace)
-    → AreAtHome (opened no_tasks made made 1) (map.insert map.empty 1 registers)
-    (with_named map.empty made.place made.index space)
-first_at_home made registers space = λ task live.
-    let is : task ≡ 1 = first_live made task live in
-    subst (λ (x : ℕ). is_some (found_in (opened no_tasks made made 1) (map.insert map.empty 1 registers)
-    (with_named map.empty made.place made.index space) x) ≡ true) (sym is)
-    (ap is_some (found_by (opened no_tasks made made 1) (map.insert map.empty 1 registers)
-    (with_named map.empty made.place made.index space) 1
-    (record { parent = 0; memory = made; table = made; cwd = 1; ended = None }) registers space first_lives
-    (ap (map.get (opened no_tasks made made 1).groups) first_group ∙ get-insert_same map.empty 1 _)
-    (get-insert_same map.empty 1 registers) (get-with_same map.empty made.place made.index space)))
-  where
-    first_lives : is_live (opened no_tasks made made 1).tasks 1 ≡ true
-    first_lives =
-        ap (λ o. option_map_or (λ (c : Task). c.live) o false)
-        (get-insert_same map.empty 1 (record { group = 1; clear = 0; live = true }))
-
-    first_group : group_of (opened no_tasks made made 1).tasks 1 ≡ 1
-    first_group =
-        ap (λ o. option_map_or (λ (c : Task). c.group) o 0)
-        (get-insert_same map.empty 1 (record { group = 1; clear = 0; live = true }))
+-- where there is no task
+pub none_at_home : (registers : map.FinMap nat_cmp Regs) (spaces : NamedMap AddressSpace)
+    → AreAtHome no_tasks registers spaces
+none_at_home registers spaces = λ task live.
+    absurd (cc (live, ap (λ o. option_map_or (λ (c : Task). c.live) o false) (get_of_empty task)))
 
 -- registers that are set are there, and so are all others
 pub registers_stay : (registers : map.FinMap nat_cmp Regs) (task : ℕ) (after : Regs) (q : ℕ) (r : Regs)
@@ -158,3 +131,88 @@ home_replied list registers registers' spaces task after home e =
     subst (λ x. AreAtHome list x spaces) (sym e)
     (home_kept list registers spaces home (map.insert registers task after) spaces (registers_stay registers task after)
     (λ p i a there. (a, there)))
+
+-- where a task more begins, with these registers and this memory in a thread group of its own
+module _ (list : TaskTable) (registers : map.FinMap nat_cmp Regs) (spaces : NamedMap AddressSpace)
+    (home : AreAtHome list registers spaces) (memory table : Made) (cwd : ℕ) (begun : Regs) (space : AddressSpace) where
+  abbrev next : ℕ
+  next = list.last + 1
+
+  abbrev list_after : TaskTable
+  list_after = opened list memory table cwd
+
+  abbrev registers_after : map.FinMap nat_cmp Regs
+  registers_after = map.insert registers (list.last + 1) begun
+
+  abbrev spaces_after : NamedMap AddressSpace
+  spaces_after = with_named spaces memory.place memory.index space
+
+  abbrev task_begun : Task
+  task_begun = record { group = list.last + 1; clear = 0; live = true }
+
+  abbrev group_begun : Group
+  group_begun = record { parent = 0; memory = memory; table = table; cwd = cwd; ended = None }
+
+  -- the new task
+  next_home : is_some (found_in list_after registers_after spaces_after next) ≡ true
+  next_home =
+      ap is_some (found_by list_after registers_after spaces_after next group_begun begun space
+      (ap (λ o. option_map_or (λ (c : Task). c.live) o false) there_now)
+      (ap (map.get list_after.groups) (ap (λ o. option_map_or (λ (c : Task). c.group) o 0) there_now)
+      ∙ get-insert_same list.groups next group_begun)
+      (get-insert_same registers next begun) (get-with_same spaces memory.place memory.index space))
+    where
+      there_now : map.get list_after.tasks next ≡ Some task_begun
+      there_now = get-insert_same list.tasks next task_begun
+
+  -- a group has a memory: the new one its own, and each other that which it had
+  abbrev Housed : (group : ℕ) → Type 0
+  Housed group = (g : Group) × (a : AddressSpace) × (map.get list_after.groups group ≡ Some g)
+      × (get_named spaces_after g.memory.place g.memory.index ≡ Some a)
+
+  group_home : (group : ℕ) (g : Group) (a : AddressSpace) → map.get list.groups group ≡ Some g
+      → get_named spaces g.memory.place g.memory.index ≡ Some a → Housed group
+  group_home group g a grouped remembered =
+      elim (same_or_other next group) [
+        | inl same ↦ (
+          group_begun,
+          space,
+          ap (map.get list_after.groups) (sym same) ∙ get-insert_same list.groups next group_begun,
+          get-with_same spaces memory.place memory.index space,
+        )
+        | inr apart ↦ let stays =
+            memories_stay spaces memory.place memory.index space g.memory.place g.memory.index a remembered in
+            (g, stays.0, get-insert_other list.groups next group group_begun apart ∙ grouped, stays.1)
+      ]
+
+  -- a task of before
+  other_home : (task : ℕ) → next ≢ task → is_live list_after.tasks task ≡ true
+      → is_some (found_in list_after registers_after spaces_after task) ≡ true
+  other_home task apart live =
+      let same : map.get list_after.tasks task ≡ map.get list.tasks task =
+      get-insert_other list.tasks next task task_begun apart in
+      let before : is_live list.tasks task ≡ true =
+      ap (λ o. option_map_or (λ (c : Task). c.live) o false) (sym same) ∙ live in
+      let c = at_home list registers spaces task home before in
+      let is : c.0.memory ≡ c.1.group.memory = ap (λ (x : Caller). x.memory) c.1.is in
+      let g = group_home (group_of list.tasks task) c.1.group c.0.space c.1.grouped
+      (ap (λ (m : Made). get_named spaces m.place m.index) (sym is) ∙ c.1.remembered) in
+      let r = registers_stay registers next begun task c.0.registers c.1.registered in
+      ap is_some (found_by list_after registers_after spaces_after task g.0 r.0 g.1 live
+      (ap (map.get list_after.groups) (ap (λ o. option_map_or (λ (c : Task). c.group) o 0) same) ∙ g.2) r.1 g.3)
+
+  pub home_opened : (list' : TaskTable) (registers' : map.FinMap nat_cmp Regs) (spaces' : NamedMap AddressSpace)
+      → list' ≡ opened list memory table cwd → registers' ≡ map.insert registers (list.last + 1) begun
+      → spaces' ≡ with_named spaces memory.place memory.index space → AreAtHome list' registers' spaces'
+  home_opened list' registers' spaces' e f g =
+      subst (λ (x : TaskTable). AreAtHome x registers' spaces') (sym e)
+      (subst (λ x. AreAtHome list_after x spaces') (sym f)
+      (subst (λ x. AreAtHome list_after registers_after x) (sym g) home_now))
+    where
+      home_now : AreAtHome list_after registers_after spaces_after
+      home_now = λ task live.
+          elim (same_or_other next task) [
+            | inl same ↦
+                subst (λ (x : ℕ). is_some (found_in list_after registers_after spaces_after x) ≡ true) same next_home
+            | inr apart ↦ other_home task apart live
+          ]

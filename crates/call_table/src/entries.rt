@@ -83,7 +83,12 @@ impl Processes {
         if ran.count > 0 {
             return Ok(Entry::Run { task, n: ran.count });
         }
-        let context = Context { task, place, seed };
+        let context = Context {
+            task,
+            group: standing.group,
+            place,
+            seed,
+        };
         match ran.next {
             Next::Goes => unreachable!(),
             Next::Calls => self.answer(alloc, &context, standing),
@@ -207,10 +212,25 @@ impl Processes {
         else {
             unreachable!()
         };
+        let calling = Context {
+            task: context.task,
+            group: standing.group,
+            place: context.place,
+            seed: context.seed,
+        };
         let Prepared {
             reply: value,
             effect,
-        } = call(alloc, context, no, &args, space, &mut self.areas, console)?;
+        } = call(
+            alloc,
+            &calling,
+            no,
+            &args,
+            space,
+            &mut self.areas,
+            &self.tasks,
+            console,
+        )?;
         commit(
             alloc,
             effect,

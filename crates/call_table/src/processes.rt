@@ -1,9 +1,10 @@
 //! Tasks with their registers and memories, shared areas, and the console: the parts of a run's state so far.
 
-ghost use Rattle.std.specs.Prelude.{◌≡◌, ℕ, [], false, IsTrue, IsFalse, IfOk, OnOk};
+ghost use Rattle.std.specs.Prelude.{◌≡◌, ℕ, ◌+◌, [], false, IsTrue, IsFalse, IfOk, OnOk};
 ghost use Rattle.std.specs.FinMap as map;
 ghost use Rattle.kernel_model.specs.opening.Arguments.{is_too_long};
-ghost use Rattle.kernel_model.specs.laws.Beginnings.{HasRoom};
+ghost use Rattle.kernel_model.specs.laws.Beginnings.{HasRoom, IsRoomFor};
+ghost use Rattle.kernel_model.specs.opening.Opening.{made_by};
 ghost use Rattle.kernel_model.specs.entries.Given.{has_any};
 ghost use Rattle.task_table.specs.Clones.{opened as opened_task};
 ghost use Rattle.task_table.specs.Table.{has_ended, is_live, live_numbers, no_tasks};
@@ -18,10 +19,7 @@ use sn_base::{List, Map, Memory};
 use std::alloc::Global;
 use task_table::{CloneErr, Made, Tasks};
 
-/// The number of the first task.
-const FIRST: u32 = 1;
-
-/// The inode number of the root of the mount at `/`, which is a task's first working directory.
+/// The inode number of the root of the mount at `/`, which is an opening task's working directory.
 const ROOT: u64 = 1;
 
 /// The task list, registers by task, address spaces and shared areas by the entry that made them, and the console.
@@ -46,11 +44,29 @@ pub(crate) struct Standing {
 impl Processes {
     ghost use Rattle.call_table.specs.Beside.{Beside, kernel_with, nothing_beside};
     ghost use Rattle.call_table.specs.Processes.{StandsAs, kernel_of};
+    ghost use Rattle.kernel_model.specs.Names.{with_named};
     ghost use Rattle.kernel_model.specs.opening.Opening.{with_task};
 
-    /// The processes of one opening task, whose number is 1, of an image and with the strings of its program.
-    #[tactic(auto, using(crate::proofs::Homes::first_at_home))]
-    pub fn start(
+    /// No processes. It takes no memory.
+    #[tactic(auto, using(crate::proofs::Homes::none_at_home))]
+    pub fn new(alloc: Global) -> Processes
+        ensures none { result.tasks ≡ no_tasks }
+        ensures begun { (beside : Beside) (n : ℕ) →
+            kernel_of result beside n ≡ kernel_with no_tasks map.empty map.empty map.empty [] beside n }
+    {
+        Processes {
+            tasks: Tasks::new(alloc),
+            registers: Map::new(alloc),
+            spaces: Named::new(alloc),
+            areas: Named::new(alloc),
+            console: List::new(alloc),
+        }
+    }
+
+    /// The processes with one opening task more, in a thread group of its own, of an image and with the strings of its
+    /// program. Its number is the next. On want of memory they are gone.
+    pub fn open(
+        self,
         alloc: Global,
         seed: &[u8],
         program: &Program,
@@ -58,26 +74,43 @@ impl Processes {
     ) -> Result<Processes, Memory>
         requires short { is_too_long program.now.args program.now.env ≡ false }
         requires pages { HasRoom image.now }
+        requires room { IsRoomFor self.tasks }
         ensures begun { IfOk result (λ p. (beside : Beside) (n : ℕ) → beside.seed ≡ seed.now → kernel_of p beside n ≡
-            with_task 1 program.now image.now (kernel_with no_tasks map.empty map.empty map.empty [] beside n)) }
+            with_task (self.tasks.last + 1) program.now image.now (kernel_of self beside n)) }
+        ensures tasks { IfOk result (λ p. p.tasks ≡
+            opened_task self.tasks (made_by (self.tasks.last + 1)) (made_by (self.tasks.last + 1)) 1) }
     {
-        let Beginning { registers, space } = opened(alloc, seed, FIRST, program, image)?;
-        let made = Made {
-            place: 0,
-            index: FIRST,
-        };
-        let mut tasks = Tasks::new(alloc);
-        open(&mut tasks, made)?;
-        let mut all_registers = Map::new(alloc);
-        all_registers.insert(u64::from(FIRST), registers)?;
-        let mut spaces = Named::new(alloc);
-        spaces.insert(alloc, made.place, made.index, space)?;
+        let number = self.tasks.last() + 1;
+        let beginning = opened(alloc, seed, number, program, image)?;
+        self.begin(alloc, number, beginning)
+    }
+
+    /// The processes with one task more, of the next number, that begins with these registers and this memory.
+    fn begin(self, alloc: Global, number: u32, beginning: Beginning) -> Result<Processes, Memory>
+        requires room { IsRoomFor self.tasks }
+        requires next { number ≡ self.tasks.last + 1 }
+        ensures { IfOk result (λ p. (beside : Beside) (n : ℕ) → kernel_of p beside n ≡
+            kernel_with (opened_task self.tasks (made_by number) (made_by number) 1)
+            (map.insert self.registers number beginning.registers)
+            (with_named self.spaces 0 number beginning.space) self.areas self.console beside n) }
+    {
+        let Processes {
+            mut tasks,
+            registers: mut all_registers,
+            mut spaces,
+            areas,
+            console,
+        } = self;
+        let Beginning { registers, space } = beginning;
+        open_task(&mut tasks, number)?;
+        all_registers.insert(u64::from(number), registers)?;
+        spaces.insert(alloc, 0, number, space)?;
         Ok(Processes {
             tasks,
             registers: all_registers,
             spaces,
-            areas: Named::new(alloc),
-            console: List::new(alloc),
+            areas,
+            console,
         })
     }
 
@@ -140,12 +173,16 @@ impl Processes {
     }
 }
 
-/// Opens the first task, where none was made.
-fn open(tasks: &mut Tasks, made: Made) -> Result<(), Memory>
-    requires { tasks.old ≡ no_tasks }
-    ensures { OnOk result (tasks.new ≡ opened_task tasks.old made made 1) }
+/// Opens a task, whose memory and descriptor table are named by its number.
+fn open_task(tasks: &mut Tasks, number: u32) -> Result<(), Memory>
+    requires { IsRoomFor tasks.old }
+    ensures { OnOk result (tasks.new ≡ opened_task tasks.old (made_by number) (made_by number) 1) }
 {
-    match tasks.open(made, made, ROOT) {
+    let name = Made {
+        place: 0,
+        index: number,
+    };
+    match tasks.open(name, name, ROOT) {
         Ok(_) => Ok(()),
         Err(CloneErr::Memory) => Err(Memory),
         Err(CloneErr::Full) => unreachable!(),

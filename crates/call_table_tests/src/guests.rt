@@ -1,6 +1,6 @@
-//! Processes that the tests begin, of an image with one argument.
+//! Processes that the tests begin, of opening tasks with one argument.
 
-ghost use Rattle.std.specs.Prelude.{◌≡◌, false, IfOk};
+ghost use Rattle.std.specs.Prelude.{◌≡◌, ◌≤◌, false, length, IfOk};
 ghost use Rattle.kernel_model.specs.opening.Arguments.{is_too_long};
 ghost use Rattle.kernel_model.specs.laws.Beginnings.{HasRoom};
 
@@ -8,7 +8,7 @@ use call_table::Processes;
 use elf_image::Image;
 use kernel_calls::{is_too_long, read_executable};
 use mount_file::Program;
-use sn_base::{List, Memory};
+use sn_base::List;
 use sn_text::Text;
 use sn_vectors::image_of;
 use std::alloc::Global;
@@ -28,31 +28,32 @@ fn image_in(alloc: Global, file: &[u8]) -> Result<Image, Fail>
 }
 
 /// A program with the argument `a`.
-fn program(alloc: Global) -> Result<Program, Fail> {
+fn program(alloc: Global) -> Result<Program, Fail>
+    ensures { IfOk result (λ p. is_too_long p.args p.env ≡ false) }
+{
     let mut args = List::new(alloc);
     args.push(Text::from_slice(alloc, b"a")?)?;
-    Ok(Program {
+    let program = Program {
         path: Text::from_slice(alloc, b"/init")?,
         args,
         env: List::new(alloc),
-    })
-}
-
-/// The processes of a program, with that seed.
-fn begin(alloc: Global, program: &Program, image: &Image) -> Result<Processes, Memory>
-    requires short { is_too_long program.now.args program.now.env ≡ false }
-    requires pages { HasRoom image.now }
-{
-    Processes::start(alloc, &SEED, program, image)
-}
-
-/// The processes of a guest of these words.
-pub fn processes_of(alloc: Global, words: &[u32]) -> Result<Processes, Fail> {
-    let file = image_of(alloc, words)?;
-    let image = image_in(alloc, file.as_slice())?;
-    let program = program(alloc)?;
+    };
     if is_too_long(&program) {
         return Err(Fail::new("too long"));
     }
-    Ok(begin(alloc, &program, &image)?)
+    Ok(program)
+}
+
+/// The processes of guests of these words, each an opening task, in order.
+pub fn processes_of(alloc: Global, guests: &[&[u32]]) -> Result<Processes, Fail>
+    requires { length guests.now ≤ 64 }
+{
+    let program = program(alloc)?;
+    let mut processes = Processes::new(alloc);
+    for index in 0..guests.len() {
+        let file = image_of(alloc, guests[index])?;
+        let image = image_in(alloc, file.as_slice())?;
+        processes = processes.open(alloc, &SEED, &program, &image)?;
+    }
+    Ok(processes)
 }

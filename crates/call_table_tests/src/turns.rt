@@ -48,10 +48,12 @@ pub fn end(signal: u64) -> Line {
     }
 }
 
-/// What came of a run of turns.
+/// What came of a run of turns: its entries, the task of each, whether a task lives, the console, and how many entries
+/// there were.
 #[derive(Drop)]
 pub struct Told {
     pub lines: List<Line>,
+    pub tasks: List<u32>,
     pub lives: bool,
     pub console: List<u8>,
     pub entries: u64,
@@ -78,6 +80,14 @@ fn lines_of(alloc: Global, trace: &[Entry]) -> Result<List<Line>, Fail> {
     Ok(lines)
 }
 
+fn tasks_of(alloc: Global, trace: &[Entry]) -> Result<List<u32>, Fail> {
+    let mut tasks = List::new(alloc);
+    for entry in trace {
+        tasks.push(entry.task())?;
+    }
+    Ok(tasks)
+}
+
 /// Has a guest of these words make at most so many entries, by the seed of zeros.
 pub fn turns(alloc: Global, words: &[u32], entries: u64) -> Result<Told, Fail> {
     turns_by(alloc, &SEED, words, entries)
@@ -85,16 +95,27 @@ pub fn turns(alloc: Global, words: &[u32], entries: u64) -> Result<Told, Fail> {
 
 /// The same by a seed.
 pub fn turns_by(alloc: Global, seed: &[u8], words: &[u32], entries: u64) -> Result<Told, Fail> {
-    let processes = processes_of(alloc, words)?;
+    turns_of(alloc, processes_of(alloc, &[words])?, seed, entries)
+}
+
+/// Has processes make at most so many entries, by a seed.
+pub fn turns_of(
+    alloc: Global,
+    processes: Processes,
+    seed: &[u8],
+    entries: u64,
+) -> Result<Told, Fail> {
     let Ran { processes, trace } = run_turns(alloc, processes, seed, entries);
     let Some(processes) = processes else {
         return Err(Fail::new("memory"));
     };
     let lines = lines_of(alloc, trace.as_slice())?;
+    let tasks = tasks_of(alloc, trace.as_slice())?;
     let lives = processes.any_live();
     let kernel = processes.into_kernel(alloc, trace.len() as u64);
     Ok(Told {
         lines,
+        tasks,
         lives,
         console: kernel.console,
         entries: kernel.entries,
@@ -163,7 +184,7 @@ fn expect_live(rt: &impl Abort, processes: &Processes, number: u32)
 
 #[test]
 fn a_live_task_advances_by_one_entry(rt: HostRuntime) -> Result<(), Fail> {
-    let mut processes = processes_of(rt.alloc(), WRITES_NOTHING.words)?;
+    let mut processes = processes_of(rt.alloc(), &[WRITES_NOTHING.words])?;
     expect_live(&rt, &processes, 1);
     let entry = processes.advance(rt.alloc(), 1, &SEED, 1)?;
     assert!(rt; line_of(&entry) == run(4));

@@ -11,11 +11,12 @@ use Rattle.kernel_model.specs.declared.kernel.Part.TheVariants.{OfFaults}
 use Rattle.kernel_model.specs.declared.opening.Fresh.{Fresh}
 use Rattle.kernel_model.specs.declared.opening.Rise.{Rise}
 use Rattle.kernel_model.specs.declared.opening.Given.{Given}
-use Rattle.kernel_model.specs.entries.Given.{Nodes_so_far, node_now, number_all, all_known, all_known_in, risen, node_changes}
+use Rattle.kernel_model.specs.entries.Given.{Nodes_so_far, node_now, number_all, all_known, all_known_in, risen}
+use Rattle.kernel_model.specs.entries.Given.{node_changes}
 use Rattle.kernel_model.specs.entries.Given.{met, faulted}
 use Rattle.kernel_model.specs.entries.Parts.{parts, done, outcome_in, ◌>>=◌, Change, set_at}
 use Rattle.kernel_model.specs.laws.InPlace.{with_nodes, numbered, changed_by}
-use Rattle.kernel_model.proofs.OneRoot.{faulted_is}
+use Rattle.kernel_model.proofs.Failing.{faulted_is}
 use Rattle.kernel_model.proofs.Trees.{outcome-bind}
 use Rattle.plain_kernel.proofs.NumberRuns.{taken_by, refused_by}
 use Rattle.plain_kernel.proofs.Numberings.{node_now_is, with_nodes_first, changed-append}

@@ -5,7 +5,6 @@ pub mod FaultLemmas
 pub mod NodeLemmas
 pub mod Numberings
 pub mod NumberRuns
-pub mod OpenedTasks
 pub mod OptionLemmas
 pub mod RunLemmas
 pub mod SpaceLemmas

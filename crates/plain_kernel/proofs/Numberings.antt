@@ -15,7 +15,8 @@ use Rattle.kernel_model.specs.declared.kernel.Part.TheVariants.{OfNode}
 use Rattle.kernel_model.specs.declared.opening.Fresh.{Fresh}
 use Rattle.kernel_model.specs.files.FileTree.{last_number, Child, Missing, Known, Unnumbered, child_at, child_node}
 use Rattle.kernel_model.specs.files.FileTree.{numbered_in, number_in, known, unnumbered}
-use Rattle.kernel_model.specs.entries.Given.{Nodes_so_far, node_in, node_by, node_now, given_number, number_at, number_one}
+use Rattle.kernel_model.specs.entries.Given.{Nodes_so_far, node_in, node_by, node_now, given_number, number_at}
+use Rattle.kernel_model.specs.entries.Given.{number_one}
 use Rattle.kernel_model.specs.entries.Given.{number_next, number_all, node_changes}
 use Rattle.kernel_model.specs.entries.Parts.{parts, done, outcome_in, ◌>>=◌, Change, put, changed}
 use Rattle.kernel_model.specs.laws.InPlace.{with_nodes, numbered, IsWaiting, Waits}

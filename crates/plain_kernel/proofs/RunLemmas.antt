@@ -81,6 +81,7 @@ pub step_done : (c : Caller) (k kept left : Kernel) (r : Regs) (space : AddressS
 step_done c k kept left r space areas same is steps =
     ap (λ o. changed_by o k) steps.row_is
     ∙ ap (λ m. Some m) (steps.done_is
-    ∙ ap (λ (m : Kernel). record (put (OfTask c.task) (Some r) (put (OfSpace c.memory) (Some space) m)) { areas = areas })
-    (sym same)
+    ∙ ap (λ (m : Kernel). record (put (OfTask c.task) (Some r) (put (OfSpace c.memory) (Some space) m)) {
+      areas = areas;
+    }) (sym same)
     ∙ ap (λ (m : Kernel). record m { areas = areas }) (sym is))

@@ -27,7 +27,8 @@ use Rattle.kernel_model.specs.calls.Table.{call_row}
 use Rattle.kernel_model.specs.entries.Areas.{Stands, next_row}
 use Rattle.kernel_model.specs.entries.Given.{has_any, is_in_order, Nodes_so_far, faulted, risen, number_all, all_known}
 use Rattle.kernel_model.specs.entries.Parts.{Holds, Parts, parts, done, outcome_in, Change, put, changed}
-use Rattle.kernel_model.specs.entries.Steps.{by_given, failing, refused_with, going_on, replied_by, same_args, stands_at, call_at}
+use Rattle.kernel_model.specs.entries.Steps.{by_given, failing, refused_with, going_on, replied_by, same_args}
+use Rattle.kernel_model.specs.entries.Steps.{stands_at, call_at}
 use Rattle.kernel_model.specs.entries.Steps.{row_of, task_of, if_live, entry_row, stepped, step}
 use Rattle.kernel_model.specs.laws.InPlace.{with_nodes, numbered, changed_by}
 use Rattle.kernel_model.specs.machine.Registers.{args_of, call_of, replied}

@@ -12,7 +12,8 @@ use Rattle.kernel_model.specs.declared.opening.Given.{Given}
 use Rattle.kernel_model.specs.entries.Given.{Nodes_so_far, has_any, is_in_order, above_last, number_all, node_changes}
 use Rattle.kernel_model.specs.entries.Given.{faulted}
 use Rattle.kernel_model.specs.opening.Opening.{Walked, walk_of, by_walk, draws_just, Executed, Starts, Fails, Unfit}
-use Rattle.kernel_model.specs.opening.Opening.{failed_by, by_image, by_numbers, execve, execve_of, unwalked, name_in_path}
+use Rattle.kernel_model.specs.opening.Opening.{failed_by, by_image, by_numbers, execve, execve_of, unwalked}
+use Rattle.kernel_model.specs.opening.Opening.{name_in_path}
 use Rattle.kernel_model.specs.opening.Arguments.{is_too_long}
 use Rattle.mount_file.specs.declared.mounts.Program.{Program}
 use Rattle.kernel_model.specs.entries.Parts.{Parts, parts, done, outcome_in, ◌>>=◌, Change, changed}

@@ -1,8 +1,7 @@
 -- Openings done in place: what an execve and an opening leave, by what they answer.
-use Rattle.std.specs.Prelude.{◌≡◌, ◌<◌, ◌-◌, ◌^◌, ⊤, false, List, Result, Ok, Err}
+use Rattle.std.specs.Prelude.{◌≡◌, ⊤, false, List, Result, Ok, Err}
 use Rattle.sn_errno.specs.declared.errno.Errno.{Errno}
 use Rattle.elf_image.specs.declared.image.Image.{Image as AnImage}
-use Rattle.task_table.specs.Table.{TaskTable, live_count}
 use Rattle.kernel_model.specs.declared.kernel.Kernel.{Kernel}
 use Rattle.plain_kernel.specs.declared.walking.Execved.{Execved}
 use Rattle.plain_kernel.specs.declared.walking.Execved.TheVariants as answers
@@ -51,9 +50,3 @@ abbrev pub IsRefusedBy : Begun → OpeningErr → Type 0
 IsRefusedBy begun (Image task errno) = (k : Kernel) × (begun ≡ Refuses k task errno)
 IsRefusedBy begun (Misfit task) = begun ≡ Misfits task
 IsRefusedBy begun Memory = ⊤
-
--- a task more may be made: fewer live than may live at once, and there is a number for it
--- profile
-pub record IsRoomFor (list : TaskTable) : Type 0 where
-  pub few : live_count list < 256
-  pub next : list.last < 2 ^ 31 - 1

@@ -4,22 +4,22 @@ ghost use Rattle.std.specs.Prelude.{◌≡◌, ◌+◌, ◌<◌, ◌≤◌, ◌^
 ghost use Rattle.task_table.specs.Clones.{opened as with_opened};
 ghost use Rattle.task_table.specs.Table.{no_tasks};
 ghost use Rattle.kernel_model.specs.declared.kernel.Kernel.{Kernel as AKernel};
-ghost use Rattle.kernel_model.specs.opening.Opening.{Begun, Opens, rooted, bare, made_by, with_task, execve_of, task_begun};
+ghost use Rattle.kernel_model.specs.opening.Opening.{Begun, Opens, rooted, bare, made_by, with_task, execve_of};
+ghost use Rattle.kernel_model.specs.opening.Opening.{task_begun};
 ghost use Rattle.kernel_model.specs.opening.Opening.{tasks_begun};
 ghost use Rattle.kernel_model.specs.opening.Arguments.{is_too_long};
 ghost use Rattle.kernel_model.specs.entries.Parts.{parts, outcome_in as outcome};
-ghost use Rattle.kernel_model.specs.laws.Beginnings.{HasRoom};
-ghost use Rattle.plain_kernel.specs.Beginnings.{IsRefusedBy, IsRoomFor};
+ghost use Rattle.kernel_model.specs.laws.Beginnings.{HasRoom, IsRoomFor};
+ghost use Rattle.plain_kernel.specs.Beginnings.{IsRefusedBy};
 
 use crate::OpeningErr;
-use crate::mounts::copy_mounts;
 use crate::nodes::root_node;
 use crate::walking::{Execved, ROOT, execve};
 use elf_image::Image;
 use host_node::Tree;
 use kernel_calls::{Beginning, opened};
 use kernel_model::{Given, Kernel, Named, Node, Opened};
-use mount_file::{Mounts, Program};
+use mount_file::{Mounts, Program, copied_mounts};
 use sn_base::{List, Map, Memory};
 use std::alloc::Global;
 use task_table::{CloneErr, Made, Tasks};
@@ -43,7 +43,7 @@ pub(crate) fn bare(alloc: Global, mounts: &Mounts, trees: &[Tree]) -> Result<Ker
 {
     let nodes = number_roots(alloc, trees)?;
     let seed = List::from_slice(alloc, mounts.seed.as_slice())?;
-    let mounts = copy_mounts(alloc, mounts.mounts.as_slice())?;
+    let mounts = copied_mounts(alloc, mounts.mounts.as_slice())?;
     Ok(Kernel {
         tasks: Tasks::new(alloc),
         registers: Map::new(alloc),

@@ -3,7 +3,8 @@
 ghost use Rattle.std.specs.Prelude.{◌≡◌, [], nat_lt, is_some, unwrap_or, IsTrue, IfOk, OnOk, OnErr, if◌then◌else◌};
 ghost use Rattle.std.specs.FinMap as map;
 ghost use Rattle.std.specs.List.{list_all, list_any};
-ghost use Rattle.kernel_model.specs.entries.Given.{ascend_from, numbers_of, same_child, are_apart, nodes_of, is_in_order};
+ghost use Rattle.kernel_model.specs.entries.Given.{ascend_from, numbers_of, same_child, are_apart, nodes_of};
+ghost use Rattle.kernel_model.specs.entries.Given.{is_in_order};
 ghost use Rattle.kernel_model.specs.entries.Given.{all_known, risen, faulted};
 ghost use Rattle.kernel_model.specs.entries.Parts.{parts, outcome_in as outcome, set_at};
 ghost use Rattle.kernel_model.specs.laws.InPlace.{changed_by};

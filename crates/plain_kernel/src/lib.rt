@@ -18,7 +18,6 @@ mod beginning;
 mod callers;
 mod entries;
 mod faults;
-mod mounts;
 mod nodes;
 mod numbering;
 mod opened;

@@ -66,8 +66,8 @@ pub(crate) fn change(alloc: Global, kernel: &mut Kernel, entry: &Entry) -> Resul
     }
 }
 
-/// Whether a task stands at an ECALL, with that call's number and arguments in its registers. Where it does, the task and
-/// the shared areas stay.
+/// Whether a task stands at an ECALL, with that call's number and arguments in its registers. Where it does, the task
+/// and the shared areas stay.
 fn stands_at(
     alloc: Global,
     caller: &mut Caller,
@@ -116,6 +116,7 @@ fn prepare(
 {
     let context = Context {
         task: caller.task,
+        group: caller.group,
         place: kernel.entries + 1,
         seed: kernel.seed.as_slice(),
     };
@@ -126,6 +127,7 @@ fn prepare(
         args,
         &mut caller.space,
         areas,
+        &kernel.tasks,
         kernel.console.len(),
     )
 }

@@ -1,61 +1,184 @@
-//! Guests that the tests begin, with one argument; and what is expected of their memory and registers.
+//! What guests' entries are tried with, which of them fit, and what they leave: rows of tables.
 
-use kernel_model::GuestSpace;
-use mm_space::Handed;
-use mount_file::Program;
-use rv_table::{Reg, Regs};
-use sn_base::{List, Memory};
-use sn_text::Text;
+use crate::records::{Begins, Child, ONE_TASK, open, risen};
+use kernel_model::{Args, Entry, Given, Kernel};
+use plain_kernel::Plain;
+use rv_table::Reg;
 use std::alloc::Global;
 use std::process::Abort;
 use std::test::Fail;
+use task_table::{Status, Tasks};
 
-/// Strings of which there is one.
-fn one_of(alloc: Global, string: &[u8]) -> Result<List<Text>, Fail> {
-    let mut strings = List::new(alloc);
-    strings.push(Text::from_slice(alloc, string)?)?;
-    Ok(strings)
+/// An entry in short, and whether it fits.
+#[derive(Clone, Copy)]
+pub enum Move {
+    /// A run of task 1, of so many instructions.
+    Run(u32, bool),
+    /// One of a task.
+    RunOf(u32, u32, bool),
+    /// A call of task 1 by its number, with its arguments and its reply.
+    Call(u64, [u64; 6], i64, bool),
+    /// One in which so many calls of the root failed.
+    Meets(u64, [u64; 6], i64, u64, bool),
+    /// The end of task 1 by a signal.
+    End(u8, bool),
 }
 
-/// A program of that path, with one argument.
-pub fn program(alloc: Global, path: &[u8], argument: &[u8]) -> Result<Program, Fail> {
-    let args = one_of(alloc, argument)?;
-    Ok(Program {
-        path: Text::from_slice(alloc, path)?,
-        args,
-        env: List::new(alloc),
-    })
+/// What the state has then.
+#[derive(Clone, Copy)]
+pub enum Left {
+    /// So many entries were done.
+    Entries(u64),
+    /// Task 1 lives, or not.
+    Lives(bool),
+    /// Its group has ended so.
+    Ended(Status),
+    /// It has that in a0, and stands there.
+    Stands(u64, u64),
+    /// The console has these bytes.
+    Console(&'static [u8]),
+    /// So many calls of the root have failed.
+    Failed(u64),
 }
 
-/// So many bytes of a guest at an address, with no shared area in hand, or `None` where they can't be read.
-fn read(
-    alloc: Global,
-    space: &GuestSpace,
-    at: u64,
-    count: usize,
-) -> Result<Option<List<u8>>, Memory> {
-    let mut bytes = vec![in alloc; 0u8; count]?;
-    let handed = Handed::none(alloc);
-    match space.space.read(&handed, at, bytes.as_mut_slice()) {
-        Ok(()) => Ok(Some(List::from_vec(bytes))),
-        Err(_) => Ok(None),
+/// A guest, by a sentence that says what is so of it.
+#[derive(Clone, Copy)]
+pub struct Guest {
+    pub name: &'static str,
+    pub child: Child,
+    pub moves: &'static [Move],
+    pub left: &'static [Left],
+}
+
+fn args_of([a0, a1, a2, a3, a4, a5]: [u64; 6]) -> Args {
+    Args {
+        a0,
+        a1,
+        a2,
+        a3,
+        a4,
+        a5,
     }
 }
 
-/// That these bytes can be read at an address.
-pub fn expect_bytes(
+fn call(no: u64, args: [u64; 6], reply: i64, given: Given) -> Entry {
+    Entry::Call {
+        task: 1,
+        no,
+        args: args_of(args),
+        given,
+        reply,
+    }
+}
+
+/// The entry, and whether it fits.
+fn entry_of(alloc: Global, step: Move) -> Result<(Entry, bool), Fail> {
+    match step {
+        Move::Run(n, fits) => Ok((Entry::Run { task: 1, n }, fits)),
+        Move::RunOf(task, n, fits) => Ok((Entry::Run { task, n }, fits)),
+        Move::Call(no, args, reply, fits) => Ok((call(no, args, reply, risen(alloc, 0)?), fits)),
+        Move::Meets(no, args, reply, rise, fits) => {
+            Ok((call(no, args, reply, risen(alloc, rise)?), fits))
+        }
+        Move::End(signal, fits) => Ok((Entry::End { task: 1, signal }, fits)),
+    }
+}
+
+/// Does an entry, and answers whether it fits.
+fn done(alloc: Global, plain: &mut Plain, entry: &Entry) -> Result<bool, Fail> {
+    if plain.kernel.entries >= 100 {
+        return Err(Fail::new("too many entries"));
+    }
+    Ok(plain.step(alloc, entry)?)
+}
+
+/// Whether a move fits, or not, as it says.
+fn is_so(alloc: Global, plain: &mut Plain, step: Move) -> Result<bool, Fail> {
+    let (entry, fits) = entry_of(alloc, step)?;
+    Ok(done(alloc, plain, &entry)? == fits)
+}
+
+/// How the group of task 1 has ended.
+fn ended(tasks: &Tasks) -> Option<Status> {
+    let task = tasks.task(1).copied()?;
+    let group = tasks.group(task.group).copied()?;
+    group.ended
+}
+
+/// Whether task 1 lives.
+fn lives(tasks: &Tasks) -> bool {
+    match tasks.task(1) {
+        Some(task) => task.live,
+        None => false,
+    }
+}
+
+/// What task 1 has in a0, and where it stands.
+fn stands(kernel: &Kernel) -> Option<(u64, u64)> {
+    let registers = kernel.registers.get(1)?;
+    Some((registers.read(Reg::new(10)), registers.pc))
+}
+
+/// Whether the state has that.
+fn is_left(kernel: &Kernel, left: Left) -> bool {
+    match left {
+        Left::Entries(count) => kernel.entries == count,
+        Left::Lives(live) => lives(&kernel.tasks) == live,
+        Left::Ended(status) => ended(&kernel.tasks) == Some(status),
+        Left::Stands(a0, pc) => stands(kernel) == Some((a0, pc)),
+        Left::Console(bytes) => kernel.console.as_slice() == bytes,
+        Left::Failed(count) => kernel.failed.get(1).copied() == Some(count),
+    }
+}
+
+/// A plain kernel that has opened a guest.
+fn opened(alloc: Global, guest: &Guest) -> Result<Plain, Fail> {
+    let begins = Begins {
+        child: guest.child,
+        ..ONE_TASK
+    };
+    Ok(open(alloc, &begins)??)
+}
+
+/// That of its entries those fit that do.
+fn expect_moves(
     rt: &impl Abort,
     alloc: Global,
-    space: &GuestSpace,
-    at: u64,
-    bytes: &[u8],
+    plain: &mut Plain,
+    guest: &Guest,
 ) -> Result<(), Fail> {
-    let found = read(alloc, space, at, bytes.len())?.ok_or("not readable")?;
-    assert_eq!(rt; found.as_slice(), bytes, "at {at:x}");
+    for (index, step) in guest.moves.iter().enumerate() {
+        assert!(rt;
+            is_so(alloc, plain, *step)?,
+            "{}: entry {index}",
+            guest.name
+        );
+    }
     Ok(())
 }
 
-/// That a register holds that.
-pub fn expect_register(rt: &impl Abort, registers: &Regs, number: Reg, value: u64) {
-    assert_eq!(rt; registers.read(number), value, "x{}", number.number());
+/// That it leaves what it should.
+fn expect_left(rt: &impl Abort, kernel: &Kernel, guest: &Guest) {
+    for (index, left) in guest.left.iter().enumerate() {
+        assert!(rt;
+            is_left(kernel, *left),
+            "{}: {index} of what is left",
+            guest.name
+        );
+    }
+}
+
+fn expect_guest(rt: &impl Abort, alloc: Global, guest: &Guest) -> Result<(), Fail> {
+    let mut plain = opened(alloc, guest)?;
+    expect_moves(rt, alloc, &mut plain, guest)?;
+    expect_left(rt, &plain.kernel, guest);
+    Ok(())
+}
+
+/// That each of these guests does its entries, and leaves what it should.
+pub fn expect_guests(rt: &impl Abort, alloc: Global, guests: &[Guest]) -> Result<(), Fail> {
+    for guest in guests {
+        expect_guest(rt, alloc, guest)?;
+    }
+    Ok(())
 }

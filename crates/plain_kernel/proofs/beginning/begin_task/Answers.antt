@@ -6,8 +6,8 @@ use Rattle.kernel_model.specs.declared.kernel.Kernel.{Kernel}
 use Rattle.kernel_model.specs.opening.Opening.{made_by}
 use Rattle.kernel_model.specs.opening.Opening.{execve_of, with_task}
 use Rattle.kernel_model.specs.entries.Parts.{parts, outcome_in}
+use Rattle.kernel_model.proofs.OpenedTasks.{room_still}
 use Rattle.plain_kernel.proofs.BeginLemmas.{fails_refused}
-use Rattle.plain_kernel.proofs.OpenedTasks.{room_still}
 use Rattle.plain_kernel.proofs.WalkLemmas.{tasks_stay}
 use Rattle.plain_kernel.proofs.beginning.begin_task.Goals as goal
 

@@ -3,8 +3,8 @@ use Rattle.std.proofs.Common.{◌+◌, drop, refl, sym, subst, ◌∙◌, arith}
 use Rattle.std.proofs.lemmas.Result.{err_from_is_err_and}
 use Rattle.task_table.specs.Table.{TaskTable}
 use Rattle.kernel_model.specs.opening.Opening.{tasks_begun, made_by}
+use Rattle.kernel_model.proofs.OpenedTasks.{AreOpened, opened_none, opened_more, room_for}
 use Rattle.plain_kernel.proofs.BeginLemmas.{no_record, next_begun, refused_same}
-use Rattle.plain_kernel.proofs.OpenedTasks.{AreOpened, opened_none, opened_more, room_for}
 use Rattle.plain_kernel.proofs.beginning.begin_tasks.Goals as goal
 
 pub loop-index-init : goal.loop-index-init

@@ -1,7 +1,7 @@
 -- What is left to begin comes to what the whole does, and so many tasks were opened.
 use Rattle.std.proofs.Common.{◌≡◌, ◌+◌, drop}
 use Rattle.kernel_model.specs.opening.Opening.{tasks_begun}
-use Rattle.plain_kernel.proofs.OpenedTasks.{AreOpened}
+use Rattle.kernel_model.proofs.OpenedTasks.{AreOpened}
 use Rattle.plain_kernel.proofs.beginning.begin_tasks.Given as goal
 
 abbrev pub invariant-loop-index : goal.invariant-loop-index

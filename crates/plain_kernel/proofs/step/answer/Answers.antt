@@ -23,8 +23,9 @@ returns c = λ changes told.
     ((Decides-int_eq c.args.reply c.args.prepared.reply).1 (sym (to_z-of_z c.ranges.reply)
     ∙ ap (to_z w64) c.if-reply-prepared.false ∙ to_z-of_z fits))
     (told
-    ∙ ap (λ cs. changed cs memory) (effect_apart c.args.prepared.effect c.args.caller.group c.args.kernel.now c.args.caller
-    c.args.caller.space c.args.areas) ∙ c.in_ok-commit.ensures.ok memory refl refl)
+    ∙ ap (λ cs. changed cs memory)
+    (effect_apart c.args.prepared.effect c.args.caller.group c.args.kernel.now c.args.caller c.args.caller.space
+    c.args.areas) ∙ c.in_ok-commit.ensures.ok memory refl refl)
     (c.go_on.ensures
     ∙ ap (λ (s : NamedMap AddressSpace). put (OfTask c.args.caller.task)
     (Some (replied c.args.caller.registers (to_z w64 (of_z w64 c.args.prepared.reply)))) (record after { spaces = s }))

@@ -38,7 +38,8 @@ returns-then-not-is_empty c =
     entry_failing c.args.kernel.now c.copied_areas.new.kernel c.args.entry.now c.task-number.result c.in-Some.caller
     c.stands_at.new.caller (c.copied_areas.ensures.kept ∙ c.caller.ensures.kept) c.task-number.ensures
     (c.in_ok-caller.ensures.caller ∙ c.in-Some.is) (c.in_ok-stands-in-Call.ensures.kept c.if-not-stands.false)
-    c.in-Call.task c.in-Call.no c.in-Call.args c.in-Call.given c.in-Call.reply (to_z w64 (of_z w64 c.in-Call.reply)) c.in-Call.is (to_z-of_z fits)
+    c.in-Call.task c.in-Call.no c.in-Call.args c.in-Call.given c.in-Call.reply (to_z w64 (of_z w64 c.in-Call.reply))
+    c.in-Call.is (to_z-of_z fits)
     (sym (c.in_ok-stands-in-Call.ensures.stands c.copied_areas.new.kernel areas) ∙ c.if-not-stands.false)
     (sym c.is_in_order.ensures ∙ c.if-not-is_in_order.false)
     (has_any_not c.in-Call.given.rises c.is_empty.result c.is_empty.ensures ∙ ap not c.if-not-is_empty.true)
@@ -67,7 +68,8 @@ returns-else-not-is_empty-2 c =
     entry_quiet c.args.kernel.now c.copied_areas.new.kernel c.args.entry.now c.task-number.result c.in-Some.caller
     c.stands_at.new.caller (c.copied_areas.ensures.kept ∙ c.caller.ensures.kept) c.task-number.ensures
     (c.in_ok-caller.ensures.caller ∙ c.in-Some.is) (c.in_ok-stands-in-Call.ensures.kept c.if-not-stands.false)
-    c.in-Call.task c.in-Call.no c.in-Call.args c.in-Call.given c.in-Call.reply (to_z w64 (of_z w64 c.in-Call.reply)) c.in-Call.is (to_z-of_z fits)
+    c.in-Call.task c.in-Call.no c.in-Call.args c.in-Call.given c.in-Call.reply (to_z w64 (of_z w64 c.in-Call.reply))
+    c.in-Call.is (to_z-of_z fits)
     (sym (c.in_ok-stands-in-Call.ensures.stands c.copied_areas.new.kernel areas) ∙ c.if-not-stands.false)
     c.in_ok-prepared-in-Call.prepared.reply c.in_ok-prepared-in-Call.ensures.row.changes
     c.in_ok-prepared-in-Call.ensures.row.row_is

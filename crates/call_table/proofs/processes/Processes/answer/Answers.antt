@@ -84,6 +84,7 @@ returns-clause-step c = λ beside n seed place.
     let answers = c.in_ok-value.ensures.row
     (caller_with c.args.context.now.task c.args.standing c.requires.stands.space) k (record {
       task = refl;
+      group = refl;
       place = place;
       seed = seed;
       space =
@@ -91,6 +92,7 @@ returns-clause-step c = λ beside n seed place.
           (sym c.in-Some.ensures.value);
       there = c.requires.stands.in_memory;
       areas = refl;
+      tasks = refl;
       console = sym c.len-console.ensures;
     }) in
     ap (λ reply. step k (Call c.args.context.now.task c.call_of-no.result c.args_of-args.result c.nothing_given.result

@@ -1,0 +1,19 @@
+-- Each task that is opened is one more, and there is room for 64.
+use Rattle.std.proofs.Common.{◌+◌, sym, subst, arith}
+use Rattle.task_table.specs.Table.{TaskTable}
+use Rattle.kernel_model.specs.opening.Opening.{made_by}
+use Rattle.kernel_model.proofs.OpenedTasks.{AreOpened, opened_none, opened_more, room_for}
+use Rattle.call_table_tests.proofs.guests.processes_of.Goals as goal
+
+pub loop-index-init : goal.loop-index-init
+loop-index-init c = subst (λ (list : TaskTable). AreOpened 0 list) (sym c.new-processes.ensures.none) opened_none
+
+pub open-requires-clause-room : goal.open-requires-clause-room
+open-requires-clause-room c =
+    room_for c.loop-index.index c.loop-index.processes.tasks (omega arith) c.loop-index.invariant
+
+pub loop-index-preserved : goal.loop-index-preserved
+loop-index-preserved c =
+    let next = made_by (c.loop-index.processes.tasks.last + 1) in
+    subst (λ (list : TaskTable). AreOpened (c.loop-index.index + 1) list) (sym c.in_ok-processes.ensures.tasks)
+    (opened_more c.loop-index.index c.loop-index.processes.tasks next next 1 (omega arith) c.loop-index.invariant)
