@@ -1,5 +1,5 @@
-//! The program `sentry`: it runs the task of a mount file over a granted folder, and gives its output, its exit status
-//! and the trace of its calls.
+//! The program `sentry`: it runs the tasks of a mount file in turn, over a granted folder, and gives their output, how
+//! each thread group ended, and the trace of their calls.
 //!
 //! `main` makes the real objects (the system's files, folders and standard output) and calls `run_sentry` of
 //! `sentry_run`, which a caller may give a host in memory instead. Then it writes one line to standard error where the

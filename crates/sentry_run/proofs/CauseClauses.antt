@@ -168,7 +168,7 @@ over_by x p live faults.SinkFault one t k e h =
     (same_state x t.0 k t.1 e) t.3
 over_by x p live faults.Memory one t k e h = tt
 over_by x p live (faults.Image task errno) one t k e h =
-    stateless x (Refuses t.1.left 1 errno) k t.1.refuses refl e
+    stateless x (Refuses t.left task errno) k t.refuses refl e
 over_by x p live faults.HostFault one t k e h = stateless x (Misfits 0) k (unopened x one t.opened) refl e
 over_by x p live (faults.Grant n) one t k e h = stateless x (Misfits 0) k (unopened x one t.1.opened) refl e
 over_by x p live _ one t k e h = absurd t

@@ -12,7 +12,6 @@ use Rattle.kernel_model.specs.declared.kernel.Kernel.{Kernel}
 use Rattle.mount_file.specs.declared.mounts.Mounts.{Mounts}
 use Rattle.mount_file.specs.declared.mounts.MountFault.{MountFault}
 use Rattle.mount_file.specs.declared.mounts.MountFault.TheVariants as mount_faults
-use Rattle.kernel_model.specs.opening.Opening.{Refuses}
 use Rattle.kernel_model.specs.Words.{Command}
 use Rattle.sentry_run.specs.declared.outcome.Fault.{Fault}
 use Rattle.sentry_run.specs.declared.outcome.Fault.TheVariants as faults
@@ -227,8 +226,7 @@ pub image : (s : Call) (r : Outcome) → Way s r → (task : ℕ) (errno : Errno
     → WhereRead r.mounts s.before.host.told (λ m w. RefusesAs (begun m w r.opening) task errno)
 image s r way task errno h =
     where_read s r (λ m w. RefusesAs (begun m w r.opening) task errno) way
-    (λ m o w told. let t = told_as s m r (faults.Image task errno) o h w told in
-    (t.1.left, t.1.refuses ∙ ap (λ n. Refuses t.1.left n errno) (sym t.0)))
+    (λ m o w told. let t = told_as s m r (faults.Image task errno) o h w told in (t.left, t.refuses))
 
 pub image_world : (s : Call) (r : Outcome) → Way s r → (task : ℕ) (errno : Errno) → r.fault ≡ faults.Image task errno
     → WhereRead r.mounts s.before.host.told (λ m w. IfSome (refused_kernel (begun m w r.opening))
@@ -238,4 +236,4 @@ image_world s r way task errno h =
     (λ k. s.after.host.told ≡ Some (world_after m r.opening r.left k w))) way
     (λ m o w told. let t = told_as s m r (faults.Image task errno) o h w told in
     subst (λ b. IfSome (refused_kernel b) (λ k. s.after.host.told ≡ Some (world_after m r.opening r.left k w)))
-    (sym t.1.refuses) (t.1.settles ∙ ap (λ l. Some (world_after m r.opening l t.1.left w)) (sym o.left)))
+    (sym t.refuses) (t.settles ∙ ap (λ l. Some (world_after m r.opening l t.left w)) (sym o.left)))

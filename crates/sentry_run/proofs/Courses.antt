@@ -25,10 +25,11 @@ use Rattle.sentry_run.specs.declared.outcome.Fault.TheVariants as faults
 use Rattle.sentry_run.specs.declared.outcome.Outcome.{Outcome}
 use Rattle.sentry_run.specs.declared.play.End.{End}
 use Rattle.sentry_run.specs.declared.play.End.TheVariants as ends
-use Rattle.sentry_run.specs.Played.{no_left, SameText, Runs, Failed, nothing_opened}
+use Rattle.sentry_run.specs.Played.{SameText, Runs, Failed, nothing_opened}
+use Rattle.image_walk.specs.Standing.{no_left}
 use Rattle.sentry_run.specs.Granted.{Plays, first_names}
 use Rattle.sentry_run.specs.Concluded.{Writes, Concludes}
-use Rattle.sentry_run.specs.Counts.{HasRisen}
+use Rattle.image_walk.specs.Counts.{HasRisen}
 use Rattle.sentry_run.specs.Ran.{played_by}
 use Rattle.sentry_run.specs.Sides.{Side}
 use Rattle.sentry_run.proofs.Counts.{risen_subtree}
@@ -164,21 +165,21 @@ pub state_of : (x : Session) (state : Kernel) → Began x state → state_left x
 state_of x state b =
     ap (λ s. option_and_then (λ (k : Kernel). replay k x.outcome.trace) (started_kernel s)) b.opens ∙ b.replayed
 
--- the opening execve answered an error
-pub record Refused (x : Session) (errno : Errno) : Type 0 where
+-- the opening execve of that task answered that error
+pub record Refused (x : Session) (task : ℕ) (errno : Errno) : Type 0 where
   pub left : Kernel
-  pub refuses : begun x.mounts x.world x.outcome.opening ≡ Refuses left 1 errno
+  pub refuses : begun x.mounts x.world x.outcome.opening ≡ Refuses left task errno
   pub settles : x.after ≡ Some (world_left x left)
 
-refused : (x : Session) (t tree : Shape) (errno : Errno) → length x.mounts.mounts ≡ 1
+refused : (x : Session) (t tree : Shape) (task : ℕ) (errno : Errno) → length x.mounts.mounts ≡ 1
     → directory_at (first_names x.mounts.mounts) x.world ≡ Some t → x.after ≡ Some (world_with x tree)
-    → Failed x.mounts t tree x.outcome.opening errno → Refused x errno
-refused x t tree errno e h put failed = record {
+    → Failed x.mounts t tree x.outcome.opening task errno → Refused x task errno
+refused x t tree task errno e h put failed = record {
   left = failed.left;
   refuses = begun_one x t e h ∙ failed.refuses;
   settles =
       settles_as x tree failed.left e
-      (refuses_fits x.mounts (t ∷ []) x.outcome.opening failed.left 1 errno failed.refuses) failed.settles put;
+      (refuses_fits x.mounts (t ∷ []) x.outcome.opening failed.left task errno failed.refuses) failed.settles put;
 }
 
 -- ---- the text
@@ -186,9 +187,11 @@ refused x t tree errno e h put failed = record {
 printed_same : (state kernel : Kernel) (trace : List Entry) (flag : Bool) → SameText state kernel
     → printed kernel trace flag ≡ printed state trace flag
 printed_same state kernel trace flag same =
-    ap (λ c. console_text c ++ groups_text (map.entries kernel.tasks.groups) ++ (if flag then trace_text 1 trace else []))
+    ap (λ c. console_text c ++ groups_text (map.entries kernel.tasks.groups)
+    ++ (if flag then trace_text 1 trace else []))
     (sym same.console)
-    ∙ ap (λ (ts : TaskTable). console_text state.console ++ groups_text (map.entries ts.groups) ++ (if flag then trace_text 1 trace else []))
+    ∙ ap (λ (ts : TaskTable). console_text state.console ++ groups_text (map.entries ts.groups)
+    ++ (if flag then trace_text 1 trace else []))
     (sym same.tasks)
 
 writes_same : (x : Session) (p : Output) (state kernel : Kernel) (whole fault : Fault) → SameText state kernel
@@ -205,8 +208,8 @@ pub data Course (x : Session) (p : Output) (fault : Fault) : Type 0 where
       → Writes (text_with x p state) faults.Done p.before p.after fault → Course x p fault
   Filled : (state : Kernel) → Began x state → any_live state ≡ true → length x.outcome.trace ≡ x.mounts.entries
       → Writes (text_with x p state) faults.Full p.before p.after fault → Course x p fault
-  Stopped : (errno : Errno) → Refused x errno → x.outcome.trace ≡ [] → fault ≡ faults.Image 1 errno
-      → p.after.told ≡ p.before.told → Course x p fault
+  Stopped : (task : ℕ) (errno : Errno) → Refused x task errno → x.outcome.trace ≡ []
+      → fault ≡ faults.Image task errno → p.after.told ≡ p.before.told → Course x p fault
   Starved : (state : Kernel) → Began x state → fault ≡ faults.Memory → p.after.told ≡ p.before.told
       → Course x p fault
   Emptied : (tree : Shape) → x.after ≡ Some (world_with x tree) → HasRisen x.world (world_with x tree)
@@ -228,7 +231,8 @@ course x p fault (ends.Done kernel) e q c =
 course x p fault (ends.Full kernel) e q c =
     Filled q.4.0 (began x q.0 q.2 q.4.0 e q.1 q.3 q.4.1) q.4.3 q.4.4
     (writes_same x p q.4.0 kernel faults.Full fault q.4.2 c)
-course x p fault (ends.Image errno) e q c = Stopped errno (refused x q.0 q.2 errno e q.1 q.3 q.4.0) q.4.1 c.0 c.1
+course x p fault (ends.Image task errno) e q c =
+    Stopped task errno (refused x q.0 q.2 task errno e q.1 q.3 q.4.0) q.4.1 c.0 c.1
 course x p fault ends.HostFault e q c = Failing q.0 q.1 q.2 c.0 c.1
 course x p fault ends.Grant e q c =
     Missing q.0.0 q.0.1 q.0.2 (granted_none x.mounts.mounts x.world e q.1) c.0 c.1

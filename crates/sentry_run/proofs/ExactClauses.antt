@@ -88,7 +88,7 @@ grant_by : (x : Session) (p : Output) (f : Fault) → ToldFacts x p f → grante
 grant_by x p faults.Done t e = absurd (starts_not_granted x t.1.start e t.1.opens)
 grant_by x p faults.Full t e = absurd (starts_not_granted x t.1.start e t.1.opens)
 grant_by x p faults.SinkFault t e = absurd (starts_not_granted x t.1.start e t.1.opens)
-grant_by x p (faults.Image task errno) t e = absurd (refuses_not_granted x t.1.left 1 errno e t.1.refuses)
+grant_by x p (faults.Image task errno) t e = absurd (refuses_not_granted x t.left task errno e t.refuses)
 grant_by x p faults.Memory t e = inr (inr refl)
 grant_by x p faults.HostFault t e = inr (inl refl)
 grant_by x p (faults.Grant n) t e = inl (n, refl)
@@ -107,10 +107,9 @@ image_by x p faults.Done e t k task errno b = absurd (starts_not_refused x t.1.s
 image_by x p faults.Full e t k task errno b = absurd (starts_not_refused x t.1.start k task errno t.1.opens b)
 image_by x p faults.SinkFault e t k task errno b = absurd (starts_not_refused x t.1.start k task errno t.1.opens b)
 image_by x p (faults.Image n err) e t k task errno b =
-    let f : Refuses t.1.left 1 err ≡ Refuses k task errno = sym t.1.refuses ∙ b in
-    let g : 1 ≡ task = cc f in
+    let f : Refuses t.left n err ≡ Refuses k task errno = sym t.refuses ∙ b in
+    let g : n ≡ task = cc f in
     let h : err ≡ errno = cc f in
-    let one : n ≡ task = t.0 ∙ g in
     inl cc
 image_by x p faults.Memory e t k task errno b = inr refl
 image_by x p faults.HostFault e t k task errno b = absurd (nothing_refused x k task errno e t.opened b)
@@ -238,7 +237,7 @@ over_end s command m r faults.HostFault e d o h a no_host no_sink =
     absurd (no_host (any_as s m r faults.HostFault o h).0)
 over_end s command m r (faults.Image task errno) e d o h a no_host no_sink =
     let t = told_as s m r (faults.Image task errno) o h a.tree a.tree_is in
-    absurd (a.starts t.1.left 1 errno (ap (λ x. begun x a.tree r.opening) (file_is s command m r e d a) ∙ t.1.refuses))
+    absurd (a.starts t.left task errno (ap (λ x. begun x a.tree r.opening) (file_is s command m r e d a) ∙ t.refuses))
 over_end s command m r (faults.Grant n) e d o h a no_host no_sink =
     let t = told_as s m r (faults.Grant n) o h a.tree a.tree_is in
     absurd (not_none (granted a.mounts.mounts a.tree) a.folders

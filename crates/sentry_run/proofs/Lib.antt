@@ -1,5 +1,5 @@
 -- Lemmas of a run, by subject.
-pub mod Walks
+pub mod Records
 pub mod Closed
 pub mod Groups
 pub mod Lines

@@ -12,8 +12,9 @@ use Rattle.sentry_run.specs.declared.outcome.Fault.{Fault}
 use Rattle.sentry_run.specs.declared.outcome.Fault.TheVariants as faults
 use Rattle.sentry_run.specs.declared.play.End.{End}
 use Rattle.sentry_run.specs.declared.play.End.TheVariants as ends
-use Rattle.sentry_run.specs.Played.{nothing_opened, no_left, TraceOf}
-use Rattle.sentry_run.proofs.Counts.{risen_same}
+use Rattle.sentry_run.specs.Played.{nothing_opened, TraceOf}
+use Rattle.image_walk.specs.Standing.{no_left}
+use Rattle.image_walk.proofs.Counts.{risen_same}
 use Rattle.sentry_run.specs.Causes.{is_host_fault, is_grant_failed}
 use Rattle.sentry_run.specs.Concluded.{Writes, Fronts, StopsShort, Concludes}
 use Rattle.sentry_run.specs.Outcome.{granted, IsHistory, IsOver, text_of, KeepsOutside, LeavesInside}
@@ -33,7 +34,7 @@ AnyFacts entries trace before after faults.Done = ⊤
 AnyFacts entries trace before after faults.Full = length trace ≡ entries
 AnyFacts entries trace before after faults.SinkFault = Rose before.sink.count after.sink.count
 AnyFacts entries trace before after faults.Memory = ⊤
-AnyFacts entries trace before after (faults.Image task errno) = (task ≡ 1) × Silent trace before.sink after.sink
+AnyFacts entries trace before after (faults.Image task errno) = Silent trace before.sink after.sink
 AnyFacts entries trace before after faults.HostFault =
     Rose before.host.count after.host.count × Silent trace before.sink after.sink
 AnyFacts entries trace before after (faults.Grant n) = (n ≡ 1) × Silent trace before.sink after.sink
@@ -56,8 +57,8 @@ any_facts entries trace text before after fault (ends.Done kernel) t h c =
     any_written (text kernel) entries trace before after faults.Done fault tt c
 any_facts entries trace text before after fault (ends.Full kernel) t h c =
     any_written (text kernel) entries trace before after faults.Full fault t c
-any_facts entries trace text before after fault (ends.Image errno) t h c =
-    subst (AnyFacts entries trace before after) (sym c.0) (refl, record { empty = t; same_sink = c.1 })
+any_facts entries trace text before after fault (ends.Image task errno) t h c =
+    subst (AnyFacts entries trace before after) (sym c.0) (record { empty = t; same_sink = c.1 })
 any_facts entries trace text before after fault ends.HostFault t h c =
     subst (AnyFacts entries trace before after) (sym c.0) (h refl, record { empty = t; same_sink = c.1 })
 any_facts entries trace text before after fault ends.Grant t h c =
@@ -78,7 +79,7 @@ grant_told text before after fault (ends.Done kernel) c =
     written_host (text kernel) faults.Done before after fault refl c
 grant_told text before after fault (ends.Full kernel) c =
     written_host (text kernel) faults.Full before after fault refl c
-grant_told text before after fault (ends.Image errno) c = sym (ap is_host_fault c.0)
+grant_told text before after fault (ends.Image task errno) c = sym (ap is_host_fault c.0)
 grant_told text before after fault ends.HostFault c = sym (ap is_host_fault c.0)
 grant_told text before after fault ends.Grant c = sym (ap is_host_fault c.0)
 grant_told text before after fault ends.Memory c = sym (ap is_host_fault c.0)
@@ -111,7 +112,7 @@ ToldFacts x p faults.SinkFault =
     (state : Kernel) × Began x state × IsOver x.mounts x.outcome.trace state
     × StopsShort p.before.told p.after.told (text_with x p state)
 ToldFacts x p faults.Memory = Short x p
-ToldFacts x p (faults.Image task errno) = (task ≡ 1) × Refused x errno
+ToldFacts x p (faults.Image task errno) = Refused x task errno
 ToldFacts x p faults.HostFault = Unopened x
 ToldFacts x p (faults.Grant n) = (n ≡ 1) × Unopened x × (granted x.mounts.mounts x.world ≡ None)
 ToldFacts x p _ = ⊥
@@ -168,7 +169,7 @@ told_facts x p fault e (Finished state b dead w) =
     told_written x p faults.Done fault state e b (inl dead) (λ taken. (state, b, dead, taken)) w
 told_facts x p fault e (Filled state b live full w) =
     told_written x p faults.Full fault state e b (inr (live, full)) (λ taken. (state, b, live, taken)) w
-told_facts x p fault e (Stopped errno r empty f same) = subst (ToldFacts x p) (sym f) (refl, r)
+told_facts x p fault e (Stopped task errno r empty f same) = subst (ToldFacts x p) (sym f) r
 told_facts x p fault e (Starved state b f same) =
     subst (ToldFacts x p) (sym f) (short_began x p state e b (no_front p.before.told p.after.told _ same))
 told_facts x p fault e (Emptied tree put risen empty f same) =

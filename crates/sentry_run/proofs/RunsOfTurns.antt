@@ -13,7 +13,8 @@ use Rattle.call_table.specs.Processes.{kernel_of}
 use Rattle.call_table.specs.Turns.{Leaves}
 use Rattle.sentry_run.specs.declared.play.End.{End}
 use Rattle.sentry_run.specs.declared.play.End.TheVariants as ends
-use Rattle.sentry_run.specs.Played.{RanFrom, TraceOf, over, beside_of}
+use Rattle.run_opening.specs.Openings.{beside_of}
+use Rattle.sentry_run.specs.Played.{RanFrom, TraceOf, over}
 use Rattle.sentry_run.specs.Stopped.{FinishesAs}
 
 pub ran_from : (m : Mounts) (o : Option Processes) (trace : List Entry) (end : End) (nodes : Nodes) (start : Kernel)
@@ -35,7 +36,7 @@ ran_from m (Some p) trace (ends.Full k) nodes start leaves state whole stop fin 
       elim stop [ inl h ↦ absurd (cc (h, fin.0)) | inr h ↦ h ],
     )
 ran_from m (Some p) trace ends.Memory nodes start leaves state whole stop fin = absurd fin
-ran_from m (Some p) trace (ends.Image errno) nodes start leaves state whole stop fin = absurd fin
+ran_from m (Some p) trace (ends.Image task errno) nodes start leaves state whole stop fin = absurd fin
 ran_from m (Some p) trace ends.HostFault nodes start leaves state whole stop fin = absurd fin
 ran_from m (Some p) trace ends.Grant nodes start leaves state whole stop fin = absurd fin
 
@@ -43,7 +44,7 @@ pub ran_trace : (m : Mounts) (nodes : Nodes) (start : Kernel) (end : End) (trace
     → RanFrom m nodes start end trace → TraceOf m.entries end trace
 ran_trace m nodes start (ends.Done kernel) trace h = tt
 ran_trace m nodes start (ends.Full kernel) trace h = h.3
-ran_trace m nodes start (ends.Image errno) trace h = absurd h
+ran_trace m nodes start (ends.Image task errno) trace h = absurd h
 ran_trace m nodes start ends.HostFault trace h = absurd h
 ran_trace m nodes start ends.Grant trace h = absurd h
 ran_trace m nodes start ends.Memory trace h = tt

@@ -14,12 +14,14 @@ use Rattle.kernel_model.specs.declared.opening.Left.{Left}
 use Rattle.kernel_model.specs.entries.Given.{numbers_of}
 use Rattle.kernel_model.specs.entries.History.{any_live}
 use Rattle.kernel_model.specs.files.Numbers.{count_up}
-use Rattle.kernel_model.specs.files.Numbers.{IsGapless, HasAllBelow, numbers_opened, numbers_in, numbers_drawn, left_fresh}
+use Rattle.kernel_model.specs.files.Numbers.{IsGapless, HasAllBelow, numbers_opened, numbers_in, numbers_drawn}
+use Rattle.kernel_model.specs.files.Numbers.{left_fresh}
 use Rattle.kernel_model.specs.printed.Printed.{printed}
 use Rattle.sentry_run.specs.declared.outcome.Fault.{Fault}
 use Rattle.sentry_run.specs.declared.outcome.Fault.TheVariants as faults
 use Rattle.sentry_run.specs.declared.outcome.Outcome.{Outcome}
-use Rattle.sentry_run.specs.Played.{no_left, nothing_opened}
+use Rattle.sentry_run.specs.Played.{nothing_opened}
+use Rattle.image_walk.specs.Standing.{no_left}
 use Rattle.sentry_run.specs.Causes.{HasRun, HasNotBegun, HasNoTrace, HasText, HasFront}
 use Rattle.sentry_run.specs.Outcome.{state_after, world_after, WhereRead, WhereState, IsHistory, IsOver, asks_trace}
 use Rattle.sentry_run.specs.Outcome.{KeepsOutside, IsLeftOver, AreLeft, LeavesInside, begun, started_kernel}
@@ -65,7 +67,7 @@ bound s r way = if_read s r (λ m. length r.trace ≤ m.entries) way (λ m o. o.
 -- an answer without a trace writes nothing
 silent : (entries : ℕ) (trace : List Entry) (before after : Sides) (f : Fault) → HasNoTrace f
     → AnyFacts entries trace before after f → Silent trace before.sink after.sink
-silent entries trace before after (faults.Image task errno) h a = a.1
+silent entries trace before after (faults.Image task errno) h a = a
 silent entries trace before after faults.HostFault h a = a.1
 silent entries trace before after (faults.Grant n) h a = a.1
 silent entries trace before after faults.Usage h a = absurd a

@@ -5,13 +5,14 @@ use Rattle.std.specs.List.{flat_map}
 use Rattle.host_node.specs.Tree.{Shape}
 use Rattle.sn_base.specs.Faults.{HasCause}
 use Rattle.sn_edge.specs.Reading.{ReadsWithin}
+use Rattle.mount_file.specs.Form.{HasForm}
 use Rattle.mount_file.specs.declared.mounts.Mounts.{Mounts}
 use Rattle.kernel_model.specs.declared.kernel.Kernel.{Kernel}
 use Rattle.kernel_model.specs.files.Numbers.{IsGapless, numbers_opened, numbers_in}
 use Rattle.kernel_model.specs.printed.Printed.{printed}
 use Rattle.kernel_model.specs.Words.{Command}
 use Rattle.sentry_run.specs.declared.outcome.Outcome.{Outcome}
-use Rattle.sentry_run.specs.Played.{no_left}
+use Rattle.image_walk.specs.Standing.{no_left}
 use Rattle.sentry_run.specs.Granted.{PlaysIn}
 use Rattle.sentry_run.specs.Causes.{status_of, is_host_fault, is_sink_fault}
 use Rattle.sentry_run.specs.Ran.{ReadsAs, NoCommand, NotRead, Read, RanOver, RanCommand, RanWords, played_by}
@@ -57,11 +58,15 @@ pub data Way (s : Call) (r : Outcome) : Type 0 where
       → ReadsWithin s.before.source.told s.after.source.told 65537 → (m : Mounts)
       → ReadsAs command s.before.source.told m → Over s m r → Way s r
 
+-- a mount file that is read has one mount
+one_mount : (m : Mounts) → HasForm m → length m.mounts ≡ 1
+one_mount m form = ap length form.mounts_are
+
 over_of : (s : Call) (m : Mounts) (r : Outcome) → s.after.source.count ≡ s.before.source.count
     → RanOver m (asks_trace s.words) s.before s.after r → Over s m r
 over_of s m r same ran =
     let text : Kernel → List ℕ = λ k. printed k r.trace (asks_trace s.words) in
-    let one : length m.mounts ≡ 1 = ap length ran.one.mounts_are in
+    let one : length m.mounts ≡ 1 = one_mount m ran.one in
     record {
       status = ran.status;
       read = ran.read;

@@ -1,12 +1,10 @@
 -- What contracts of this crate say, by subject.
-pub mod Walk
 pub mod Command
 pub mod Played
 pub mod Stopped
 pub mod Granted
 pub mod ErrorLine
 pub mod Causes
-pub mod Counts
 pub mod LeftTasks
 pub mod Outcome
 pub mod Sides

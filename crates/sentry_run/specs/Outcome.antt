@@ -24,7 +24,7 @@ use Rattle.kernel_model.specs.files.FileTree.{Child, Missing, child_at}
 use Rattle.kernel_model.specs.files.Numbers.{IsUnnumbered, left_fresh}
 use Rattle.kernel_model.specs.files.Settled.{tree_now, settled, outside}
 use Rattle.sentry_run.specs.Concluded.{StopsShort}
-use Rattle.sentry_run.specs.Counts.{HasRisen}
+use Rattle.image_walk.specs.Counts.{HasRisen}
 use Rattle.sentry_run.specs.LeftTasks.{MayBeLeft}
 use Rattle.sentry_run.specs.declared.outcome.Fault.{Fault}
 use Rattle.sentry_run.specs.declared.outcome.Outcome.{Outcome}

@@ -15,8 +15,9 @@ use Rattle.sentry_run.specs.declared.outcome.Outcome.{Outcome}
 use Rattle.sentry_run.specs.declared.play.End.{End}
 use Rattle.sentry_run.specs.declared.play.End.TheVariants as ends
 use Rattle.sentry_run.specs.declared.play.Played.{Played}
-use Rattle.mount_file.specs.Form.{HasOneTask}
-use Rattle.sentry_run.specs.Played.{nothing_opened, no_left, TraceOf}
+use Rattle.mount_file.specs.Form.{HasForm}
+use Rattle.sentry_run.specs.Played.{nothing_opened, TraceOf}
+use Rattle.image_walk.specs.Standing.{no_left}
 use Rattle.sentry_run.specs.Granted.{PlaysIn}
 use Rattle.sentry_run.specs.Concluded.{Concludes}
 use Rattle.sentry_run.specs.Causes.{status_of, is_source_fault, is_sink_fault, is_grant_failed}
@@ -57,7 +58,7 @@ pub record RanOver (mounts : Mounts) (flag : Bool) (before after : Sides) (r : O
   pub status : r.status ≡ status_of r.fault
   pub read : r.mounts ≡ Some mounts
   pub left : r.left ≡ no_left
-  pub one : HasOneTask mounts
+  pub one : HasForm mounts
   pub end : End
   pub plays : PlaysIn mounts before.host.told after.host.told (played_by r end)
   pub concludes : Concludes end (λ k. printed k r.trace flag) before.sink after.sink r.fault

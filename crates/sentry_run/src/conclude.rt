@@ -3,7 +3,7 @@
 ghost use Rattle.std.specs.Prelude.{◌≡◌, false, Some};
 ghost use Rattle.sn_base.specs.Faults.{HasCause};
 ghost use Rattle.kernel_model.specs.printed.Printed.{printed};
-ghost use Rattle.sentry_run.specs.Played.{no_left};
+ghost use Rattle.image_walk.specs.Standing.{no_left};
 ghost use Rattle.sentry_run.specs.Causes.{status_of, is_sink_fault};
 ghost use Rattle.sentry_run.specs.Concluded.{Writes, Concludes};
 ghost use Rattle.sentry_run.specs.Sides.{side};
@@ -17,7 +17,7 @@ use sn_base::{List, Memory};
 use sn_edge::{EdgeErr, Sink, write_all};
 use std::alloc::Global;
 
-/// Nothing is left beside a trace as long as one task runs.
+/// Nothing is left beside a trace as long as no call fails and none waits.
 fn nothing_left(alloc: Global) -> Left
     ensures { result ≡ no_left }
 {
@@ -61,7 +61,7 @@ fn concluded<K: Sink>(alloc: Global, end: End, trace: &Trace, flag: bool, out: &
     match end {
         End::Done(kernel) => written(alloc, &kernel, trace, flag, out, Fault::Done),
         End::Full(kernel) => written(alloc, &kernel, trace, flag, out, Fault::Full),
-        End::Image(errno) => Fault::Image { task: 1, errno },
+        End::Image { task, errno } => Fault::Image { task, errno },
         End::HostFault => Fault::HostFault,
         End::Grant => Fault::Grant { mount: 1 },
         End::Memory => Fault::Memory,

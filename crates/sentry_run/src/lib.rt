@@ -1,5 +1,5 @@
-//! A run of the Sentry, from its words to its text: the task of a mount file over a granted folder, with its output,
-//! its exit status and the trace of its calls.
+//! A run of the Sentry, from its words to its text: the tasks of a mount file, in turn, over a granted folder, with
+//! their output, how each thread group ended, and the trace of their calls.
 //!
 //! A caller gives `run_sentry` the words, a source of mount files, a host and a sink: the system's own, as the program
 //! `sentry` does, or others in memory. It has an `Outcome` back, whose `Fault` says how the run came out. `report`
@@ -26,7 +26,6 @@ mod outcome;
 mod play;
 mod run;
 mod text;
-mod walk;
 mod words;
 
 pub use error_line::{report, write_line};

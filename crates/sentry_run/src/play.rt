@@ -1,36 +1,39 @@
-//! The opening of one task, and its run, from what the walk to its program gave.
+//! The opening of a run and its turns, over a granted folder.
 
-ghost use Rattle.std.specs.Prelude.{◌≡◌, ◌≤◌, ◌<◌, ◌^◌, true, false, [], length, Some, None, IfOk};
-ghost use Rattle.std.specs.FinMap as map;
+ghost use Rattle.std.specs.Prelude.{◌≡◌, ◌≤◌, [], ◌∷◌, length, None, Some, IfOk, IsSome};
 ghost use Rattle.std.specs.List.{flat_map};
-ghost use Rattle.host_node.specs.Tree.{Shape, faults_of};
+ghost use Rattle.host_node.specs.Tree.{Shape};
+ghost use Rattle.mount_file.specs.Form.{HasForm};
 ghost use Rattle.kernel_model.specs.files.FileTree.{Nodes};
-ghost use Rattle.kernel_model.specs.opening.Arguments.{is_too_long};
-ghost use Rattle.kernel_model.specs.laws.Beginnings.{HasRoom};
 ghost use Rattle.kernel_model.specs.files.Numbers.{IsGapless, numbers_opened, numbers_in};
-ghost use Rattle.sn_errno.specs.declared.errno.Errno.TheVariants.{E2BIG};
-ghost use Rattle.sentry_run.specs.Walk.{given_by};
-ghost use Rattle.sentry_run.specs.Played.{nothing_opened, record_of, NamesTask, first_is_too_long, FitsFor, given_back};
-ghost use Rattle.sentry_run.specs.Played.{Ended, RanFrom, TraceOf, kernel_opened};
+ghost use Rattle.image_walk.specs.Granted.{CanGiveBack, told_of};
+ghost use Rattle.image_walk.specs.Standing.{Stands};
+ghost use Rattle.image_walk.specs.Walking.{IsRoot};
+ghost use Rattle.run_opening.specs.Openings.{beside_of};
+ghost use Rattle.call_table.specs.Processes.{kernel_of};
+ghost use Rattle.sentry_run.specs.Played.{EndsOver, end_of, RanFrom, TraceOf, first_of, nothing_opened};
 ghost use Rattle.sentry_run.specs.Stopped.{EndsAs, FinishesAs, IsInner};
 
-use crate::walk::{Answer, Loaded, Met, given};
 use call_table::{Processes, Ran, run_turns};
-use elf_image::Image;
-use kernel_model::{Kernel, Opened, Opening, Trace};
-use mount_file::{Mount, Mounts, Program};
+use host_node::HostNode;
+use image_walk::Granted;
+use kernel_model::{Kernel, Opening, Trace};
+use mount_file::{Mounts, copied_mounts};
+use run_opening::{OpenErr, open_tasks};
 use sn_base::{List, Memory};
 use sn_errno::Errno;
-use sn_text::{Name, Text};
 use std::alloc::Global;
 
-/// How the opening and the run ended: the task has ended, the trace is full, the opening execve answers an error, the
-/// host failed in a grant, there is no such folder, or memory ran out.
+/// The inode number of the root of the one mount.
+const ROOT: u64 = 1;
+
+/// How the opening and the run ended: no task lives, the trace is full, the opening execve of a task answers an error,
+/// the host failed in a grant, there is no such folder, or memory ran out.
 #[derive(Drop)]
 pub enum End {
     Done(Kernel),
     Full(Kernel),
-    Image(Errno),
+    Image { task: u32, errno: Errno },
     HostFault,
     Grant,
     Memory,
@@ -56,7 +59,7 @@ pub fn no_opening(alloc: Global) -> Opening
 }
 
 /// An end before anything ran.
-#[tactic(auto, using(crate::proofs::Endings::gapless_nothing))]
+#[tactic(auto, using(crate::proofs::Records::gapless_nothing))]
 pub fn stopped(alloc: Global, end: End) -> Played
     ensures numbers { IsGapless (numbers_opened result.opening) }
     ensures end { result.end ≡ end }
@@ -70,94 +73,30 @@ pub fn stopped(alloc: Global, end: End) -> Played
     }
 }
 
-fn copied_mount(alloc: Global, mount: &Mount) -> Result<Mount, Memory>
-    ensures { IfOk result (λ m. m ≡ mount.now) }
-{
-    let at = match &mount.at {
-        Some(name) => Some(name.copy(alloc)?),
-        None => None,
-    };
-    Ok(Mount {
-        at,
-        folder: mount.folder.copy(alloc)?,
-        write: mount.write,
-    })
-}
-
-fn copied_mounts(alloc: Global, mounts: &[Mount]) -> Result<List<Mount>, Memory>
-    ensures { IfOk result (λ ms. ms ≡ mounts.now) }
-{
-    let mut copies = List::new(alloc);
-    for mount in mounts {
-        copies.push(copied_mount(alloc, mount)?)?;
-    }
-    Ok(copies)
-}
-
-fn copied_words(alloc: Global, words: &[Text]) -> Result<List<Text>, Memory>
-    ensures { IfOk result (λ ws. ws ≡ words.now) }
-{
-    let mut copies = List::new(alloc);
-    for word in words {
-        copies.push(word.copy(alloc)?)?;
-    }
-    Ok(copies)
-}
-
-/// The record of the opening of one mount and one task.
-fn opening_record(
-    alloc: Global,
-    mounts: &Mounts,
-    program: &Program,
-    name: &Name,
-    met: Met,
-) -> Result<Opening, Memory>
-    ensures { IfOk result (λ o. o ≡ record_of mounts.now program.now (given_by name.now met)) }
+/// The record of an opening before its first task: the mounts, and the number of their one root.
+fn first_record(alloc: Global, mounts: &Mounts) -> Result<Opening, Memory>
+    ensures { IfOk result (λ o. o ≡ first_of mounts.now) }
 {
     let mut roots = List::new(alloc);
-    roots.push(1)?;
-    let mut tasks = List::new(alloc);
-    tasks.push(Opened {
-        words: copied_words(alloc, program.args.as_slice())?,
-        given: given(alloc, name, met)?,
-    })?;
+    roots.push(ROOT)?;
     Ok(Opening {
         mounts: copied_mounts(alloc, mounts.mounts.as_slice())?,
         roots,
-        tasks,
+        tasks: List::new(alloc),
     })
 }
 
-/// Runs an image from its opening on.
-fn run_image(
-    alloc: Global,
-    mounts: &Mounts,
-    program: &Program,
-    image: &Image,
-    opening: Opening,
-) -> Played
-    requires short { is_too_long program.now.args program.now.env ≡ false }
-    requires pages { HasRoom image.now }
+/// Runs processes, from their opening on.
+fn run_processes(alloc: Global, mounts: &Mounts, processes: Processes, opening: Opening) -> Played
     ensures ran { (nodes : Nodes) → RanFrom mounts.now nodes
-        (kernel_opened mounts.now program.now image.now nodes) result.end result.trace }
+        (kernel_of processes (beside_of mounts.now nodes) 0) result.end result.trace }
     ensures opening { result.opening ≡ opening }
     ensures drawn { flat_map numbers_in result.trace ≡ [] }
     ensures inner { IsInner result.end }
     ensures trace { TraceOf mounts.now.entries result.end result.trace }
     ensures bound { length result.trace ≤ mounts.now.entries }
 {
-    let seed = mounts.seed.as_slice();
-    let processes = match Processes::start(alloc, seed, program, image) {
-        Ok(processes) => processes,
-        Err(Memory) => {
-            return Played {
-                end: End::Memory,
-                opening,
-                trace: List::new(alloc),
-            };
-        }
-    };
-    let ran = run_turns(alloc, processes, seed, mounts.entries);
+    let ran = run_turns(alloc, processes, mounts.seed.as_slice(), mounts.entries);
     finished(alloc, ran, opening)
 }
 
@@ -194,36 +133,48 @@ fn ended(alloc: Global, processes: Processes, entries: u64) -> End
     }
 }
 
-/// Opens and runs the one task of a mount file, from what the walk to its program gave.
-pub fn play_loaded(alloc: Global, mounts: &Mounts, name: &Name, loaded: Loaded) -> Played
-    requires named { NamesTask mounts.now name.now }
-    requires long { first_is_too_long mounts.now.tasks ≡ true → loaded.answer ≡ Answer.Refuses E2BIG }
-    ensures ended { (t : Shape) → faults_of t < 2 ^ 64 →
-        FitsFor (first_is_too_long mounts.now.tasks) t name.now loaded.met loaded.answer →
-        Ended mounts.now t (given_back t name.now loaded.met) result.opening result.trace result.end }
+/// An opening that ended before all its tasks had begun.
+fn unbegun(alloc: Global, why: OpenErr, opening: Opening) -> Played
+    ensures end { result.end ≡ end_of why }
+    ensures inner { IsInner result.end }
+    ensures trace { result.trace ≡ [] }
+    ensures opening { result.opening ≡ opening }
+{
+    let end = match why {
+        OpenErr::Image { task, errno } => End::Image { task, errno },
+        OpenErr::Memory => End::Memory,
+    };
+    Played {
+        end,
+        opening,
+        trace: List::new(alloc),
+    }
+}
+
+/// Opens and runs the tasks of a mount file over a granted folder. The children that were lent can then go back.
+pub fn play_granted<N: HostNode>(alloc: Global, mounts: &Mounts, granted: &mut Granted<N>) -> Played
+    requires form { HasForm mounts.now }
+    requires root { IsRoot (N.told granted.old.root) }
+    requires stands { (t : Shape) → N.told granted.old.root ≡ Some t →
+        Stands t [] [] (N.told granted.old.root) (told_of N.told granted.old.lent.items) }
+    requires lent { granted.old.lent.items ≡ [] }
+    ensures ended { (t : Shape) → N.told granted.old.root ≡ Some t →
+        EndsOver mounts.now t (N.told granted.new.root) (told_of N.told granted.new.lent.items) result }
+    ensures silent { N.told granted.old.root ≡ None → N.told granted.new.root ≡ None }
+    ensures tells { IsSome (N.told granted.old.root) → IsSome (N.told granted.new.root) }
+    ensures can { CanGiveBack (N.told granted.new.root) (told_of N.told granted.new.lent.items) }
     ensures inner { IsInner result.end }
     ensures drawn { flat_map numbers_in result.trace ≡ [] }
     ensures trace { TraceOf mounts.now.entries result.end result.trace }
     ensures numbers { IsGapless (numbers_opened result.opening) }
     ensures bound { length result.trace ≤ mounts.now.entries }
 {
-    let program = mounts.tasks.at(0);
-    let Loaded { met, answer } = loaded;
-    let opening = match opening_record(alloc, mounts, program, name, met) {
+    let mut opening = match first_record(alloc, mounts) {
         Ok(opening) => opening,
         Err(Memory) => return stopped(alloc, End::Memory),
     };
-    match answer {
-        Answer::Starts(image) => run_image(alloc, mounts, program, &image, opening),
-        Answer::Refuses(errno) => Played {
-            end: End::Image(errno),
-            opening,
-            trace: List::new(alloc),
-        },
-        Answer::Memory => Played {
-            end: End::Memory,
-            opening,
-            trace: List::new(alloc),
-        },
+    match open_tasks(alloc, mounts, granted, &mut opening.tasks) {
+        Ok(processes) => run_processes(alloc, mounts, processes, opening),
+        Err(why) => unbegun(alloc, why, opening),
     }
 }

@@ -16,12 +16,12 @@ ghost use Rattle.sentry_run.specs.Causes.{HasFront, HasEnded, MayFailToOpen, May
 ghost use Rattle.sentry_run.specs.Causes.{MayFailToStart};
 ghost use Rattle.sentry_run.specs.Concluded.{Fronts, StopsShort};
 ghost use Rattle.sentry_run.specs.Granted.{IsUngranted};
-ghost use Rattle.mount_file.specs.Form.{HasOneTask};
+ghost use Rattle.mount_file.specs.Form.{HasForm};
 ghost use Rattle.sentry_run.specs.Outcome.{ReadsMounts, HasMountFault, MeetsFault, granted, begun, state_after};
 ghost use Rattle.sentry_run.specs.Outcome.{WhereRead, WhereState, IsHistory, RefusesAs, refused_kernel, IsOver};
 ghost use Rattle.sentry_run.specs.Outcome.{asks_trace, text_of, LacksFile, ComesTo, AreLeft, LeavesInside};
 ghost use Rattle.sentry_run.specs.Outcome.{IsLeftOver, IsAccepted, world_after, KeepsOutside};
-ghost use Rattle.sentry_run.specs.Played.{no_left};
+ghost use Rattle.image_walk.specs.Standing.{no_left};
 ghost use Rattle.sentry_run.specs.Ran.{IsRefused, ReadsAs, FailsToRead, RanBy, RanWords};
 ghost use Rattle.sentry_run.specs.Sides.{side, sides};
 
@@ -56,7 +56,7 @@ fn load_mounts<S: Source>(
 ) -> Result<Mounts, Fault>
     ensures read { ReadsWithin (S.told files.old) (S.told files.new) 65537 }
     ensures ok { IfOk result (ReadsAs (command_of command.now) (S.told files.old)) }
-    ensures form { IfOk result HasOneTask }
+    ensures form { IfOk result HasForm }
     ensures err { IfErr result (FailsToRead (command_of command.now)
         (side (S.told files.old) (S.count files.old)) (side (S.told files.new) (S.count files.new))) }
     ensures cause { HasCause (is_unreadable result) (S.count files.old) (S.count files.new) }
@@ -119,10 +119,10 @@ fn run_words<S: Source, W: HostWorld, K: Sink>(
     }
 }
 
-/// Runs what the words say: it reads a mount file, grants its folder, runs its task and writes the text of the run.
+/// Runs what the words say: it reads a mount file, grants its folder, runs its tasks and writes the text of the run.
 ///
 /// `words` are those after the program's name. The order of work is: the words; the mount file, to its end and then
-/// its rules; the grant; the image; the run; giving all nodes back and settling the folder; the text. The first
+/// its rules; the grant; the images; the run; giving all nodes back and settling the folder; the text. The first
 /// refusal in that order is the answer; memory may run out at any point before it.
 pub fn run_sentry<S: Source, W: HostWorld, K: Sink>(
     alloc: Global,

@@ -1,12 +1,10 @@
 //! Guests that use memory: their text and their trace, and that a plain kernel does the trace too.
 
-use crate::memory_guests::{IN_SHARED_MEMORY, MEMORY, WITHOUT_THE_RIGHT};
-use crate::mount_files::{COUNTED_SEED, EIGHT_ENTRIES, MOUNTS};
-use crate::replays::expect_replayed;
-use crate::running::{TRACED, UNTRACED, run_guest};
-use crate::told::Told;
-use sn_vectors::programs::{ATOMICS, STORES, WRITES_NOTHING};
-use std::process::Abort;
+use crate::cases::{Case, QUIET, expect_cases};
+use crate::mount_files::{MountFile, Words};
+use crate::told::Expected;
+use crate::worlds::Host;
+use sn_vectors::programs::{ATOMICS, JUMPS_INTO_A_SHARED_PAGE, STORES, STORES_WITHOUT_THE_RIGHT};
 use std::test::Fail;
 
 /// The text of the first guest: its console, with the first bytes of the stream 19 by another implementation of
@@ -26,83 +24,82 @@ group 1 exit 6
 29 1 exit_group 6 8192 0 49 -1 0 = ?
 ";
 
-/// Its runs: the place from 0 on, and how many instructions. Six are of one that touches the shared page, or stands
-/// between two such.
+/// What is expected of it. Six of its runs are of one instruction that touches the shared page, or stands between two
+/// such.
 #[rattlefmt::skip]
-const RUNS: [(usize, u32); 18] = [
-    (0, 2), (2, 2), (4, 7), (6, 4), (8, 6),
-    (9, 1), (10, 1), (11, 1), (12, 1), (13, 1), (14, 1),
-    (15, 4), (17, 4), (19, 4), (21, 4), (23, 4), (25, 4), (27, 2),
+const EXPECTED: &[Expected] = &[
+    Expected::Status(0), Expected::Text(TEXT), Expected::Entries(29),
+    Expected::Run(0, 2), Expected::Run(2, 2), Expected::Run(4, 7), Expected::Run(6, 4), Expected::Run(8, 6),
+    Expected::Run(9, 1), Expected::Run(10, 1), Expected::Run(11, 1), Expected::Run(12, 1), Expected::Run(13, 1),
+    Expected::Run(14, 1),
+    Expected::Run(15, 4), Expected::Run(17, 4), Expected::Run(19, 4), Expected::Run(21, 4), Expected::Run(23, 4),
+    Expected::Run(25, 4), Expected::Run(27, 2),
 ];
 
-/// That it has these.
-fn expect_runs(rt: &impl Abort, told: &Told) {
-    for (place, count) in RUNS {
-        told.expect_run(rt, place, count);
-    }
-}
-
-#[test]
-fn a_guest_uses_heap_mappings_shared_memory_and_random_bytes(rt: HostRuntime) -> Result<(), Fail> {
-    let told = run_guest(rt.alloc(), MOUNTS, &MEMORY, TRACED)?;
-    told.expect_status(&rt, 0);
-    told.expect_text(&rt, TEXT);
-    told.expect_entries(&rt, 29);
-    expect_runs(&rt, &told);
-    Ok(())
-}
-
-#[test]
-fn another_seed_gives_other_random_bytes(rt: HostRuntime) -> Result<(), Fail> {
-    let told = run_guest(rt.alloc(), COUNTED_SEED, &MEMORY, UNTRACED)?;
-    told.expect_text(&rt, b"sp\x14\xfc\xf2\xaf\xd7NKh\ngroup 1 exit 6\n");
-    Ok(())
-}
-
-#[test]
-fn instructions_in_a_shared_page_are_runs_of_one(rt: HostRuntime) -> Result<(), Fail> {
-    let told = run_guest(rt.alloc(), MOUNTS, &IN_SHARED_MEMORY, TRACED)?;
-    told.expect_status(&rt, 0);
-    told.expect_text(
-        &rt,
-        b"group 1 exit 33
+#[rattlefmt::skip]
+const GUESTS: [Case; 4] = [
+    // A guest uses heap mappings shared memory and random bytes.
+    Case {
+        host: Host::UsesMemory,
+        expected: EXPECTED,
+        ..QUIET
+    },
+    // Another seed gives other random bytes.
+    Case {
+        mounts: MountFile::Counted,
+        words: Words::Untraced,
+        host: Host::UsesMemory,
+        expected: &[Expected::Text(b"sp\x14\xfc\xf2\xaf\xd7NKh\ngroup 1 exit 6\n")],
+        ..QUIET
+    },
+    // Instructions in a shared page are runs of one.
+    Case {
+        host: Host::Guest(JUMPS_INTO_A_SHARED_PAGE),
+        expected: &[
+            Expected::Status(0),
+            Expected::Text(b"group 1 exit 33
 2 1 mmap 0 4096 7 33 0 0 = 274876854272
 9 1 exit_group 33 4096 7 33 0 0 = ?
-",
-    );
-    told.expect_run(&rt, 2, 4);
-    for place in 3..8 {
-        told.expect_run(&rt, place, 1);
-    }
-    Ok(())
-}
+"),
+            Expected::Run(2, 4),
+            Expected::Run(3, 1), Expected::Run(4, 1), Expected::Run(5, 1), Expected::Run(6, 1), Expected::Run(7, 1),
+        ],
+        ..QUIET
+    },
+    // A store into a shared page without the right ends the group.
+    Case {
+        host: Host::Guest(STORES_WITHOUT_THE_RIGHT),
+        expected: &[
+            Expected::Status(0),
+            Expected::Text(b"group 1 signal 11\n2 1 mmap 0 4096 1 33 0 0 = 274876854272\n5 1 signal 11\n"),
+            Expected::Run(2, 1), Expected::Run(3, 1),
+        ],
+        ..QUIET
+    },
+];
+
+/// A run whose trace a plain kernel does too, entry by entry.
+const REPLAYED: Case = Case {
+    expected: &[Expected::Replays],
+    ..QUIET
+};
+
+#[rattlefmt::skip]
+const REPLAYS: [Case; 8] = [
+    Case { host: Host::UsesMemory, ..REPLAYED },
+    Case { mounts: MountFile::Counted, host: Host::UsesMemory, ..REPLAYED },
+    Case { mounts: MountFile::Room(8), host: Host::UsesMemory, ..REPLAYED },
+    Case { host: Host::Guest(JUMPS_INTO_A_SHARED_PAGE), ..REPLAYED },
+    Case { host: Host::Guest(STORES_WITHOUT_THE_RIGHT), ..REPLAYED },
+    Case { host: Host::Runs(STORES), ..REPLAYED },
+    Case { host: Host::Runs(ATOMICS), ..REPLAYED },
+    REPLAYED,
+];
 
 #[test]
-fn a_store_into_a_shared_page_without_the_right_ends_the_group(
+fn guests_use_memory_and_a_plain_kernel_does_each_entry_of_their_traces_too(
     rt: HostRuntime,
 ) -> Result<(), Fail> {
-    let told = run_guest(rt.alloc(), MOUNTS, &WITHOUT_THE_RIGHT, TRACED)?;
-    told.expect_status(&rt, 0);
-    told.expect_text(
-        &rt,
-        b"group 1 signal 11\n2 1 mmap 0 4096 1 33 0 0 = 274876854272\n5 1 signal 11\n",
-    );
-    told.expect_run(&rt, 2, 1);
-    told.expect_run(&rt, 3, 1);
-    Ok(())
-}
-
-#[test]
-fn a_plain_kernel_does_each_entry_of_a_trace_and_comes_to_the_same(
-    rt: HostRuntime,
-) -> Result<(), Fail> {
-    expect_replayed(&rt, rt.alloc(), MOUNTS, &MEMORY)?;
-    expect_replayed(&rt, rt.alloc(), COUNTED_SEED, &MEMORY)?;
-    expect_replayed(&rt, rt.alloc(), EIGHT_ENTRIES, &MEMORY)?;
-    expect_replayed(&rt, rt.alloc(), MOUNTS, &IN_SHARED_MEMORY)?;
-    expect_replayed(&rt, rt.alloc(), MOUNTS, &WITHOUT_THE_RIGHT)?;
-    for program in [STORES, ATOMICS, WRITES_NOTHING] {
-        expect_replayed(&rt, rt.alloc(), MOUNTS, program.words)?;
-    }
-    Ok(())
+    expect_cases(&rt, rt.alloc(), &GUESTS)?;
+    expect_cases(&rt, rt.alloc(), &REPLAYS)
 }

@@ -1,4 +1,4 @@
-//! Guests that use memory: words that an assembler made. What they print and exit with is what an emulator of Linux's
+//! A guest that uses memory: words that an assembler made. What it prints and exits with is what an emulator of Linux's
 //! calls for RISC-V showed, but for the random bytes.
 
 /// Takes 16 bytes of heap, maps two pages and a shared one in the place of the lower, and stores `h` in the heap, `p`
@@ -72,42 +72,4 @@ pub const MEMORY: [u32; 64] = [
     0x013f_0533, // add a0, t5, s3
     0x05e0_0893, // li a7, 94
     0x0000_0073, // ecall
-];
-
-/// Maps a shared page, stores four of its words there, and jumps to them: they exit with 33.
-#[rattlefmt::skip]
-pub const IN_SHARED_MEMORY: [u32; 19] = [
-    0x0000_0513, // li a0, 0
-    0x0000_15b7, // lui a1, 1
-    0x0070_0613, // li a2, 7
-    0x0210_0693, // li a3, 0x21
-    0x0de0_0893, // li a7, 222
-    0x0000_0073, // ecall
-    0x0005_0413, // mv s0, a0
-    0x0000_0297, // auipc t0, 0
-    0x0202_b303, // ld t1, 32(t0)
-    0x0282_b383, // ld t2, 40(t0)
-    0x0064_3023, // sd t1, 0(s0)
-    0x0074_3423, // sd t2, 8(s0)
-    0x0004_0067, // jr s0
-    0x0000_0013, // nop
-    0x0000_0013, // nop
-    0x0210_0513, // li a0, 33
-    0x05e0_0893, // li a7, 94
-    0x0000_0073, // ecall
-    0x0010_0073, // ebreak
-];
-
-/// Maps a shared page that may be read, loads from it, and stores there: signal 11.
-#[rattlefmt::skip]
-pub const WITHOUT_THE_RIGHT: [u32; 9] = [
-    0x0000_0513, // li a0, 0
-    0x0000_15b7, // lui a1, 1
-    0x0010_0613, // li a2, 1
-    0x0210_0693, // li a3, 0x21
-    0x0de0_0893, // li a7, 222
-    0x0000_0073, // ecall
-    0x0085_3283, // ld t0, 8(a0)
-    0x0012_8293, // addi t0, t0, 1
-    0x0055_3423, // sd t0, 8(a0)
 ];

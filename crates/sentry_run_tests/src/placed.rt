@@ -4,14 +4,15 @@ ghost use Rattle.std.specs.Prelude.{◌≡◌, Some, refl, true};
 ghost use Rattle.host_node.specs.Tree.{faults_of, kind_of, none_lent};
 ghost use Rattle.host_memory.specs.Access.{opened_as};
 
-use crate::mount_files::MOUNTS;
-use crate::running::{TRACED, quiet_world, source_of, words_of};
-use crate::runs::TEXT;
+use crate::cases::{QUIET, run};
+use crate::mount_files::{source_of, words_of};
+use crate::told::TEXT;
+use crate::worlds::world_of;
 use host_memory::{MemoryNode, Plan, World};
 use host_node::{Attr, HostErr, HostNode, HostWorld, Kind, Listing, Tree};
-use sentry_run::{Fault, run_sentry};
+use sentry_run::Fault;
 use sn_base::Memory;
-use sn_edge::MemSink;
+use sn_edge::{MemSink, MemSource};
 use sn_text::{Folder, Name, Route, name_of};
 use std::alloc::Global;
 use std::test::Fail;
@@ -161,23 +162,33 @@ impl HostWorld for PlacedWorld {
     }
 }
 
-/// What a run over a host comes to, and its text.
-fn ran(alloc: Global, world: PlacedWorld) -> Result<(Fault, MemSink), Fail>
-    requires { none_lent world.inner.tree ≡ true }
+/// What a run over a host comes to.
+fn ran(
+    alloc: Global,
+    words: &[String],
+    files: &mut MemSource,
+    world: &mut PlacedWorld,
+    out: &mut MemSink,
+) -> Fault
+    requires { none_lent world.old.inner.tree ≡ true }
 {
-    let mut files = source_of(alloc, MOUNTS)?;
-    let mut world = world;
-    let mut out = MemSink::new(alloc);
-    let words = words_of(alloc, TRACED)?;
-    let outcome = run_sentry(alloc, words.as_slice(), &mut files, &mut world, &mut out);
-    Ok((outcome.fault, out))
+    let outcome = run(alloc, words, files, world, out);
+    outcome.fault
+}
+
+/// What a run over a host in memory comes to that answers so, into that sink.
+fn run_placed(alloc: Global, out: &mut MemSink) -> Result<Fault, Fail> {
+    let words = words_of(alloc, QUIET.words)?;
+    let mut files = source_of(alloc, QUIET.mounts)?;
+    let inner = world_of(alloc, QUIET.host)?;
+    let mut world = PlacedWorld { alloc, inner };
+    Ok(ran(alloc, words.as_slice(), &mut files, &mut world, out))
 }
 
 #[test]
 fn each_call_of_a_run_names_the_place_of_its_node(rt: HostRuntime) -> Result<(), Fail> {
-    let alloc = rt.alloc();
-    let inner = quiet_world(alloc)?;
-    let (fault, out) = ran(alloc, PlacedWorld { alloc, inner })?;
+    let mut out = MemSink::new(rt.alloc());
+    let fault = run_placed(rt.alloc(), &mut out)?;
     assert_eq!(rt; fault, Fault::Done);
     assert_eq!(rt; out.bytes(), TEXT);
     Ok(())

@@ -2,49 +2,31 @@
 
 ghost use Rattle.std.specs.Prelude.{◌≤◌, length};
 
-use crate::guests::guest;
-use crate::running::{TRACED, outcome_of, source_of};
-use crate::worlds::world_with;
+use crate::told::Told;
+use crate::worlds::{Host, init_of, next_of};
 use host_node::Tree;
 use kernel_model::{Entry, Opening, Trace};
 use mount_file::Mounts;
 use plain_kernel::Plain;
 use sentry_run::{Outcome, printed_text};
 use sn_base::{List, Memory};
-use sn_edge::MemSink;
 use sn_text::name_of;
 use std::alloc::Global;
-use std::process::Abort;
 use std::test::Fail;
 
-/// A run: what it came to, and its text.
-#[derive(Drop)]
-struct Ran {
-    outcome: Outcome,
-    text: List<u8>,
-}
-
-/// A run of a guest with these instructions, with its trace in its text.
-fn run_of(alloc: Global, mounts: &[u8], words: &[u32]) -> Result<Ran, Fail> {
-    let mut world = world_with(alloc, guest(alloc, words)?)?;
-    let mut files = source_of(alloc, mounts)?;
-    let mut out = MemSink::new(alloc);
-    let outcome = outcome_of(alloc, TRACED, &mut files, &mut world, &mut out)?;
-    let text = List::from_slice(alloc, out.bytes())?;
-    Ok(Ran { outcome, text })
-}
-
-/// The folder that it was granted.
-fn root_of(alloc: Global, words: &[u32]) -> Result<Tree, Fail> {
+/// The folder that a run was granted.
+fn root_of(alloc: Global, host: Host) -> Result<Tree, Fail> {
     let mut root = Tree::directory(alloc, 0o755);
-    let file = Tree::file(0o755, guest(alloc, words)?);
-    root.put(name_of(alloc, b"init")?, file)?;
+    root.put(name_of(alloc, b"init")?, init_of(alloc, host)?)?;
+    if let Host::Pair(_, next) = host {
+        root.put(name_of(alloc, b"next")?, next_of(alloc, next)?)?;
+    }
     Ok(root)
 }
 
-fn trees_of(alloc: Global, words: &[u32]) -> Result<List<Tree>, Fail> {
+fn trees_of(alloc: Global, host: Host) -> Result<List<Tree>, Fail> {
     let mut trees = List::new(alloc);
-    trees.push(root_of(alloc, words)?)?;
+    trees.push(root_of(alloc, host)?)?;
     Ok(trees)
 }
 
@@ -94,26 +76,25 @@ fn text_of(alloc: Global, plain: &Plain, trace: &Trace) -> Result<List<u8>, Memo
     printed_text(alloc, &plain.kernel, trace, true)
 }
 
-/// That each entry fits, and that its state then has the text of the run: the console, how the groups ended, and the
+/// Whether each entry fits, and its state then has the text of the run: the console, how the groups ended, and the
 /// calls.
-fn expect_same(rt: &impl Abort, alloc: Global, plain: &mut Plain, ran: &Ran) -> Result<(), Fail> {
-    let trace = &ran.outcome.trace;
-    let count = fitting(alloc, plain, trace.as_slice())?;
-    assert_eq!(rt; count, trace.len());
+fn is_same(alloc: Global, plain: &mut Plain, told: &Told) -> Result<bool, Fail> {
+    let trace = &told.outcome.trace;
+    if fitting(alloc, plain, trace.as_slice())? != trace.len() {
+        return Ok(false);
+    }
     let text = text_of(alloc, plain, trace)?;
-    assert_eq!(rt; text.as_slice(), ran.text.as_slice());
-    Ok(())
+    Ok(text.as_slice() == told.out.bytes())
 }
 
-/// That a plain kernel does the trace of a run of a guest with these instructions, and comes to the same.
-pub fn expect_replayed(
-    rt: &impl Abort,
-    alloc: Global,
-    mounts: &[u8],
-    words: &[u32],
-) -> Result<(), Fail> {
-    let ran = run_of(alloc, mounts, words)?;
-    let trees = trees_of(alloc, words)?;
-    let mut plain = opened_as(alloc, &ran.outcome, &trees)?;
-    expect_same(rt, alloc, &mut plain, &ran)
+/// Whether a plain kernel over these trees does the trace of a run, and comes to the same.
+fn is_replayed_over(alloc: Global, told: &Told, trees: &List<Tree>) -> Result<bool, Fail> {
+    let mut plain = opened_as(alloc, &told.outcome, trees)?;
+    is_same(alloc, &mut plain, told)
+}
+
+/// Whether one over a host with that in it does.
+pub fn is_replayed(alloc: Global, told: &Told, host: Host) -> Result<bool, Fail> {
+    let trees = trees_of(alloc, host)?;
+    is_replayed_over(alloc, told, &trees)
 }

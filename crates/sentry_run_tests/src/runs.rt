@@ -1,92 +1,147 @@
 //! Runs of a guest that writes nothing: their texts and traces, words that are no command, and what fails before and
 //! behind it.
 
-use crate::mount_files::{MOUNTS, SHORT_MOUNTS};
-use crate::running::{TRACED, UNTRACED, run_failing_sink, run_failing_source, run_quiet};
-use std::alloc::Global;
-use std::process::Abort;
+use crate::cases::{Case, QUIET, expect_cases};
+use crate::mount_files::{MountFile, Words};
+use crate::told::Expected;
+use crate::worlds::Failing;
+use mount_file::MountFault;
+use sentry_run::Fault;
 use std::test::Fail;
 
-/// The text of the guest that writes nothing and exits, with its trace.
-pub const TEXT: &[u8] =
-    b"group 1 exit 0\n2 1 write 1 0 0 0 0 0 = 0\n4 1 exit_group 0 0 0 0 0 0 = ?\n";
+/// The text without a task that has ended.
+const LIVE: &[u8] = b"group 1 live\n";
+
+#[rattlefmt::skip]
+const RUNS: [Case; 3] = [
+    // A guest that writes nothing and exits has its two calls in the trace.
+    Case {
+        expected: &[
+            Expected::Status(0), Expected::Quiet, Expected::Entries(4), Expected::Run(0, 4),
+            Expected::Call(1, 64, 0), Expected::Run(2, 2), Expected::Call(3, 94, 0),
+        ],
+        ..QUIET
+    },
+    // A run of one task leaves nothing beside its trace.
+    Case {
+        expected: &[Expected::Answer(Fault::Done), Expected::NothingLeft],
+        ..QUIET
+    },
+    // A trace with room for one entry is full after the first run.
+    Case {
+        mounts: MountFile::Room(1),
+        words: Words::Untraced,
+        expected: &[Expected::Status(8), Expected::Text(LIVE), Expected::Entries(1), Expected::Run(0, 4)],
+        ..QUIET
+    },
+];
+
+/// Words that are no command.
+const NO_COMMAND: Case = Case {
+    expected: &[
+        Expected::Status(2),
+        Expected::Length(0),
+        Expected::SourceFaults(0),
+    ],
+    ..QUIET
+};
+
+#[rattlefmt::skip]
+const NO_COMMANDS: [Case; 5] = [
+    Case { words: Words::Are(&[]), ..NO_COMMAND },
+    Case { words: Words::Are(&["run"]), ..NO_COMMAND },
+    Case { words: Words::Are(&["run", "m", "--workers", "0"]), ..NO_COMMAND },
+    Case { words: Words::Are(&["run", "m", "--workers", "17"]), ..NO_COMMAND },
+    Case { words: Words::Are(&["gen", "0"]), ..NO_COMMAND },
+];
+
+/// A source that fails at a call.
+#[rattlefmt::skip]
+const NO_SOURCE: Case = Case {
+    expected: &[Expected::Status(5), Expected::Entries(0), Expected::Length(0), Expected::SourceFaults(1)],
+    ..QUIET
+};
+
+#[rattlefmt::skip]
+const SOURCES: [Case; 6] = [
+    Case { failing: Failing::Source(1), ..NO_SOURCE },
+    Case { failing: Failing::Source(2), ..NO_SOURCE },
+    Case { failing: Failing::Source(3), ..NO_SOURCE },
+    // A failure of the source is told by its own answer and count.
+    Case {
+        failing: Failing::Source(2),
+        expected: &[Expected::Answer(Fault::SourceFault), Expected::SourceFaults(1), Expected::HostFaults(0)],
+        ..QUIET
+    },
+    // A mount file that is not there is a source fault.
+    Case {
+        words: Words::Are(&["run", "other"]),
+        expected: &[Expected::Answer(Fault::SourceFault), Expected::SourceFaults(1)],
+        ..QUIET
+    },
+    // A mount file that is not there is no empty one.
+    Case {
+        mounts: MountFile::Bytes(b""),
+        expected: &[Expected::Answer(Fault::Mounts(MountFault::Field)), Expected::SourceFaults(0)],
+        ..QUIET
+    },
+];
+
+/// The text has 72 bytes: five writes of at most 16.
+#[rattlefmt::skip]
+const SINKS: [Case; 7] = [
+    // A sink that fails at its first write has nothing.
+    Case {
+        failing: Failing::Sink(1),
+        expected: &[Expected::Status(6), Expected::Entries(4), Expected::QuietFront(0)],
+        ..QUIET
+    },
+    // A sink that fails at its second write has the text before it.
+    Case {
+        failing: Failing::Sink(2),
+        expected: &[Expected::Status(6), Expected::Entries(4), Expected::QuietFront(16)],
+        ..QUIET
+    },
+    // A sink that fails at its third write has the text before it.
+    Case {
+        failing: Failing::Sink(3),
+        expected: &[Expected::Status(6), Expected::Entries(4), Expected::QuietFront(32)],
+        ..QUIET
+    },
+    // A sink that fails at its fourth write has the text before it.
+    Case {
+        failing: Failing::Sink(4),
+        expected: &[Expected::Status(6), Expected::Entries(4), Expected::QuietFront(48)],
+        ..QUIET
+    },
+    // A sink that fails at its fifth write has the text before it.
+    Case {
+        failing: Failing::Sink(5),
+        expected: &[Expected::Status(6), Expected::Entries(4), Expected::QuietFront(64)],
+        ..QUIET
+    },
+    // A sink that takes a piece at a time takes the whole text.
+    Case {
+        failing: Failing::Sink(6),
+        expected: &[Expected::Status(0), Expected::Quiet],
+        ..QUIET
+    },
+    // A failure of the sink is told by its own answer and count.
+    Case {
+        failing: Failing::Sink(1),
+        expected: &[
+            Expected::Answer(Fault::SinkFault), Expected::SourceFaults(0), Expected::HostFaults(0),
+        ],
+        ..QUIET
+    },
+];
 
 #[test]
-fn a_guest_that_writes_nothing_and_exits_has_its_two_calls_in_the_trace(
+fn a_run_comes_to_its_text_and_trace_and_what_fails_around_it_is_told(
     rt: HostRuntime,
 ) -> Result<(), Fail> {
-    let told = run_quiet(rt.alloc(), MOUNTS, TRACED)?;
-    told.expect_status(&rt, 0);
-    told.expect_text(&rt, TEXT);
-    told.expect_entries(&rt, 4);
-    told.expect_run(&rt, 0, 4);
-    told.expect_call(&rt, 1, 64, 0);
-    told.expect_run(&rt, 2, 2);
-    told.expect_call(&rt, 3, 94, 0);
-    Ok(())
-}
-
-#[test]
-fn a_trace_with_room_for_one_entry_is_full_after_the_first_run(
-    rt: HostRuntime,
-) -> Result<(), Fail> {
-    let told = run_quiet(rt.alloc(), SHORT_MOUNTS, UNTRACED)?;
-    told.expect_status(&rt, 8);
-    told.expect_text(&rt, b"group 1 live\n");
-    told.expect_entries(&rt, 1);
-    told.expect_run(&rt, 0, 4);
-    Ok(())
-}
-
-/// That these words have the status of words that are no command, write nothing and open no source.
-fn expect_refused(rt: &impl Abort, alloc: Global, words: &[&str]) -> Result<(), Fail> {
-    let told = run_quiet(alloc, MOUNTS, words)?;
-    told.expect_status(rt, 2);
-    told.expect_no_text(rt);
-    told.expect_source_faults(rt, 0);
-    Ok(())
-}
-
-#[test]
-fn words_that_are_no_command_open_no_source(rt: HostRuntime) -> Result<(), Fail> {
-    expect_refused(&rt, rt.alloc(), &[])?;
-    expect_refused(&rt, rt.alloc(), &["run"])?;
-    expect_refused(&rt, rt.alloc(), &["run", "m", "--workers", "0"])?;
-    expect_refused(&rt, rt.alloc(), &["run", "m", "--workers", "17"])?;
-    expect_refused(&rt, rt.alloc(), &["gen", "0"])?;
-    Ok(())
-}
-
-#[test]
-fn a_source_that_fails_in_its_open_or_a_read_is_a_source_fault(
-    rt: HostRuntime,
-) -> Result<(), Fail> {
-    for call in 1..=3 {
-        let told = run_failing_source(rt.alloc(), call)?;
-        told.expect_status(&rt, 5);
-        told.expect_entries(&rt, 0);
-        told.expect_no_text(&rt);
-        told.expect_source_faults(&rt, 1);
-    }
-    Ok(())
-}
-
-#[test]
-fn a_sink_that_fails_at_a_write_has_the_text_before_it(rt: HostRuntime) -> Result<(), Fail> {
-    // The text has 72 bytes: five writes of at most 16.
-    for write in 0..5 {
-        let told = run_failing_sink(rt.alloc(), write + 1)?;
-        told.expect_status(&rt, 6);
-        told.expect_entries(&rt, 4);
-        told.expect_front_of(&rt, TEXT, 16 * write);
-    }
-    Ok(())
-}
-
-#[test]
-fn a_sink_that_takes_a_piece_at_a_time_takes_the_whole_text(rt: HostRuntime) -> Result<(), Fail> {
-    let told = run_failing_sink(rt.alloc(), 6)?;
-    told.expect_status(&rt, 0);
-    told.expect_text(&rt, TEXT);
-    Ok(())
+    expect_cases(&rt, rt.alloc(), &RUNS)?;
+    expect_cases(&rt, rt.alloc(), &NO_COMMANDS)?;
+    expect_cases(&rt, rt.alloc(), &SOURCES)?;
+    expect_cases(&rt, rt.alloc(), &SINKS)
 }

@@ -1,239 +1,144 @@
-//! What a run came to, as far as tests look at it, and what they expect of it. Each expectation is a function of its
-//! own: a test's proof has a call of it, and not the many steps of an assertion.
+//! What a run came to, and what is expected of it: rows of tables, each of which holds of a run or doesn't.
 
-use crate::worlds::{INIT, ROOT, faults_at};
+use crate::replays::is_replayed;
+use crate::several::Several;
+use crate::worlds::{Host, INIT, ROOT, faults_at};
 use host_memory::World;
 use host_node::HostWorld;
-use kernel_model::{Entry, Left, Opened, Opening, Rise};
+use kernel_model::{Entry, Rise};
 use sentry_run::{Fault, Outcome};
-use sn_base::List;
-use sn_edge::{MemSource, Source};
+use sn_edge::{MemSink, MemSource, Source};
 use sn_errno::Errno;
 use std::alloc::Global;
-use std::process::Abort;
 use std::test::Fail;
 
-/// What calls came to that were to fail, and what was written.
-#[derive(Drop)]
-struct Around {
-    text: List<u8>,
-    source_faults: u64,
-    host_faults: u64,
-    root_faults: Option<u64>,
-    init_faults: Option<u64>,
-}
-
-/// What a run came to: its status and answer, whether its mount file was read, its tasks as they were opened, its
-/// trace, what it left beside that, the text, and how many calls failed of the source, of the host, of the folder's
-/// node and of the program's.
+/// What a run came to, and the source, the host and the sink then.
 #[derive(Drop)]
 pub struct Told {
-    pub status: u8,
-    pub fault: Fault,
-    pub is_read: bool,
-    pub tasks: List<Opened>,
-    pub trace: List<Entry>,
-    pub left: Left,
-    pub text: List<u8>,
-    pub source_faults: u64,
-    pub host_faults: u64,
-    pub root_faults: Option<u64>,
-    pub init_faults: Option<u64>,
+    pub outcome: Outcome,
+    pub files: MemSource,
+    pub world: World,
+    pub out: MemSink,
 }
 
-/// What stands around a run.
-fn stand_of(alloc: Global, files: &MemSource, world: &World, text: &[u8]) -> Result<Around, Fail> {
-    let root_faults = faults_at(alloc, world, ROOT)?;
-    let init_faults = faults_at(alloc, world, INIT)?;
-    Ok(Around {
-        text: List::from_slice(alloc, text)?,
-        source_faults: files.faults(),
-        host_faults: world.faults(),
-        root_faults,
-        init_faults,
-    })
-}
+/// The text of the guest that writes nothing and exits, with its trace.
+pub const TEXT: &[u8] =
+    b"group 1 exit 0\n2 1 write 1 0 0 0 0 0 = 0\n4 1 exit_group 0 0 0 0 0 0 = ?\n";
 
-/// An outcome with that.
-fn joined(outcome: Outcome, around: Around) -> Told {
-    let Outcome {
-        status,
-        fault,
-        opening,
-        trace,
-        left,
-        mounts,
-    } = outcome;
-    let Opening { tasks, .. } = opening;
-    let Around {
-        text,
-        source_faults,
-        host_faults,
-        root_faults,
-        init_faults,
-    } = around;
-    Told {
-        status,
-        fault,
-        is_read: mounts.is_some(),
-        tasks,
-        trace,
-        left,
-        text,
-        source_faults,
-        host_faults,
-        root_faults,
-        init_faults,
-    }
-}
-
-/// What a run came to that went over these.
-pub fn told_of(
-    alloc: Global,
-    outcome: Outcome,
-    files: &MemSource,
-    world: &World,
-    text: &[u8],
-) -> Result<Told, Fail> {
-    let around = stand_of(alloc, files, world, text)?;
-    Ok(joined(outcome, around))
-}
-
-/// The answer where the program of the first task can't be run.
-pub fn refused(errno: Errno) -> Fault {
-    Fault::Image { task: 1, errno }
+/// What is expected of a run.
+#[derive(Clone, Copy)]
+pub enum Expected {
+    /// Its status is that.
+    Status(u8),
+    /// Its answer is that.
+    Answer(Fault),
+    /// The program of its first task can't be run, by that error.
+    Refused(Errno),
+    /// Its text is that.
+    Text(&'static [u8]),
+    /// Its text begins so.
+    Front(&'static [u8]),
+    /// Its text is that of the guest that writes nothing.
+    Quiet,
+    /// It is the front of that, so long.
+    QuietFront(usize),
+    /// Its text has so many bytes.
+    Length(usize),
+    /// Its mount file was refused, or not read.
+    NoMounts,
+    /// So many tasks were opened.
+    Tasks(usize),
+    /// The opening of the first task drew so many numbers.
+    Fresh(usize),
+    /// The first task's record has one rise, by 1, of the node of that number.
+    Rises(u64),
+    /// The first task was opened with so many words, of which that is the first.
+    Words(usize, &'static [u8]),
+    /// Its trace has so many entries.
+    Entries(usize),
+    /// The entry of that place is a run of so many instructions of task 1.
+    Run(usize, u32),
+    /// Each entry is one.
+    Runs(u32),
+    /// The entry of that place is a call of task 1 by that number, with that reply.
+    Call(usize, u64, i64),
+    /// It left nothing beside its trace.
+    NothingLeft,
+    /// So many calls of the source failed.
+    SourceFaults(u64),
+    /// So many calls of the host failed.
+    HostFaults(u64),
+    /// So many calls failed of the granted folder's node.
+    RootFaults(u64),
+    /// So many calls failed of the program's node.
+    InitFaults(u64),
+    /// A plain kernel does its trace too, and comes to the same text.
+    Replays,
+    /// That, of several tasks.
+    Several(Several),
 }
 
 impl Told {
-    /// That the run has that status.
-    pub fn expect_status(&self, rt: &impl Abort, status: u8) {
-        assert_eq!(rt; self.status, status);
-    }
-
-    /// That it has that answer.
-    pub fn expect_fault(&self, rt: &impl Abort, fault: Fault) {
-        assert_eq!(rt; self.fault, fault);
-    }
-
-    /// That its text is that.
-    pub fn expect_text(&self, rt: &impl Abort, text: &[u8]) {
-        assert_eq!(rt; self.text.as_slice(), text);
-    }
-
-    /// That its text begins so.
-    pub fn expect_front(&self, rt: &impl Abort, front: &[u8]) {
-        assert!(rt; self.text.as_slice().starts_with(front));
-    }
-
-    /// That its text is the front of that, so long.
-    pub fn expect_front_of(&self, rt: &impl Abort, text: &[u8], length: u64) {
-        assert!(rt; text.starts_with(self.text.as_slice()));
-        assert_eq!(rt; self.text.len() as u64, length);
-    }
-
-    /// That its text has so many bytes.
-    pub fn expect_length(&self, rt: &impl Abort, length: usize) {
-        assert_eq!(rt; self.text.len(), length);
-    }
-
-    /// That it has written nothing.
-    pub fn expect_no_text(&self, rt: &impl Abort) {
-        assert!(rt; self.text.is_empty());
-    }
-
-    /// That it has opened no task.
-    pub fn expect_no_task(&self, rt: &impl Abort) {
-        assert!(rt; self.tasks.is_empty());
-    }
-
-    /// That its mount file was refused, or not read.
-    pub fn expect_no_mounts(&self, rt: &impl Abort) {
-        assert!(rt; !self.is_read);
-    }
-
-    /// That its trace has so many entries.
-    pub fn expect_entries(&self, rt: &impl Abort, count: usize) {
-        assert_eq!(rt; self.trace.len(), count);
-    }
-
-    /// That the entry of that place is a run of so many instructions of task 1.
-    pub fn expect_run(&self, rt: &impl Abort, place: usize, count: u32) {
-        assert!(rt;
-            is_run(self.trace.as_slice().get(place), count),
-            "entry {place}"
-        );
-    }
-
-    /// That each entry is one.
-    pub fn expect_runs(&self, rt: &impl Abort, count: u32) {
-        for entry in self.trace.as_slice() {
-            assert!(rt; is_run(Some(entry), count));
+    /// Whether that holds of the run, over a host with that in it.
+    #[rattlefmt::skip]
+    pub fn is_met(&self, alloc: Global, host: Host, expected: Expected) -> Result<bool, Fail> {
+        match expected {
+            Expected::Status(status) => Ok(self.outcome.status == status),
+            Expected::Answer(fault) => Ok(self.outcome.fault == fault),
+            Expected::Refused(errno) => Ok(self.outcome.fault == Fault::Image { task: 1, errno }),
+            Expected::Text(text) => Ok(self.out.bytes() == text),
+            Expected::Front(front) => Ok(self.out.bytes().starts_with(front)),
+            Expected::Quiet => Ok(self.out.bytes() == TEXT),
+            Expected::QuietFront(length) => Ok(self.is_front(TEXT, length)),
+            Expected::Length(length) => Ok(self.out.bytes().len() == length),
+            Expected::NoMounts => Ok(self.outcome.mounts.is_none()),
+            Expected::Tasks(count) => Ok(self.outcome.opening.tasks.len() == count),
+            Expected::Fresh(count) => Ok(self.fresh() == Some(count)),
+            Expected::Rises(ino) => Ok(self.has_rise(ino)),
+            Expected::Words(count, first) => Ok(self.words() == Some((count, first))),
+            Expected::Entries(count) => Ok(self.outcome.trace.len() == count),
+            Expected::Run(place, count) => Ok(is_run(self.entry(place), count)),
+            Expected::Runs(count) => Ok(are_runs(self.outcome.trace.as_slice(), count)),
+            Expected::Call(place, number, reply) => Ok(is_call(self.entry(place), number, reply)),
+            Expected::NothingLeft => Ok(self.has_left_nothing()),
+            Expected::SourceFaults(count) => Ok(self.files.faults() == count),
+            Expected::HostFaults(count) => Ok(self.world.faults() == count),
+            Expected::RootFaults(count) => Ok(faults_at(alloc, &self.world, ROOT)? == Some(count)),
+            Expected::InitFaults(count) => Ok(faults_at(alloc, &self.world, INIT)? == Some(count)),
+            Expected::Replays => is_replayed(alloc, self, host),
+            Expected::Several(several) => several.is_met(alloc, self, host),
         }
     }
 
-    /// That the entry of that place is a call of task 1 by that number, with that reply.
-    pub fn expect_call(&self, rt: &impl Abort, place: usize, number: u64, reply: i64) {
-        assert!(rt;
-            is_call(self.trace.as_slice().get(place), number, reply),
-            "entry {place}"
-        );
+    /// Whether its text is the front of that, so long.
+    fn is_front(&self, text: &[u8], length: usize) -> bool {
+        text.starts_with(self.out.bytes()) && self.out.bytes().len() == length
     }
 
-    /// That it left nothing beside its trace.
-    pub fn expect_nothing_left(&self, rt: &impl Abort) {
-        assert!(rt; self.left.rises.is_empty() && self.left.lent.is_empty());
+    /// The entry of that place.
+    fn entry(&self, place: usize) -> Option<&Entry> {
+        self.outcome.trace.get(place)
     }
 
-    /// That so many calls of the source failed.
-    pub fn expect_source_faults(&self, rt: &impl Abort, count: u64) {
-        assert_eq!(rt; self.source_faults, count);
-    }
-
-    /// That so many calls of the host failed.
-    pub fn expect_host_faults(&self, rt: &impl Abort, count: u64) {
-        assert_eq!(rt; self.host_faults, count);
-    }
-
-    /// That so many calls failed of the granted folder's node.
-    pub fn expect_root_faults(&self, rt: &impl Abort, count: u64) {
-        assert_eq!(rt; self.root_faults, Some(count));
-    }
-
-    /// That so many calls failed of the program's node.
-    pub fn expect_init_faults(&self, rt: &impl Abort, count: u64) {
-        assert_eq!(rt; self.init_faults, Some(count));
-    }
-
-    /// That the opening of the first task drew so many numbers.
-    pub fn expect_fresh(&self, rt: &impl Abort, count: usize) {
-        assert_eq!(rt; self.fresh(), Some(count));
-    }
-
-    /// That the first task's record has one rise, by 1, of the node of that number.
-    pub fn expect_rise(&self, rt: &impl Abort, ino: u64) {
-        assert!(rt; self.has_rise(ino));
-    }
-
-    /// That the first task was opened with so many words, of which that is the first.
-    pub fn expect_words(&self, rt: &impl Abort, count: usize, first: &[u8]) {
-        assert_eq!(rt; self.words(), Some((count, first)));
+    fn has_left_nothing(&self) -> bool {
+        self.outcome.left.rises.is_empty() && self.outcome.left.lent.is_empty()
     }
 
     /// How many words the first task was opened with, and the first of them.
     fn words(&self) -> Option<(usize, &[u8])> {
-        let opened = self.tasks.get(0)?;
+        let opened = self.outcome.opening.tasks.get(0)?;
         let first = opened.words.get(0)?;
         Some((opened.words.len(), first.as_bytes()))
     }
 
     /// How many numbers the opening of the first task drew.
     fn fresh(&self) -> Option<usize> {
-        let opened = self.tasks.get(0)?;
+        let opened = self.outcome.opening.tasks.get(0)?;
         Some(opened.given.fresh.len())
     }
 
     fn has_rise(&self, ino: u64) -> bool {
-        match self.tasks.get(0) {
+        match self.outcome.opening.tasks.get(0) {
             Some(opened) => opened.given.rises.as_slice() == [Rise { ino, count: 1 }].as_slice(),
             None => false,
         }
@@ -246,6 +151,16 @@ fn is_run(entry: Option<&Entry>, count: u32) -> bool {
         Some(Entry::Run { task, n }) => *task == 1 && *n == count,
         _ => false,
     }
+}
+
+/// Whether each entry is one.
+fn are_runs(trace: &[Entry], count: u32) -> bool {
+    for entry in trace {
+        if !is_run(Some(entry), count) {
+            return false;
+        }
+    }
+    true
 }
 
 /// Whether an entry is a call of task 1 by that number, with that reply.

@@ -1,19 +1,18 @@
--- The granted folder can be lent and settled, and the world then has the run's tree in its place.
-use Rattle.sentry_run.proofs.GivenBack.{can_grant, can_lend, can_settle, first_names_of, plays_in, inner_fault}
+-- The granted folder can be settled, and the world then has the run's tree in its place.
+use Rattle.sentry_run.proofs.GivenBack.{can_grant, is_root, can_settle, first_names_of, plays_in, inner_fault}
 use Rattle.sentry_run.proofs.GivenBack.{inner_cause}
 use Rattle.sentry_run.proofs.grants.play.Goals as goal
 
 pub grant-requires : goal.grant-requires
 grant-requires g c = can_grant _ _ c.requires.ungranted
 
-pub play_root-played-requires-clause-root : goal.play_root-played-requires-clause-root
-play_root-played-requires-clause-root g c =
+pub play_root-root-requires-clause-root : goal.play_root-root-requires-clause-root
+play_root-root-requires-clause-root g c =
     let node = rw c.in-Ok-Some.field-0-is at c.in-Ok-Some.ensures.node in
-    let lend =
-    can_lend c.at.result.now.folder.names c.in-Ok.name (g.W.HostWorld.told c.args.host.now)
+    let root = is_root c.at.result.now.folder.names (g.W.HostWorld.told c.args.host.now)
     (g.W.Node.HostNode.told c.in-Ok-Some.root) (g.W.Node.HostNode.count c.in-Ok-Some.root)
     (g.W.Node.HostNode.what c.in-Ok-Some.root) c.requires.ungranted node in
-    λ k l. lend
+    λ k l. root
 
 pub settle-requires : goal.settle-requires
 settle-requires g c =
@@ -27,10 +26,10 @@ pub returns-in-Ok-Some-clause-plays : goal.returns-in-Ok-Some-clause-plays
 returns-in-Ok-Some-clause-plays g c =
     let node = rw c.in-Ok-Some.field-0-is at c.in-Ok-Some.ensures.node in
     let tells = rw c.in-Ok-Some.field-0-is at c.in-Ok-Some.ensures.tells in
-    let p = c.play_root-played in
+    let p = c.play_root-root in
     plays_in c.args.mounts.now c.at.result.now.folder.names (g.W.HostWorld.told c.args.host.now)
     (g.W.HostWorld.told c.settle.new.self) (g.W.Node.HostNode.told c.in-Ok-Some.root)
-    (g.W.Node.HostNode.told p.new.root) p.result
+    (g.W.Node.HostNode.told p.result.root) p.result.played
     (first_names_of c.args.mounts.now.mounts c.at.result.now c.at.ensures)
     (record {
       count = g.W.Node.HostNode.count c.in-Ok-Some.root;
@@ -43,10 +42,10 @@ returns-in-Ok-Some-clause-plays g c =
 
 pub returns-in-Ok-Some-clause-cause : goal.returns-in-Ok-Some-clause-cause
 returns-in-Ok-Some-clause-cause g c =
-    inner_cause c.play_root-played.result.end (g.W.HostWorld.count c.args.host.now)
-    (g.W.HostWorld.count c.grant.new.self) (g.W.HostWorld.count c.settle.new.self) c.play_root-played.ensures.inner
+    inner_cause c.play_root-root.result.played.end (g.W.HostWorld.count c.args.host.now)
+    (g.W.HostWorld.count c.grant.new.self) (g.W.HostWorld.count c.settle.new.self) c.play_root-root.ensures.inner
     c.in-Ok-Some.ensures.faults c.settle.ensures.faults
 
 pub returns-in-Ok-Some-clause-fault : goal.returns-in-Ok-Some-clause-fault
 returns-in-Ok-Some-clause-fault g c =
-    λ e. absurd (inner_fault c.play_root-played.result.end c.play_root-played.ensures.inner e)
+    λ e. absurd (inner_fault c.play_root-root.result.played.end c.play_root-root.ensures.inner e)

@@ -1,5 +1,6 @@
 -- What a line begins with stands before its rest.
-use Rattle.std.proofs.Common.{rules, ◌≡◌, ◌++◌, ℤ, ℕ, List, Result, Ok, Err, OnOk, SFits, w64, codes, ap, sym, subst, ◌∙◌, append_assoc}
+use Rattle.std.proofs.Common.{rules, ◌≡◌, ◌++◌, ℤ, ℕ, List, Result, Ok, Err, OnOk, SFits, w64, codes, ap, sym, subst}
+use Rattle.std.proofs.Common.{◌∙◌, append_assoc}
 use Rattle.std.proofs.Math.Facts.{to_z-of_z}
 use Rattle.std.specs.Fmt.{decimal}
 use Rattle.sn_errno.specs.Calls.{call_name}

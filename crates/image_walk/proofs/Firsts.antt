@@ -1,0 +1,48 @@
+-- The nodes before any opening execve, and the numbers that are drawn after them.
+use Rattle.std.proofs.Common.{◌≡◌, ◌≢◌, ℕ, zero, suc, ◌+◌, ◌<◌, ◌^◌, Bool, true, false, List, [], ◌∷◌, ◌++◌, length}
+use Rattle.std.proofs.Common.{refl, ap, sym, ◌∙◌, arith}
+use Rattle.std.specs.Prelude.{Some, if◌then◌else◌}
+use Rattle.std.specs.FinMap as map
+use Rattle.sn_base.proofs.Maps.{get_of_empty, get-insert_same, get-insert_other}
+use Rattle.host_node.specs.Tree.{Shape, faults_of, none_lent}
+use Rattle.kernel_model.specs.entries.Given.{numbers_of}
+use Rattle.kernel_model.specs.files.FileTree.{root_node}
+use Rattle.kernel_model.specs.files.Numbers.{count_up}
+use Rattle.kernel_model.specs.opening.Opening.{rooted}
+use Rattle.image_walk.specs.Standing.{Stands, AreNodes}
+use Rattle.image_walk.specs.Executing.{fresh_for}
+use Rattle.image_walk.proofs.Trees.{faulted_by_none}
+
+pub first_nodes : (t : Shape) → AreNodes (rooted 1 (t ∷ [])) t []
+first_nodes t = record {
+  root = get-insert_same _ 1 (root_node 1 t);
+  children = λ ino h.
+      let differs : 1 ≢ ino = λ e. absurd (omega arith) in
+      get-insert_other map.empty 1 ino (root_node 1 t) differs ∙ get_of_empty ino;
+}
+
+pub first_stands : (t : Shape) → faults_of t < 2 ^ 64 → none_lent t ≡ true → Stands t [] [] (Some t) []
+first_stands t h free = record {
+  small = h;
+  free = free;
+  there = tt;
+  root_tells = ap Some (sym (faulted_by_none t h));
+  children_tell = refl;
+}
+
+pub numbers_of-fresh : (drawn : Bool) (names : List (List ℕ)) (name : List ℕ)
+    → numbers_of (fresh_for drawn names name) ≡ (if drawn then (length names + 2) ∷ [] else [])
+numbers_of-fresh true names name = refl
+numbers_of-fresh false names name = refl
+
+-- one more number
+pub count_up-more : (first n : ℕ) → count_up first (n + 1) ≡ count_up first n ++ (n + first) ∷ []
+unfolding count_up
+count_up-more first zero =
+    let same : first ≡ 0 + first = omega arith in
+    ap (λ m. m ∷ []) same
+count_up-more first (suc n) =
+    let later : suc n + 1 ≡ suc (n + 1) = omega arith in
+    let same : n + (first + 1) ≡ suc n + first = omega arith in
+    ap (count_up first) later
+    ∙ ap (λ (ns : List ℕ). first ∷ ns) (count_up-more (first + 1) n ∙ ap (λ m. count_up (first + 1) n ++ m ∷ []) same)

@@ -1,0 +1,190 @@
+-- The number that a kernel's opening execve draws, and what it comes to with that number and with a rise.
+use Rattle.std.proofs.Common.{◌≡◌, ◌≢◌, ℕ, ◌+◌, ◌<◌, ◌≤◌, Bool, true, false, List, [], ◌∷◌, ◌++◌, length, refl, ap}
+use Rattle.std.proofs.Common.{◌∙◌, arith, eqb, ◌⊎◌, inl, inr}
+use Rattle.std.specs.Prelude.{Option, Some, None, Result, if◌then◌else◌, ◌&&◌, ◌||◌, not, is_some, nat_lt}
+use Rattle.std.specs.List.{list_any}
+use Rattle.std.proofs.lemmas.Bool.{lt-ltb, le-ltb, le-leb, cases_eq, eq-eqb, ne_eqb}
+use Rattle.std.proofs.lemmas.Cmp.{nat_list_eq_equiv}
+use Rattle.host_node.specs.Tree.{Shape, child_of}
+use Rattle.sn_errno.specs.declared.errno.Errno.{Errno}
+use Rattle.sn_errno.specs.declared.errno.Errno.TheVariants.{EIO, ENFILE}
+use Rattle.elf_image.specs.declared.image.Image.{Image}
+use Rattle.kernel_model.specs.declared.kernel.Node.{Node}
+use Rattle.kernel_model.specs.declared.kernel.Part.TheVariants.{OfNode, OfFaults}
+use Rattle.kernel_model.specs.declared.opening.Fresh.{Fresh}
+use Rattle.kernel_model.specs.declared.opening.Given.{Given}
+use Rattle.kernel_model.specs.declared.opening.Rise.{Rise}
+use Rattle.kernel_model.specs.files.FileTree.{last_number, number_in, known, unnumbered, child_node, numbered_in}
+use Rattle.kernel_model.specs.entries.Given.{Nodes_so_far, has_any, is_in_order, number_all, number_at, number_next}
+use Rattle.kernel_model.specs.entries.Given.{given_number, met, all_known, all_known_in, faulted, node_changes}
+use Rattle.kernel_model.specs.entries.Given.{above_last, node_by, node_in, risen}
+use Rattle.kernel_model.specs.entries.Parts.{Parts, outcome_in, done, ◌>>=◌}
+use Rattle.kernel_model.specs.opening.Opening.{Walked, by_walk, by_image, by_numbers, failed_by, draws_just, Fails}
+use Rattle.kernel_model.specs.opening.Opening.{Unfit}
+use Rattle.kernel_model.proofs.Trees.{outcome-bind}
+use Rattle.kernel_model.proofs.Failing.{faulted_is}
+use Rattle.image_walk.specs.Standing.{lend_all, numbers_from, root_with}
+use Rattle.image_walk.specs.Executing.{fresh_for}
+use Rattle.image_walk.proofs.Lending.{child_of-lend_all}
+use Rattle.image_walk.proofs.Places.{IsThere, unnumbered_new}
+use Rattle.image_walk.proofs.KernelWalk.{HasNodes}
+
+-- what is drawn for a name
+abbrev pub fresh_of : List (List ℕ) → List ℕ → Fresh
+fresh_of names name = record { dir = 1; name = name; ino = length names + 2 }
+
+-- the nodes that change where a number is drawn
+abbrev pub nodes_drawn : Shape → List (List ℕ) → List ℕ → Option Shape → Nodes_so_far
+nodes_drawn t names name None = []
+nodes_drawn t names name (Some x) =
+    (length names + 2, child_node 1 x) ∷ (1, numbered_in (root_with t names) name (length names + 2)) ∷ []
+
+abbrev pub nodes_then : Bool → Shape → List (List ℕ) → List ℕ → Nodes_so_far
+nodes_then true t names name = nodes_drawn t names name (child_of name t)
+nodes_then false t names name = []
+
+-- a number is drawn for a child that is there and has none, and there is room for it
+pub record Draws (t : Shape) (names : List (List ℕ)) (name : List ℕ) (drawn : Bool) : Type 0 where
+  pub unnumbered : drawn ≡ true → number_in name (numbers_from 2 names) ≡ None
+  pub there : drawn ≡ true → IsThere (child_of name t)
+  pub room : length names + 2 ≤ last_number
+
+-- the greatest number that a node has then
+abbrev pub most_then : (names : List (List ℕ)) → (drawn : Bool) → ℕ
+most_then names true = length names + 2
+most_then names false = length names + 1
+
+module _ (s : Parts) (t : Shape) (names : List (List ℕ)) (name : List ℕ) (has : HasNodes s t names) where
+  -- ---- the numbers
+
+  number_true : (o : Option Shape) → child_of name t ≡ o → IsThere o → Draws t names name true
+      → outcome_in s (number_all (fresh_of names name ∷ []) []) ≡ Some (nodes_drawn t names name o)
+  number_true None e there d = absurd there
+  number_true (Some x) e there d =
+      let n : ℕ = length names + 2 in
+      let f : Fresh = fresh_of names name in
+      let above : 2 + length names ≤ n = omega arith in
+      let none : number_in name (numbers_from 2 names) ≡ None = d.unnumbered refl in
+      ap (λ dir. outcome_in s (number_next (number_all []) (number_at [] f dir (s (OfNode n))))) has.root
+      ∙ ap (λ taken. outcome_in s (number_next (number_all []) (number_at [] f (Some (root_with t names)) taken)))
+      (has.above n above)
+      ∙ ap (λ number. outcome_in s (number_next (number_all [])
+      (given_number [] f (root_with t names) None (known number (child_of name (lend_all names t)))))) none
+      ∙ ap (λ c. outcome_in s (number_next (number_all []) (given_number [] f (root_with t names) None (unnumbered c))))
+      (child_of-lend_all name names t (unnumbered_new name 2 names none) ∙ e)
+      ∙ ap (λ b. outcome_in s (number_next (number_all [])
+      (if b then Some (nodes_drawn t names name (Some x)) else Some []))) (le-leb n last_number d.room)
+
+  pub numbers_are : (drawn : Bool) → Draws t names name drawn
+      → outcome_in s (number_all (fresh_for drawn names name) []) ≡ Some (nodes_then drawn t names name)
+  numbers_are true d = number_true (child_of name t) refl (d.there refl) d
+  numbers_are false d = refl
+
+  -- ---- without a rise
+
+  same_bytes : draws_just true name (fresh_of names name ∷ []) ≡ true
+  same_bytes =
+      let some : 0 < length names + 2 = omega arith in
+      ap (λ b. true && b && nat_lt 0 (length names + 2)) (nat_list_eq_equiv.refl name)
+      ∙ lt-ltb 0 (length names + 2) some
+
+  draws : (drawn : Bool) → draws_just drawn name (fresh_for drawn names name) ≡ true
+  draws true = same_bytes
+  draws false = refl
+
+  not_above : (drawn : Bool) → length names + 2 ≤ last_number
+      → list_any above_last (fresh_for drawn names name) ≡ false
+  not_above true h = ap (λ b. b || false) (le-ltb last_number (length names + 2) h)
+  not_above false h = refl
+
+  pub by_walk_quiet : (drawn : Bool) (image : Result Image Errno) (w : Walked) → Draws t names name drawn
+      → w ≡ record { draws = drawn; image = image }
+      → outcome_in s (by_walk name (record { fresh = fresh_for drawn names name; rises = [] }) w)
+      ≡ by_image image (node_changes (nodes_then drawn t names name))
+  by_walk_quiet drawn image w d e =
+      ap (λ x. outcome_in s (by_walk name (record { fresh = fresh_for drawn names name; rises = [] }) x)) e
+      ∙ ap (λ b. outcome_in s (if not b then done Unfit
+      else if list_any above_last (fresh_for drawn names name) then done (Fails ENFILE [])
+      else (number_all (fresh_for drawn names name) [] >>= λ nodes. done (by_numbers image nodes)))) (draws drawn)
+      ∙ ap (λ b. outcome_in s (if b then done (Fails ENFILE [])
+      else (number_all (fresh_for drawn names name) [] >>= λ nodes. done (by_numbers image nodes))))
+      (not_above drawn d.room)
+      ∙ outcome-bind s (number_all (fresh_for drawn names name) []) (λ nodes. done (by_numbers image nodes))
+      ∙ ap (by_numbers image) (numbers_are drawn d)
+
+  -- ---- with a rise
+
+  known_by : (o : Option Node) (ino : ℕ) → is_some (s (OfNode ino)) ≡ true
+      → outcome_in s (node_by o ino >>= λ node. done (is_some node && true)) ≡ true
+  known_by (Some x) ino h = refl
+  known_by None ino h = ap (λ b. b && true) h
+
+  known_drawn : (x : Shape) (ino : ℕ) → 0 < ino → ino ≤ length names + 2
+      → outcome_in s (node_by (node_in ino (nodes_drawn t names name (Some x))) ino
+      >>= λ node. done (is_some node && true)) ≡ true
+  known_drawn x ino some most = by (cases_eq (length names + 2) ino)
+    where
+      root : Option Node
+      root = if eqb 1 ino then Some (numbered_in (root_with t names) name (length names + 2)) else None
+
+      by : (length names + 2 ≡ ino) ⊎ (length names + 2 ≡ ino → ⊥)
+          → outcome_in s (node_by (if eqb (length names + 2) ino then Some (child_node 1 x) else root) ino
+          >>= λ node. done (is_some node && true)) ≡ true
+      by (inl e) =
+          ap (λ b. outcome_in s (node_by (if b then Some (child_node 1 x) else root) ino
+          >>= λ node. done (is_some node && true))) (eq-eqb (length names + 2) ino e)
+      by (inr d) =
+          let differs : length names + 2 ≢ ino = d in
+          let below : ino < 2 + length names = omega arith in
+          ap (λ b. outcome_in s (node_by (if b then Some (child_node 1 x) else root) ino
+          >>= λ node. done (is_some node && true))) (ne_eqb (length names + 2) ino d)
+          ∙ known_by root ino (has.within ino some below)
+
+  known_true : (o : Option Shape) → IsThere o → (r : Rise) → 0 < r.ino → r.ino ≤ length names + 2
+      → outcome_in s (all_known (r ∷ []) (nodes_drawn t names name o)) ≡ true
+  known_true None there r some most = absurd there
+  known_true (Some x) there r some most = known_drawn x r.ino some most
+
+  all_known_then : (drawn : Bool) → Draws t names name drawn → (r : Rise) → 0 < r.ino → r.ino ≤ most_then names drawn
+      → outcome_in s (all_known (r ∷ []) (nodes_then drawn t names name)) ≡ true
+  all_known_then true d r some most = known_true (child_of name t) (d.there refl) r some most
+  all_known_then false d r some most =
+      let below : r.ino < 2 + length names = omega arith in
+      known_by None r.ino (has.within r.ino some below)
+
+  abbrev failing_given : Bool → Rise → Given
+  failing_given drawn r = record { fresh = fresh_for drawn names name; rises = r ∷ [] }
+
+  in_order : (drawn : Bool) (r : Rise) → 0 < r.ino → 0 < r.count → is_in_order (failing_given drawn r) ≡ true
+  in_order true r some rose =
+      let number : 0 < length names + 2 = omega arith in
+      ap (λ b. (b && true) && true && (nat_lt 0 r.ino && true) && (nat_lt 0 r.count && true))
+      (lt-ltb 0 (length names + 2) number)
+      ∙ ap (λ b. (b && true) && (nat_lt 0 r.count && true)) (lt-ltb 0 r.ino some)
+      ∙ ap (λ b. b && true) (lt-ltb 0 r.count rose)
+  in_order false r some rose =
+      ap (λ b. (b && true) && (nat_lt 0 r.count && true)) (lt-ltb 0 r.ino some)
+      ∙ ap (λ b. b && true) (lt-ltb 0 r.count rose)
+
+  failed_by_walk : (given : Given) (w : Walked) → has_any given.rises ≡ true
+      → is_in_order given ≡ true → outcome_in s (by_walk name given w) ≡ failed_by (outcome_in s (faulted given))
+  failed_by_walk given w h o =
+      ap (λ b. outcome_in s (if b
+      then (if is_in_order given then (faulted given >>= λ changes. done (failed_by changes)) else done Unfit)
+      else (if not (draws_just w.draws name given.fresh) then done Unfit
+      else if list_any above_last given.fresh then done (Fails ENFILE [])
+      else (number_all given.fresh [] >>= λ nodes. done (by_numbers w.image nodes))))) h
+      ∙ ap (λ b. outcome_in s (if b then (faulted given >>= λ changes. done (failed_by changes)) else done Unfit)) o
+      ∙ outcome-bind s (faulted given) (λ changes. done (failed_by changes))
+
+  pub by_walk_failing : (drawn : Bool) (r : Rise) (w : Walked) → Draws t names name drawn → 0 < r.count → 0 < r.ino
+      → r.ino ≤ most_then names drawn
+      → outcome_in s (by_walk name (record { fresh = fresh_for drawn names name; rises = r ∷ [] }) w)
+      ≡ Fails EIO (node_changes (nodes_then drawn t names name) ++ (OfFaults, risen (r ∷ []) (s OfFaults)) ∷ [])
+  by_walk_failing drawn r w d rose some most =
+      failed_by_walk (failing_given drawn r) w refl (in_order drawn r some rose)
+      ∙ ap failed_by (faulted_is s (failing_given drawn r)
+      ∙ ap (λ n. met (failing_given drawn r) n (outcome_in s (all_known_in (r ∷ []) n)) (s OfFaults))
+      (numbers_are drawn d)
+      ∙ ap (λ known. met (failing_given drawn r) (Some (nodes_then drawn t names name)) known (s OfFaults))
+      (all_known_then drawn d r some most))

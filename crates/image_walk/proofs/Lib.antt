@@ -1,0 +1,20 @@
+-- Lemmas of this crate, by subject.
+pub mod GivingBack
+pub mod Nodes
+pub mod Trees
+pub mod Lending
+pub mod OutAgain
+pub mod Places
+pub mod StandingMore
+pub mod Going
+pub mod Deeds
+pub mod Settling
+pub mod Firsts
+pub mod KernelWalk
+pub mod KernelNumbers
+pub mod KernelNodes
+pub mod KernelAnswers
+pub mod Counts
+pub mod Commuting
+pub mod Risen
+pub mod Roots

@@ -1,0 +1,100 @@
+//! The opening execve of a program, over a granted folder.
+
+ghost use Rattle.std.specs.Prelude.{◌≡◌, ℕ, List as Items, [], length, None, true, IfOk, OnErr};
+ghost use Rattle.host_node.specs.Tree.{Shape};
+ghost use Rattle.sn_errno.specs.declared.errno.Errno.TheVariants.{E2BIG};
+ghost use Rattle.kernel_model.specs.entries.Given.{numbers_of};
+ghost use Rattle.kernel_model.specs.opening.Arguments.{is_too_long};
+ghost use Rattle.image_walk.specs.Executing.{Executes, LeavesStanding, fresh_by, rises_by};
+ghost use Rattle.image_walk.specs.Granted.{told_of};
+ghost use Rattle.image_walk.specs.Loading.{is_roomy};
+ghost use Rattle.image_walk.specs.Standing.{Stands};
+ghost use Rattle.image_walk.specs.Walking.{IsGrant, IsSilent, NumbersNext};
+
+use crate::granted::Granted;
+use crate::loading::{Answer, Loaded};
+use crate::walk::{ROOT, Step, walk};
+use host_node::HostNode;
+use kernel_calls::is_too_long;
+use kernel_model::{Fresh, Given, Rise};
+use mount_file::Program;
+use sn_base::{List, Memory};
+use sn_errno::Errno;
+use sn_text::Name;
+use std::alloc::Global;
+
+/// What an opening execve drew and met, and what it answers.
+#[derive(Drop)]
+pub struct Executed {
+    pub given: Given,
+    pub answer: Answer,
+    ghost pages: { is_roomy answer ≡ true },
+}
+
+/// What a walk drew and met: the number of the node that it came to, where that is new, and by how much that node's
+/// count of faults rose.
+fn gathered(
+    alloc: Global,
+    name: &Name,
+    drawn: bool,
+    ino: u64,
+    risen: Option<u64>,
+) -> Result<Given, Memory>
+    ensures fresh { IfOk result (λ g. g.fresh ≡ fresh_by drawn ino name.now) }
+    ensures rises { IfOk result (λ g. g.rises ≡ rises_by ino risen) }
+{
+    let mut fresh = List::new(alloc);
+    if drawn {
+        fresh.push(Fresh {
+            dir: ROOT,
+            name: name.copy(alloc)?,
+            ino,
+        })?;
+    }
+    let mut rises = List::new(alloc);
+    if let Some(count) = risen {
+        rises.push(Rise { ino, count })?;
+    }
+    Ok(Given { fresh, rises })
+}
+
+/// Does the opening execve of a program of that name over a granted folder: where its strings are too long it walks to
+/// nothing, else it walks to the name, and loads the image. On an `Err`, want of memory, the children that were lent
+/// can go back all the same.
+///
+/// execve(2). E2BIG; EACCES: a root that its owner may not search; ENOENT: no such name; then what the node is.
+pub fn execve<N: HostNode>(
+    alloc: Global,
+    granted: &mut Granted<N>,
+    program: &Program,
+    name: &Name,
+) -> Result<Executed, Memory>
+    requires { IsGrant (N.told granted.old.root) (told_of N.told granted.old.lent.items) }
+    ensures executes { IfOk result (λ e. (t : Shape) (names : Items (Items ℕ)) →
+        Stands t names [] (N.told granted.old.root) (told_of N.told granted.old.lent.items) →
+        Executes (is_too_long program.now.args program.now.env) t names name.now e.given e.answer
+        (N.told granted.new.root) (told_of N.told granted.new.lent.items)) }
+    ensures numbers { IfOk result (λ e. NumbersNext (numbers_of e.given.fresh)
+        (length granted.old.lent.items) (length granted.new.lent.items)) }
+    ensures silent { IsSilent (N.told granted.old.root) (told_of N.told granted.old.lent.items) →
+        IsSilent (N.told granted.new.root) (told_of N.told granted.new.lent.items) }
+    ensures long { IfOk result (λ e. is_too_long program.now.args program.now.env ≡ true →
+        e.answer ≡ Answer.Refuses E2BIG) }
+    ensures err { OnErr result ((t : Shape) (names : Items (Items ℕ)) →
+        Stands t names [] (N.told granted.old.root) (told_of N.told granted.old.lent.items) →
+        LeavesStanding t names name.now (N.told granted.new.root) (told_of N.told granted.new.lent.items)) }
+{
+    if is_too_long(program) {
+        return Ok(Executed {
+            given: Given {
+                fresh: List::new(alloc),
+                rises: List::new(alloc),
+            },
+            answer: Answer::Refuses(Errno::E2BIG),
+        });
+    }
+    let Step { drawn, ino, loaded } = walk(alloc, granted, name)?;
+    let Loaded { risen, answer } = loaded;
+    let given = gathered(alloc, name, drawn, ino, risen)?;
+    Ok(Executed { given, answer })
+}

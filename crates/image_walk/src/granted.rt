@@ -1,0 +1,81 @@
+//! A granted folder: its root, and the children of the root that were lent.
+
+ghost use Rattle.std.specs.Prelude.{◌≡◌, ◌<◌, [], length, IfSome};
+ghost use Rattle.host_node.specs.Tree.{Shape};
+ghost use Rattle.image_walk.specs.Granted.{CanGiveBack, GivesBack, place_of, told_of};
+
+use host_node::HostNode;
+use sn_text::Name;
+use std::alloc::Global;
+
+/// A child of a granted folder's root that was lent, and its name.
+#[derive(Drop)]
+pub struct Lent<N: Drop> {
+    pub name: Name,
+    pub node: N,
+}
+
+/// A granted folder: its root, and the children of the root that were lent, in order of their inode numbers.
+#[derive(Drop)]
+pub struct Granted<N: Drop> {
+    pub root: N,
+    pub lent: Vec<Lent<N>>,
+}
+
+impl<N: HostNode> Granted<N> {
+    ghost use Rattle.std.specs.Prelude.{None, Some};
+    ghost use Rattle.image_walk.specs.Standing.{Stands};
+    ghost use Rattle.image_walk.specs.Walking.{IsGrant, IsRoot};
+
+    /// A root as it is granted, with nothing lent.
+    #[tactic(auto, using(crate::proofs::Roots::root_grants, crate::proofs::Roots::root_stands))]
+    pub fn new(alloc: Global, root: N) -> Granted<N>
+        requires { IsRoot (N.told root) }
+        ensures grant { IsGrant (N.told result.root) (told_of N.told result.lent.items) }
+        ensures root { N.told result.root ≡ N.told root }
+        ensures lent { result.lent.items ≡ [] }
+        ensures stands { (t : Shape) → N.told root ≡ Some t →
+            Stands t [] [] (N.told result.root) (told_of N.told result.lent.items) }
+        ensures faults { N.count result.root ≡ N.count root }
+    {
+        let _faults = root.faults();
+        Granted {
+            root,
+            lent: Vec::new(alloc),
+        }
+    }
+
+    /// The root, with all children back in their places.
+    pub fn give_back(self) -> N
+        requires { CanGiveBack (N.told self.root) (told_of N.told self.lent.items) }
+        ensures tells { GivesBack (N.told self.root) (told_of N.told self.lent.items) (N.told result) }
+        ensures faults { N.count result ≡ N.count self.root }
+    {
+        let Granted { root, lent } = self;
+        let mut root = root;
+        for child in lent {
+            let Lent { name, node } = child;
+            root.take_back(&name, node);
+        }
+        root
+    }
+}
+
+/// Which of the children has that name, counted from 0.
+pub(crate) fn place_of<N: HostNode>(name: &Name, lent: &[Lent<N>]) -> Option<usize>
+    ensures place { result ≡ place_of name.now (told_of N.told lent.now) }
+    ensures within { IfSome result (λ i. i < length lent.now) }
+{
+    match lent {
+        [] => None,
+        [first, rest @ ..] => {
+            if name.as_bytes() == first.name.as_bytes() {
+                return Some(0);
+            }
+            match place_of(name, rest) {
+                Some(place) => Some(place + 1),
+                None => None,
+            }
+        }
+    }
+}

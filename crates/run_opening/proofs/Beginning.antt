@@ -1,0 +1,227 @@
+-- One opening task more begins, or its execve refuses the opening.
+use Rattle.std.proofs.Common.{◌≡◌, ℕ, ◌+◌, ◌<◌, ◌≤◌, Bool, true, false, List, [], ◌∷◌, ◌++◌, length, drop, refl, ap}
+use Rattle.std.proofs.Common.{sym, ◌∙◌}
+use Rattle.std.proofs.Common.{subst, arith, length-append}
+use Rattle.std.specs.Prelude.{Option, Some, None, Result, Ok, Err, IfOk, IfErr, IsErrAnd, slice_get}
+use Rattle.std.specs.FinMap as map
+use Rattle.std.proofs.lemmas.List.{append_assoc, append-nil, drop_more}
+use Rattle.std.proofs.lemmas.Option.{get_or_from_slice_get, slice_get_within}
+use Rattle.host_node.specs.Tree.{Shape, is_directory}
+use Rattle.sn_errno.specs.declared.errno.Errno.{Errno}
+use Rattle.elf_image.specs.declared.image.Image.{Image as Executable}
+use Rattle.mount_file.specs.declared.mounts.Mounts.{Mounts}
+use Rattle.mount_file.specs.declared.mounts.Program.{Program}
+use Rattle.task_table.specs.Table.{TaskTable}
+use Rattle.task_table.specs.Clones.{opened}
+use Rattle.kernel_model.specs.declared.kernel.Kernel.{Kernel}
+use Rattle.kernel_model.specs.declared.opening.Given.{Given}
+use Rattle.kernel_model.specs.declared.opening.Opened.{Opened}
+use Rattle.kernel_model.specs.entries.Parts.{parts, outcome_in, changed}
+use Rattle.kernel_model.specs.files.FileTree.{Nodes, last_number}
+use Rattle.kernel_model.specs.opening.Arguments.{is_too_long}
+use Rattle.kernel_model.specs.opening.Opening.{Begun, Executed, Starts, Fails, Refuses, bare, execve_of, made_by}
+use Rattle.kernel_model.specs.opening.Opening.{rooted, task_begun, tasks_begun, with_task}
+use Rattle.kernel_model.proofs.OpenedTasks.{AreOpened, opened_more}
+use Rattle.image_walk.specs.declared.loading.Answer.{Answer}
+use Rattle.image_walk.specs.declared.loading.Answer.TheVariants as answers
+use Rattle.image_walk.specs.Executing.{Executes, named_then}
+use Rattle.image_walk.specs.Granted.{Child}
+use Rattle.image_walk.specs.Standing.{Stands, AreNodes}
+use Rattle.image_walk.specs.Walking.{IsGrant, IsRoot, IsSilent}
+use Rattle.image_walk.proofs.KernelAnswers.{Started, Failed, execve_starts, execve_fails, stands_on}
+use Rattle.image_walk.proofs.Firsts.{first_nodes}
+use Rattle.image_walk.proofs.Places.{root_is}
+use Rattle.call_table.specs.declared.processes.Processes.{Processes}
+use Rattle.call_table.specs.Beside.{Beside}
+use Rattle.call_table.specs.Processes.{kernel_of}
+use Rattle.run_opening.specs.declared.opening.OpenErr.{OpenErr}
+use Rattle.run_opening.specs.declared.opening.OpenErr.TheVariants.{Image, Memory}
+use Rattle.run_opening.specs.Openings.{Begins, HasBegun, IsRefused, IsStanding, Stops, beside_of}
+
+-- what an execve did, for each tree that its nodes may tell
+abbrev pub ExecutesFor : Program → (name : List ℕ) → Given → Answer → (root root' : Option Shape)
+    → (children children' : List Child) → Type 0
+ExecutesFor program name given answer root root' children children' =
+    (t : Shape) (names : List (List ℕ)) → Stands t names [] root children
+    → Executes (is_too_long program.args program.env) t names name given answer root' children'
+
+-- the numbers of the names that an execve leaves
+named_few : (drawn : Bool) (names : List (List ℕ)) (name : List ℕ) → length (named_then drawn names name)
+    ≤ length names + 1
+named_few true names name = let longer = length-append names (name ∷ []) in omega (arith, longer)
+named_few false names name = omega arith
+
+-- the programs from one on
+next_programs : (programs : List Program) (i : ℕ) (p : Program) → slice_get programs i ≡ Some p
+    → drop i programs ≡ p ∷ drop (i + 1) programs
+next_programs programs i p e =
+    drop_more programs i p (slice_get_within programs i p e)
+    ∙ ap (λ q. q ∷ drop (i + 1) programs) (get_or_from_slice_get programs i p p e)
+
+module _ (m : Mounts) (t : Shape) (i : ℕ) (tasks tasks' : List Opened) (p : Processes) (program : Program)
+    (name : List ℕ) (o : Opened) (root root' : Option Shape) (children children' : List Child)
+    (h : HasBegun m t i tasks p root children) (at : slice_get m.tasks i ≡ Some program)
+    (path : program.path ≡ 47 ∷ name) (few : i < 64) (pushed : tasks' ≡ tasks ++ o ∷ []) where
+  abbrev k : Kernel
+  k = kernel_of p (beside_of m h.nodes) 0
+
+  room : length h.names + 2 ≤ last_number
+  room = let named : length h.names ≤ i = h.few in omega arith
+
+  -- what is left comes to what the next execve does
+  next : (rest : List Opened) → tasks_begun 1 m.tasks (tasks' ++ rest) (bare m (t ∷ []))
+      ≡ task_begun (tasks_begun (i + 1 + 1) (drop (i + 1) m.tasks) rest) (with_task (i + 1) program) (i + 1) k
+      (outcome_in (parts k) (execve_of program o.given))
+  next rest =
+      ap (λ os. tasks_begun 1 m.tasks os (bare m (t ∷ [])))
+      (ap (λ os. os ++ rest) pushed ∙ append_assoc tasks (o ∷ []) rest)
+      ∙ h.begun (o ∷ rest)
+      ∙ ap (λ ps. tasks_begun (i + 1) ps (o ∷ rest) k) (next_programs m.tasks i program at)
+
+  -- ---- it starts an image
+
+  module _ (image : Executable) (more : Processes)
+      (e : Executes (is_too_long program.args program.env) t h.names name o.given (answers.Starts image) root'
+      children')
+      (last : p.tasks.last ≡ i)
+      (begun : (beside : Beside) (n : ℕ) → beside.seed ≡ m.seed
+      → kernel_of more beside n ≡ with_task (p.tasks.last + 1) program image (kernel_of p beside n)) where
+    started : Started k t (named_then e.drawn h.names name) program o.given image
+    started =
+        execve_starts k t h.names name o.given (answers.Starts image) root' children' program path h.are refl room e
+        image refl
+
+    abbrev nodes' : Nodes
+    nodes' = (changed started.changes k).nodes
+
+    after : with_task (i + 1) program image (changed started.changes k) ≡ kernel_of more (beside_of m nodes') 0
+    after =
+        ap (with_task (i + 1) program image) started.rest
+        ∙ ap (λ n. with_task (n + 1) program image (kernel_of p (beside_of m nodes') 0)) (sym last)
+        ∙ sym (begun (beside_of m nodes') 0 refl)
+
+    pub task_begins : HasBegun m t (i + 1) tasks' more root' children'
+    task_begins = record {
+      names = named_then e.drawn h.names name;
+      nodes = nodes';
+      stands = stands_on (is_too_long program.args program.env) t h.names name o.given image root' children' e;
+      are = started.nodes;
+      few =
+          let named : length (named_then e.drawn h.names name) ≤ length h.names + 1 = named_few e.drawn h.names name in
+          let before : length h.names ≤ i = h.few in
+          omega arith;
+      begun = λ rest.
+          next rest
+          ∙ ap (task_begun (tasks_begun (i + 1 + 1) (drop (i + 1) m.tasks) rest) (with_task (i + 1) program) (i + 1) k)
+          started.comes
+          ∙ ap (tasks_begun (i + 1 + 1) (drop (i + 1) m.tasks) rest) after;
+    }
+
+  -- ---- it fails
+
+  module _ (errno : Errno)
+      (e : Executes (is_too_long program.args program.env) t h.names name o.given (answers.Refuses errno) root'
+      children') where
+    failed : Failed k program o.given errno root' children'
+    failed =
+        execve_fails k t h.names name o.given (answers.Refuses errno) root' children' program path h.are refl room e
+        errno refl
+
+    pub task_refused : (task : ℕ) → task ≡ i + 1 → IsRefused m t tasks' task errno root' children'
+    task_refused task is = record {
+      left = changed failed.changes k;
+      refuses =
+          ap (λ os. tasks_begun 1 m.tasks os (bare m (t ∷ []))) (sym (append-nil tasks'))
+          ∙ next []
+          ∙ ap (task_begun (tasks_begun (i + 1 + 1) (drop (i + 1) m.tasks) []) (with_task (i + 1) program) (i + 1) k)
+          failed.comes
+          ∙ ap (λ n. Refuses (changed failed.changes k) n errno) (sym is);
+      settles = failed.settles;
+    }
+
+-- the folder stands, whatever an execve answers
+pub standing : (long : Bool) (t : Shape) (names : List (List ℕ)) (name : List ℕ) (given : Given) (answer : Answer)
+    (root : Option Shape) (children : List Child) → Executes long t names name given answer root children
+    → IsStanding t root children
+standing long t names name given answer root children e =
+    record { names = named_then e.drawn names name; rises = given.rises; stands = e.stands }
+
+-- ---- what comes of the answer
+
+module _ (m : Mounts) (i : ℕ) (tasks tasks' : List Opened) (p : Processes) (program : Program) (name : List ℕ)
+    (o : Opened) (root root' : Option Shape) (children children' : List Child) (answer : Answer)
+    (executes : ExecutesFor program name o.given answer root root' children children')
+    (at : slice_get m.tasks i ≡ Some program) (path : program.path ≡ 47 ∷ name) (few : i < 64)
+    (pushed : tasks' ≡ tasks ++ o ∷ []) (last : p.tasks.last ≡ i) where
+  pub begun_then : (result : Result Processes OpenErr) → Begins m.seed program answer p result
+      → IfOk result (λ q. (t : Shape) → HasBegun m t i tasks p root children
+      → HasBegun m t (i + 1) tasks' q root' children')
+  begun_then (Err e) b = tt
+  begun_then (Ok q) b = λ t h.
+      task_begins m t i tasks tasks' p program name o root root' children children' h at path few pushed b.0 q
+      (subst (λ (x : Answer). Executes (is_too_long program.args program.env) t h.names name o.given x root' children')
+      b.1 (executes t h.names h.stands)) last b.3
+
+  pub stopped_then : (result : Result Processes OpenErr) → Begins m.seed program answer p result
+      → IfErr result (λ e. (t : Shape) → HasBegun m t i tasks p root children → Stops m t e tasks' root' children')
+  stopped_then (Ok q) b = tt
+  stopped_then (Err (Image task errno)) b = λ t h.
+      let e = executes t h.names h.stands in (
+        task_refused m t i tasks tasks' p program name o root root' children children' h at path few pushed errno
+            (subst (λ (x : Answer). Executes (is_too_long program.args program.env) t h.names name o.given x root'
+            children') b.1 e) task (b.0 ∙ ap (λ n. n + 1) last),
+        standing (is_too_long program.args program.env) t h.names name o.given answer root' children' e,
+      )
+  stopped_then (Err Memory) b = λ t h.
+      standing (is_too_long program.args program.env) t h.names name o.given answer root' children'
+      (executes t h.names h.stands)
+
+-- so many tasks live, and there is room for more
+pub opened_then : (seed : List ℕ) (program : Program) (answer : Answer) (i : ℕ) (p : Processes)
+    (result : Result Processes OpenErr) → AreOpened i p.tasks → i < 64 → Begins seed program answer p result
+    → IfOk result (λ q. AreOpened (i + 1) q.tasks)
+opened_then seed program answer i p (Err e) o few b = tt
+opened_then seed program answer i p (Ok q) o few b =
+    subst (λ (list : TaskTable). AreOpened (i + 1) list) (sym b.2)
+    (opened_more i p.tasks (made_by (p.tasks.last + 1)) (made_by (p.tasks.last + 1)) 1 few o)
+
+-- ---- before the first task, and between two
+
+pub begun_none : (m : Mounts) (t : Shape) (p : Processes) (root : Option Shape) (children : List Child)
+    (tasks : List Opened) → Stands t [] [] root children → tasks ≡ []
+    → ((nodes : Nodes) → kernel_of p (beside_of m nodes) 0 ≡ record (bare m (t ∷ [])) { nodes = nodes })
+    → HasBegun m t 0 tasks p root children
+begun_none m t p root children tasks st none is = record {
+  names = [];
+  nodes = rooted 1 (t ∷ []);
+  stands = st;
+  are = first_nodes t;
+  few = omega arith;
+  begun = λ rest.
+      ap (λ os. tasks_begun 1 m.tasks (os ++ rest) (bare m (t ∷ []))) none
+      ∙ ap (tasks_begun 1 m.tasks rest) (sym (is (rooted 1 (t ∷ []))));
+}
+
+pub still_grant : (told root : Option Shape) (children : List Child) → IsRoot told
+    → (told ≡ None → IsSilent root children)
+    → ((t : Shape) → told ≡ Some t → (names : List (List ℕ)) × Stands t names [] root children)
+    → IsGrant root children
+still_grant None root children is silent tells =
+    let s = silent refl in subst (λ (o : Option Shape). IsGrant o children) (sym s.0) s.1
+still_grant (Some t) root children is silent tells =
+    let s = tells t refl in
+    let root_tells = root_is t s.0 root children s.1 in
+    subst (λ (o : Option Shape). IsGrant o children) (sym root_tells)
+    (t, s.0, is.0, subst (λ (o : Option Shape). Stands t s.0 [] o children) root_tells s.1)
+
+-- want of memory in the record
+pub err_stops : (m : Mounts) (i : ℕ) (tasks tasks' : List Opened) (p : Processes) (program : Program) (name : List ℕ)
+    (given : Given) (answer : Answer) (root root' : Option Shape) (children children' : List Child)
+    → ExecutesFor program name given answer root root' children children' → (result : Result Processes OpenErr)
+    → IsErrAnd result (λ e. e ≡ Memory)
+    → IfErr result (λ e. (t : Shape) → HasBegun m t i tasks p root children → Stops m t e tasks' root' children')
+err_stops m i tasks tasks' p program name given answer root root' children children' executes (Ok q) is = tt
+err_stops m i tasks tasks' p program name given answer root root' children children' executes (Err e) is = λ t h.
+    subst (λ (x : OpenErr). Stops m t x tasks' root' children') (sym is)
+    (standing (is_too_long program.args program.env) t h.names name given answer root' children'
+    (executes t h.names h.stands))

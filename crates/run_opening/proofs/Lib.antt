@@ -1,0 +1,3 @@
+-- Lemmas of this crate, by subject.
+pub mod Recording
+pub mod Beginning

@@ -1,0 +1,79 @@
+-- The record of an opening grows by one task.
+use Rattle.std.proofs.Common.{◌≡◌, ℕ, zero, suc, ◌+◌, ◌<◌, ◌≤◌, List, [], ◌∷◌, ◌++◌, map, take, length, get_or, refl}
+use Rattle.std.proofs.Common.{ap, sym, ◌∙◌}
+use Rattle.std.proofs.Common.{subst, arith}
+use Rattle.std.specs.Prelude.{Some, Result, Ok, Err, IfOk, slice_get}
+use Rattle.std.specs.List.{flat_map}
+use Rattle.std.proofs.lemmas.Grind.{flat_map-append}
+use Rattle.std.proofs.lemmas.List.{map-append, take_more, append-nil}
+use Rattle.std.proofs.lemmas.Option.{get_or_from_slice_get, slice_get_within, same_Some}
+use Rattle.sn_text.specs.Names.{IsName}
+use Rattle.mount_file.specs.Form.{IsNamed, AreNamed}
+use Rattle.mount_file.specs.declared.mounts.Program.{Program}
+use Rattle.kernel_model.specs.declared.opening.Opened.{Opened}
+use Rattle.kernel_model.specs.entries.Given.{numbers_of}
+use Rattle.kernel_model.specs.files.Numbers.{count_up}
+use Rattle.image_walk.specs.Walking.{NumbersNext}
+use Rattle.image_walk.proofs.Firsts.{count_up-more}
+use Rattle.run_opening.specs.Records.{IsRecord, IsRecorded, numbers_of_tasks}
+
+-- each of the programs has a path of `/` and a name
+pub named_at : (programs : List Program) (i : ℕ) (p : Program) → AreNamed programs → slice_get programs i ≡ Some p
+    → IsNamed p
+named_at [] i p h e = cc
+named_at (q ∷ programs) zero p h e = subst IsNamed (same_Some q p e) h.0
+named_at (q ∷ programs) (suc i) p h e = named_at programs i p h.1 e
+
+-- the programs up to one more
+pub taken_more : (programs : List Program) (i : ℕ) (p : Program) → slice_get programs i ≡ Some p
+    → take (i + 1) programs ≡ take i programs ++ p ∷ []
+taken_more programs i p e =
+    take_more programs i p (slice_get_within programs i p e)
+    ∙ ap (λ q. take i programs ++ q ∷ []) (get_or_from_slice_get programs i p p e)
+
+numbers_more : (tasks : List Opened) (o : Opened) → numbers_of_tasks (tasks ++ o ∷ [])
+    ≡ numbers_of_tasks tasks ++ numbers_of o.given.fresh
+numbers_more tasks o =
+    flat_map-append (λ (x : Opened). numbers_of x.given.fresh) tasks (o ∷ [])
+    ∙ ap (λ ns. numbers_of_tasks tasks ++ ns) (append-nil (numbers_of o.given.fresh))
+
+counted : (numbers : List ℕ) (drawn drawn' : ℕ) → NumbersNext numbers drawn drawn'
+    → count_up 2 drawn ++ numbers ≡ count_up 2 drawn'
+counted [] drawn drawn' h = append-nil (count_up 2 drawn) ∙ ap (count_up 2) (sym h)
+counted (n ∷ []) drawn drawn' h =
+    ap (λ m. count_up 2 drawn ++ m ∷ []) h.0 ∙ sym (count_up-more 2 drawn) ∙ ap (count_up 2) (sym h.1)
+counted (n ∷ m ∷ numbers) drawn drawn' h = absurd h
+
+pub record_more : (programs : List Program) (tasks tasks' : List Opened) (i drawn drawn' : ℕ) (p : Program) (o : Opened)
+    → IsRecord programs tasks i drawn → slice_get programs i ≡ Some p → o.words ≡ p.args
+    → NumbersNext (numbers_of o.given.fresh) drawn drawn' → tasks' ≡ tasks ++ o ∷ []
+    → IsRecord programs tasks' (i + 1) drawn'
+record_more programs tasks tasks' i drawn drawn' p o r e w n pushed = record {
+  words =
+      ap (map (λ (x : Opened). x.words)) pushed ∙ map-append (λ (x : Opened). x.words) tasks (o ∷ [])
+      ∙ ap (λ ws. ws ++ o.words ∷ []) r.words ∙ ap (λ v. map (λ (q : Program). q.args) (take i programs) ++ v ∷ []) w
+      ∙ sym (map-append (λ (q : Program). q.args) (take i programs) (p ∷ []))
+      ∙ ap (map (λ (q : Program). q.args)) (sym (taken_more programs i p e));
+  few = let within : i < length programs = slice_get_within programs i p e in omega arith;
+  numbers =
+      ap numbers_of_tasks pushed ∙ numbers_more tasks o ∙ ap (λ ns. ns ++ numbers_of o.given.fresh) r.numbers
+      ∙ counted (numbers_of o.given.fresh) drawn drawn' n;
+}
+
+pub recorded : (programs : List Program) (tasks : List Opened) (count drawn : ℕ) → IsRecord programs tasks count drawn
+    → IsRecorded programs tasks
+recorded programs tasks count drawn r = record { count = count; drawn = drawn; is = r }
+
+-- before the first
+pub record_none : (programs : List Program) (tasks : List Opened) (n : ℕ) → tasks ≡ [] → n ≡ 0
+    → IsRecord programs tasks 0 n
+unfolding count_up
+record_none programs tasks n e z =
+    subst (λ (ts : List Opened). IsRecord programs ts 0 n) (sym e)
+    (subst (λ (m : ℕ). IsRecord programs [] 0 m) (sym z)
+    (record { words = refl; few = omega arith; numbers = refl }))
+
+-- what holds in any case holds on an `Ok`
+pub any_ok : {A E P : Type 0} (result : Result A E) → P → IfOk result (λ _. P)
+any_ok (Ok x) p = p
+any_ok (Err e) p = tt

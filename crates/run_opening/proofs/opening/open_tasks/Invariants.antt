@@ -1,0 +1,21 @@
+-- So many tasks have begun, and the record has them.
+use Rattle.std.proofs.Common.{◌≡◌, length}
+use Rattle.std.specs.Prelude.{Some, None}
+use Rattle.host_node.specs.Tree.{Shape}
+use Rattle.kernel_model.proofs.OpenedTasks.{AreOpened}
+use Rattle.image_walk.specs.Granted.{told_of}
+use Rattle.image_walk.specs.Walking.{IsSilent}
+use Rattle.run_opening.specs.Openings.{HasBegun}
+use Rattle.run_opening.specs.Records.{IsRecord}
+use Rattle.run_opening.proofs.opening.open_tasks.Given as goal
+
+abbrev pub invariant-loop-index : goal.invariant-loop-index
+invariant-loop-index g l =
+    let told = g.N.HostNode.told in
+    record {
+      opened : AreOpened l.index l.processes.tasks;
+      record_so_far : IsRecord l.mounts.tasks l.tasks l.index (length l.granted.lent.items);
+      silent : told l.fn.granted.root ≡ None → IsSilent (told l.granted.root) (told_of told l.granted.lent.items);
+      begun : (t : Shape) → told l.fn.granted.root ≡ Some t
+          → HasBegun l.mounts t l.index l.tasks l.processes (told l.granted.root) (told_of told l.granted.lent.items);
+    }

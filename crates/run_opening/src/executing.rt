@@ -1,0 +1,85 @@
+//! The opening execve of one program, and its record.
+
+ghost use Rattle.std.specs.Prelude.{◌≡◌, ℕ, List as Items, [], ◌∷◌, length, None, true, IfOk, OnErr};
+ghost use Rattle.host_node.specs.Tree.{Shape};
+ghost use Rattle.sn_errno.specs.declared.errno.Errno.TheVariants.{E2BIG};
+ghost use Rattle.kernel_model.specs.entries.Given.{numbers_of};
+ghost use Rattle.kernel_model.specs.opening.Arguments.{is_too_long};
+ghost use Rattle.mount_file.specs.Form.{IsNamed};
+ghost use Rattle.image_walk.specs.Executing.{Executes};
+ghost use Rattle.image_walk.specs.Granted.{told_of};
+ghost use Rattle.image_walk.specs.Loading.{is_roomy};
+ghost use Rattle.image_walk.specs.Standing.{Stands};
+ghost use Rattle.image_walk.specs.Walking.{IsGrant, IsSilent, NumbersNext};
+ghost use Rattle.run_opening.specs.Openings.{IsStanding};
+
+use host_node::HostNode;
+use image_walk::{Answer, Executed, Granted, execve};
+use kernel_model::Opened;
+use mount_file::Program;
+use sn_base::{List, Memory};
+use sn_text::{Name, Text, name_of};
+use std::alloc::Global;
+
+/// An opening execve that was done: its record, and what it answers.
+#[derive(Drop)]
+pub(crate) struct Done {
+    pub(crate) opened: Opened,
+    pub(crate) answer: Answer,
+    ghost pages: { is_roomy answer ≡ true },
+}
+
+/// The name of a program: its path without the slash.
+fn program_name(alloc: Global, program: &Program) -> Result<Name, Memory>
+    requires { IsNamed program.now }
+    ensures { IfOk result (λ name. program.now.path ≡ 47 ∷ name) }
+{
+    let path = program.path.as_bytes();
+    match name_of(alloc, &path[1..]) {
+        Ok(name) => Ok(name),
+        Err(_) => Err(Memory),
+    }
+}
+
+fn copied_words(alloc: Global, words: &[Text]) -> Result<List<Text>, Memory>
+    ensures { IfOk result (λ ws. ws ≡ words.now) }
+{
+    let mut copies = List::new(alloc);
+    for word in words {
+        copies.push(word.copy(alloc)?)?;
+    }
+    Ok(copies)
+}
+
+/// Does the opening execve of a program over a granted folder. On an `Err` the folder can be put together again.
+pub(crate) fn execute<N: HostNode>(
+    alloc: Global,
+    granted: &mut Granted<N>,
+    program: &Program,
+) -> Result<Done, Memory>
+    requires grant { IsGrant (N.told granted.old.root) (told_of N.told granted.old.lent.items) }
+    requires named { IsNamed program.now }
+    ensures words { IfOk result (λ d. d.opened.words ≡ program.now.args) }
+    ensures executes { IfOk result (λ d. (name : Items ℕ) → program.now.path ≡ 47 ∷ name →
+        (t : Shape) (names : Items (Items ℕ)) →
+        Stands t names [] (N.told granted.old.root) (told_of N.told granted.old.lent.items) →
+        Executes (is_too_long program.now.args program.now.env) t names name d.opened.given d.answer
+        (N.told granted.new.root) (told_of N.told granted.new.lent.items)) }
+    ensures numbers { IfOk result (λ d. NumbersNext (numbers_of d.opened.given.fresh)
+        (length granted.old.lent.items) (length granted.new.lent.items)) }
+    ensures silent { IsSilent (N.told granted.old.root) (told_of N.told granted.old.lent.items) →
+        IsSilent (N.told granted.new.root) (told_of N.told granted.new.lent.items) }
+    ensures long { IfOk result (λ d. is_too_long program.now.args program.now.env ≡ true →
+        d.answer ≡ Answer.Refuses E2BIG) }
+    ensures err { OnErr result ((t : Shape) (names : Items (Items ℕ)) →
+        Stands t names [] (N.told granted.old.root) (told_of N.told granted.old.lent.items) →
+        IsStanding t (N.told granted.new.root) (told_of N.told granted.new.lent.items)) }
+{
+    let name = program_name(alloc, program)?;
+    let words = copied_words(alloc, program.args.as_slice())?;
+    let Executed { given, answer } = execve(alloc, granted, program, &name)?;
+    Ok(Done {
+        opened: Opened { words, given },
+        answer,
+    })
+}

@@ -1,0 +1,21 @@
+//! The opening of a run: the tasks of a mount file, opened in order over a granted folder.
+//!
+//! A caller sees `open_tasks`, which has each program execute in turn and begins a task of its image, and answers the
+//! processes; where an execve is refused it answers which and why (`OpenErr`). What each drew and met stands in the
+//! record of the opening, as an `Opened` for each execve that was done.
+//!
+//! Proved, where the folder's root tells its tree: the processes are the kernel that the definitions open, over the
+//! nodes of that folder (`begun`); a refusal is that of the first execve that fails, and leaves the tree that the nodes
+//! have then (`stopped`); on want of memory the folder can be put together again, and at most counts of failed calls
+//! rose (`stopped`). Whatever the root tells, the record is of the programs in order, and its inode numbers run up
+//! without a gap (`recorded`).
+//!
+//! Not said: what a host is, which folder it granted, and what the tasks then do.
+//!
+//! Standard: Linux man-pages, execve(2), path_resolution(7).
+#![tactic(auto)]
+
+mod executing;
+mod opening;
+
+pub use opening::{OpenErr, open_tasks};

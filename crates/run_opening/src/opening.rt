@@ -1,0 +1,144 @@
+//! The tasks of a mount file, opened in order.
+
+ghost use Rattle.std.specs.Prelude.{◌≡◌, ◌+◌, ◌<◌, ◌≤◌, ℕ, [], length, None, Some, true, IfOk, IfErr, slice_get};
+ghost use Rattle.host_node.specs.Tree.{Shape};
+ghost use Rattle.sn_errno.specs.declared.errno.Errno.TheVariants.{E2BIG};
+ghost use Rattle.kernel_model.proofs.OpenedTasks.{AreOpened};
+ghost use Rattle.kernel_model.specs.laws.Beginnings.{IsRoomFor};
+ghost use Rattle.kernel_model.specs.opening.Arguments.{is_too_long};
+ghost use Rattle.mount_file.specs.Form.{AreNamed};
+ghost use Rattle.image_walk.specs.Granted.{told_of};
+ghost use Rattle.image_walk.specs.Loading.{is_roomy};
+ghost use Rattle.image_walk.specs.Standing.{Stands};
+ghost use Rattle.image_walk.specs.Walking.{IsGrant, IsRoot, IsSilent};
+ghost use Rattle.run_opening.specs.Openings.{Begins, HasBegun, Stops};
+ghost use Rattle.run_opening.specs.Records.{IsRecord, IsRecorded};
+
+use crate::executing::{Done, execute};
+use call_table::Processes;
+use host_node::HostNode;
+use image_walk::{Answer, Granted};
+use kernel_model::Opened;
+use mount_file::{Mounts, Program};
+use sn_base::{List, Memory};
+use sn_errno::Errno;
+use std::alloc::Global;
+
+/// Why the opening of the tasks ended before all had begun.
+///
+/// - `Image`: the opening execve of that task answers that error.
+/// - `Memory`: memory ran out.
+#[derive(Clone, Copy, Debug, PartialEq, Eq)]
+pub enum OpenErr {
+    Image { task: u32, errno: Errno },
+    Memory,
+}
+
+impl From<Memory> for OpenErr {
+    ghost use Rattle.run_opening.specs.declared.opening.OpenErr.TheVariants.{Memory as WantOfMemory};
+
+    ghost from_gives = { λ _ e. e ≡ WantOfMemory };
+
+    fn from(_e: Memory) -> OpenErr {
+        OpenErr::Memory
+    }
+}
+
+/// Goes on from what an opening execve of a program answers: the task begins, or why not.
+fn begin(
+    alloc: Global,
+    seed: &[u8],
+    program: &Program,
+    answer: Answer,
+    processes: Processes,
+) -> Result<Processes, OpenErr>
+    requires long { is_too_long program.now.args program.now.env ≡ true → answer ≡ Answer.Refuses E2BIG }
+    requires pages { is_roomy answer ≡ true }
+    requires room { IsRoomFor processes.tasks }
+    ensures { Begins seed.now program.now answer processes result }
+{
+    match answer {
+        Answer::Starts(image) => {
+            let more = processes.open(alloc, seed, program, &image)?;
+            Ok(more)
+        }
+        Answer::Refuses(errno) => Err(OpenErr::Image {
+            task: processes.tasks.last() + 1,
+            errno,
+        }),
+        Answer::Memory => Err(OpenErr::Memory),
+    }
+}
+
+/// Opens the task of an index, behind those before it, and puts it into the record.
+fn open_task<N: HostNode>(
+    alloc: Global,
+    mounts: &Mounts,
+    index: usize,
+    granted: &mut Granted<N>,
+    processes: Processes,
+    tasks: &mut List<Opened>,
+) -> Result<Processes, OpenErr>
+    requires within { index < length mounts.now.tasks }
+    requires few { length mounts.now.tasks ≤ 64 }
+    requires named { AreNamed mounts.now.tasks }
+    requires grant { IsGrant (N.told granted.old.root) (told_of N.told granted.old.lent.items) }
+    requires opened { AreOpened index processes.tasks }
+    requires record { IsRecord mounts.now.tasks tasks.old index (length granted.old.lent.items) }
+    ensures opened { IfOk result (λ p. AreOpened (index + 1) p.tasks) }
+    ensures record { IfOk result (λ p. IsRecord mounts.now.tasks tasks.new (index + 1)
+        (length granted.new.lent.items)) }
+    ensures recorded { IsRecorded mounts.now.tasks tasks.new }
+    ensures silent { IsSilent (N.told granted.old.root) (told_of N.told granted.old.lent.items) →
+        IsSilent (N.told granted.new.root) (told_of N.told granted.new.lent.items) }
+    ensures begun { IfOk result (λ p. (t : Shape) →
+        HasBegun mounts.now t index tasks.old processes (N.told granted.old.root)
+        (told_of N.told granted.old.lent.items) →
+        HasBegun mounts.now t (index + 1) tasks.new p (N.told granted.new.root)
+        (told_of N.told granted.new.lent.items)) }
+    ensures stopped { IfErr result (λ e. (t : Shape) →
+        HasBegun mounts.now t index tasks.old processes (N.told granted.old.root)
+        (told_of N.told granted.old.lent.items) →
+        Stops mounts.now t e tasks.new (N.told granted.new.root) (told_of N.told granted.new.lent.items)) }
+{
+    let program = mounts.tasks.at(index);
+    let Done { opened, answer } = execute(alloc, granted, program)?;
+    tasks.push(opened)?;
+    begin(alloc, mounts.seed.as_slice(), program, answer, processes)
+}
+
+/// Opens the tasks of a mount file in order, over a granted folder, and records what each execve drew and met. On an
+/// `Err` no task is left, and the children that were lent can go back.
+///
+/// execve(2).
+pub fn open_tasks<N: HostNode>(
+    alloc: Global,
+    mounts: &Mounts,
+    granted: &mut Granted<N>,
+    tasks: &mut List<Opened>,
+) -> Result<Processes, OpenErr>
+    requires few { length mounts.now.tasks ≤ 64 }
+    requires named { AreNamed mounts.now.tasks }
+    requires root { IsRoot (N.told granted.old.root) }
+    requires stands { (t : Shape) → N.told granted.old.root ≡ Some t →
+        Stands t [] [] (N.told granted.old.root) (told_of N.told granted.old.lent.items) }
+    requires lent { granted.old.lent.items ≡ [] }
+    requires none { tasks.old ≡ [] }
+    ensures recorded { IsRecorded mounts.now.tasks tasks.new }
+    ensures all { IfOk result (λ p. IsRecord mounts.now.tasks tasks.new (length mounts.now.tasks)
+        (length granted.new.lent.items)) }
+    ensures silent { N.told granted.old.root ≡ None →
+        IsSilent (N.told granted.new.root) (told_of N.told granted.new.lent.items) }
+    ensures begun { IfOk result (λ p. (t : Shape) → N.told granted.old.root ≡ Some t →
+        HasBegun mounts.now t (length mounts.now.tasks) tasks.new p (N.told granted.new.root)
+        (told_of N.told granted.new.lent.items)) }
+    ensures stopped { IfErr result (λ e. (t : Shape) → N.told granted.old.root ≡ Some t →
+        Stops mounts.now t e tasks.new (N.told granted.new.root) (told_of N.told granted.new.lent.items)) }
+{
+    let mut processes = Processes::new(alloc);
+    for index in 0..mounts.tasks.len() {
+        let more = open_task(alloc, mounts, index, granted, processes, tasks)?;
+        processes = more;
+    }
+    Ok(processes)
+}

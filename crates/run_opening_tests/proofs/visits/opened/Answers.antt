@@ -1,0 +1,23 @@
+-- The folder can be put together again, whether all tasks have begun or not.
+use Rattle.std.proofs.Common.{[]}
+use Rattle.image_walk.specs.Granted.{told_of}
+use Rattle.image_walk.proofs.OutAgain.{can_give_back}
+use Rattle.run_opening_tests.proofs.Back.{can_where, can_stopped}
+use Rattle.run_opening_tests.proofs.visits.opened.Goals as goal
+
+pub returns-in-Ok : goal.returns-in-Ok
+returns-in-Ok g c =
+    let told = g.N.HostNode.told in
+    let root = told c.open_tasks.new.granted.root in
+    let children = told_of told c.open_tasks.new.granted.lent.items in
+    can_where (told c.args.granted.now.root) root children c.open_tasks.ensures.silent
+    (λ t e. let h = c.in-Ok.ensures.begun t e in can_give_back t h.names [] root children h.stands)
+
+pub returns-in-Err : goal.returns-in-Err
+returns-in-Err g c =
+    let told = g.N.HostNode.told in
+    let root = told c.open_tasks.new.granted.root in
+    let children = told_of told c.open_tasks.new.granted.lent.items in
+    can_where (told c.args.granted.now.root) root children c.open_tasks.ensures.silent
+    (λ t e. can_stopped c.args.mounts.now t c.in-Err.why c.open_tasks.new.tasks root children
+    (c.in-Err.ensures.stopped t e))

@@ -1,0 +1,223 @@
+//! Opening execves over a folder: what each draws, meets and answers.
+
+use crate::folders::{Failing, faults_of, world_of};
+use crate::visits::execute_in;
+use host_memory::Op;
+use image_walk::{Answer, Executed};
+use kernel_model::{Fresh, Given, Rise};
+use mount_file::Program;
+use sn_base::List;
+use sn_errno::Errno;
+use sn_text::{Text, name_of};
+use std::alloc::Global;
+use std::process::Abort;
+use std::test::Fail;
+
+/// What an execve answers: an image that is entered at that address, or an error.
+#[derive(Clone, Copy, Debug, PartialEq, Eq)]
+enum Told {
+    Starts(u64),
+    Refuses(Errno),
+    Memory,
+}
+
+/// An execve of a name, by a sentence that says what is so of it: how many bytes the one string of its environment has,
+/// if any, and what is to fail; the number that it draws for the name, the node of which a call failed, and its answer.
+#[derive(Clone, Copy)]
+struct Execution {
+    says: &'static str,
+    name: &'static [u8],
+    environment: usize,
+    failing: Failing,
+    draws: Option<u64>,
+    fails: Option<u64>,
+    answer: Told,
+}
+
+/// That of the guest that writes nothing, which is entered at 0x10078.
+const FIRST: Execution = Execution {
+    says: "an image is entered where its header says",
+    name: b"first",
+    environment: 0,
+    failing: Failing::Nothing,
+    draws: Some(2),
+    fails: None,
+    answer: Told::Starts(0x1_0078),
+};
+
+#[rattlefmt::skip]
+const EXECUTIONS: [Execution; 12] = [
+    FIRST,
+    Execution {
+        says: "a link is not followed",
+        name: b"link",
+        answer: Told::Refuses(Errno::ELOOP),
+        ..FIRST
+    },
+    Execution {
+        says: "a name that is not there draws no number",
+        name: b"third",
+        draws: None,
+        answer: Told::Refuses(Errno::ENOENT),
+        ..FIRST
+    },
+    Execution {
+        says: "a file that its owner may not execute is refused",
+        name: b"shut",
+        answer: Told::Refuses(Errno::EACCES),
+        ..FIRST
+    },
+    Execution {
+        says: "bytes that are no image are refused",
+        name: b"script",
+        answer: Told::Refuses(Errno::ENOEXEC),
+        ..FIRST
+    },
+    // The string takes nine bytes more than it has, and there is no other.
+    Execution {
+        says: "strings of the greatest length are taken",
+        environment: 65_527,
+        ..FIRST
+    },
+    // The walk would have met a link.
+    Execution {
+        says: "strings that are too long are refused before the walk",
+        name: b"link",
+        environment: 65_528,
+        draws: None,
+        answer: Told::Refuses(Errno::E2BIG),
+        ..FIRST
+    },
+    Execution {
+        says: "a stat of the root that fails is told of the number 1",
+        failing: Failing::Call(&["root"], Op::Stat),
+        draws: None,
+        fails: Some(1),
+        answer: Told::Refuses(Errno::EIO),
+        ..FIRST
+    },
+    Execution {
+        says: "a lend of the root that fails draws no number",
+        failing: Failing::Call(&["root"], Op::Lend),
+        draws: None,
+        fails: Some(1),
+        answer: Told::Refuses(Errno::EIO),
+        ..FIRST
+    },
+    Execution {
+        says: "a stat of the program that fails is told of its number",
+        failing: Failing::Call(&["root", "first"], Op::Stat),
+        fails: Some(2),
+        answer: Told::Refuses(Errno::EIO),
+        ..FIRST
+    },
+    Execution {
+        says: "an open of the program that fails is told of its number",
+        failing: Failing::Call(&["root", "first"], Op::Open),
+        fails: Some(2),
+        answer: Told::Refuses(Errno::EIO),
+        ..FIRST
+    },
+    Execution {
+        says: "a read of the program that fails is told of its number",
+        failing: Failing::Call(&["root", "first"], Op::ReadAt),
+        fails: Some(2),
+        answer: Told::Refuses(Errno::EIO),
+        ..FIRST
+    },
+];
+
+/// A string of so many letters, if there are any.
+fn letters(alloc: Global, count: usize) -> Result<List<Text>, Fail> {
+    let mut strings = List::new(alloc);
+    if count == 0 {
+        return Ok(strings);
+    }
+    let mut letters = Vec::new(alloc);
+    letters.resize(count, b'a')?;
+    strings.push(Text::from_slice(alloc, letters.as_slice())?)?;
+    Ok(strings)
+}
+
+/// A program without arguments, with that in its environment. Its path is not looked at.
+fn program(alloc: Global, environment: usize) -> Result<Program, Fail> {
+    Ok(Program {
+        path: Text::from_slice(alloc, b"/program")?,
+        args: List::new(alloc),
+        env: letters(alloc, environment)?,
+    })
+}
+
+/// Whether a name of the root drew that number, or none was drawn.
+fn has_drawn(fresh: &[Fresh], name: &[u8], draws: Option<u64>) -> bool {
+    match (fresh, draws) {
+        ([], None) => true,
+        ([one], Some(ino)) => one.dir == 1 && one.name.as_bytes() == name && one.ino == ino,
+        _ => false,
+    }
+}
+
+/// Whether one call failed, of the node of that number, or none.
+fn has_failed(rises: &[Rise], fails: Option<u64>) -> bool {
+    match (rises, fails) {
+        ([], None) => true,
+        ([one], Some(ino)) => one.ino == ino && one.count == 1,
+        _ => false,
+    }
+}
+
+/// Whether an execve drew and met that.
+fn has_given(given: &Given, execution: &Execution) -> bool {
+    has_drawn(given.fresh.as_slice(), execution.name, execution.draws)
+        && has_failed(given.rises.as_slice(), execution.fails)
+}
+
+/// What it says in short.
+fn answered(answer: &Answer) -> Told {
+    match answer {
+        Answer::Starts(image) => Told::Starts(image.entry),
+        Answer::Refuses(errno) => Told::Refuses(*errno),
+        Answer::Memory => Told::Memory,
+    }
+}
+
+/// How many calls failed.
+fn failed(execution: &Execution) -> u64 {
+    match execution.fails {
+        Some(_) => 1,
+        None => 0,
+    }
+}
+
+/// What an execve came to, and how many calls of the folder's nodes failed; `None` where it isn't as it was.
+fn executed(alloc: Global, execution: &Execution) -> Result<(Executed, Option<u64>), Fail> {
+    let program = program(alloc, execution.environment)?;
+    let name = name_of(alloc, execution.name)?;
+    let mut world = world_of(alloc, execution.failing)?;
+    let executed = execute_in(alloc, &mut world, &program, &name)?;
+    Ok((executed, faults_of(alloc, &world)?))
+}
+
+/// That an execve comes to that, and leaves the folder as it was.
+fn expect_execution(rt: &impl Abort, alloc: Global, execution: &Execution) -> Result<(), Fail> {
+    let (executed, faults) = executed(alloc, execution)?;
+    assert_eq!(rt;
+        answered(&executed.answer),
+        execution.answer,
+        "{}",
+        execution.says
+    );
+    assert!(rt; has_given(&executed.given, execution), "{}", execution.says);
+    assert_eq!(rt; faults, Some(failed(execution)), "{}", execution.says);
+    Ok(())
+}
+
+#[test]
+fn an_opening_execve_tells_what_it_drew_and_met_and_leaves_the_folder_as_it_was(
+    rt: HostRuntime,
+) -> Result<(), Fail> {
+    for execution in &EXECUTIONS {
+        expect_execution(&rt, rt.alloc(), execution)?;
+    }
+    Ok(())
+}

@@ -1,0 +1,119 @@
+//! An opening execve and an opening over a granted folder, whose nodes then are back in their places.
+
+ghost use Rattle.std.specs.Prelude.{◌≡◌, ◌≤◌, [], length, Some, true, OnOk};
+ghost use Rattle.host_node.specs.Tree.{Shape, none_lent};
+ghost use Rattle.image_walk.specs.Granted.{CanGiveBack, told_of};
+ghost use Rattle.image_walk.specs.Standing.{Stands};
+ghost use Rattle.image_walk.specs.Walking.{IsGrant, IsRoot};
+ghost use Rattle.mount_file.specs.Form.{AreNamed};
+
+use crate::folders::{granted, root_folder};
+use host_memory::World;
+use host_node::{HostNode, HostWorld};
+use image_walk::{Executed, Granted, execve};
+use kernel_model::Opened;
+use mount_file::{Mounts, Program};
+use run_opening::{OpenErr, open_tasks};
+use sn_base::{List, Memory};
+use sn_text::Name;
+use std::alloc::Global;
+use std::test::Fail;
+
+/// The execve itself. It is known of the folder then that it can be put together again.
+fn executed<N: HostNode>(
+    alloc: Global,
+    granted: &mut Granted<N>,
+    program: &Program,
+    name: &Name,
+) -> Result<Executed, Memory>
+    requires { IsGrant (N.told granted.old.root) (told_of N.told granted.old.lent.items) }
+    ensures { OnOk result (CanGiveBack (N.told granted.new.root) (told_of N.told granted.new.lent.items)) }
+{
+    let executed = execve(alloc, granted, program, name)?;
+    Ok(executed)
+}
+
+/// An opening execve over a root, with all nodes back then.
+fn execute<N: HostNode>(
+    alloc: Global,
+    root: N,
+    program: &Program,
+    name: &Name,
+) -> Result<(N, Executed), Memory>
+    requires { IsRoot (N.told root) }
+{
+    let mut granted = Granted::new(alloc, root);
+    let executed = executed(alloc, &mut granted, program, name)?;
+    Ok((granted.give_back(), executed))
+}
+
+/// An opening execve over the folder of a host, which has it back then.
+pub fn execute_in(
+    alloc: Global,
+    world: &mut World,
+    program: &Program,
+    name: &Name,
+) -> Result<Executed, Fail>
+    requires { none_lent world.old.tree ≡ true }
+{
+    let folder = root_folder(alloc)?;
+    let root = granted(world, &folder)?;
+    let (root, executed) = execute(alloc, root, program, name)?;
+    world.settle(&folder, root);
+    Ok(executed)
+}
+
+/// The opening itself: how many tasks live then, or why none began, with the record. It is known of the folder then
+/// that it can be put together again.
+fn opened<N: HostNode>(
+    alloc: Global,
+    mounts: &Mounts,
+    granted: &mut Granted<N>,
+    tasks: &mut List<Opened>,
+) -> Result<usize, OpenErr>
+    requires few { length mounts.now.tasks ≤ 64 }
+    requires named { AreNamed mounts.now.tasks }
+    requires root { IsRoot (N.told granted.old.root) }
+    requires stands { (t : Shape) → N.told granted.old.root ≡ Some t →
+        Stands t [] [] (N.told granted.old.root) (told_of N.told granted.old.lent.items) }
+    requires lent { granted.old.lent.items ≡ [] }
+    requires none { tasks.old ≡ [] }
+    ensures { CanGiveBack (N.told granted.new.root) (told_of N.told granted.new.lent.items) }
+{
+    match open_tasks(alloc, mounts, granted, tasks) {
+        Ok(processes) => Ok(processes.tasks.live()),
+        Err(why) => Err(why),
+    }
+}
+
+/// How an opening came out: how many tasks live, or why none began; and its record.
+#[derive(Drop)]
+pub struct Begun {
+    pub answer: Result<usize, OpenErr>,
+    pub tasks: List<Opened>,
+}
+
+/// An opening over a root, with all nodes back then.
+fn open<N: HostNode>(alloc: Global, root: N, mounts: &Mounts) -> (N, Begun)
+    requires few { length mounts.now.tasks ≤ 64 }
+    requires named { AreNamed mounts.now.tasks }
+    requires root { IsRoot (N.told root) }
+{
+    let mut granted = Granted::new(alloc, root);
+    let mut tasks = List::new(alloc);
+    let answer = opened(alloc, mounts, &mut granted, &mut tasks);
+    (granted.give_back(), Begun { answer, tasks })
+}
+
+/// An opening over the folder of a host, which has it back then.
+pub fn open_in(alloc: Global, world: &mut World, mounts: &Mounts) -> Result<Begun, Fail>
+    requires few { length mounts.now.tasks ≤ 64 }
+    requires named { AreNamed mounts.now.tasks }
+    requires world { none_lent world.old.tree ≡ true }
+{
+    let folder = root_folder(alloc)?;
+    let root = granted(world, &folder)?;
+    let (root, begun) = open(alloc, root, mounts);
+    world.settle(&folder, root);
+    Ok(begun)
+}

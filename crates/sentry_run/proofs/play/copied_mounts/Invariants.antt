@@ -1,7 +1,0 @@
--- How far the mounts are copied.
-use Rattle.std.proofs.Common.{◌≡◌, take}
-use Rattle.sentry_run.proofs.play.copied_mounts.Given as goal
-
--- the copies so far are a front of the list
-abbrev pub invariant-loop-mount : goal.invariant-loop-mount
-invariant-loop-mount l = l.copies ≡ take l.mount-index l.mounts

@@ -1,7 +1,0 @@
--- How far the words are copied.
-use Rattle.std.proofs.Common.{◌≡◌, take}
-use Rattle.sentry_run.proofs.play.copied_words.Given as goal
-
--- the copies so far are a front of the list
-abbrev pub invariant-loop-word : goal.invariant-loop-word
-invariant-loop-word l = l.copies ≡ take l.word-index l.words

@@ -1,0 +1,96 @@
+-- The opening and the run end as the tasks' opening came out, and the folder can be put together again.
+use Rattle.std.proofs.Common.{◌≡◌, [], ◌∷◌, ap, sym, ◌∙◌, subst, List, length}
+use Rattle.host_node.specs.Tree.{Shape}
+use Rattle.kernel_model.specs.declared.opening.Opening.{Opening}
+use Rattle.kernel_model.specs.declared.entry.Entry.{Entry}
+use Rattle.image_walk.specs.Granted.{told_of}
+use Rattle.image_walk.proofs.OutAgain.{can_give_back}
+use Rattle.run_opening.proofs.Recording.{recorded}
+use Rattle.sentry_run.specs.declared.play.End.{End}
+use Rattle.sentry_run.specs.Played.{Ended}
+use Rattle.sentry_run.proofs.Endings.{one_mount, ended_lacking, ended_stopped, can_stopped, ended_begun, can_where}
+use Rattle.sentry_run.proofs.Endings.{some_stopped, some_told, tells_where}
+use Rattle.sentry_run.proofs.Records.{gapless, gapless_nothing}
+use Rattle.sentry_run.proofs.play.play_granted.Goals as goal
+
+pub returns-in-Err-clause-ended : goal.returns-in-Err-clause-ended
+returns-in-Err-clause-ended g c = λ t e after gives.
+    let told = g.N.HostNode.told in
+    subst (λ (x : End). Ended c.args.mounts.now t after c.stopped.result.opening c.stopped.result.trace x)
+    (sym c.stopped.ensures.end)
+    (ended_lacking c.args.mounts.now t (told c.args.granted.now.root) (told_of told c.args.granted.now.lent.items)
+    c.stopped.result.opening c.stopped.result.trace after
+    (record { names = []; rises = []; stands = c.requires.stands t e }) c.stopped.ensures.trace gives)
+
+pub returns-in-Ok-open_tasks-clause-ended : goal.returns-in-Ok-open_tasks-clause-ended
+returns-in-Ok-open_tasks-clause-ended g c = λ t e after gives.
+    let told = g.N.HostNode.told in
+    let m = c.args.mounts.now in
+    let h = c.in-Ok-open_tasks.ensures.begun t e in
+    ended_begun m t c.open_tasks.new.tasks c.in-Ok-open_tasks.processes (told c.open_tasks.new.granted.root)
+    (told_of told c.open_tasks.new.granted.lent.items) c.run_processes.result.opening (one_mount m c.requires.form)
+    c.open_tasks.ensures.recorded
+    (c.run_processes.ensures.opening
+    ∙ ap (λ (o : Opening). record o { tasks = c.open_tasks.new.tasks }) c.in-Ok.ensures) h
+    c.run_processes.result.trace c.run_processes.result.end
+    (c.run_processes.ensures.ran h.nodes) after gives
+
+pub returns-in-Ok-open_tasks-clause-can : goal.returns-in-Ok-open_tasks-clause-can
+returns-in-Ok-open_tasks-clause-can g c =
+    let told = g.N.HostNode.told in
+    can_where (told c.args.granted.now.root) (told c.open_tasks.new.granted.root)
+    (told_of told c.open_tasks.new.granted.lent.items) (λ n. (c.open_tasks.ensures.silent n).0)
+    (λ t e. let h = c.in-Ok-open_tasks.ensures.begun t e in
+    can_give_back t h.names [] (told c.open_tasks.new.granted.root) (told_of told c.open_tasks.new.granted.lent.items)
+    h.stands)
+
+pub returns-in-Ok-open_tasks-clause-numbers : goal.returns-in-Ok-open_tasks-clause-numbers
+returns-in-Ok-open_tasks-clause-numbers g c =
+    gapless c.args.mounts.now c.open_tasks.new.tasks c.run_processes.result.opening
+    (c.run_processes.ensures.opening
+    ∙ ap (λ (o : Opening). record o { tasks = c.open_tasks.new.tasks }) c.in-Ok.ensures)
+    c.open_tasks.ensures.recorded
+
+pub returns-in-Err-open_tasks-clause-ended : goal.returns-in-Err-open_tasks-clause-ended
+returns-in-Err-open_tasks-clause-ended g c = λ t e after gives.
+    let told = g.N.HostNode.told in
+    let m = c.args.mounts.now in
+    subst (λ (x : End). Ended m t after c.unbegun.result.opening c.unbegun.result.trace x) (sym c.unbegun.ensures.end)
+    (ended_stopped m t c.in-Err-open_tasks.why c.open_tasks.new.tasks (told c.open_tasks.new.granted.root)
+    (told_of told c.open_tasks.new.granted.lent.items) c.unbegun.result.opening c.unbegun.result.trace
+    (one_mount m c.requires.form) c.open_tasks.ensures.recorded
+    (c.unbegun.ensures.opening
+    ∙ ap (λ (o : Opening). record o { tasks = c.open_tasks.new.tasks }) c.in-Ok.ensures) c.unbegun.ensures.trace
+    (c.in-Err-open_tasks.ensures.stopped t e) after gives)
+
+pub returns-in-Err-open_tasks-clause-can : goal.returns-in-Err-open_tasks-clause-can
+returns-in-Err-open_tasks-clause-can g c =
+    let told = g.N.HostNode.told in
+    can_where (told c.args.granted.now.root) (told c.open_tasks.new.granted.root)
+    (told_of told c.open_tasks.new.granted.lent.items) (λ n. (c.open_tasks.ensures.silent n).0)
+    (λ t e. can_stopped c.args.mounts.now t c.in-Err-open_tasks.why c.open_tasks.new.tasks
+    (told c.open_tasks.new.granted.root) (told_of told c.open_tasks.new.granted.lent.items)
+    (c.in-Err-open_tasks.ensures.stopped t e))
+
+pub returns-in-Err-open_tasks-clause-numbers : goal.returns-in-Err-open_tasks-clause-numbers
+returns-in-Err-open_tasks-clause-numbers g c =
+    gapless c.args.mounts.now c.open_tasks.new.tasks c.unbegun.result.opening
+    (c.unbegun.ensures.opening
+    ∙ ap (λ (o : Opening). record o { tasks = c.open_tasks.new.tasks }) c.in-Ok.ensures)
+    c.open_tasks.ensures.recorded
+
+pub returns-in-Ok-open_tasks-clause-tells : goal.returns-in-Ok-open_tasks-clause-tells
+returns-in-Ok-open_tasks-clause-tells g c =
+    let told = g.N.HostNode.told in
+    tells_where (told c.args.granted.now.root) (told c.open_tasks.new.granted.root)
+    (λ t e. let h = c.in-Ok-open_tasks.ensures.begun t e in
+    some_told t (told c.open_tasks.new.granted.root) (told_of told c.open_tasks.new.granted.lent.items)
+    (record { names = h.names; rises = []; stands = h.stands }))
+
+pub returns-in-Err-open_tasks-clause-tells : goal.returns-in-Err-open_tasks-clause-tells
+returns-in-Err-open_tasks-clause-tells g c =
+    let told = g.N.HostNode.told in
+    tells_where (told c.args.granted.now.root) (told c.open_tasks.new.granted.root)
+    (λ t e. some_stopped c.args.mounts.now t c.in-Err-open_tasks.why c.open_tasks.new.tasks
+    (told c.open_tasks.new.granted.root) (told_of told c.open_tasks.new.granted.lent.items)
+    (c.in-Err-open_tasks.ensures.stopped t e))
