@@ -40,6 +40,17 @@ static void ask_for_random_bytes(void)
     check(call(CALL_GETRANDOM, (long)bytes, sizeof bytes, 0, 0, 0, 0) == sizeof bytes);
 }
 
+static void ask_for_number(void)
+{
+    check(call(CALL_GETPID, 0, 0, 0, 0, 0, 0) > 0);
+}
+
+static void ask_for_time(void)
+{
+    long time[2];
+    check(call(CALL_CLOCK_GETTIME, 1, (long)time, 0, 0, 0, 0) == 0); /* CLOCK_MONOTONIC */
+}
+
 static void map_and_unmap(void)
 {
     check(call(CALL_MUNMAP, map(PAGE), PAGE, 0, 0, 0, 0) == 0);
@@ -68,6 +79,8 @@ _Noreturn void begin(char **stack)
     long times = read_number(stack[3]);
     switch (stack[2][0]) {
     case 'b': repeat(ask_for_break, times); break;
+    case 'n': repeat(ask_for_number, times); break;
+    case 'c': repeat(ask_for_time, times); break;
     case 'g': repeat(ask_for_random_bytes, times); break;
     case 'm': repeat(map_and_unmap, times); break;
     case 'w': repeat(write_a_byte, times); break;
