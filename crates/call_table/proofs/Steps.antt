@@ -34,10 +34,12 @@ use Rattle.kernel_model.specs.calls.Callers.{context_of, caller_of, with_memory,
 use Rattle.kernel_model.specs.calls.Ending.{group_end}
 use Rattle.kernel_model.specs.calls.Table.{call_row}
 use Rattle.kernel_model.specs.entries.Areas.{Stands, next_row}
+use Rattle.kernel_model.specs.entries.Given.{may_meet}
 use Rattle.kernel_model.specs.entries.History.{is_whole, goes_next, has_next, has_touching, touches_next}
 use Rattle.kernel_model.specs.entries.Parts.{Parts, parts, done, look, outcome_in, Change, put, changed}
 use Rattle.kernel_model.specs.entries.Steps.{by_given, call_at, end_at, entry_row, going_on, if_live, next_in, row_of}
-use Rattle.kernel_model.specs.entries.Steps.{run_alone, same_args, stands_at, step, stepped, task_change, task_of}
+use Rattle.kernel_model.specs.entries.Steps.{may_enter, run_alone, same_args, stands_at, step, stepped, task_change}
+use Rattle.kernel_model.specs.entries.Steps.{task_of}
 use Rattle.kernel_model.proofs.CallLemmas.{call_quiet}
 use Rattle.kernel_model.proofs.NamedMaps.{get-with_same, with_same}
 use Rattle.kernel_model.proofs.Trees.{outcome-bind}
@@ -107,11 +109,14 @@ row_found k e c found =
     outcome-bind (parts k) (caller_of (task_of e)) (if_live (context_of k) e)
     ∙ ap (λ o. outcome_in (parts k) (if_live (context_of k) e o)) found
 
-step_found : (k : Kernel) (e : Entry) (c : Caller) (changes : List Change)
+-- which may be made, and whose row comes to changes
+step_found : (k : Kernel) (e : Entry) (c : Caller) (changes : List Change) → may_enter k.nodes e ≡ true
     → outcome_in (parts k) (caller_of (task_of e)) ≡ Some c
     → outcome_in (parts k) (row_of (context_of k) e c) ≡ Some changes → step k e ≡ Some (stepped k changes)
 unfolding step
-step_found k e c changes found row = ap (option_map (stepped k)) (row_found k e c found ∙ row)
+step_found k e c changes may found row =
+    ap (λ b. cond b (option_map (stepped k) (outcome_in (parts k) (entry_row (context_of k) e))) None) may
+    ∙ ap (option_map (stepped k)) (row_found k e c found ∙ row)
 
 -- kernels with the same parts
 pub same_kernel : (list list' : TaskTable) (registers registers' : map.FinMap nat_cmp Regs)
@@ -215,7 +220,7 @@ module _ (p : Processes) (task : ℕ) (standing : Standing) (stands : StandsAs p
         ≡ Some (kernel_with list registers spaces areas console beside (n + 1))
     step_run list registers spaces areas console beside n low high e f g h i =
         step_found (kernel_of p beside n) (Run task count) c
-        ((OfSpace standing.memory, Some runs.left) ∷ task_change task after ∷ []) (found_here beside n)
+        ((OfSpace standing.memory, Some runs.left) ∷ task_change task after ∷ []) refl (found_here beside n)
         (row_ran count c runs.left after (parts (kernel_of p beside n)) ran_here low high)
         ∙ ap Some (same_kernel p.tasks list (map.insert p.registers task after) registers
         (with_named p.spaces standing.memory.place standing.memory.index runs.left) spaces p.areas areas p.console
@@ -336,7 +341,7 @@ module _ (p : Processes) (task : ℕ) (standing : Standing) (stands : StandsAs p
         → step (kernel_of p beside n) (Run task 1)
         ≡ Some (kernel_with list registers spaces areas console beside (n + 1))
     step_touching after space list registers spaces areas console beside n steps e f g h =
-        step_found (kernel_of p beside n) (Run task 1) c steps.changes (found_here beside n)
+        step_found (kernel_of p beside n) (Run task 1) c steps.changes refl (found_here beside n)
         (row_by_step 1 c alone (parts (kernel_of p beside n)) refl ∙ steps.row_is)
         ∙ ap (λ (m : Kernel). Some (record m { entries = n + 1 })) steps.done_is
         ∙ ap Some (same_kernel p.tasks list (map.insert p.registers task after) registers
@@ -366,7 +371,8 @@ module _ (p : Processes) (task : ℕ) (standing : Standing) (stands : StandsAs p
       ≡ Some (kernel_with list registers spaces areas console beside (n + 1))
   step_call number args given value changes list registers spaces areas console beside n calls is same nothing_met row
       left f =
-      step_found k (Call task number args given value) c (changes ++ going_on c value) (found_here beside n)
+      step_found k (Call task number args given value) c (changes ++ going_on c value)
+      (ap (may_meet k.nodes) nothing_met) (found_here beside n)
       (outcome-bind (parts k) (next_row c) (λ (x : Stands). call_at (context_of k) c number args value given x.next)
       ∙ ap (λ x. outcome_in (parts k) (call_at (context_of k) c number args value given x))
       (next_here Calls calls k refl)
@@ -397,7 +403,7 @@ module _ (p : Processes) (task : ℕ) (standing : Standing) (stands : StandsAs p
       ≡ Some (kernel_with list p.registers p.spaces p.areas p.console beside (n + 1))
   step_end signal list beside n traps e =
       step_found k (End task signal) c
-      ((OfTasks, group_ended p.tasks standing.group (Killed signal)) ∷ []) (found_here beside n)
+      ((OfTasks, group_ended p.tasks standing.group (Killed signal)) ∷ []) refl (found_here beside n)
       (outcome-bind (parts k) (next_row c) (λ (x : Stands). end_at signal c x.next)
       ∙ ap (λ x. outcome_in (parts k) (end_at signal c x)) (next_here (Traps signal) traps k refl)
       ∙ ap (λ b. outcome_in (parts k) (if b

@@ -19,9 +19,6 @@ use sn_base::{List, Map, Memory};
 use std::alloc::Global;
 use task_table::{CloneErr, Made, Tasks};
 
-/// The inode number of the root of the mount at `/`, which is an opening task's working directory.
-const ROOT: u64 = 1;
-
 /// The task list, registers by task, address spaces and shared areas by the entry that made them, and the console.
 #[derive(Drop)]
 pub struct Processes {
@@ -45,7 +42,7 @@ impl Processes {
     ghost use Rattle.call_table.specs.Beside.{Beside, kernel_with, nothing_beside};
     ghost use Rattle.call_table.specs.Processes.{StandsAs, kernel_of};
     ghost use Rattle.kernel_model.specs.Names.{with_named};
-    ghost use Rattle.kernel_model.specs.opening.Opening.{with_task};
+    ghost use Rattle.kernel_model.specs.opening.Opening.{root_of, with_task};
 
     /// No processes. It takes no memory.
     #[tactic(auto, using(crate::proofs::Homes::none_at_home))]
@@ -64,33 +61,43 @@ impl Processes {
     }
 
     /// The processes with one opening task more, in a thread group of its own, of an image and with the strings of its
-    /// program. Its number is the next. On want of memory they are gone.
+    /// program. Its number is the next, and its working directory the node of that number, the root of the mount at
+    /// `/`. On want of memory they are gone.
     pub fn open(
         self,
         alloc: Global,
         seed: &[u8],
+        root: u64,
         program: &Program,
         image: &Image,
     ) -> Result<Processes, Memory>
         requires short { is_too_long program.now.args program.now.env ≡ false }
         requires pages { HasRoom image.now }
         requires room { IsRoomFor self.tasks }
-        ensures begun { IfOk result (λ p. (beside : Beside) (n : ℕ) → beside.seed ≡ seed.now → kernel_of p beside n ≡
+        ensures begun { IfOk result (λ p. (beside : Beside) (n : ℕ) → beside.seed ≡ seed.now →
+            root_of beside.mounts ≡ root → kernel_of p beside n ≡
             with_task (self.tasks.last + 1) program.now image.now (kernel_of self beside n)) }
         ensures tasks { IfOk result (λ p. p.tasks ≡
-            opened_task self.tasks (made_by (self.tasks.last + 1)) (made_by (self.tasks.last + 1)) 1) }
+            opened_task self.tasks (made_by (self.tasks.last + 1)) (made_by (self.tasks.last + 1)) root) }
     {
         let number = self.tasks.last() + 1;
         let beginning = opened(alloc, seed, number, program, image)?;
-        self.begin(alloc, number, beginning)
+        self.begin(alloc, number, root, beginning)
     }
 
-    /// The processes with one task more, of the next number, that begins with these registers and this memory.
-    fn begin(self, alloc: Global, number: u32, beginning: Beginning) -> Result<Processes, Memory>
+    /// The processes with one task more, of the next number, that begins in that directory, with these registers and
+    /// this memory.
+    fn begin(
+        self,
+        alloc: Global,
+        number: u32,
+        root: u64,
+        beginning: Beginning,
+    ) -> Result<Processes, Memory>
         requires room { IsRoomFor self.tasks }
         requires next { number ≡ self.tasks.last + 1 }
         ensures { IfOk result (λ p. (beside : Beside) (n : ℕ) → kernel_of p beside n ≡
-            kernel_with (opened_task self.tasks (made_by number) (made_by number) 1)
+            kernel_with (opened_task self.tasks (made_by number) (made_by number) root)
             (map.insert self.registers number beginning.registers)
             (with_named self.spaces 0 number beginning.space) self.areas self.console beside n) }
     {
@@ -102,7 +109,7 @@ impl Processes {
             console,
         } = self;
         let Beginning { registers, space } = beginning;
-        open_task(&mut tasks, number)?;
+        open_task(&mut tasks, number, root)?;
         all_registers.insert(u64::from(number), registers)?;
         spaces.insert(alloc, 0, number, space)?;
         Ok(Processes {
@@ -173,16 +180,16 @@ impl Processes {
     }
 }
 
-/// Opens a task, whose memory and descriptor table are named by its number.
-fn open_task(tasks: &mut Tasks, number: u32) -> Result<(), Memory>
+/// Opens a task in a directory. Its memory and its descriptor table are named by its number.
+fn open_task(tasks: &mut Tasks, number: u32, directory: u64) -> Result<(), Memory>
     requires { IsRoomFor tasks.old }
-    ensures { OnOk result (tasks.new ≡ opened_task tasks.old (made_by number) (made_by number) 1) }
+    ensures { OnOk result (tasks.new ≡ opened_task tasks.old (made_by number) (made_by number) directory) }
 {
     let name = Made {
         place: 0,
         index: number,
     };
-    match tasks.open(name, name, ROOT) {
+    match tasks.open(name, name, directory) {
         Ok(_) => Ok(()),
         Err(CloneErr::Memory) => Err(Memory),
         Err(CloneErr::Full) => unreachable!(),

@@ -53,7 +53,7 @@ pub fn processes_of(alloc: Global, guests: &[&[u32]]) -> Result<Processes, Fail>
     for index in 0..guests.len() {
         let file = image_of(alloc, guests[index])?;
         let image = image_in(alloc, file.as_slice())?;
-        processes = processes.open(alloc, &SEED, &program, &image)?;
+        processes = processes.open(alloc, &SEED, 1, &program, &image)?;
     }
     Ok(processes)
 }

@@ -17,7 +17,7 @@ use Rattle.kernel_model.specs.declared.opening.Given.{Given}
 use Rattle.kernel_model.specs.declared.opening.Rise.{Rise}
 use Rattle.kernel_model.specs.files.FileTree.{last_number}
 use Rattle.kernel_model.specs.files.Settled.{tree_now}
-use Rattle.kernel_model.specs.entries.Given.{node_changes, risen}
+use Rattle.kernel_model.specs.entries.Given.{node_changes, risen, may_meet}
 use Rattle.kernel_model.specs.entries.Parts.{parts, outcome_in, Change, changed}
 use Rattle.kernel_model.specs.opening.Arguments.{is_too_long}
 use Rattle.kernel_model.specs.opening.Opening.{Walked, Executed, execve_of, by_walk, unwalked}
@@ -31,6 +31,7 @@ use Rattle.image_walk.specs.Executing.{walked_among, fresh_for, named_then, Answ
 use Rattle.image_walk.proofs.Places.{IsThere}
 use Rattle.image_walk.proofs.KernelWalk.{has_nodes, execve_is, HasNodes}
 use Rattle.image_walk.proofs.KernelNumbers.{nodes_then, Draws, by_walk_quiet, by_walk_failing, most_then}
+use Rattle.image_walk.proofs.KernelNumbers.{may_quiet, may_fail}
 use Rattle.image_walk.proofs.KernelNodes.{Leaves, leaves, changed-more}
 use Rattle.image_walk.proofs.Settling.{settles, settles_risen}
 
@@ -81,18 +82,21 @@ most_is true names name =
     ap (λ n. n + 1) (length_more names name) ∙ same
 most_is false names name = refl
 
--- the image begins: the changes that it begins with, and the nodes then
+-- the image begins: what was drawn and met may be, the changes that it begins with, and the nodes then
 pub record Started (k : Kernel) (t : Shape) (names : List (List ℕ)) (p : Program) (given : Given)
     (image : Image) : Type 0 where
   pub changes : List Change
+  pub may : may_meet k.nodes given ≡ true
   pub comes : outcome_in (parts k) (execve_of p given) ≡ opening.Starts image changes
   pub nodes : AreNodes (changed changes k).nodes t names
   pub rest : changed changes k ≡ record k { nodes = (changed changes k).nodes }
 
--- the execve fails: the changes that it leaves, and that the root's tree then is what the nodes give back
+-- the execve fails: what was drawn and met may be, the changes that it leaves, and that the root's tree then is what the
+-- nodes give back
 pub record Failed (k : Kernel) (p : Program) (given : Given) (errno : Errno) (root : Option Shape)
     (children : List Child) : Type 0 where
   pub changes : List Change
+  pub may : may_meet k.nodes given ≡ true
   pub comes : outcome_in (parts k) (execve_of p given) ≡ opening.Fails errno changes
   pub settles : GivesBack root children (tree_now (changed changes k) no_left 1)
 
@@ -129,6 +133,15 @@ module _ (k : Kernel) (t : Shape) (names : List (List ℕ)) (name : List ℕ) (g
       (λ rs. outcome_in (parts k)
       (by_walk name (record { fresh = fresh_for e.drawn names name; rises = rs }) walked)) r
 
+  -- what was drawn and met may be
+  may_by : (rises : List Rise) → given.rises ≡ rises
+      → may_meet k.nodes (record { fresh = fresh_for e.drawn names name; rises = rises }) ≡ true
+      → may_meet k.nodes given ≡ true
+  may_by rises r may =
+      ap (λ fresh. may_meet k.nodes (record { fresh = fresh; rises = given.rises })) e.fresh
+      ∙ ap (λ rs. may_meet k.nodes (record { fresh = fresh_for e.drawn names name; rises = rs })) r
+      ∙ may
+
   answered : AnswersBy walked e.drawn (length (named_then e.drawn names name) + 1) given.rises answer
   answered = answers_by (is_too_long p.args p.env) (walked_among t names name) e.drawn _ given.rises answer e.answers
 
@@ -143,6 +156,7 @@ module _ (k : Kernel) (t : Shape) (names : List (List ℕ)) (name : List ℕ) (g
           → Started k t (named_then e.drawn names name) p given image
       by [] r h = record {
         changes = drawn_changes;
+        may = may_by [] r (may_quiet k t names name has e.drawn);
         comes = executed_by [] r ∙ by_walk_quiet (parts k) t names name has e.drawn (Ok image) walked drawing h;
         nodes = left.nodes;
         rest = left.rest;
@@ -183,6 +197,7 @@ module _ (k : Kernel) (t : Shape) (names : List (List ℕ)) (name : List ℕ) (g
           → Failed k p given errno root children
       by [] r h = record {
         changes = drawn_changes;
+        may = may_by [] r (may_quiet k t names name has e.drawn);
         comes = executed_by [] r ∙ by_walk_quiet (parts k) t names name has e.drawn (Err errno) walked drawing h;
         settles = settles_quiet r;
       }
@@ -192,9 +207,10 @@ module _ (k : Kernel) (t : Shape) (names : List (List ℕ)) (name : List ℕ) (g
           subst (λ (n : ℕ). x.ino ≤ n) (most_is e.drawn names name) h.3 in
           record {
             changes = risen_changes x;
+            may = may_by (x ∷ []) r (may_fail k t names name has e.drawn x drawing h.2 most);
             comes =
                 executed_by (x ∷ []) r
-                ∙ by_walk_failing (parts k) t names name has e.drawn x walked drawing h.1 h.2 most
+                ∙ by_walk_failing (parts k) t names name has e.drawn x walked drawing h.1 h.2
                 ∙ ap (λ errno. opening.Fails errno (risen_changes x)) same;
             settles = settles_faulted x r;
           }

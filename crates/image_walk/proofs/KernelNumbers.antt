@@ -1,24 +1,25 @@
 -- The number that a kernel's opening execve draws, and what it comes to with that number and with a rise.
 use Rattle.std.proofs.Common.{◌≡◌, ◌≢◌, ℕ, ◌+◌, ◌<◌, ◌≤◌, Bool, true, false, List, [], ◌∷◌, ◌++◌, length, refl, ap}
 use Rattle.std.proofs.Common.{◌∙◌, arith, eqb, ◌⊎◌, inl, inr}
+use Rattle.std.specs.FinMap as map
 use Rattle.std.specs.Prelude.{Option, Some, None, Result, if◌then◌else◌, ◌&&◌, ◌||◌, not, is_some, nat_lt}
 use Rattle.std.specs.List.{list_any}
-use Rattle.std.proofs.lemmas.Bool.{lt-ltb, le-ltb, le-leb, cases_eq, eq-eqb, ne_eqb}
+use Rattle.std.proofs.lemmas.Bool.{lt-ltb, le-ltb, le-leb, cases_eq, eq-eqb}
 use Rattle.std.proofs.lemmas.Cmp.{nat_list_eq_equiv}
 use Rattle.host_node.specs.Tree.{Shape, child_of}
 use Rattle.sn_errno.specs.declared.errno.Errno.{Errno}
 use Rattle.sn_errno.specs.declared.errno.Errno.TheVariants.{EIO, ENFILE}
 use Rattle.elf_image.specs.declared.image.Image.{Image}
-use Rattle.kernel_model.specs.declared.kernel.Node.{Node}
-use Rattle.kernel_model.specs.declared.kernel.Part.TheVariants.{OfNode, OfFaults}
+use Rattle.kernel_model.specs.declared.kernel.Kernel.{Kernel}
+use Rattle.kernel_model.specs.declared.kernel.Part.TheVariants.{OfFaults}
 use Rattle.kernel_model.specs.declared.opening.Fresh.{Fresh}
 use Rattle.kernel_model.specs.declared.opening.Given.{Given}
 use Rattle.kernel_model.specs.declared.opening.Rise.{Rise}
 use Rattle.kernel_model.specs.files.FileTree.{last_number, number_in, known, unnumbered, child_node, numbered_in}
 use Rattle.kernel_model.specs.entries.Given.{Nodes_so_far, has_any, is_in_order, number_all, number_at, number_next}
-use Rattle.kernel_model.specs.entries.Given.{given_number, met, all_known, all_known_in, faulted, node_changes}
-use Rattle.kernel_model.specs.entries.Given.{above_last, node_by, node_in, risen}
-use Rattle.kernel_model.specs.entries.Parts.{Parts, outcome_in, done, ◌>>=◌}
+use Rattle.kernel_model.specs.entries.Given.{given_number, met, faulted, node_changes, above_last, risen, is_unused}
+use Rattle.kernel_model.specs.entries.Given.{gives_number, is_numbered, may_meet}
+use Rattle.kernel_model.specs.entries.Parts.{Parts, parts, outcome_in, done, ◌>>=◌}
 use Rattle.kernel_model.specs.opening.Opening.{Walked, by_walk, by_image, by_numbers, failed_by, draws_just, Fails}
 use Rattle.kernel_model.specs.opening.Opening.{Unfit}
 use Rattle.kernel_model.proofs.Trees.{outcome-bind}
@@ -63,14 +64,11 @@ module _ (s : Parts) (t : Shape) (names : List (List ℕ)) (name : List ℕ) (ha
   number_true (Some x) e there d =
       let n : ℕ = length names + 2 in
       let f : Fresh = fresh_of names name in
-      let above : 2 + length names ≤ n = omega arith in
       let none : number_in name (numbers_from 2 names) ≡ None = d.unnumbered refl in
-      ap (λ dir. outcome_in s (number_next (number_all []) (number_at [] f dir (s (OfNode n))))) has.root
-      ∙ ap (λ taken. outcome_in s (number_next (number_all []) (number_at [] f (Some (root_with t names)) taken)))
-      (has.above n above)
+      ap (λ dir. outcome_in s (number_next (number_all []) (number_at [] f dir))) has.root
       ∙ ap (λ number. outcome_in s (number_next (number_all [])
-      (given_number [] f (root_with t names) None (known number (child_of name (lend_all names t)))))) none
-      ∙ ap (λ c. outcome_in s (number_next (number_all []) (given_number [] f (root_with t names) None (unnumbered c))))
+      (given_number [] f (root_with t names) (known number (child_of name (lend_all names t)))))) none
+      ∙ ap (λ c. outcome_in s (number_next (number_all []) (given_number [] f (root_with t names) (unnumbered c))))
       (child_of-lend_all name names t (unnumbered_new name 2 names none) ∙ e)
       ∙ ap (λ b. outcome_in s (number_next (number_all [])
       (if b then Some (nodes_drawn t names name (Some x)) else Some []))) (le-leb n last_number d.room)
@@ -114,44 +112,6 @@ module _ (s : Parts) (t : Shape) (names : List (List ℕ)) (name : List ℕ) (ha
 
   -- ---- with a rise
 
-  known_by : (o : Option Node) (ino : ℕ) → is_some (s (OfNode ino)) ≡ true
-      → outcome_in s (node_by o ino >>= λ node. done (is_some node && true)) ≡ true
-  known_by (Some x) ino h = refl
-  known_by None ino h = ap (λ b. b && true) h
-
-  known_drawn : (x : Shape) (ino : ℕ) → 0 < ino → ino ≤ length names + 2
-      → outcome_in s (node_by (node_in ino (nodes_drawn t names name (Some x))) ino
-      >>= λ node. done (is_some node && true)) ≡ true
-  known_drawn x ino some most = by (cases_eq (length names + 2) ino)
-    where
-      root : Option Node
-      root = if eqb 1 ino then Some (numbered_in (root_with t names) name (length names + 2)) else None
-
-      by : (length names + 2 ≡ ino) ⊎ (length names + 2 ≡ ino → ⊥)
-          → outcome_in s (node_by (if eqb (length names + 2) ino then Some (child_node 1 x) else root) ino
-          >>= λ node. done (is_some node && true)) ≡ true
-      by (inl e) =
-          ap (λ b. outcome_in s (node_by (if b then Some (child_node 1 x) else root) ino
-          >>= λ node. done (is_some node && true))) (eq-eqb (length names + 2) ino e)
-      by (inr d) =
-          let differs : length names + 2 ≢ ino = d in
-          let below : ino < 2 + length names = omega arith in
-          ap (λ b. outcome_in s (node_by (if b then Some (child_node 1 x) else root) ino
-          >>= λ node. done (is_some node && true))) (ne_eqb (length names + 2) ino d)
-          ∙ known_by root ino (has.within ino some below)
-
-  known_true : (o : Option Shape) → IsThere o → (r : Rise) → 0 < r.ino → r.ino ≤ length names + 2
-      → outcome_in s (all_known (r ∷ []) (nodes_drawn t names name o)) ≡ true
-  known_true None there r some most = absurd there
-  known_true (Some x) there r some most = known_drawn x r.ino some most
-
-  all_known_then : (drawn : Bool) → Draws t names name drawn → (r : Rise) → 0 < r.ino → r.ino ≤ most_then names drawn
-      → outcome_in s (all_known (r ∷ []) (nodes_then drawn t names name)) ≡ true
-  all_known_then true d r some most = known_true (child_of name t) (d.there refl) r some most
-  all_known_then false d r some most =
-      let below : r.ino < 2 + length names = omega arith in
-      known_by None r.ino (has.within r.ino some below)
-
   abbrev failing_given : Bool → Rise → Given
   failing_given drawn r = record { fresh = fresh_for drawn names name; rises = r ∷ [] }
 
@@ -178,13 +138,52 @@ module _ (s : Parts) (t : Shape) (names : List (List ℕ)) (name : List ℕ) (ha
       ∙ outcome-bind s (faulted given) (λ changes. done (failed_by changes))
 
   pub by_walk_failing : (drawn : Bool) (r : Rise) (w : Walked) → Draws t names name drawn → 0 < r.count → 0 < r.ino
-      → r.ino ≤ most_then names drawn
       → outcome_in s (by_walk name (record { fresh = fresh_for drawn names name; rises = r ∷ [] }) w)
       ≡ Fails EIO (node_changes (nodes_then drawn t names name) ++ (OfFaults, risen (r ∷ []) (s OfFaults)) ∷ [])
-  by_walk_failing drawn r w d rose some most =
+  by_walk_failing drawn r w d rose some =
       failed_by_walk (failing_given drawn r) w refl (in_order drawn r some rose)
       ∙ ap failed_by (faulted_is s (failing_given drawn r)
-      ∙ ap (λ n. met (failing_given drawn r) n (outcome_in s (all_known_in (r ∷ []) n)) (s OfFaults))
-      (numbers_are drawn d)
-      ∙ ap (λ known. met (failing_given drawn r) (Some (nodes_then drawn t names name)) known (s OfFaults))
-      (all_known_then drawn d r some most))
+      ∙ ap (λ n. met (failing_given drawn r) n (s OfFaults)) (numbers_are drawn d))
+
+-- ---- what may be drawn and met
+
+or_true : (b : Bool) → (b || true) ≡ true
+or_true true = refl
+or_true false = refl
+
+module _ (k : Kernel) (t : Shape) (names : List (List ℕ)) (name : List ℕ) (has : HasNodes (parts k) t names) where
+  -- the next number is that of no node
+  unused : is_unused k.nodes (fresh_of names name) ≡ true
+  unused =
+      let above : 2 + length names ≤ length names + 2 = omega arith in
+      ap (λ o. not (is_some o)) (has.above (length names + 2) above)
+
+  pub may_quiet : (drawn : Bool) → may_meet k.nodes (record { fresh = fresh_for drawn names name; rises = [] }) ≡ true
+  may_quiet true = ap (λ b. (b && true) && true) unused
+  may_quiet false = refl
+
+  -- a node up to it has a number then
+  numbered_true : (r : Rise) → Draws t names name true → 0 < r.ino → r.ino ≤ length names + 2
+      → is_numbered k.nodes (fresh_of names name ∷ []) r ≡ true
+  numbered_true r d some most = by (cases_eq (length names + 2) r.ino)
+    where
+      by : (length names + 2 ≡ r.ino) ⊎ (length names + 2 ≡ r.ino → ⊥)
+          → is_numbered k.nodes (fresh_of names name ∷ []) r ≡ true
+      by (inl e) =
+          ap (λ b. map.contains_key k.nodes r.ino || (b && eqb (length names + 2) r.ino) || false)
+          (le-leb (length names + 2) last_number d.room)
+          ∙ ap (λ b. map.contains_key k.nodes r.ino || b || false) (eq-eqb (length names + 2) r.ino e)
+          ∙ or_true (map.contains_key k.nodes r.ino)
+      by (inr differs) =
+          let apart : length names + 2 ≢ r.ino = differs in
+          let below : r.ino < 2 + length names = omega arith in
+          ap (λ b. b || gives_number r.ino (fresh_of names name) || false) (has.within r.ino some below)
+
+  pub may_fail : (drawn : Bool) (r : Rise) → Draws t names name drawn → 0 < r.ino → r.ino ≤ most_then names drawn
+      → may_meet k.nodes (record { fresh = fresh_for drawn names name; rises = r ∷ [] }) ≡ true
+  may_fail true r d some most =
+      ap (λ b. (b && true) && (is_numbered k.nodes (fresh_of names name ∷ []) r && true)) unused
+      ∙ ap (λ b. b && true) (numbered_true r d some most)
+  may_fail false r d some most =
+      let below : r.ino < 2 + length names = omega arith in
+      ap (λ b. (b || false) && true) (has.within r.ino some below)

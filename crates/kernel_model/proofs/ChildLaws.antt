@@ -1,8 +1,8 @@
 -- Fresh numbers that are given to other children leave a child without a number as it is.
 use Rattle.std.proofs.Common.{◌≡◌, ℕ, Bool, true, false, cond, List, [], ◌∷◌, ◌++◌, Option, Some, None, refl, ap}
 use Rattle.std.proofs.Common.{sym, ◌∙◌, subst}
-use Rattle.std.specs.Prelude.{nat_le, ◌==◌, ◌&&◌, ◌||◌}
-use Rattle.std.specs.List.{list_any}
+use Rattle.std.specs.Prelude.{nat_le, ◌==◌, ◌&&◌, ◌||◌, not, is_some}
+use Rattle.std.specs.List.{list_all, list_any}
 use Rattle.std.specs.Str.{bytes_eq}
 use Rattle.std.specs.FinMap as map
 use Rattle.std.proofs.lemmas.Bool.{eqb-true, eqb-false}
@@ -14,10 +14,10 @@ use Rattle.kernel_model.specs.declared.kernel.Node.{Node}
 use Rattle.kernel_model.specs.declared.kernel.Numbered.{Numbered}
 use Rattle.kernel_model.specs.declared.kernel.Part.TheVariants.{OfNode}
 use Rattle.kernel_model.specs.declared.opening.Fresh.{Fresh}
-use Rattle.kernel_model.specs.files.FileTree.{last_number, Child, Missing, Known, Unnumbered, child_at, child_node}
-use Rattle.kernel_model.specs.files.FileTree.{numbered_in, number_in, known}
+use Rattle.kernel_model.specs.files.FileTree.{Nodes, last_number, Child, Missing, Known, Unnumbered, child_at}
+use Rattle.kernel_model.specs.files.FileTree.{child_node, numbered_in, number_in, known}
 use Rattle.kernel_model.specs.entries.Given.{Nodes_so_far, node_in, node_by, node_now, given_number, number_at}
-use Rattle.kernel_model.specs.entries.Given.{number_one, number_next, number_all, node_changes}
+use Rattle.kernel_model.specs.entries.Given.{number_one, number_next, number_all, node_changes, is_unused}
 use Rattle.kernel_model.specs.entries.Parts.{Parts, parts, done, outcome_in, ◌>>=◌, Change, put, changed}
 use Rattle.kernel_model.specs.laws.Children.{HasUnnumbered, is_given_to}
 use Rattle.kernel_model.proofs.Trees.{outcome-bind}
@@ -55,9 +55,32 @@ third_part true true c p q e = e
 third_part true false c p q e = absurd (cc q)
 third_part false b c p q e = absurd (cc p)
 
+both : (a b : Bool) → (a && b) ≡ true → (a ≡ true) × (b ≡ true)
+both true true e = (refl, refl)
+both true false e = absurd (cc e)
+both false b e = absurd (cc e)
+
 neither : (a b : Bool) → (a || b) ≡ false → (a ≡ false) × (b ≡ false)
 neither true b e = absurd (cc e)
 neither false b e = (refl, e)
+
+-- a fresh number is that one
+abbrev pub is_number : ℕ → Fresh → Bool
+is_number ino f = f.ino == ino
+
+-- numbers that are unused are not that of a node that is there
+pub unused_others : (nodes : Nodes) (dir : ℕ) (node : Node) (fresh : List Fresh) → map.get nodes dir ≡ Some node
+    → list_all (is_unused nodes) fresh ≡ true → list_any (is_number dir) fresh ≡ false
+unused_others nodes dir node [] there all = refl
+unused_others nodes dir node (f ∷ fresh) there all =
+    let parted = both (is_unused nodes f) (list_all (is_unused nodes) fresh) all in
+    by (f.ino == dir) refl parted.0 (unused_others nodes dir node fresh there parted.1)
+  where
+    by : (b : Bool) → (f.ino == dir) ≡ b → is_unused nodes f ≡ true → list_any (is_number dir) fresh ≡ false
+        → ((f.ino == dir) || list_any (is_number dir) fresh) ≡ false
+    by true e unused rest =
+        absurd (cc (unused, ap (λ n. not (map.contains_key nodes n)) (eqb-true f.ino dir e), ap is_some there))
+    by false e unused rest = ap (λ b. b || list_any (is_number dir) fresh) e ∙ rest
 
 -- ---- numbers given in a state, of which none is the child's
 
@@ -105,48 +128,41 @@ module _ (s : Parts) (dir : ℕ) (name : List ℕ) (shape : Shape) where
 
   -- the new node is not the directory's
   given_stays : (nodes : Nodes_so_far) (f : Fresh) (d : Node) (child : Shape) → now s nodes f.dir ≡ Some d
-      → now s nodes f.ino ≡ None → child_at f.name d ≡ Unnumbered child → nat_le f.ino last_number ≡ true
+      → is_number dir f ≡ false → child_at f.name d ≡ Unnumbered child → nat_le f.ino last_number ≡ true
       → is_given_to dir name f ≡ false → Stays nodes
       → Stays ((f.ino, child_node f.dir child) ∷ (f.dir, numbered_in d f.name f.ino) ∷ nodes)
-  given_stays nodes f d child there free waits small apart stays =
-      by (f.ino == dir) refl
-      (now_first s (f.ino, child_node f.dir child) ((f.dir, numbered_in d f.name f.ino) ∷ nodes) dir)
-    where
-      by : (b : Bool) → (f.ino == dir) ≡ b
-          → now s ((f.ino, child_node f.dir child) ∷ (f.dir, numbered_in d f.name f.ino) ∷ nodes) dir
-          ≡ cond b (Some (child_node f.dir child)) (now s ((f.dir, numbered_in d f.name f.ino) ∷ nodes) dir)
-          → Stays ((f.ino, child_node f.dir child) ∷ (f.dir, numbered_in d f.name f.ino) ∷ nodes)
-      by true e first = absurd (cc (free, stays.1, ap (now s nodes) (eqb-true f.ino dir e)))
-      by false e first =
-          let left = directory_stays nodes f d child there waits small apart stays in
-          (left.0, first ∙ left.1, left.2)
+  given_stays nodes f d child there other waits small apart stays =
+      let left = directory_stays nodes f d child there waits small apart stays in
+      let above : Nodes_so_far = (f.dir, numbered_in d f.name f.ino) ∷ nodes in (
+        left.0,
+        now_first s (f.ino, child_node f.dir child) above dir
+            ∙ ap (λ b. cond b (Some (child_node f.dir child)) (now s above dir)) other
+            ∙ left.1,
+        left.2,
+      )
 
   -- one number
-  number_stays : (nodes : Nodes_so_far) (f : Fresh) (d taken : Option Node) → now s nodes f.dir ≡ d
-      → now s nodes f.ino ≡ taken → is_given_to dir name f ≡ false → Stays nodes → StaysIf (number_at nodes f d taken)
-  number_stays nodes f None taken there free apart stays = tt
-  number_stays nodes f (Some d) (Some n) there free apart stays = tt
-  number_stays nodes f (Some d) None there free apart stays = by (child_at f.name d) refl
+  number_stays : (nodes : Nodes_so_far) (f : Fresh) (d : Option Node) → now s nodes f.dir ≡ d
+      → is_number dir f ≡ false → is_given_to dir name f ≡ false → Stays nodes → StaysIf (number_at nodes f d)
+  number_stays nodes f None there other apart stays = tt
+  number_stays nodes f (Some d) there other apart stays = by (child_at f.name d) refl
     where
       small : (child : Shape) (b : Bool) → child_at f.name d ≡ Unnumbered child → nat_le f.ino last_number ≡ b
           → StaysIf (cond b (Some ((f.ino, child_node f.dir child) ∷ (f.dir, numbered_in d f.name f.ino) ∷ nodes))
           (Some nodes))
-      small child true e l = given_stays nodes f d child there free e l apart stays
+      small child true e l = given_stays nodes f d child there other e l apart stays
       small child false e l = stays
 
-      by : (child : Child) → child_at f.name d ≡ child → StaysIf (given_number nodes f d None child)
+      by : (child : Child) → child_at f.name d ≡ child → StaysIf (given_number nodes f d child)
       by Missing e = tt
       by (Known ino) e = tt
       by (Unnumbered child) e = small child (nat_le f.ino last_number) e refl
 
-  one_stays : (nodes : Nodes_so_far) (f : Fresh) → is_given_to dir name f ≡ false → Stays nodes
-      → StaysIf (outcome_in s (number_one nodes f))
-  one_stays nodes f apart stays =
-      subst StaysIf
-      (sym (outcome-bind s (node_now nodes f.dir) (λ d. node_now nodes f.ino
-      >>= λ taken. done (number_at nodes f d taken))
-      ∙ outcome-bind s (node_now nodes f.ino) (λ taken. done (number_at nodes f (now s nodes f.dir) taken))))
-      (number_stays nodes f (now s nodes f.dir) (now s nodes f.ino) refl refl apart stays)
+  one_stays : (nodes : Nodes_so_far) (f : Fresh) → is_number dir f ≡ false → is_given_to dir name f ≡ false
+      → Stays nodes → StaysIf (outcome_in s (number_one nodes f))
+  one_stays nodes f other apart stays =
+      subst StaysIf (sym (outcome-bind s (node_now nodes f.dir) (λ d. done (number_at nodes f d))))
+      (number_stays nodes f (now s nodes f.dir) refl other apart stays)
 
   next_stays : (fresh : List Fresh)
       → ((nodes : Nodes_so_far) → Stays nodes → StaysIf (outcome_in s (number_all fresh nodes)))
@@ -155,14 +171,16 @@ module _ (s : Parts) (dir : ℕ) (name : List ℕ) (shape : Shape) where
   next_stays fresh rest (Some nodes) stays = rest nodes stays
 
   -- and each in turn
-  pub all_stay : (fresh : List Fresh) → list_any (is_given_to dir name) fresh ≡ false → (nodes : Nodes_so_far)
-      → Stays nodes → StaysIf (outcome_in s (number_all fresh nodes))
-  all_stay [] apart nodes stays = stays
-  all_stay (f ∷ fresh) apart nodes stays =
+  pub all_stay : (fresh : List Fresh) → list_any (is_number dir) fresh ≡ false
+      → list_any (is_given_to dir name) fresh ≡ false → (nodes : Nodes_so_far) → Stays nodes
+      → StaysIf (outcome_in s (number_all fresh nodes))
+  all_stay [] others apart nodes stays = stays
+  all_stay (f ∷ fresh) others apart nodes stays =
+      let other = neither (is_number dir f) (list_any (is_number dir) fresh) others in
       let parted = neither (is_given_to dir name f) (list_any (is_given_to dir name) fresh) apart in
-      let first : StaysIf (outcome_in s (number_one nodes f)) = one_stays nodes f parted.0 stays in
+      let first : StaysIf (outcome_in s (number_one nodes f)) = one_stays nodes f other.0 parted.0 stays in
       subst StaysIf (sym (outcome-bind s (number_one nodes f) (number_next (number_all fresh))))
-      (next_stays fresh (all_stay fresh parted.1) (outcome_in s (number_one nodes f)) first)
+      (next_stays fresh (all_stay fresh other.1 parted.1) (outcome_in s (number_one nodes f)) first)
 
 -- ---- the nodes that a step leaves
 

@@ -1,8 +1,8 @@
 -- No row changes a node, so that a child without a number stays as it is through each step that gives it none.
 use Rattle.std.proofs.Common.{◌≡◌, ℕ, ℤ, Bool, true, false, cond, List, [], ◌∷◌, ◌++◌, length, Option, Some, None, ap}
-use Rattle.std.proofs.Common.{sym, ◌∙◌, inl, inr, subst, option_map, pos, nat_cmp}
+use Rattle.std.proofs.Common.{refl, sym, ◌∙◌, inl, inr, subst, option_map, pos, nat_cmp}
 use Rattle.std.specs.Prelude.{nat_le, nat_lt, ◌+◌, ◌==◌, ◌%◌, ◌^◌, ◌&&◌, min, not}
-use Rattle.std.specs.List.{list_any}
+use Rattle.std.specs.List.{list_all, list_any}
 use Rattle.std.specs.Ordering.{int_eq}
 use Rattle.std.specs.FinMap as map
 use Rattle.sn_errno.specs.declared.errno.Errno.{Errno}
@@ -48,18 +48,18 @@ use Rattle.kernel_model.specs.calls.Table.{call_row, row_of_call, row_if_known}
 use Rattle.kernel_model.specs.calls.Time.{timespec, time_at}
 use Rattle.kernel_model.specs.entries.Areas.{Stands, next_row, bytes_read, bytes_written, area_changes, reach_changes}
 use Rattle.kernel_model.specs.entries.Given.{has_any, is_in_order, above_last, Nodes_so_far, number_all, node_changes}
-use Rattle.kernel_model.specs.entries.Given.{met, all_known_in, faulted, risen}
+use Rattle.kernel_model.specs.entries.Given.{met, faulted, risen, is_unused, may_meet}
 use Rattle.kernel_model.specs.entries.Parts.{Parts, parts, Prog, done, outcome_in, ◌>>=◌, IsIn, Change, changed}
 use Rattle.kernel_model.specs.entries.Parts.{parts_of}
 use Rattle.kernel_model.specs.entries.Steps.{run_changes, run_row, run_alone, or_step, step_row, step_with, end_at}
 use Rattle.kernel_model.specs.entries.Steps.{call_at, going_on, replied_by, replied_to}
 use Rattle.kernel_model.specs.entries.Steps.{refused_with, failing, exhausted, numbering, by_answer, by_given}
 use Rattle.kernel_model.specs.entries.Steps.{are_named, are_just, row_of, if_live, task_of, entry_row, stepped}
-use Rattle.kernel_model.specs.entries.Steps.{step, stands_at}
+use Rattle.kernel_model.specs.entries.Steps.{may_enter, step, stands_at}
 use Rattle.kernel_model.specs.laws.Children.{HasUnnumbered, is_given_to, numbers_child}
 use Rattle.kernel_model.proofs.Trees.{outcome-bind}
-use Rattle.kernel_model.proofs.LocalityLaws.{changed_other}
-use Rattle.kernel_model.proofs.ChildLaws.{Stays, StaysIf, all_stay, changed-append, nodes_left}
+use Rattle.kernel_model.proofs.LocalityLaws.{changed_other, entered}
+use Rattle.kernel_model.proofs.ChildLaws.{Stays, StaysIf, all_stay, changed-append, nodes_left, unused_others}
 
 -- ---- changes of which none is of a node
 
@@ -213,6 +213,10 @@ module _ (s : Parts) where
 
 -- ---- what a step's changes leave of the child
 
+front : (a b : Bool) → (a && b) ≡ true → a ≡ true
+front true b e = refl
+front false b e = absurd (cc e)
+
 module _ (k : Kernel) (dir : ℕ) (name : List ℕ) (shape : Shape) where
   abbrev Keeps : List Change → Type 0
   Keeps changes = HasUnnumbered name shape (map.get (changed changes k).nodes dir)
@@ -313,16 +317,21 @@ module _ (k : Kernel) (dir : ℕ) (name : List ℕ) (shape : Shape) where
               either_keeps (int_eq reply value) _ _
               (more_keep (node_changes nodes ++ answer.changes) (going_on c value) (going_on_leaves c value) all) tt
 
-      module _ (given : Given) (apart : list_any (is_given_to dir name) given.fresh ≡ false) where
+      module _ (given : Given) (apart : list_any (is_given_to dir name) given.fresh ≡ false)
+          (may : may_meet k.nodes given ≡ true) where
+        unused : list_all (is_unused k.nodes) given.fresh ≡ true
+        unused = front _ _ may
+
         -- the nodes of the fresh numbers, none of which is the child's
         numbered_stay : StaysIf (parts k) dir name shape (outcome_in (parts k) (number_all given.fresh []))
-        numbered_stay = all_stay (parts k) dir name shape given.fresh apart [] there
+        numbered_stay =
+            all_stay (parts k) dir name shape given.fresh (unused_others k.nodes dir there.0 given.fresh there.1 unused)
+            apart [] there
 
-        met_keeps : (nodes : Option Nodes_so_far) (known : Bool) (failed : map.FinMap nat_cmp ℕ)
-            → StaysIf (parts k) dir name shape nodes → KeepsIf (met given nodes known failed)
-        met_keeps None known failed h = tt
-        met_keeps (Some nodes) known failed h =
-            either_keeps known _ _ (more_keep (node_changes nodes) _ none (nodes_keep nodes h)) tt
+        met_keeps : (nodes : Option Nodes_so_far) (failed : map.FinMap nat_cmp ℕ)
+            → StaysIf (parts k) dir name shape nodes → KeepsIf (met given nodes failed)
+        met_keeps None failed h = tt
+        met_keeps (Some nodes) failed h = more_keep (node_changes nodes) _ none (nodes_keep nodes h)
           where
             none : LeavesNodes ((OfFaults, risen given.rises failed) ∷ [])
             none ino (inl e) = absurd (cc e)
@@ -331,8 +340,7 @@ module _ (k : Kernel) (dir : ℕ) (name : List ℕ) (shape : Shape) where
         faulted_fits : Fits (faulted given)
         faulted_fits =
             behind (number_all given.fresh []) _
-            (behind (all_known_in given.rises (outcome_in (parts k) (number_all given.fresh []))) _
-            (met_keeps (outcome_in (parts k) (number_all given.fresh [])) _ k.failed numbered_stay))
+            (met_keeps (outcome_in (parts k) (number_all given.fresh [])) k.failed numbered_stay)
 
         failing_fits : Fits (failing c reply given)
         failing_fits = behind (faulted given) _ (refused_keeps EIO _ faulted_fits)
@@ -366,25 +374,26 @@ module _ (k : Kernel) (dir : ℕ) (name : List ℕ) (shape : Shape) where
     -- ---- each entry
 
     row_fits : (context : Context) (e : Entry) (c : Caller) → numbers_child e dir name ≡ false
-        → Fits (row_of context e c)
-    row_fits context (Run task n) c apart = run_fits n c
-    row_fits context (Call task call args given reply) c apart =
+        → may_enter k.nodes e ≡ true → Fits (row_of context e c)
+    row_fits context (Run task n) c apart may = run_fits n c
+    row_fits context (Call task call args given reply) c apart may =
         behind (next_row c) (λ (x : Stands). call_at context c call args reply given x.next)
         (either_fits (stands_at call args c.registers (outcome_in (parts k) (next_row c)).next) _ _
-        (call_fits c reply given apart context call args) tt)
-    row_fits context (Sleep task) c apart = tt
-    row_fits context (End task signal) c apart =
+        (call_fits c reply given apart may context call args) tt)
+    row_fits context (Sleep task) c apart may = tt
+    row_fits context (End task signal) c apart may =
         behind (next_row c) (λ (x : Stands). end_at signal c x.next)
         (end_fits signal c (outcome_in (parts k) (next_row c)).next)
 
     live_fits : (context : Context) (e : Entry) (c : Option Caller) → numbers_child e dir name ≡ false
-        → Fits (if_live context e c)
-    live_fits context e None apart = tt
-    live_fits context e (Some c) apart = row_fits context e c apart
+        → may_enter k.nodes e ≡ true → Fits (if_live context e c)
+    live_fits context e None apart may = tt
+    live_fits context e (Some c) apart may = row_fits context e c apart may
 
-    entry_fits : (context : Context) (e : Entry) → numbers_child e dir name ≡ false → Fits (entry_row context e)
-    entry_fits context e apart =
-        behind (caller_of (task_of e)) (if_live context e) (live_fits context e _ apart)
+    entry_fits : (context : Context) (e : Entry) → numbers_child e dir name ≡ false → may_enter k.nodes e ≡ true
+        → Fits (entry_row context e)
+    entry_fits context e apart may =
+        behind (caller_of (task_of e)) (if_live context e) (live_fits context e _ apart may)
 
 kept_by : (k next : Kernel) (dir : ℕ) (name : List ℕ) (shape : Shape) (changes : Option (List Change))
     → KeepsIf k dir name shape changes → option_map (stepped k) changes ≡ Some next
@@ -397,7 +406,7 @@ kept_by k next dir name shape (Some changes) h e =
 pub child_stays : (k next : Kernel) (e : Entry) (dir : ℕ) (name : List ℕ) (shape : Shape) → step k e ≡ Some next
     → numbers_child e dir name ≡ false → HasUnnumbered name shape (map.get k.nodes dir)
     → HasUnnumbered name shape (map.get next.nodes dir)
-unfolding step
 child_stays k next e dir name shape stepping apart there =
+    let is = entered k next e stepping in
     kept_by k next dir name shape (outcome_in (parts k) (entry_row (context_of k) e))
-    (entry_fits k dir name shape there (context_of k) e apart) stepping
+    (entry_fits k dir name shape there (context_of k) e apart is.0) is.1

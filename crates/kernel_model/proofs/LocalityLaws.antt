@@ -2,7 +2,7 @@
 -- changes leave every other part as it was.
 use Rattle.std.proofs.Common.{◌≡◌, ◌≢◌, ℕ, ◌+◌, ◌^◌, List, [], ◌∷◌, length, Bool, true, false, Option, Some, None}
 use Rattle.std.proofs.Common.{cond, refl, ap, sym, ◌∙◌, ◌⊎◌, inl, inr, option_map}
-use Rattle.std.specs.Prelude.{nat_le, nat_lt, ◌==◌, ◌%◌, min, not}
+use Rattle.std.specs.Prelude.{nat_le, nat_lt, ◌==◌, ◌%◌, min, not, is_some}
 use Rattle.std.specs.Ordering.{nat_cmp, eq_by_cmp}
 use Rattle.std.specs.Cmp.{nat_cmp_total}
 use Rattle.std.specs.FinMap as map
@@ -39,7 +39,7 @@ use Rattle.kernel_model.specs.entries.Areas.{Stands, next_row, bytes_read, bytes
 use Rattle.kernel_model.specs.entries.Parts.{Holds, Parts, parts, Prog, done, outcome_in, uses, ◌>>=◌, IsIn, AgreeOn}
 use Rattle.kernel_model.specs.entries.Parts.{Change, set_at, area_made, put, changed, parts_of}
 use Rattle.kernel_model.specs.entries.Ready.{ready_by, ready_if_live, ready_row, is_ready}
-use Rattle.kernel_model.specs.entries.Steps.{entry_row, step, stepped, used, touched, touches}
+use Rattle.kernel_model.specs.entries.Steps.{entry_row, may_enter, step, stepped, used, touched, touches}
 use Rattle.kernel_model.proofs.NamedMaps.{get-set_same, get-set_other, get-set_alike}
 use Rattle.kernel_model.proofs.Trees.{outcome_alike, outcome-bind}
 
@@ -241,10 +241,23 @@ rest_by k next (Some changes) e p apart =
     let is : next ≡ stepped k changes = cc e in
     ap (λ (n : Kernel). parts n p) is ∙ parts_of_stepped k changes p ∙ changed_other changes k p apart
 
+-- a step is of an entry that may be made, and is what its row comes to
+pub entered : (k next : Kernel) (e : Entry) → step k e ≡ Some next → (may_enter k.nodes e ≡ true)
+    × (option_map (stepped k) (outcome_in (parts k) (entry_row (context_of k) e)) ≡ Some next)
+unfolding step
+entered k next e stepping = by (may_enter k.nodes e) refl stepping
+  where
+    by : (b : Bool) → may_enter k.nodes e ≡ b
+        → cond b (option_map (stepped k) (outcome_in (parts k) (entry_row (context_of k) e))) None ≡ Some next
+        → (may_enter k.nodes e ≡ true)
+        × (option_map (stepped k) (outcome_in (parts k) (entry_row (context_of k) e)) ≡ Some next)
+    by true may h = (may, h)
+    by false may h = absurd (cc h)
+
 pub rest_stays : (k next : Kernel) (e : Entry) → step k e ≡ Some next → (p : Part) → ¬ IsIn p (touches k e)
     → parts next p ≡ parts k p
-unfolding step
-rest_stays k next e = rest_by k next (outcome_in (parts k) (entry_row (context_of k) e))
+rest_stays k next e stepping =
+    rest_by k next (outcome_in (parts k) (entry_row (context_of k) e)) (entered k next e stepping).1
 
 touched_by : (a b next other : Kernel) (changes : Option (List Change)) → option_map (stepped a) changes ≡ Some next
     → option_map (stepped b) changes ≡ Some other → (p : Part) → IsIn p (touched changes) → parts next p ≡ parts other p
@@ -261,10 +274,26 @@ touched_by a b next other (Some changes) e f p is =
 pub touched_alike : (a b next other : Kernel) (e : Entry) → context_of b ≡ context_of a
     → AgreeOn (used a e) (parts a) (parts b) → step a e ≡ Some next → step b e ≡ Some other
     → (p : Part) → IsIn p (touches a e) → parts next p ≡ parts other p
-unfolding step
 touched_alike a b next other e context same first second =
-    touched_by a b next other (outcome_in (parts a) (entry_row (context_of a) e)) first
-    (ap (option_map (stepped b)) (sym (same_reads a b e context same).1) ∙ second)
+    touched_by a b next other (outcome_in (parts a) (entry_row (context_of a) e)) (entered a next e first).1
+    (ap (option_map (stepped b)) (sym (same_reads a b e context same).1) ∙ (entered b other e second).1)
+
+fits_by : (a b : Kernel) (changes : Option (List Change))
+    → is_some (option_map (stepped b) changes) ≡ is_some (option_map (stepped a) changes)
+fits_by a b None = refl
+fits_by a b (Some changes) = refl
+
+-- an entry that may be made in both fits both or neither
+pub fits_alike : (a b : Kernel) (e : Entry) → context_of b ≡ context_of a
+    → AgreeOn (used a e) (parts a) (parts b) → may_enter a.nodes e ≡ true → may_enter b.nodes e ≡ true
+    → is_some (step b e) ≡ is_some (step a e)
+unfolding step
+fits_alike a b e context same may too =
+    ap (λ x. is_some (cond x (option_map (stepped b) (outcome_in (parts b) (entry_row (context_of b) e))) None)) too
+    ∙ ap (λ changes. is_some (option_map (stepped b) changes)) (same_reads a b e context same).1
+    ∙ fits_by a b (outcome_in (parts a) (entry_row (context_of a) e))
+    ∙ sym (ap (λ x. is_some (cond x (option_map (stepped a) (outcome_in (parts a) (entry_row (context_of a) e))) None))
+    may)
 
 -- ---- when a step is ready
 

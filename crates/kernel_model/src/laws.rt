@@ -1,7 +1,7 @@
 //! The law of locality: what an entry reads and changes.
 
 ghost use Rattle.std.specs.FinMap as map;
-ghost use Rattle.std.specs.Prelude.{◌≡◌, ℕ, ℤ, List as Items, Some, false};
+ghost use Rattle.std.specs.Prelude.{◌≡◌, ℕ, ℤ, List as Items, Some, true, false, is_some};
 ghost use Rattle.host_node.specs.Tree.{Shape};
 ghost use Rattle.kernel_model.specs.declared.entry.Args.{Args as AnArgs};
 ghost use Rattle.kernel_model.specs.declared.entry.Entry.{Entry as AnEntry};
@@ -12,7 +12,7 @@ ghost use Rattle.kernel_model.specs.declared.opening.Given.{Given as AGiven};
 ghost use Rattle.kernel_model.specs.calls.Callers.{context_of};
 ghost use Rattle.kernel_model.specs.entries.Parts.{IsIn, AgreeOn, parts, outcome_in, uses};
 ghost use Rattle.kernel_model.specs.entries.Ready.{ready_row, is_ready};
-ghost use Rattle.kernel_model.specs.entries.Steps.{step, entry_row, used, touches};
+ghost use Rattle.kernel_model.specs.entries.Steps.{step, entry_row, may_enter, used, touches};
 ghost use Rattle.kernel_model.specs.laws.Children.{HasUnnumbered, numbers_child};
 
 /// The law of locality, which holds of every kernel and entry. It does nothing.
@@ -21,6 +21,8 @@ ghost use Rattle.kernel_model.specs.laws.Children.{HasUnnumbered, numbers_child}
 ///   each part that an entry reads, the entry reads the same parts and changes the same.
 /// - `rest`: each part that an entry does not change holds what it held.
 /// - `touched`: what the changed parts hold after the entry depends on nothing but the parts that it reads, and these.
+/// - `fits`: whether an entry fits depends on nothing but the parts that it reads, in kernels in which its fresh
+///   numbers are unused and each node whose count rose has a number, or gets one of them.
 /// - `ready`: whether a task's next step is ready depends on the parts that it reads, and on nothing else.
 /// - `write`: for a write (call number 64) `same` holds also of kernels with other mounts, keys and numbers of entries.
 /// - `unnumbered`: a child without an inode number stays as it is through each entry that gives it none.
@@ -33,6 +35,9 @@ pub fn locality()
     ensures touched { (a b next other : AKernel) (e : AnEntry) → context_of b ≡ context_of a →
         AgreeOn (used a e) (parts a) (parts b) → step a e ≡ Some next → step b e ≡ Some other →
         (p : APart) → IsIn p (touches a e) → parts next p ≡ parts other p }
+    ensures fits { (a b : AKernel) (e : AnEntry) → context_of b ≡ context_of a →
+        AgreeOn (used a e) (parts a) (parts b) → may_enter a.nodes e ≡ true → may_enter b.nodes e ≡ true →
+        is_some (step b e) ≡ is_some (step a e) }
     ensures ready { (a b : AKernel) (task : ℕ) →
         AgreeOn (uses (parts a) (ready_row (context_of a) task)) (parts a) (parts b) →
         is_ready b task ≡ is_ready a task }

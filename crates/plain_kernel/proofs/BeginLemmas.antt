@@ -15,7 +15,8 @@ use Rattle.host_node.specs.Tree.{Shape}
 use Rattle.elf_image.specs.declared.image.Image.{Image}
 use Rattle.kernel_model.specs.opening.Opening.{Executed, execve_of, bare, Begun, Refuses, Misfits, with_task}
 use Rattle.kernel_model.specs.opening.Opening.{task_begun}
-use Rattle.kernel_model.specs.opening.Opening.{tasks_begun, is_of, opening_of}
+use Rattle.kernel_model.specs.opening.Opening.{tasks_begun, opening_of}
+use Rattle.kernel_model.specs.opening.Records.{is_of}
 use Rattle.kernel_model.specs.entries.Parts.{parts, outcome_in, changed}
 use Rattle.plain_kernel.specs.Beginnings.{Executes, IsRefusedBy}
 

@@ -4,7 +4,7 @@ use Rattle.std.proofs.Common.{false, List, [], ◌∷◌, refl, ap, sym, ◌∙�
 use Rattle.std.specs.Prelude.{◌&&◌, slice_index}
 use Rattle.std.proofs.lemmas.Bool.{eq-eqb, ne_eqb}
 use Rattle.kernel_model.specs.files.Numbers.{count_up}
-use Rattle.kernel_model.specs.opening.Opening.{same_list}
+use Rattle.kernel_model.specs.opening.Records.{same_list}
 
 -- the first of so many, and the others
 one_up : (first n : ℕ) → 0 < n → count_up first n ≡ first ∷ count_up (first + 1) (n - 1)

@@ -5,8 +5,8 @@ ghost use Rattle.std.specs.Str.{bytes_eq};
 ghost use Rattle.mount_file.specs.declared.mounts.Program.{Program as AProgram};
 ghost use Rattle.kernel_model.specs.declared.opening.Opened.{Opened as AnOpened};
 ghost use Rattle.kernel_model.specs.files.Numbers.{count_up};
-ghost use Rattle.kernel_model.specs.opening.Opening.{same_list, begins, same_flag, same_place, same_folder, same_mount};
-ghost use Rattle.kernel_model.specs.opening.Opening.{is_of};
+ghost use Rattle.kernel_model.specs.opening.Records.{same_list, begins, same_flag, same_place, same_folder, same_mount};
+ghost use Rattle.kernel_model.specs.opening.Records.{is_of};
 
 use kernel_model::{Opened, Opening};
 use mount_file::{Mount, Mounts, Program};

@@ -2,7 +2,7 @@
 use Rattle.std.proofs.Common.{◌≡◌, ℕ, ◌+◌, ◌<◌, ◌≤◌, Bool, true, false, List, [], ◌∷◌, ◌++◌, length, drop, refl, ap}
 use Rattle.std.proofs.Common.{sym, ◌∙◌}
 use Rattle.std.proofs.Common.{subst, arith, length-append}
-use Rattle.std.specs.Prelude.{Option, Some, None, Result, Ok, Err, IfOk, IfErr, IsErrAnd, slice_get}
+use Rattle.std.specs.Prelude.{Option, Some, None, Result, Ok, Err, IfOk, IfErr, IsErrAnd, slice_get, if◌then◌else◌}
 use Rattle.std.specs.FinMap as map
 use Rattle.std.proofs.lemmas.List.{append_assoc, append-nil, drop_more}
 use Rattle.std.proofs.lemmas.Option.{get_or_from_slice_get, slice_get_within}
@@ -16,10 +16,12 @@ use Rattle.task_table.specs.Clones.{opened}
 use Rattle.kernel_model.specs.declared.kernel.Kernel.{Kernel}
 use Rattle.kernel_model.specs.declared.opening.Given.{Given}
 use Rattle.kernel_model.specs.declared.opening.Opened.{Opened}
+use Rattle.kernel_model.specs.entries.Given.{may_meet}
 use Rattle.kernel_model.specs.entries.Parts.{parts, outcome_in, changed}
 use Rattle.kernel_model.specs.files.FileTree.{Nodes, last_number}
 use Rattle.kernel_model.specs.opening.Arguments.{is_too_long}
-use Rattle.kernel_model.specs.opening.Opening.{Begun, Executed, Starts, Fails, Refuses, bare, execve_of, made_by}
+use Rattle.kernel_model.specs.opening.Opening.{Begun, Executed, Starts, Fails, Misfits, Refuses, bare, execve_of}
+use Rattle.kernel_model.specs.opening.Opening.{made_by}
 use Rattle.kernel_model.specs.opening.Opening.{rooted, task_begun, tasks_begun, with_task}
 use Rattle.kernel_model.proofs.OpenedTasks.{AreOpened, opened_more}
 use Rattle.image_walk.specs.declared.loading.Answer.{Answer}
@@ -68,15 +70,20 @@ module _ (m : Mounts) (t : Shape) (i : ℕ) (tasks tasks' : List Opened) (p : Pr
   room : length h.names + 2 ≤ last_number
   room = let named : length h.names ≤ i = h.few in omega arith
 
-  -- what is left comes to what the next execve does
-  next : (rest : List Opened) → tasks_begun 1 m.tasks (tasks' ++ rest) (bare m (t ∷ []))
+  -- what is left comes to what the next execve does, where what it drew and met may be
+  next : (rest : List Opened) → may_meet h.nodes o.given ≡ true
+      → tasks_begun 1 m.tasks (tasks' ++ rest) (bare m (t ∷ []))
       ≡ task_begun (tasks_begun (i + 1 + 1) (drop (i + 1) m.tasks) rest) (with_task (i + 1) program) (i + 1) k
       (outcome_in (parts k) (execve_of program o.given))
-  next rest =
+  next rest may =
       ap (λ os. tasks_begun 1 m.tasks os (bare m (t ∷ [])))
       (ap (λ os. os ++ rest) pushed ∙ append_assoc tasks (o ∷ []) rest)
       ∙ h.begun (o ∷ rest)
       ∙ ap (λ ps. tasks_begun (i + 1) ps (o ∷ rest) k) (next_programs m.tasks i program at)
+      ∙ ap (λ b. if b
+      then task_begun (tasks_begun (i + 1 + 1) (drop (i + 1) m.tasks) rest) (with_task (i + 1) program) (i + 1) k
+      (outcome_in (parts k) (execve_of program o.given))
+      else Misfits (i + 1)) may
 
   -- ---- it starts an image
 
@@ -111,7 +118,7 @@ module _ (m : Mounts) (t : Shape) (i : ℕ) (tasks tasks' : List Opened) (p : Pr
           let before : length h.names ≤ i = h.few in
           omega arith;
       begun = λ rest.
-          next rest
+          next rest started.may
           ∙ ap (task_begun (tasks_begun (i + 1 + 1) (drop (i + 1) m.tasks) rest) (with_task (i + 1) program) (i + 1) k)
           started.comes
           ∙ ap (tasks_begun (i + 1 + 1) (drop (i + 1) m.tasks) rest) after;
@@ -132,7 +139,7 @@ module _ (m : Mounts) (t : Shape) (i : ℕ) (tasks tasks' : List Opened) (p : Pr
       left = changed failed.changes k;
       refuses =
           ap (λ os. tasks_begun 1 m.tasks os (bare m (t ∷ []))) (sym (append-nil tasks'))
-          ∙ next []
+          ∙ next [] failed.may
           ∙ ap (task_begun (tasks_begun (i + 1 + 1) (drop (i + 1) m.tasks) []) (with_task (i + 1) program) (i + 1) k)
           failed.comes
           ∙ ap (λ n. Refuses (changed failed.changes k) n errno) (sym is);

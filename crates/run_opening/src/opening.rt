@@ -59,7 +59,7 @@ fn begin(
 {
     match answer {
         Answer::Starts(image) => {
-            let more = processes.open(alloc, seed, program, &image)?;
+            let more = processes.open(alloc, seed, root, program, &image)?;
             Ok(more)
         }
         Answer::Refuses(errno) => Err(OpenErr::Image {

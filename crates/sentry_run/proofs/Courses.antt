@@ -16,7 +16,8 @@ use Rattle.mount_file.specs.declared.mounts.Mounts.{Mounts}
 use Rattle.mount_file.specs.declared.mounts.Mount.{Mount}
 use Rattle.kernel_model.specs.declared.opening.Opening.{Opening}
 use Rattle.kernel_model.specs.files.Numbers.{count_up}
-use Rattle.kernel_model.specs.opening.Opening.{Opens, Refuses, Misfits, opening_of, is_of, tasks_begun, bare, same_list}
+use Rattle.kernel_model.specs.opening.Opening.{Opens, Refuses, Misfits, opening_of, tasks_begun, bare}
+use Rattle.kernel_model.specs.opening.Records.{is_of, same_list}
 use Rattle.kernel_model.specs.entries.History.{replay, each_whole, any_live}
 use Rattle.kernel_model.specs.printed.Printed.{printed, console_text, groups_text, trace_text}
 use Rattle.kernel_model.specs.files.Settled.{tree_now, settled, outside, with_grant}

@@ -14,8 +14,9 @@ use Rattle.kernel_model.specs.declared.opening.Opening.{Opening}
 use Rattle.mount_file.specs.MountFile.{IsMountFile, IsFaultOf}
 use Rattle.mount_file.specs.declared.mounts.MountFault.{MountFault}
 use Rattle.mount_file.proofs.Faults.{mounts_same, fault_same, no_fault}
-use Rattle.kernel_model.specs.opening.Opening.{Opens, Refuses, Misfits, opening_of, is_of, tasks_begun, bare, same_list}
-use Rattle.kernel_model.specs.opening.Opening.{same_mount, begins}
+use Rattle.kernel_model.specs.opening.Opening.{Opens, Refuses, Misfits, opening_of, tasks_begun, bare}
+use Rattle.kernel_model.specs.opening.Records.{is_of, same_list}
+use Rattle.kernel_model.specs.opening.Records.{same_mount, begins}
 use Rattle.kernel_model.specs.files.Numbers.{count_up}
 use Rattle.mount_file.specs.declared.mounts.Program.{Program}
 use Rattle.kernel_model.specs.Words.{Command}

@@ -15,9 +15,11 @@ use Rattle.kernel_model.specs.declared.opening.Opening.{Opening}
 use Rattle.kernel_model.specs.declared.opening.Opened.{Opened}
 use Rattle.kernel_model.specs.entries.Given.{numbers_of}
 use Rattle.kernel_model.specs.files.Numbers.{IsGapless, numbers_opened, count_up}
-use Rattle.kernel_model.specs.opening.Opening.{Misfits, bare, begins, is_of, opening_of, same_flag, same_folder}
-use Rattle.kernel_model.specs.opening.Opening.{same_list}
-use Rattle.kernel_model.specs.opening.Opening.{same_mount, same_place, tasks_begun}
+use Rattle.kernel_model.specs.opening.Opening.{Misfits, bare, opening_of}
+use Rattle.kernel_model.specs.opening.Records.{begins, is_of, same_flag, same_folder}
+use Rattle.kernel_model.specs.opening.Records.{same_list}
+use Rattle.kernel_model.specs.opening.Opening.{tasks_begun}
+use Rattle.kernel_model.specs.opening.Records.{same_mount, same_place}
 use Rattle.run_opening.specs.Records.{IsRecord, IsRecorded}
 use Rattle.sentry_run.specs.Played.{first_of, nothing_opened}
 

@@ -1,6 +1,6 @@
 -- What a call draws and meets: fresh inode numbers of children, and rises of nodes' counts of faults.
-use Rattle.std.specs.Prelude.{ℕ, ◌+◌, ◌==◌, nat_lt, nat_le, List, [], ◌∷◌, ◌++◌, map, Bool, true, false, ◌&&◌, Option}
-use Rattle.std.specs.Prelude.{Some, None, if◌then◌else◌, is_some, unwrap_or, not}
+use Rattle.std.specs.Prelude.{ℕ, ◌+◌, ◌==◌, nat_lt, nat_le, List, [], ◌∷◌, ◌++◌, map, Bool, true, false, ◌&&◌, ◌||◌}
+use Rattle.std.specs.Prelude.{Option, Some, None, if◌then◌else◌, unwrap_or, not}
 use Rattle.std.specs.List.{list_all, list_any}
 use Rattle.std.specs.Str.{bytes_eq}
 use Rattle.std.specs.Ordering.{nat_cmp}
@@ -11,7 +11,8 @@ use Rattle.kernel_model.specs.declared.kernel.Part.TheVariants.{OfNode, OfFaults
 use Rattle.kernel_model.specs.declared.opening.Fresh.{Fresh}
 use Rattle.kernel_model.specs.declared.opening.Rise.{Rise}
 use Rattle.kernel_model.specs.declared.opening.Given.{Given}
-use Rattle.kernel_model.specs.files.FileTree.{last_number, Child, Unnumbered, child_at, child_node, numbered_in}
+use Rattle.kernel_model.specs.files.FileTree.{Nodes, last_number, Child, Missing, Known, Unnumbered, child_at}
+use Rattle.kernel_model.specs.files.FileTree.{child_node, numbered_in}
 use Rattle.kernel_model.specs.entries.Parts.{Prog, done, look, ◌>>=◌, Change}
 
 -- a list has an item
@@ -55,6 +56,28 @@ is_in_order given =
 abbrev pub above_last : Fresh → Bool
 above_last f = nat_lt last_number f.ino
 
+-- the number is that of no node
+-- inode(7), st_ino
+abbrev pub is_unused : Nodes → Fresh → Bool
+is_unused nodes f = not (map.contains_key nodes f.ino)
+
+-- a fresh number that is given to a node is that one
+-- inode(7), st_ino; profile
+abbrev pub gives_number : ℕ → Fresh → Bool
+gives_number ino f = nat_le f.ino last_number && (f.ino == ino)
+
+-- the node whose count rose has a number, or gets it from the fresh ones
+-- profile
+abbrev pub is_numbered : Nodes → List Fresh → Rise → Bool
+is_numbered nodes fresh r = map.contains_key nodes r.ino || list_any (gives_number r.ino) fresh
+
+-- what may be drawn and met where these nodes have numbers: fresh numbers are unused, and counts rise of nodes that
+-- have numbers then
+-- profile
+abbrev pub may_meet : Nodes → Given → Bool
+may_meet nodes given =
+    list_all (is_unused nodes) given.fresh && list_all (is_numbered nodes given.fresh) given.rises
+
 -- nodes that a step has changed so far, the latest first
 -- profile
 abbrev pub Nodes_so_far : Type 0
@@ -73,23 +96,22 @@ node_by None ino = look (OfNode ino) (λ node. done node)
 abbrev pub node_now : Nodes_so_far → ℕ → Prog (Option Node)
 node_now nodes ino = node_by (node_in ino nodes) ino
 
--- a child that is there and has no number gets one, where the number is free; one above the greatest is drawn and given
--- to no node
+-- a child that is there and has no number gets the fresh one; one above the greatest is drawn and given to no node
 -- inode(7), st_ino; profile
-abbrev pub given_number : Nodes_so_far → Fresh → Node → Option Node → Child → Option Nodes_so_far
-given_number nodes fresh dir None (Unnumbered shape) =
+abbrev pub given_number : Nodes_so_far → Fresh → Node → Child → Option Nodes_so_far
+given_number nodes fresh dir Missing = None
+given_number nodes fresh dir (Known ino) = None
+given_number nodes fresh dir (Unnumbered shape) =
     if nat_le fresh.ino last_number
     then Some ((fresh.ino, child_node fresh.dir shape) ∷ (fresh.dir, numbered_in dir fresh.name fresh.ino) ∷ nodes)
     else Some nodes
-given_number nodes fresh dir taken child = None
 
-abbrev pub number_at : Nodes_so_far → Fresh → Option Node → Option Node → Option Nodes_so_far
-number_at nodes fresh None taken = None
-number_at nodes fresh (Some dir) taken = given_number nodes fresh dir taken (child_at fresh.name dir)
+abbrev pub number_at : Nodes_so_far → Fresh → Option Node → Option Nodes_so_far
+number_at nodes fresh None = None
+number_at nodes fresh (Some dir) = given_number nodes fresh dir (child_at fresh.name dir)
 
 abbrev pub number_one : Nodes_so_far → Fresh → Prog (Option Nodes_so_far)
-number_one nodes fresh =
-    node_now nodes fresh.dir >>= λ dir. node_now nodes fresh.ino >>= λ taken. done (number_at nodes fresh dir taken)
+number_one nodes fresh = node_now nodes fresh.dir >>= λ dir. done (number_at nodes fresh dir)
 
 -- each fresh number in turn
 -- profile
@@ -100,13 +122,6 @@ number_next rest (Some nodes) = rest nodes
 abbrev pub number_all : List Fresh → Nodes_so_far → Prog (Option Nodes_so_far)
 number_all [] nodes = done (Some nodes)
 number_all (f ∷ fresh) nodes = number_one nodes f >>= number_next (number_all fresh)
-
--- each node whose count rose has a number
--- profile
-abbrev pub all_known : List Rise → Nodes_so_far → Prog Bool
-all_known [] nodes = done true
-all_known (r ∷ rises) nodes =
-    node_now nodes r.ino >>= λ node. all_known rises nodes >>= λ rest. done (is_some node && rest)
 
 -- a count after a rise, by number
 -- profile: counts stop at 2^64 - 1
@@ -122,16 +137,9 @@ node_changes (entry ∷ entries) = node_changes entries ++ (OfNode entry.0, Some
 
 -- what a call leaves in which a host call failed: fresh numbers of children that are there, and the rises
 -- profile
-abbrev pub met : Given → Option Nodes_so_far → Bool → map.FinMap nat_cmp ℕ → Option (List Change)
-met given None known failed = None
-met given (Some nodes) known failed =
-    if known then Some (node_changes nodes ++ (OfFaults, risen given.rises failed) ∷ []) else None
-
-abbrev pub all_known_in : List Rise → Option Nodes_so_far → Prog Bool
-all_known_in rises None = done false
-all_known_in rises (Some nodes) = all_known rises nodes
+abbrev pub met : Given → Option Nodes_so_far → map.FinMap nat_cmp ℕ → Option (List Change)
+met given None failed = None
+met given (Some nodes) failed = Some (node_changes nodes ++ (OfFaults, risen given.rises failed) ∷ [])
 
 abbrev pub faulted : Given → Prog (Option (List Change))
-faulted given =
-    number_all given.fresh [] >>= λ nodes. all_known_in given.rises nodes >>= λ known.
-    look OfFaults (λ failed. done (met given nodes known failed))
+faulted given = number_all given.fresh [] >>= λ nodes. look OfFaults (λ failed. done (met given nodes failed))

@@ -1,5 +1,5 @@
 -- What an entry does: it is defined exactly where the entry fits the state.
-use Rattle.std.specs.Prelude.{ℕ, ◌+◌, ◌==◌, nat_le, ℤ, List, length, [], ◌∷◌, ◌++◌, Bool, false, ◌&&◌, Option, Some}
+use Rattle.std.specs.Prelude.{ℕ, ◌+◌, ◌==◌, nat_le, ℤ, List, length, [], ◌∷◌, ◌++◌, Bool, true, false, ◌&&◌, Option, Some}
 use Rattle.std.specs.Prelude.{None}
 use Rattle.std.specs.Prelude.{if◌then◌else◌, option_map}
 use Rattle.std.specs.List.{list_all, list_any}
@@ -30,9 +30,10 @@ use Rattle.kernel_model.specs.calls.Answers.{Reply, Replies, NotReady, Key, Answ
 use Rattle.kernel_model.specs.calls.Callers.{Context, context_of, caller_of}
 use Rattle.kernel_model.specs.calls.Ending.{group_end}
 use Rattle.kernel_model.specs.calls.Table.{call_row}
+use Rattle.kernel_model.specs.files.FileTree.{Nodes}
 use Rattle.kernel_model.specs.entries.Areas.{Stands, next_row, area_changes}
 use Rattle.kernel_model.specs.entries.Given.{has_any, is_in_order, above_last, Nodes_so_far, number_all, node_changes}
-use Rattle.kernel_model.specs.entries.Given.{faulted}
+use Rattle.kernel_model.specs.entries.Given.{faulted, may_meet}
 use Rattle.kernel_model.specs.entries.Parts.{parts, Prog, done, look, outcome_in, uses, ◌>>=◌, Change, changed}
 use Rattle.kernel_model.specs.entries.Parts.{parts_of}
 
@@ -203,10 +204,22 @@ entry_row context entry = caller_of (task_of entry) >>= if_live context entry
 abbrev pub stepped : Kernel → List Change → Kernel
 stepped k changes = record (changed changes k) { entries = k.entries + 1 }
 
+-- an entry may be made where these nodes have numbers: its call draws numbers that are unused, and meets faults of
+-- nodes that have numbers
+-- profile
+abbrev pub may_enter : Nodes → Entry → Bool
+may_enter nodes (Run task n) = true
+may_enter nodes (Call task call args given reply) = may_meet nodes given
+may_enter nodes (Sleep task) = true
+may_enter nodes (End task signal) = true
+
 -- the kernel after an entry, or None where the entry does not fit
 -- profile
 unfoldable pub step : Kernel → Entry → Option Kernel
-step k entry = option_map (stepped k) (outcome_in (parts k) (entry_row (context_of k) entry))
+step k entry =
+    if may_enter k.nodes entry
+    then option_map (stepped k) (outcome_in (parts k) (entry_row (context_of k) entry))
+    else None
 
 -- the parts that an entry reads, and those that it changes
 -- profile

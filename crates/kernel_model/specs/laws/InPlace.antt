@@ -1,5 +1,6 @@
 -- Steps done in place: the kernel that changes leave, told without the changes.
-use Rattle.std.specs.Prelude.{◌≡◌, List, [], Bool, ◌&&◌, Option, Some, None, option_map, not}
+use Rattle.std.specs.Prelude.{◌≡◌, List, [], ◌∷◌, Bool, ◌&&◌, Option, Some, None, if◌then◌else◌, option_map}
+use Rattle.std.specs.Prelude.{option_and_then, not}
 use Rattle.std.specs.FinMap as map
 use Rattle.host_node.specs.Tree.{Shape, child_of}
 use Rattle.kernel_model.specs.declared.kernel.Kernel.{Kernel}
@@ -7,8 +8,8 @@ use Rattle.kernel_model.specs.declared.kernel.Node.{Node}
 use Rattle.kernel_model.specs.declared.opening.Fresh.{Fresh}
 use Rattle.kernel_model.specs.declared.opening.Given.{Given}
 use Rattle.kernel_model.specs.files.FileTree.{number_in}
-use Rattle.kernel_model.specs.entries.Given.{has_any, Nodes_so_far, number_all, node_changes}
-use Rattle.kernel_model.specs.entries.Parts.{parts, outcome_in, Change, changed}
+use Rattle.kernel_model.specs.entries.Given.{has_any, Nodes_so_far, is_unused, number_at, node_changes}
+use Rattle.kernel_model.specs.entries.Parts.{Change, changed}
 
 -- the kernel after changes, or None where there are none to do
 -- profile
@@ -20,8 +21,12 @@ changed_by changes k = option_map (λ cs. changed cs k) changes
 abbrev pub with_nodes : Nodes_so_far → Kernel → Kernel
 with_nodes nodes k = changed (node_changes nodes) k
 
+abbrev pub nodes_for : Fresh → Kernel → Option Nodes_so_far
+nodes_for f k = if is_unused k.nodes f then number_at [] f (map.get k.nodes f.dir) else None
+
 unfoldable pub numbered : List Fresh → Kernel → Option Kernel
-numbered fresh k = option_map (λ nodes. with_nodes nodes k) (outcome_in (parts k) (number_all fresh []))
+numbered [] k = Some k
+numbered (f ∷ fresh) k = option_and_then (λ nodes. numbered fresh (with_nodes nodes k)) (nodes_for f k)
 
 -- a child waits in a directory for its number: it is there without one, and the number is free
 -- inode(7), st_ino; profile

@@ -1,11 +1,10 @@
 -- The opening: the state after the opening execves, from the mount file, the granted trees and the record of both.
-use Rattle.std.specs.Prelude.{ℕ, ◌+◌, ◌==◌, nat_eq, nat_lt, nat_le, List, [], ◌∷◌, length, map, drop, Bool, true, false}
-use Rattle.std.specs.Prelude.{◌&&◌, not, Option, Some, None, Result, Ok, Err, if◌then◌else◌}
+use Rattle.std.specs.Prelude.{ℕ, ◌+◌, ◌==◌, nat_lt, nat_le, List, [], ◌∷◌, length, drop, Bool, true, false}
+use Rattle.std.specs.Prelude.{◌&&◌, not, Option, Some, None, is_some, Result, Ok, Err, if◌then◌else◌}
 use Rattle.std.specs.List.{list_any}
 use Rattle.std.specs.Str.{bytes_eq}
 use Rattle.std.specs.FinMap as map
 use Rattle.host_node.specs.Tree.{Shape, directory, file, link, lent}
-use Rattle.sn_text.specs.Folders.{FolderPath}
 use Rattle.sn_errno.specs.declared.errno.Errno.{Errno}
 use Rattle.sn_errno.specs.declared.errno.Errno.TheVariants.{EIO, ENOENT, E2BIG, EACCES, ENOEXEC, ENOMEM, ENFILE, ELOOP}
 use Rattle.elf_image.specs.declared.image.Image.{Image}
@@ -26,15 +25,15 @@ use Rattle.kernel_model.specs.declared.opening.Opened.{Opened}
 use Rattle.kernel_model.specs.declared.opening.Given.{Given}
 use Rattle.kernel_model.specs.declared.opening.Fresh.{Fresh}
 use Rattle.kernel_model.specs.opening.Arguments.{is_too_long}
+use Rattle.kernel_model.specs.opening.Records.{is_of}
 use Rattle.image_load.specs.Loading.{opening_space, opening_registers}
 use Rattle.image_load.specs.Pages.{pages_mapped}
 use Rattle.kernel_model.specs.machine.Image.{image_of}
-use Rattle.kernel_model.specs.files.Numbers.{count_up}
 use Rattle.kernel_model.specs.machine.Random.{opening_random}
 use Rattle.kernel_model.specs.files.FileTree.{Nodes, Child, Missing, Known, Unnumbered, child_at, root_node}
 use Rattle.kernel_model.specs.files.FileTree.{owner_executes}
 use Rattle.kernel_model.specs.entries.Given.{has_any, is_in_order, above_last, Nodes_so_far, number_all, node_changes}
-use Rattle.kernel_model.specs.entries.Given.{faulted}
+use Rattle.kernel_model.specs.entries.Given.{faulted, may_meet}
 use Rattle.kernel_model.specs.entries.Parts.{parts, Prog, done, look, outcome_in, ◌>>=◌, Change, changed}
 
 -- whether an image has at most 16,384 pages
@@ -79,17 +78,26 @@ walked_from name (Some root) =
     then walked_to (child_at name root)
     else done (record { draws = false; image = Err EACCES })
 
--- the walk of an opening execve: one name, from the root of the mount at `/`, whose number is 1
+-- the number of the root of the mount at `/`: roots are numbered 1 up, in order of the mounts
+-- profile
+abbrev pub root_among : (first : ℕ) → List Mount → ℕ
+root_among first [] = first
+root_among first (mount ∷ mounts) = if is_some mount.at then root_among (first + 1) mounts else first
+
+abbrev pub root_of : List Mount → ℕ
+root_of mounts = root_among 1 mounts
+
+-- the walk of an opening execve: one name, from the root of the mount at `/`, of that number
 -- path_resolution(7); execve(2), ERRORS: EACCES, ENOENT
-abbrev pub walk_of : List ℕ → Prog Walked
-walk_of name = look (OfNode 1) (walked_from name)
+abbrev pub walk_of : (root : ℕ) → List ℕ → Prog Walked
+walk_of root name = look (OfNode root) (walked_from name)
 
 -- the fresh numbers are exactly those that the walk names: that of the child, if it draws one
 -- profile
-abbrev pub draws_just : Bool → List ℕ → List Fresh → Bool
-draws_just false name [] = true
-draws_just true name (f ∷ []) = (f.dir == 1) && bytes_eq f.name name && nat_lt 0 f.ino
-draws_just _ name fresh = false
+abbrev pub draws_just : (root : ℕ) → Bool → List ℕ → List Fresh → Bool
+draws_just root false name [] = true
+draws_just root true name (f ∷ []) = (f.dir == root) && bytes_eq f.name name && nat_lt 0 f.ino
+draws_just root _ name fresh = false
 
 -- what an opening execve does: it starts an image, or fails, with changes; or what was drawn and met does not fit it
 -- profile
@@ -110,19 +118,19 @@ abbrev pub by_numbers : Result Image Errno → Option Nodes_so_far → Executed
 by_numbers image None = Unfit
 by_numbers image (Some nodes) = by_image image (node_changes nodes)
 
-abbrev pub by_walk : List ℕ → Given → Walked → Prog Executed
-by_walk name given walked =
+abbrev pub by_walk : (root : ℕ) → List ℕ → Given → Walked → Prog Executed
+by_walk root name given walked =
     if has_any given.rises
     then (if is_in_order given then (faulted given >>= λ changes. done (failed_by changes)) else done Unfit)
-    else if not (draws_just walked.draws name given.fresh) then done Unfit
+    else if not (draws_just root walked.draws name given.fresh) then done Unfit
     else if list_any above_last given.fresh then done (Fails ENFILE [])
     else (number_all given.fresh [] >>= λ nodes. done (by_numbers walked.image nodes))
 
 -- an execve of a name, with what it drew and met: with a rise it answers EIO, with a number above the greatest ENFILE,
 -- else what the image is
 -- execve(2)
-abbrev pub execve : List ℕ → Given → Prog Executed
-execve name given = walk_of name >>= by_walk name given
+abbrev pub execve : (root : ℕ) → List ℕ → Given → Prog Executed
+execve root name given = walk_of root name >>= by_walk root name given
 
 -- the name in a path of `/` and one name
 -- path_resolution(7)
@@ -134,13 +142,13 @@ name_in_path path = drop 1 path
 abbrev pub unwalked : Walked
 unwalked = record { draws = false; image = Err E2BIG }
 
--- an opening execve of a program
+-- an opening execve of a program, where `/` has that number
 -- execve(2); that E2BIG goes before the errors of the walk: profile
-abbrev pub execve_of : Program → Given → Prog Executed
-execve_of program given =
+abbrev pub execve_of : (root : ℕ) → Program → Given → Prog Executed
+execve_of root program given =
     if is_too_long program.args program.env
-    then by_walk (name_in_path program.path) given unwalked
-    else execve (name_in_path program.path) given
+    then by_walk root (name_in_path program.path) given unwalked
+    else execve root (name_in_path program.path) given
 
 -- the nodes of the roots, numbered in order of the mounts
 -- profile
@@ -183,7 +191,7 @@ space_opened seed number program image =
 -- execve(2); profile
 abbrev pub with_task : (number : ℕ) → Program → Image → Kernel → Kernel
 with_task number program image k = record k {
-  tasks = opened k.tasks (made_by number) (made_by number) 1;
+  tasks = opened k.tasks (made_by number) (made_by number) (root_of k.mounts);
   registers = map.insert k.registers number (registers_opened k.seed number program image);
   spaces = with_named k.spaces 0 number (space_opened k.seed number program image);
 }
@@ -196,7 +204,8 @@ pub data Begun : Type 0 where
   Refuses : Kernel → (task : ℕ) → Errno → Begun
   Misfits : (task : ℕ) → Begun
 
--- the opening tasks in order, the first of them with that number
+-- the opening tasks in order, the first of them with that number; each draws numbers that are unused, and meets faults
+-- of nodes that have numbers
 -- profile
 abbrev pub task_begun : (Kernel → Begun) → (Image → Kernel → Kernel) → (number : ℕ) → Kernel → Executed → Begun
 task_begun rest begin number k (Starts image changes) = rest (begin image (changed changes k))
@@ -207,44 +216,10 @@ abbrev pub tasks_begun : (number : ℕ) → List Program → List Opened → Ker
 tasks_begun number [] records k = Opens k
 tasks_begun number (p ∷ ps) [] k = Misfits number
 tasks_begun number (p ∷ ps) (o ∷ os) k =
-    task_begun (tasks_begun (number + 1) ps os) (with_task number p) number k
-    (outcome_in (parts k) (execve_of p o.given))
-
--- two lists have the same items, by a test of two items; and the first is a beginning of the second
--- profile
-abbrev pub same_list : {A : Type 0} → (A → A → Bool) → List A → List A → Bool
-same_list same [] [] = true
-same_list same (x ∷ xs) (y ∷ ys) = same x y && same_list same xs ys
-same_list same _ _ = false
-
-abbrev pub begins : {A : Type 0} → (A → A → Bool) → List A → List A → Bool
-begins same [] ys = true
-begins same (x ∷ xs) (y ∷ ys) = same x y && begins same xs ys
-begins same (x ∷ xs) [] = false
-
-abbrev pub same_flag : Bool → Bool → Bool
-same_flag true b = b
-same_flag false b = not b
-
-abbrev pub same_place : Option (List ℕ) → Option (List ℕ) → Bool
-same_place None None = true
-same_place (Some a) (Some b) = bytes_eq a b
-same_place _ _ = false
-
-abbrev pub same_folder : FolderPath → FolderPath → Bool
-same_folder a b = same_flag a.rooted b.rooted && same_list bytes_eq a.names b.names
-
-abbrev pub same_mount : Mount → Mount → Bool
-same_mount a b = same_place a.at b.at && same_folder a.folder b.folder && same_flag a.write b.write
-
--- the record is of these mounts and tasks, with the roots numbered 1 up
--- profile
-abbrev pub is_of : Mounts → Opening → Bool
-is_of mounts opening =
-    same_list same_mount opening.mounts mounts.mounts
-    && same_list nat_eq opening.roots (count_up 1 (length mounts.mounts))
-    && begins (same_list bytes_eq) (map (λ (o : Opened). o.words) opening.tasks)
-    (map (λ (p : Program). p.args) mounts.tasks)
+    if may_meet k.nodes o.given
+    then task_begun (tasks_begun (number + 1) ps os) (with_task number p) number k
+    (outcome_in (parts k) (execve_of (root_of k.mounts) p o.given))
+    else Misfits number
 
 -- the opening of a mount file over the granted trees, a directory for each mount in order
 -- profile

@@ -1,5 +1,5 @@
 -- What an entry does depends on the parts that it uses, and is to those that it touches.
-use Rattle.kernel_model.proofs.LocalityLaws.{same_reads, rest_stays, touched_alike, ready_alike}
+use Rattle.kernel_model.proofs.LocalityLaws.{same_reads, rest_stays, touched_alike, fits_alike, ready_alike}
 use Rattle.kernel_model.proofs.ChildSteps.{child_stays}
 use Rattle.kernel_model.proofs.WriteLaws.{write_reads}
 use Rattle.kernel_model.proofs.laws.locality.Goals as goal
@@ -12,6 +12,9 @@ returns-clause-rest c = rest_stays
 
 pub returns-clause-touched : goal.returns-clause-touched
 returns-clause-touched c = touched_alike
+
+pub returns-clause-fits : goal.returns-clause-fits
+returns-clause-fits c = fits_alike
 
 pub returns-clause-ready : goal.returns-clause-ready
 returns-clause-ready c = ready_alike

@@ -1,7 +1,7 @@
 -- Numbers count up from the first where each is one above the number before.
 use Rattle.std.proofs.Common.{◌+◌, ◌-◌, nat_eq, sym, ap, ◌∙◌, arith}
 use Rattle.kernel_model.specs.files.Numbers.{count_up}
-use Rattle.kernel_model.specs.opening.Opening.{same_list}
+use Rattle.kernel_model.specs.opening.Records.{same_list}
 use Rattle.plain_kernel.proofs.CountLemmas.{no_numbers, some_for_none, other_first, then_others, rest_of}
 use Rattle.plain_kernel.proofs.opened.+are_numbers.Goals as goal
 

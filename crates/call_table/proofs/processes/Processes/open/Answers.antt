@@ -10,16 +10,17 @@ use Rattle.call_table.proofs.processes.Processes.open.Goals as goal
 
 pub returns-clause-begun : goal.returns-clause-begun
 returns-clause-begun c =
-    on_ok _ _ c.begin.result (λ p begun. λ beside n seed.
+    on_ok _ _ c.begin.result (λ p begun. λ beside n seed at.
     begun beside n
-    ∙ with_next c.args.self (c.last-number.result + 1) c.in_ok-beginning.beginning.registers
+    ∙ with_next c.args.self (c.last-number.result + 1) c.args.root c.in_ok-beginning.beginning.registers
     c.in_ok-beginning.beginning.space c.args.program.now c.args.image.now c.args.seed.now beside n
     (ap (λ (k : ℕ). k + 1) c.last-number.ensures) c.in_ok-beginning.ensures.registers
-    c.in_ok-beginning.ensures.space seed) c.begin.ensures
+    c.in_ok-beginning.ensures.space seed at) c.begin.ensures
 
 pub returns-clause-tasks : goal.returns-clause-tasks
 returns-clause-tasks c =
     on_ok _ _ c.begin.result (λ p begun.
     ap (λ (k : Kernel). k.tasks) (begun nothing_beside 0)
-    ∙ ap (λ (k : ℕ). opened c.args.self.tasks (made_by (k + 1)) (made_by (k + 1)) 1) c.last-number.ensures)
+    ∙ ap (λ (k : ℕ). opened c.args.self.tasks (made_by (k + 1)) (made_by (k + 1)) c.args.root)
+    c.last-number.ensures)
     c.begin.ensures

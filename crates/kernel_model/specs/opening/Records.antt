@@ -1,0 +1,46 @@
+-- Whether the record of an opening is of a mount file.
+use Rattle.std.specs.Prelude.{ℕ, nat_eq, List, [], ◌∷◌, length, map, Bool, true, false, ◌&&◌, not, Option, Some, None}
+use Rattle.std.specs.Str.{bytes_eq}
+use Rattle.sn_text.specs.Folders.{FolderPath}
+use Rattle.mount_file.specs.declared.mounts.Mount.{Mount}
+use Rattle.mount_file.specs.declared.mounts.Mounts.{Mounts}
+use Rattle.mount_file.specs.declared.mounts.Program.{Program}
+use Rattle.kernel_model.specs.declared.opening.Opened.{Opened}
+use Rattle.kernel_model.specs.declared.opening.Opening.{Opening}
+use Rattle.kernel_model.specs.files.Numbers.{count_up}
+
+-- two lists have the same items, by a test of two items; and the first is a beginning of the second
+-- profile
+abbrev pub same_list : {A : Type 0} → (A → A → Bool) → List A → List A → Bool
+same_list same [] [] = true
+same_list same (x ∷ xs) (y ∷ ys) = same x y && same_list same xs ys
+same_list same _ _ = false
+
+abbrev pub begins : {A : Type 0} → (A → A → Bool) → List A → List A → Bool
+begins same [] ys = true
+begins same (x ∷ xs) (y ∷ ys) = same x y && begins same xs ys
+begins same (x ∷ xs) [] = false
+
+abbrev pub same_flag : Bool → Bool → Bool
+same_flag true b = b
+same_flag false b = not b
+
+abbrev pub same_place : Option (List ℕ) → Option (List ℕ) → Bool
+same_place None None = true
+same_place (Some a) (Some b) = bytes_eq a b
+same_place _ _ = false
+
+abbrev pub same_folder : FolderPath → FolderPath → Bool
+same_folder a b = same_flag a.rooted b.rooted && same_list bytes_eq a.names b.names
+
+abbrev pub same_mount : Mount → Mount → Bool
+same_mount a b = same_place a.at b.at && same_folder a.folder b.folder && same_flag a.write b.write
+
+-- the record is of these mounts and tasks, with the roots numbered 1 up
+-- profile
+abbrev pub is_of : Mounts → Opening → Bool
+is_of mounts opening =
+    same_list same_mount opening.mounts mounts.mounts
+    && same_list nat_eq opening.roots (count_up 1 (length mounts.mounts))
+    && begins (same_list bytes_eq) (map (λ (o : Opened). o.words) opening.tasks)
+    (map (λ (p : Program). p.args) mounts.tasks)
