@@ -1,6 +1,6 @@
 -- A live task, by the parts of it: the task list, its registers and its group's memory.
 use Rattle.std.proofs.Common.{◌≡◌, ℕ, Bool, true, false, cond, refl, ap, sym, ◌∙◌}
-use Rattle.std.specs.Prelude.{Option, Some, None, []}
+use Rattle.std.specs.Prelude.{Option, Some, None}
 use Rattle.std.specs.Ordering.{nat_cmp}
 use Rattle.std.specs.FinMap as map
 use Rattle.rv_table.specs.declared.regs.Regs.{Regs}
@@ -11,14 +11,16 @@ use Rattle.kernel_model.specs.Names.{NamedMap, get_named}
 use Rattle.kernel_model.specs.declared.caller.Caller.{Caller}
 use Rattle.kernel_model.specs.calls.Callers.{in_memory, with_memory, in_group}
 use Rattle.kernel_model.specs.entries.Parts.{Parts, parts, done, outcome_in}
-use Rattle.call_table.specs.Beside.{nothing_beside, kernel_with, found_in}
+use Rattle.call_table.specs.Beside.{nothing_beside, nothing_held, kernel_with, found_in}
 
 module _ (list : TaskTable) (registers : map.FinMap nat_cmp Regs) (spaces : NamedMap AddressSpace) (task : ℕ) where
   number : ℕ
   number = group_of list.tasks task
 
   s : Parts
-  s = parts (kernel_with list registers spaces map.empty [] nothing_beside 0)
+  s =
+      parts (kernel_with (record nothing_held { tasks = list; registers = registers; spaces = spaces }) nothing_beside
+      0)
 
   -- the parts of a live task
   pub record Parted (c : Caller) : Type 0 where

@@ -1,10 +1,12 @@
 -- A history goes on by one entry at its end.
-use Rattle.std.proofs.Common.{◌≡◌, Bool, true, false, List, [], ◌∷◌, ◌++◌, refl, ap, ◌∙◌}
+use Rattle.std.proofs.Common.{◌≡◌, ℕ, Bool, true, false, List, [], ◌∷◌, ◌++◌, refl, ap, sym, subst, ◌∙◌}
 use Rattle.std.specs.Prelude.{Option, Some, None, ◌&&◌, option_and_then}
 use Rattle.kernel_model.specs.declared.entry.Entry.{Entry}
 use Rattle.kernel_model.specs.declared.kernel.Kernel.{Kernel}
-use Rattle.kernel_model.specs.entries.Steps.{step}
+use Rattle.kernel_model.specs.entries.Steps.{step, task_of}
 use Rattle.kernel_model.specs.entries.History.{replay, each_whole, whole_then, is_whole}
+use Rattle.task_table.specs.Table.{live_numbers}
+use Rattle.call_table.specs.Turns.{AreInTurn, last_turn, next_of, turns_then}
 
 first_part : (a b : Bool) → (a && b) ≡ true → a ≡ true
 first_part true b h = refl
@@ -53,3 +55,29 @@ whole_more k next last (x ∷ es) e r w s h = go (step k x) r w (λ y p q. whole
     go (Some y) p q f =
         both (first_part (is_whole x k y) (each_whole y es) q)
         (f y p (second_part (is_whole x k y) (each_whole y es) q))
+
+-- one more, of the task whose turn is next
+pub turns_more : (last : ℕ) (k next after : Kernel) (es : List Entry) (e : Entry) → AreInTurn last k es
+    → replay k es ≡ Some next → step next e ≡ Some after
+    → next_of (last_turn last es) (live_numbers next.tasks.tasks) ≡ Some (task_of e) → AreInTurn last k (es ++ e ∷ [])
+turns_more last k next after [] e turns r s turn =
+    let same : k ≡ next = cc r in (
+      ap (λ (x : Kernel). next_of last (live_numbers x.tasks.tasks)) same ∙ turn,
+      subst (λ (o : Option Kernel). turns_then o (λ (x : Kernel). AreInTurn (task_of e) x []))
+          (sym (ap (λ (x : Kernel). step x e) same ∙ s)) tt,
+    )
+turns_more last k next after (x ∷ es) e turns r s turn =
+    (turns.0, go (step k x) turns.1 r (λ y t p. turns_more (task_of x) y next after es e t p s turn))
+  where
+    go : (o : Option Kernel) → turns_then o (λ (y : Kernel). AreInTurn (task_of x) y es)
+        → option_and_then (λ (y : Kernel). replay y es) o ≡ Some next
+        → ((y : Kernel) → AreInTurn (task_of x) y es → replay y es ≡ Some next
+        → AreInTurn (task_of x) y (es ++ e ∷ []))
+        → turns_then o (λ (y : Kernel). AreInTurn (task_of x) y (es ++ e ∷ []))
+    go None t p f = t
+    go (Some y) t p f = f y t p
+
+-- whose task is that of the last turn then
+pub last_more : (last : ℕ) (es : List Entry) (e : Entry) → last_turn last (es ++ e ∷ []) ≡ task_of e
+last_more last [] e = refl
+last_more last (x ∷ es) e = last_more (task_of x) es e

@@ -1,5 +1,5 @@
 -- Processes with an opening task more are the kernel with it.
-use Rattle.std.proofs.Common.{◌≡◌, ℕ, ◌+◌, List, refl, ap, sym, ◌∙◌}
+use Rattle.std.proofs.Common.{◌≡◌, ℕ, ◌+◌, List, ap, sym, ◌∙◌}
 use Rattle.std.specs.FinMap as map
 use Rattle.elf_image.specs.declared.image.Image.{Image}
 use Rattle.mount_file.specs.declared.mounts.Program.{Program}
@@ -9,34 +9,34 @@ use Rattle.task_table.specs.Clones.{opened}
 use Rattle.kernel_model.specs.Names.{with_named}
 use Rattle.kernel_model.specs.opening.Opening.{made_by, registers_opened, root_of, space_opened, with_task}
 use Rattle.call_table.specs.declared.processes.Processes.{Processes}
-use Rattle.call_table.specs.Beside.{Beside, kernel_with}
-use Rattle.call_table.specs.Processes.{kernel_of}
-use Rattle.call_table.proofs.Steps.{same_kernel}
+use Rattle.call_table.specs.Beside.{Beside, Held, kernel_with}
+use Rattle.call_table.specs.Processes.{held_by, kernel_of}
+
+-- what processes hold with a task more, of that number, that begins in that directory with this
+abbrev held_with : Processes → (number root : ℕ) → Regs → AddressSpace → Held
+held_with p number root r space = record (held_by p) {
+  tasks = opened p.tasks (made_by number) (made_by number) root;
+  registers = map.insert p.registers number r;
+  spaces = with_named p.spaces 0 number space;
+}
 
 -- with the registers and the memory that the task opens with
 with_these : (p : Processes) (number root : ℕ) (r : Regs) (space : AddressSpace) (program : Program) (image : Image)
     (beside : Beside) (n : ℕ) → root_of beside.mounts ≡ root → r ≡ registers_opened beside.seed number program image
     → space ≡ space_opened beside.seed number program image
-    → kernel_with (opened p.tasks (made_by number) (made_by number) root) (map.insert p.registers number r)
-    (with_named p.spaces 0 number space) p.areas p.console beside n
-    ≡ with_task number program image (kernel_of p beside n)
+    → kernel_with (held_with p number root r space) beside n ≡ with_task number program image (kernel_of p beside n)
 with_these p number root r space program image beside n at e f =
-    same_kernel (opened p.tasks (made_by number) (made_by number) root)
-    (opened p.tasks (made_by number) (made_by number) (root_of beside.mounts))
-    (map.insert p.registers number r)
-    (map.insert p.registers number (registers_opened beside.seed number program image))
-    (with_named p.spaces 0 number space)
-    (with_named p.spaces 0 number (space_opened beside.seed number program image)) p.areas p.areas p.console p.console
-    beside n (ap (opened p.tasks (made_by number) (made_by number)) at) (sym (ap (map.insert p.registers number) e))
-    (sym (ap (with_named p.spaces 0 number) f)) refl refl
+    ap (λ x. kernel_with (held_with p number x r space) beside n) (sym at)
+    ∙ ap (λ x. kernel_with (held_with p number (root_of beside.mounts) x space) beside n) e
+    ∙ ap (λ x. kernel_with (held_with p number (root_of beside.mounts)
+    (registers_opened beside.seed number program image) x) beside n) f
 
 -- whose number is the next
 pub with_next : (p : Processes) (number root : ℕ) (r : Regs) (space : AddressSpace) (program : Program) (image : Image)
     (seed : List ℕ) (beside : Beside) (n : ℕ) → number ≡ p.tasks.last + 1
     → r ≡ registers_opened seed number program image → space ≡ space_opened seed number program image
     → beside.seed ≡ seed → root_of beside.mounts ≡ root
-    → kernel_with (opened p.tasks (made_by number) (made_by number) root) (map.insert p.registers number r)
-    (with_named p.spaces 0 number space) p.areas p.console beside n
+    → kernel_with (held_with p number root r space) beside n
     ≡ with_task (p.tasks.last + 1) program image (kernel_of p beside n)
 with_next p number root r space program image seed beside n next e f same at =
     with_these p number root r space program image beside n at

@@ -49,8 +49,8 @@ use Rattle.kernel_calls.specs.declared.prepared.Effect.TheVariants.{Nothing, Tak
 use Rattle.kernel_calls.proofs.Runs.{alone_touching, nothing_ran, row_by_step, row_ran, stands_alone}
 use Rattle.call_table.specs.declared.processes.Processes.{Processes}
 use Rattle.call_table.specs.declared.processes.Standing.{Standing}
-use Rattle.call_table.specs.Beside.{Beside, nothing_beside, kernel_with, found_in}
-use Rattle.call_table.specs.Processes.{kernel_of, caller_with, StandsAs, RunsIn, NextIn, IsNextOf}
+use Rattle.call_table.specs.Beside.{Beside, Held, nothing_beside, nothing_held, kernel_with, found_in}
+use Rattle.call_table.specs.Processes.{held_by, kernel_of, caller_with, StandsAs, RunsIn, NextIn, IsNextOf}
 use Rattle.call_table.specs.Processes.{is_touching}
 use Rattle.call_table.proofs.Found.{Parted, found_by, parted}
 
@@ -67,13 +67,14 @@ args_same args = simp nat_same
 
 -- ---- a live task is found, whatever stands beside the processes
 
-module _ (list : TaskTable) (registers : map.FinMap nat_cmp Regs) (spaces : NamedMap AddressSpace)
-    (areas : NamedMap AreaState) (console : List ℕ) (beside : Beside) (n task : ℕ) where
+module _ (h : Held) (beside : Beside) (n task : ℕ) where
   s : Parts
-  s = parts (kernel_with list registers spaces areas console beside n)
+  s = parts (kernel_with h beside n)
 
   z : Parts
-  z = parts (kernel_with list registers spaces map.empty [] nothing_beside 0)
+  z =
+      parts (kernel_with (record nothing_held { tasks = h.tasks; registers = h.registers; spaces = h.spaces })
+      nothing_beside 0)
 
   alike_registers : (group : ℕ) (memory : Made) (o : Option Regs)
       → outcome_in s (with_memory task group memory o) ≡ outcome_in z (with_memory task group memory o)
@@ -85,21 +86,21 @@ module _ (list : TaskTable) (registers : map.FinMap nat_cmp Regs) (spaces : Name
       → outcome_in s (in_group task group o) ≡ outcome_in z (in_group task group o)
   unfolding s z
   alike_group group None = refl
-  alike_group group (Some g) = alike_registers group g.memory (map.get registers task)
+  alike_group group (Some g) = alike_registers group g.memory (map.get h.registers task)
 
   alike_life : (b : Bool)
-      → outcome_in s (cond b (in_group task (group_of list.tasks task)
-      (map.get list.groups (group_of list.tasks task))) (done None))
-      ≡ outcome_in z (cond b (in_group task (group_of list.tasks task)
-      (map.get list.groups (group_of list.tasks task))) (done None))
+      → outcome_in s (cond b (in_group task (group_of h.tasks.tasks task)
+      (map.get h.tasks.groups (group_of h.tasks.tasks task))) (done None))
+      ≡ outcome_in z (cond b (in_group task (group_of h.tasks.tasks task)
+      (map.get h.tasks.groups (group_of h.tasks.tasks task))) (done None))
   unfolding s z
-  alike_life true = alike_group (group_of list.tasks task) (map.get list.groups (group_of list.tasks task))
+  alike_life true = alike_group (group_of h.tasks.tasks task) (map.get h.tasks.groups (group_of h.tasks.tasks task))
   alike_life false = refl
 
-  pub found_beside : outcome_in (parts (kernel_with list registers spaces areas console beside n)) (caller_of task)
-      ≡ found_in list registers spaces task
+  pub found_beside : outcome_in (parts (kernel_with h beside n)) (caller_of task)
+      ≡ found_in h.tasks h.registers h.spaces task
   unfolding s z
-  found_beside = alike_life (is_live list.tasks task)
+  found_beside = alike_life (is_live h.tasks.tasks task)
 
 -- ---- an entry of a task that was found
 
@@ -117,20 +118,6 @@ unfolding step
 step_found k e c changes may found row =
     ap (λ b. cond b (option_map (stepped k) (outcome_in (parts k) (entry_row (context_of k) e))) None) may
     ∙ ap (option_map (stepped k)) (row_found k e c found ∙ row)
-
--- kernels with the same parts
-pub same_kernel : (list list' : TaskTable) (registers registers' : map.FinMap nat_cmp Regs)
-    (spaces spaces' : NamedMap AddressSpace) (areas areas' : NamedMap AreaState) (console console' : List ℕ)
-    (beside : Beside) (n : ℕ) → list' ≡ list → registers' ≡ registers → spaces' ≡ spaces → areas' ≡ areas
-    → console' ≡ console
-    → kernel_with list registers spaces areas console beside n
-    ≡ kernel_with list' registers' spaces' areas' console' beside n
-same_kernel list list' registers registers' spaces spaces' areas areas' console console' beside n e f g h i =
-    sym (ap (λ x. kernel_with x registers' spaces' areas' console' beside n) e
-    ∙ ap (λ x. kernel_with list x spaces' areas' console' beside n) f
-    ∙ ap (λ x. kernel_with list registers x areas' console' beside n) g
-    ∙ ap (λ x. kernel_with list registers spaces x console' beside n) h
-    ∙ ap (λ x. kernel_with list registers spaces areas x beside n) i)
 
 -- changes and then others
 changed-append : (xs ys : List Change) (k : Kernel) → changed (xs ++ ys) k ≡ changed ys (changed xs k)
@@ -173,7 +160,7 @@ module _ (p : Processes) (task : ℕ) (standing : Standing) (stands : StandsAs p
   c = caller_with task standing stands.space
 
   found_here : (beside : Beside) (n : ℕ) → outcome_in (parts (kernel_of p beside n)) (caller_of task) ≡ Some c
-  found_here beside n = found_beside p.tasks p.registers p.spaces p.areas p.console beside n task ∙ stands.found
+  found_here beside n = found_beside (held_by p) beside n task ∙ stands.found
 
   -- its memory is its own, and that and its registers stay where they are set to what they are
   pub own_space : (space : AddressSpace)
@@ -212,32 +199,31 @@ module _ (p : Processes) (task : ℕ) (standing : Standing) (stands : StandsAs p
     ran_here : ran count (going_in task stands.space standing.registers) ≡ Some (going_in task runs.left after)
     ran_here = ap (λ a. ran count (going_in task a standing.registers)) (sym same_space) ∙ runs.steps
 
-    pub step_run : (list : TaskTable) (registers : map.FinMap nat_cmp Regs) (spaces : NamedMap AddressSpace)
-        (areas : NamedMap AreaState) (console : List ℕ) (beside : Beside) (n : ℕ) → 1 ≤ count → count ≤ 10000
-        → list ≡ p.tasks → registers ≡ map.insert p.registers task after → spaces ≡ spaces' → areas ≡ p.areas
-        → console ≡ p.console
-        → step (kernel_of p beside n) (Run task count)
-        ≡ Some (kernel_with list registers spaces areas console beside (n + 1))
-    step_run list registers spaces areas console beside n low high e f g h i =
+    -- what the processes hold then
+    abbrev pub held_run : Held
+    held_run = record (held_by p) { registers = map.insert p.registers task after; spaces = spaces' }
+
+    pub step_run : (h : Held) (beside : Beside) (n : ℕ) → 1 ≤ count → count ≤ 10000 → h ≡ held_run
+        → step (kernel_of p beside n) (Run task count) ≡ Some (kernel_with h beside (n + 1))
+    step_run h beside n low high e =
         step_found (kernel_of p beside n) (Run task count) c
         ((OfSpace standing.memory, Some runs.left) ∷ task_change task after ∷ []) refl (found_here beside n)
         (row_ran count c runs.left after (parts (kernel_of p beside n)) ran_here low high)
-        ∙ ap Some (same_kernel p.tasks list (map.insert p.registers task after) registers
-        (with_named p.spaces standing.memory.place standing.memory.index runs.left) spaces p.areas areas p.console
-        console beside (n + 1) e f (g ∙ runs.put) h i)
+        ∙ ap (λ x. Some (kernel_with (record (held_by p) {
+          registers = map.insert p.registers task after;
+          spaces = x;
+        }) beside (n + 1))) (sym runs.put)
+        ∙ ap (λ x. Some (kernel_with x beside (n + 1))) (sym e)
 
     -- what its task is then
-    found_after : (list : TaskTable) (registers : map.FinMap nat_cmp Regs) (spaces : NamedMap AddressSpace)
-        (areas : NamedMap AreaState) (console : List ℕ) (beside : Beside) (n : ℕ) → list ≡ p.tasks
-        → registers ≡ map.insert p.registers task after → spaces ≡ spaces'
-        → outcome_in (parts (kernel_with list registers spaces areas console beside n)) (caller_of task)
+    found_after : (h : Held) (beside : Beside) (n : ℕ) → h ≡ held_run
+        → outcome_in (parts (kernel_with h beside n)) (caller_of task)
         ≡ Some (caller_with task (record { group = standing.group; memory = standing.memory; registers = after })
         runs.left)
-    found_after list registers spaces areas console beside n e f g =
-        found_beside list registers spaces areas console beside n task
-        ∙ ap (λ x. found_in x registers spaces task) e
-        ∙ ap (λ x. found_in p.tasks x spaces task) f
-        ∙ ap (λ x. found_in p.tasks (map.insert p.registers task after) x task) (g ∙ runs.put)
+    found_after h beside n e =
+        found_beside h beside n task
+        ∙ ap (λ (x : Held). found_in x.tasks x.registers x.spaces task) e
+        ∙ ap (λ x. found_in p.tasks (map.insert p.registers task after) x task) runs.put
         ∙ found_by p.tasks (map.insert p.registers task after)
         (with_named p.spaces standing.memory.place standing.memory.index runs.left) task before.group after runs.left
         before.live before.grouped (get-insert_same p.registers task after)
@@ -269,20 +255,18 @@ module _ (p : Processes) (task : ℕ) (standing : Standing) (stands : StandsAs p
         grouped = ap (λ (x : Caller). x.group) before.is
 
     -- a run that stopped is whole
-    pub whole_run : (list : TaskTable) (registers : map.FinMap nat_cmp Regs) (spaces : NamedMap AddressSpace)
-        (areas : NamedMap AreaState) (console : List ℕ) (beside : Beside) (n : ℕ) (before : Kernel) (told : Next)
-        → list ≡ p.tasks → registers ≡ map.insert p.registers task after → spaces ≡ spaces'
+    pub whole_run : (h : Held) (beside : Beside) (n : ℕ) (before : Kernel) (told : Next) → h ≡ held_run
         → StopsAt 10000 count told (next_of (acting_in task runs.left) after)
-        → is_whole (Run task count) before (kernel_with list registers spaces areas console beside n) ≡ true
-    whole_run list registers spaces areas console beside n before told e f g = by told
+        → is_whole (Run task count) before (kernel_with h beside n) ≡ true
+    whole_run h beside n before told e = by told
       where
         k : Kernel
-        k = kernel_with list registers spaces areas console beside n
+        k = kernel_with h beside n
 
         stopped : goes_on (next_of (acting_in task runs.left) after) ≡ false → is_whole (Run task count) before k ≡ true
         stopped off =
             ap (λ o. nat_eq count 10000 || not (goes_next o) || has_touching before task)
-            (found_after list registers spaces areas console beside n e f g)
+            (found_after h beside n e)
             ∙ ap (λ x. nat_eq count 10000 || not x || has_touching before task) off
             ∙ ap (λ x. x || has_touching before task) (or_true (nat_eq count 10000))
 
@@ -333,44 +317,41 @@ module _ (p : Processes) (task : ℕ) (standing : Standing) (stands : StandsAs p
         let touched = area_touched (next_in c) (sym (ap touches_next stands.found) ∙ touching) in
         alone_touching c touched.0 touched.1
 
-    pub step_touching : (after : Regs) (space : AddressSpace) (list : TaskTable) (registers : map.FinMap nat_cmp Regs)
-        (spaces : NamedMap AddressSpace) (areas : NamedMap AreaState) (console : List ℕ) (beside : Beside) (n : ℕ)
-        → Steps c (kernel_of p beside n) after space areas → list ≡ p.tasks
-        → registers ≡ map.insert p.registers task after
-        → spaces ≡ with_named p.spaces standing.memory.place standing.memory.index space → console ≡ p.console
-        → step (kernel_of p beside n) (Run task 1)
-        ≡ Some (kernel_with list registers spaces areas console beside (n + 1))
-    step_touching after space list registers spaces areas console beside n steps e f g h =
+    pub step_touching : (after : Regs) (space : AddressSpace) (areas : NamedMap AreaState) (h : Held)
+        (beside : Beside) (n : ℕ) → Steps c (kernel_of p beside n) after space areas
+        → h ≡ record (held_by p) {
+          registers = map.insert p.registers task after;
+          spaces = with_named p.spaces standing.memory.place standing.memory.index space;
+          areas = areas;
+        }
+        → step (kernel_of p beside n) (Run task 1) ≡ Some (kernel_with h beside (n + 1))
+    step_touching after space areas h beside n steps e =
         step_found (kernel_of p beside n) (Run task 1) c steps.changes refl (found_here beside n)
         (row_by_step 1 c alone (parts (kernel_of p beside n)) refl ∙ steps.row_is)
         ∙ ap (λ (m : Kernel). Some (record m { entries = n + 1 })) steps.done_is
-        ∙ ap Some (same_kernel p.tasks list (map.insert p.registers task after) registers
-        (with_named p.spaces standing.memory.place standing.memory.index space) spaces areas areas p.console console
-        beside (n + 1) e f g refl h)
+        ∙ ap (λ x. Some (kernel_with x beside (n + 1))) (sym e)
 
     pub whole_touching : (beside : Beside) (n : ℕ) (after : Kernel)
         → is_whole (Run task 1) (kernel_of p beside n) after ≡ true
     whole_touching beside n after =
         ap (λ o. nat_eq 1 10000 || not (has_next after task) || touches_next o)
-        (found_beside p.tasks p.registers p.spaces p.areas p.console beside n task)
+        (found_beside (held_by p) beside n task)
         ∙ ap (λ b. nat_eq 1 10000 || not (has_next after task) || b) touching
         ∙ or_true (nat_eq 1 10000 || not (has_next after task))
 
   -- ---- calls
 
-  pub step_call : (number : ℕ) (args : Args) (given : Given) (value : ℤ) (changes : List Change)
-      (list : TaskTable) (registers : map.FinMap nat_cmp Regs) (spaces : NamedMap AddressSpace)
-      (areas : NamedMap AreaState) (console : List ℕ) (beside : Beside) (n : ℕ) → NextIn p task Calls
+  pub step_call : (number : ℕ) (args : Args) (given : Given) (value : ℤ) (changes : List Change) (h : Held)
+      (registers : map.FinMap nat_cmp Regs) (beside : Beside) (n : ℕ) → NextIn p task Calls
       → number ≡ call_of standing.registers → args ≡ args_of standing.registers
       → given ≡ record { fresh = []; rises = [] }
       → outcome_in (parts (kernel_of p beside n)) (call_row (context_of (kernel_of p beside n)) c number args)
       ≡ replies value changes
-      → changed changes (kernel_of p beside n) ≡ kernel_with list p.registers spaces areas console beside n
+      → changed changes (kernel_of p beside n) ≡ kernel_with (record h { registers = p.registers }) beside n
       → registers ≡ map.insert p.registers task (replied standing.registers value)
       → step (kernel_of p beside n) (Call task number args given value)
-      ≡ Some (kernel_with list registers spaces areas console beside (n + 1))
-  step_call number args given value changes list registers spaces areas console beside n calls is same nothing_met row
-      left f =
+      ≡ Some (kernel_with (record h { registers = registers }) beside (n + 1))
+  step_call number args given value changes h registers beside n calls is same nothing_met row left f =
       step_found k (Call task number args given value) c (changes ++ going_on c value)
       (ap (may_meet k.nodes) nothing_met) (found_here beside n)
       (outcome-bind (parts k) (next_row c) (λ (x : Stands). call_at (context_of k) c number args value given x.next)
@@ -384,7 +365,7 @@ module _ (p : Processes) (task : ℕ) (standing : Standing) (stands : StandsAs p
       ∙ ap Some (ap (λ (m : Kernel). record m { entries = n + 1 })
       (changed-append changes (going_on c value) k
       ∙ ap (put (OfTask task) (Some (replied standing.registers value))) left)
-      ∙ ap (λ x. kernel_with list x spaces areas console beside (n + 1)) (sym f))
+      ∙ ap (λ x. kernel_with (record h { registers = x }) beside (n + 1)) (sym f))
     where
       k : Kernel
       k = kernel_of p beside n
@@ -400,7 +381,7 @@ module _ (p : Processes) (task : ℕ) (standing : Standing) (stands : StandsAs p
   pub step_end : (signal : ℕ) (list : TaskTable) (beside : Beside) (n : ℕ) → NextIn p task (Traps signal)
       → list ≡ group_ended p.tasks standing.group (Killed signal)
       → step (kernel_of p beside n) (End task signal)
-      ≡ Some (kernel_with list p.registers p.spaces p.areas p.console beside (n + 1))
+      ≡ Some (kernel_with (record (held_by p) { tasks = list }) beside (n + 1))
   step_end signal list beside n traps e =
       step_found k (End task signal) c
       ((OfTasks, group_ended p.tasks standing.group (Killed signal)) ∷ []) refl (found_here beside n)
@@ -409,7 +390,7 @@ module _ (p : Processes) (task : ℕ) (standing : Standing) (stands : StandsAs p
       ∙ ap (λ b. outcome_in (parts k) (if b
       then look OfTasks (λ list. done (Some (group_end standing.group (Killed signal) list))) else done None))
       (nat_same signal))
-      ∙ ap (λ x. Some (kernel_with x p.registers p.spaces p.areas p.console beside (n + 1))) (sym e)
+      ∙ ap (λ x. Some (kernel_with (record (held_by p) { tasks = x }) beside (n + 1))) (sym e)
     where
       k : Kernel
       k = kernel_of p beside n

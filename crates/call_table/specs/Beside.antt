@@ -6,7 +6,7 @@ use Rattle.mount_file.specs.declared.mounts.Mount.{Mount}
 use Rattle.rv_table.specs.declared.regs.Regs.{Regs}
 use Rattle.mm_space.specs.Handing.{AreaState}
 use Rattle.mm_space.specs.Spaces.{AddressSpace}
-use Rattle.task_table.specs.Table.{TaskTable, is_live}
+use Rattle.task_table.specs.Table.{TaskTable, is_live, no_tasks}
 use Rattle.kernel_model.specs.Names.{NamedMap}
 use Rattle.kernel_model.specs.declared.caller.Caller.{Caller}
 use Rattle.kernel_model.specs.declared.kernel.Kernel.{Kernel}
@@ -25,17 +25,34 @@ pub record Beside : Type 0 where
 abbrev pub nothing_beside : Beside
 nothing_beside = record { nodes = map.empty; failed = map.empty; mounts = []; seed = [] }
 
+-- what processes hold: the task list, registers by task, address spaces and shared areas by name, and the console
+-- profile
+pub record Held : Type 0 where
+  pub tasks : TaskTable
+  pub registers : map.FinMap nat_cmp Regs
+  pub spaces : NamedMap AddressSpace
+  pub areas : NamedMap AreaState
+  pub console : List ℕ
+
+abbrev pub nothing_held : Held
+nothing_held = record {
+  tasks = no_tasks;
+  registers = map.empty;
+  spaces = map.empty;
+  areas = map.empty;
+  console = [];
+}
+
 -- a kernel of these parts, after so many entries
 -- profile
-abbrev pub kernel_with : TaskTable → map.FinMap nat_cmp Regs → NamedMap AddressSpace → NamedMap AreaState → List ℕ
-    → Beside → (entries : ℕ) → Kernel
-kernel_with list registers spaces areas console beside entries = record {
-  tasks = list;
-  registers = registers;
-  spaces = spaces;
-  areas = areas;
+abbrev pub kernel_with : Held → Beside → (entries : ℕ) → Kernel
+kernel_with held beside entries = record {
+  tasks = held.tasks;
+  registers = held.registers;
+  spaces = held.spaces;
+  areas = held.areas;
   nodes = beside.nodes;
-  console = console;
+  console = held.console;
   failed = beside.failed;
   mounts = beside.mounts;
   seed = beside.seed;
@@ -46,7 +63,8 @@ kernel_with list registers spaces areas console beside entries = record {
 -- credentials(7), Process ID (PID)
 abbrev pub found_in : TaskTable → map.FinMap nat_cmp Regs → NamedMap AddressSpace → (task : ℕ) → Option Caller
 found_in list registers spaces task =
-    outcome_in (parts (kernel_with list registers spaces map.empty [] nothing_beside 0)) (caller_of task)
+    outcome_in (parts (kernel_with (record nothing_held { tasks = list; registers = registers; spaces = spaces })
+    nothing_beside 0)) (caller_of task)
 
 -- each live task has registers, and its group a memory
 -- profile

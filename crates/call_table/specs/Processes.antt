@@ -16,12 +16,21 @@ use Rattle.kernel_model.specs.entries.Parts.{parts, outcome_in, set_at}
 use Rattle.kernel_calls.specs.Lending.{AreAlike}
 use Rattle.call_table.specs.declared.processes.Processes.{Processes}
 use Rattle.call_table.specs.declared.processes.Standing.{Standing}
-use Rattle.call_table.specs.Beside.{Beside, kernel_with, found_in}
+use Rattle.call_table.specs.Beside.{Beside, Held, kernel_with, found_in}
 
--- the kernel of processes, with this beside them, after so many entries
+-- what processes hold, and the kernel that they are with this beside them, after so many entries
 -- profile
+abbrev pub held_by : Processes → Held
+held_by p = record {
+  tasks = p.tasks;
+  registers = p.registers;
+  spaces = p.spaces;
+  areas = p.areas;
+  console = p.console;
+}
+
 abbrev pub kernel_of : Processes → Beside → (entries : ℕ) → Kernel
-kernel_of p beside entries = kernel_with p.tasks p.registers p.spaces p.areas p.console beside entries
+kernel_of p beside entries = kernel_with (held_by p) beside entries
 
 -- a live task of processes
 -- profile

@@ -8,7 +8,7 @@ ghost use Rattle.kernel_model.specs.Names.{get_named, has_named};
 ghost use Rattle.kernel_model.specs.machine.Instructions.{StopsAt, goes_on, next_of, touches_area};
 ghost use Rattle.kernel_model.specs.machine.Spaces.{acting_in};
 ghost use Rattle.kernel_model.specs.entries.History.{is_whole};
-ghost use Rattle.kernel_model.specs.entries.Steps.{step};
+ghost use Rattle.kernel_model.specs.entries.Steps.{step, task_of};
 ghost use Rattle.kernel_model.specs.files.Numbers.{numbers_in};
 ghost use Rattle.call_table.specs.Beside.{Beside};
 ghost use Rattle.call_table.specs.Processes.{AreKept, HasRunPart, NextIn, RunsIn, StandsAs, is_touching, kernel_of};
@@ -75,6 +75,7 @@ impl Processes {
             step (kernel_of self.old beside n) entry ≡ Some (kernel_of self.new beside (n + 1))) }
         ensures whole { IfOk result (λ entry. (beside : Beside) (n m : ℕ) →
             is_whole entry (kernel_of self.old beside n) (kernel_of self.new beside m) ≡ true) }
+        ensures task { IfOk result (λ entry. task_of entry ≡ task) }
         ensures numbers { IfOk result (λ entry. numbers_in entry ≡ []) }
         ensures memory { OnErr result (HasRunPart task self.old self.new) }
     {
@@ -141,6 +142,7 @@ impl Processes {
             step (kernel_of self.old beside n) entry ≡ Some (kernel_of self.new beside (n + 1))) }
         ensures whole { IfOk result (λ entry. (beside : Beside) (n m : ℕ) →
             is_whole entry (kernel_of self.old beside n) (kernel_of self.new beside m) ≡ true) }
+        ensures task { IfOk result (λ entry. task_of entry ≡ context.now.task) }
         ensures numbers { IfOk result (λ entry. numbers_in entry ≡ []) }
         ensures memory { OnErr result (HasRunPart context.now.task self.old self.new) }
     {
@@ -200,6 +202,7 @@ impl Processes {
             step (kernel_of self.old beside n) entry ≡ Some (kernel_of self.new beside (n + 1))) }
         ensures whole { IfOk result (λ entry. (beside : Beside) (n m : ℕ) →
             is_whole entry (kernel_of self.old beside n) (kernel_of self.new beside m) ≡ true) }
+        ensures task { IfOk result (λ entry. task_of entry ≡ context.now.task) }
         ensures numbers { IfOk result (λ entry. numbers_in entry ≡ []) }
         ensures memory { OnErr result (HasRunPart context.now.task self.old self.new) }
     {
@@ -268,6 +271,7 @@ impl Processes {
             step (kernel_of self.old beside n) entry ≡ Some (kernel_of self.new beside (n + 1))) }
         ensures whole { IfOk result (λ entry. (beside : Beside) (n m : ℕ) →
             is_whole entry (kernel_of self.old beside n) (kernel_of self.new beside m) ≡ true) }
+        ensures task { IfOk result (λ entry. task_of entry ≡ task) }
         ensures numbers { IfOk result (λ entry. numbers_in entry ≡ []) }
         ensures err { OnErr result (AreKept self.old self.new) }
     {

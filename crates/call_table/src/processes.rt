@@ -39,8 +39,8 @@ pub(crate) struct Standing {
 }
 
 impl Processes {
-    ghost use Rattle.call_table.specs.Beside.{Beside, kernel_with, nothing_beside};
-    ghost use Rattle.call_table.specs.Processes.{StandsAs, kernel_of};
+    ghost use Rattle.call_table.specs.Beside.{Beside, kernel_with, nothing_beside, nothing_held};
+    ghost use Rattle.call_table.specs.Processes.{StandsAs, held_by, kernel_of};
     ghost use Rattle.kernel_model.specs.Names.{with_named};
     ghost use Rattle.kernel_model.specs.opening.Opening.{root_of, with_task};
 
@@ -49,7 +49,7 @@ impl Processes {
     pub fn new(alloc: Global) -> Processes
         ensures none { result.tasks ≡ no_tasks }
         ensures begun { (beside : Beside) (n : ℕ) →
-            kernel_of result beside n ≡ kernel_with no_tasks map.empty map.empty map.empty [] beside n }
+            kernel_of result beside n ≡ kernel_with nothing_held beside n }
     {
         Processes {
             tasks: Tasks::new(alloc),
@@ -97,9 +97,11 @@ impl Processes {
         requires room { IsRoomFor self.tasks }
         requires next { number ≡ self.tasks.last + 1 }
         ensures { IfOk result (λ p. (beside : Beside) (n : ℕ) → kernel_of p beside n ≡
-            kernel_with (opened_task self.tasks (made_by number) (made_by number) root)
-            (map.insert self.registers number beginning.registers)
-            (with_named self.spaces 0 number beginning.space) self.areas self.console beside n) }
+            kernel_with (record (held_by self) {
+              tasks = opened_task self.tasks (made_by number) (made_by number) root;
+              registers = map.insert self.registers number beginning.registers;
+              spaces = with_named self.spaces 0 number beginning.space;
+            }) beside n) }
     {
         let Processes {
             mut tasks,

@@ -8,7 +8,7 @@ ghost use Rattle.kernel_model.specs.entries.History.{replay, each_whole};
 ghost use Rattle.kernel_model.specs.files.Numbers.{numbers_in};
 ghost use Rattle.call_table.specs.Beside.{Beside};
 ghost use Rattle.call_table.specs.Processes.{kernel_of};
-ghost use Rattle.call_table.specs.Turns.{Leaves, next_of};
+ghost use Rattle.call_table.specs.Turns.{AreInTurn, Leaves, next_of};
 
 use crate::Processes;
 use kernel_model::Trace;
@@ -48,6 +48,8 @@ pub fn run_turns(alloc: Global, processes: Processes, seed: &[u8], entries: u64)
         replay (kernel_of processes beside 0) result.trace ≡ Some (kernel_of p beside (length result.trace))) }
     ensures whole { (beside : Beside) → beside.seed ≡ seed.now →
         each_whole (kernel_of processes beside 0) result.trace ≡ true }
+    ensures turns { (beside : Beside) → beside.seed ≡ seed.now →
+        AreInTurn 0 (kernel_of processes beside 0) result.trace }
     ensures drawn { flat_map numbers_in result.trace ≡ [] }
     ensures bound { length result.trace ≤ entries }
     ensures ended { IfSome result.processes (λ p.

@@ -1,4 +1,4 @@
--- The trace so far is a whole history, and leaves the processes.
+-- The trace so far is a whole history in turn, and leaves the processes.
 use Rattle.std.proofs.Common.{◌≡◌, true, length, []}
 use Rattle.std.specs.List.{flat_map}
 use Rattle.std.specs.Prelude.{Some}
@@ -6,14 +6,17 @@ use Rattle.kernel_model.specs.entries.History.{replay, each_whole}
 use Rattle.kernel_model.specs.files.Numbers.{numbers_in}
 use Rattle.call_table.specs.Beside.{Beside}
 use Rattle.call_table.specs.Processes.{kernel_of}
+use Rattle.call_table.specs.Turns.{AreInTurn, last_turn}
 use Rattle.call_table.proofs.turns.run_turns.Given as goal
 
--- the trace so far is a history that leaves the processes, and each of its Runs is whole
+-- the trace so far is a history that leaves the processes, its entries are in turn, and each of its Runs is whole
 abbrev pub invariant-loop-place : goal.invariant-loop-place
 invariant-loop-place l = record {
   count : length l.trace ≡ l.place;
   state : (beside : Beside) → beside.seed ≡ l.fn.seed → replay (kernel_of l.fn.processes beside 0) l.trace
       ≡ Some (kernel_of l.processes beside (length l.trace));
+  turns : (beside : Beside) → beside.seed ≡ l.fn.seed → AreInTurn 0 (kernel_of l.fn.processes beside 0) l.trace;
+  last : l.last ≡ last_turn 0 l.trace;
   drawn : flat_map numbers_in l.trace ≡ [];
   whole : (beside : Beside) → beside.seed ≡ l.fn.seed → each_whole (kernel_of l.fn.processes beside 0) l.trace
       ≡ true;

@@ -13,7 +13,7 @@ use Rattle.kernel_model.specs.entries.Parts.{parts, changed}
 use Rattle.kernel_model.specs.entries.Steps.{step}
 use Rattle.kernel_calls.specs.Prepared.{changes_of}
 use Rattle.call_table.specs.Beside.{AreAtHome, nothing_beside}
-use Rattle.call_table.specs.Processes.{kernel_of, caller_with}
+use Rattle.call_table.specs.Processes.{held_by, kernel_of, caller_with}
 use Rattle.call_table.proofs.Homes.{home_committed, home_reached, home_run}
 use Rattle.call_table.proofs.Kept.{part_none}
 use Rattle.call_table.proofs.Results.{err_by}
@@ -98,9 +98,13 @@ returns-clause-step c = λ beside n seed place.
     ap (λ reply. step k (Call c.args.context.now.task c.call_of-no.result c.args_of-args.result c.nothing_given.result
     reply)) (to_z-of_z fits)
     ∙ step_call c.args.self.now c.args.context.now.task c.args.standing c.requires.stands c.call_of-no.result
-    c.args_of-args.result c.nothing_given.result c.in_ok-value.field-0.reply answers.changes c.commit.new.tasks
-    c.replace.new.self m.spaces m.areas c.commit.new.console beside n c.requires.calls c.call_of-no.ensures
-    c.args_of-args.ensures c.nothing_given.ensures answers.row_is
+    c.args_of-args.result c.nothing_given.result c.in_ok-value.field-0.reply answers.changes
+    (record (held_by c.args.self.now) {
+      tasks = c.commit.new.tasks;
+      spaces = m.spaces;
+      areas = m.areas;
+      console = c.commit.new.console;
+    }) c.replace.new.self beside n c.requires.calls c.call_of-no.ensures c.args_of-args.ensures c.nothing_given.ensures answers.row_is
     (answers.done_is
     ∙ ap (λ changes. changed changes m) (effect_alike c.in_ok-value.field-0.effect c.args.standing.group k m refl refl)
     ∙ c.in_ok-commit.ensures.ok m refl refl)

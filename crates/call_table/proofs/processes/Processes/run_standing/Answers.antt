@@ -7,7 +7,7 @@ use Rattle.mm_space.specs.Spaces.{AddressSpace}
 use Rattle.task_table.specs.declared.task.Made.{Made}
 use Rattle.kernel_model.specs.Names.{NamedMap, with_named}
 use Rattle.kernel_calls.specs.declared.instructions.Ran.{Ran}
-use Rattle.call_table.specs.Processes.{RunsIn, caller_with, kernel_of}
+use Rattle.call_table.specs.Processes.{RunsIn, caller_with, held_by, kernel_of}
 use Rattle.call_table.proofs.Homes.{home_run}
 use Rattle.call_table.proofs.Results.{with_ok, on_err}
 use Rattle.call_table.proofs.Steps.{step_run, whole_run, registers_left, spaces_left, next_left, left_there}
@@ -40,19 +40,22 @@ pub returns-clause-step : goal.returns-clause-step
 returns-clause-step c =
     with_ok _ _ _ c.run_in-ran.result (λ r runs within more beside n.
     step_run c.args.self.now c.args.task c.args.standing c.requires.stands r.count c.run_in-ran.new.registers
-    c.run_in-ran.new.spaces runs c.args.self.now.tasks c.replace.new.self c.run_in-ran.new.spaces
-    c.args.self.now.areas c.args.self.now.console beside n (omega arith) within refl
-    (c.replace.ensures ∙ ap (λ k. map.insert c.args.self.now.registers k c.run_in-ran.new.registers) c.from.ensures)
-    refl refl refl) c.run_in-ran.ensures.runs c.run_in-ran.ensures.within
+    c.run_in-ran.new.spaces runs
+    (record (held_by c.args.self.now) { registers = c.replace.new.self; spaces = c.run_in-ran.new.spaces }) beside n
+    (omega arith) within
+    (ap (λ x. record (held_by c.args.self.now) { registers = x; spaces = c.run_in-ran.new.spaces })
+    (c.replace.ensures ∙ ap (λ k. map.insert c.args.self.now.registers k c.run_in-ran.new.registers) c.from.ensures)))
+    c.run_in-ran.ensures.runs c.run_in-ran.ensures.within
 
 pub returns-clause-whole : goal.returns-clause-whole
 returns-clause-whole c =
     with_ok _ _ _ c.run_in-ran.result (λ r runs stops beside n m.
     whole_run c.args.self.now c.args.task c.args.standing c.requires.stands r.count c.run_in-ran.new.registers
-    c.run_in-ran.new.spaces runs c.args.self.now.tasks c.replace.new.self c.run_in-ran.new.spaces
-    c.args.self.now.areas c.args.self.now.console beside m (kernel_of c.args.self.now beside n) r.next refl
-    (c.replace.ensures ∙ ap (λ k. map.insert c.args.self.now.registers k c.run_in-ran.new.registers) c.from.ensures)
-    refl
+    c.run_in-ran.new.spaces runs
+    (record (held_by c.args.self.now) { registers = c.replace.new.self; spaces = c.run_in-ran.new.spaces }) beside m
+    (kernel_of c.args.self.now beside n) r.next
+    (ap (λ x. record (held_by c.args.self.now) { registers = x; spaces = c.run_in-ran.new.spaces })
+    (c.replace.ensures ∙ ap (λ k. map.insert c.args.self.now.registers k c.run_in-ran.new.registers) c.from.ensures))
     (stops runs.left
     (left_there c.args.self.now c.args.task c.args.standing c.requires.stands r.count c.run_in-ran.new.registers
     c.run_in-ran.new.spaces runs))) c.run_in-ran.ensures.runs c.run_in-ran.ensures.stopped

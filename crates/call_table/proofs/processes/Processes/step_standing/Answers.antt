@@ -1,7 +1,11 @@
 -- An instruction that touches a shared area is a step of the kernel, or nothing.
 use Rattle.std.proofs.Common.{ap, sym, ◌∙◌, refl}
 use Rattle.std.specs.FinMap as map
-use Rattle.call_table.specs.Processes.{kernel_of, caller_with}
+use Rattle.std.specs.Ordering.{nat_cmp}
+use Rattle.rv_table.specs.declared.regs.Regs.{Regs}
+use Rattle.kernel_model.specs.Names.{with_named}
+use Rattle.call_table.specs.Beside.{Held}
+use Rattle.call_table.specs.Processes.{held_by, kernel_of, caller_with}
 use Rattle.call_table.proofs.Homes.{home_reached, home_run}
 use Rattle.call_table.proofs.Results.{err_by}
 use Rattle.call_table.proofs.Steps.{own_space, space_same, registers_same, next_told, step_touching}
@@ -26,7 +30,7 @@ invariant_of-self-2 c = record {
 pub returns-clause-step : goal.returns-clause-step
 returns-clause-step c = λ goes beside n.
     step_touching c.args.self.now c.args.task c.args.standing c.requires.stands c.requires.touches c.step.new.registers
-    c.step.new.space c.args.self.now.tasks c.replace.new.self _ c.step.new.areas c.args.self.now.console beside n
+    c.step.new.space c.step.new.areas (left c.replace.new.self) beside n
     (c.in_ok-next.ensures.goes goes (caller_with c.args.task c.args.standing c.requires.stands.space)
     (kernel_of c.args.self.now beside n) (record {
       task = refl;
@@ -35,8 +39,17 @@ returns-clause-step c = λ goes beside n.
           own_space c.args.self.now c.args.task c.args.standing c.requires.stands c.in-Some.space.now
           (sym c.in-Some.ensures.value);
       areas = refl;
-    })) refl
-    (c.replace.ensures ∙ ap (λ x. map.insert c.args.self.now.registers x c.step.new.registers) c.from.ensures) refl refl
+    }))
+    (ap left
+    (c.replace.ensures ∙ ap (λ x. map.insert c.args.self.now.registers x c.step.new.registers) c.from.ensures))
+  where
+    left : map.FinMap nat_cmp Regs → Held
+    left registers = record (held_by c.args.self.now) {
+      registers = registers;
+      spaces =
+          with_named c.args.self.now.spaces c.args.standing.memory.place c.args.standing.memory.index c.step.new.space;
+      areas = c.step.new.areas;
+    }
 
 pub returns-clause-next : goal.returns-clause-next
 returns-clause-next c =
