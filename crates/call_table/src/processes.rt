@@ -1,6 +1,6 @@
 //! Tasks with their registers and memories, shared areas, and the console: the parts of a run's state so far.
 
-ghost use Rattle.std.specs.Prelude.{◌≡◌, ℕ, ◌+◌, [], false, IsTrue, IsFalse, IfOk, OnOk};
+ghost use Rattle.std.specs.Prelude.{◌≡◌, ℕ, ◌+◌, [], false, IsTrue, IsFalse, IfOk};
 ghost use Rattle.std.specs.FinMap as map;
 ghost use Rattle.kernel_model.specs.opening.Arguments.{is_too_long};
 ghost use Rattle.kernel_model.specs.laws.Beginnings.{HasRoom, IsRoomFor};
@@ -11,13 +11,13 @@ ghost use Rattle.task_table.specs.Table.{has_ended, is_live, live_numbers, no_ta
 ghost use Rattle.call_table.specs.Beside.{AreAtHome};
 
 use elf_image::Image;
-use kernel_calls::{Beginning, opened};
+use kernel_calls::{Beginning, open_task, opened};
 use kernel_model::{GuestArea, GuestSpace, Kernel, Named};
 use mount_file::Program;
 use rv_table::Regs;
 use sn_base::{List, Map, Memory};
 use std::alloc::Global;
-use task_table::{CloneErr, Made, Tasks};
+use task_table::{Made, Tasks};
 
 /// The task list, registers by task, address spaces and shared areas by the entry that made them, and the console.
 #[derive(Drop)]
@@ -179,21 +179,5 @@ impl Processes {
             seed: List::new(alloc),
             entries,
         }
-    }
-}
-
-/// Opens a task in a directory. Its memory and its descriptor table are named by its number.
-fn open_task(tasks: &mut Tasks, number: u32, directory: u64) -> Result<(), Memory>
-    requires { IsRoomFor tasks.old }
-    ensures { OnOk result (tasks.new ≡ opened_task tasks.old (made_by number) (made_by number) directory) }
-{
-    let name = Made {
-        place: 0,
-        index: number,
-    };
-    match tasks.open(name, name, directory) {
-        Ok(_) => Ok(()),
-        Err(CloneErr::Memory) => Err(Memory),
-        Err(CloneErr::Full) => unreachable!(),
     }
 }

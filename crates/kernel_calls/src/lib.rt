@@ -3,8 +3,8 @@
 //! A caller sees `call`, which does what a call of a live task comes to in its memory and tells what is left to do to
 //! the console or the task list, and `commit`, which does that; `args_of`, `call_of` and `reply`, the registers at a
 //! call; `run`, a task's instructions up to one that calls, traps or touches a shared area, and `step`, one instruction
-//! with the shared areas that it touches; and of execve `is_too_long`, `read_executable`, `opened` and
-//! `opening_random`. They know no tasks' registers, no host and no trace. What each of them means is said by
+//! with the shared areas that it touches; and of execve `is_too_long`, `read_executable`, `opened`, `opening_random`,
+//! `open_task` and `root_of`. They know no tasks' registers, no host and no trace. What each of them means is said by
 //! `kernel_model`.
 //!
 //! Proved: `call` comes to what its row says, in every state that has the address space, the shared areas, the task
@@ -15,7 +15,8 @@
 //! leaves what fewer of them leave (`memory`). `step` tells what the next instruction does (`next`), and where it goes
 //! on leaves what its row leaves (`goes`); otherwise nothing has changed (`kept`, `err`). `read_executable` is the
 //! image as execve takes it (`image`, `pages`), `opened` the definition of what an opening task begins with
-//! (`registers`, `space`), and `opening_random` of its random bytes.
+//! (`registers`, `space`), `opening_random` of its random bytes, `open_task` of its place in the task list, and
+//! `root_of` of the number of its working directory.
 //!
 //! Not said: which tasks there are, what a host is, and what an entry changes.
 //!
@@ -46,7 +47,7 @@ pub use calls::call;
 pub use context::Context;
 pub use executable::read_executable;
 pub use instructions::{Ran, run};
-pub use opened_task::{Beginning, opened};
+pub use opened_task::{Beginning, open_task, opened, root_of};
 pub use prepared::{Effect, Prepared, commit};
 pub use random::opening_random;
 pub use registers::{args_of, call_of, reply};

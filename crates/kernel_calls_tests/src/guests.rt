@@ -7,7 +7,7 @@ ghost use Rattle.kernel_model.specs.opening.Arguments.{is_too_long};
 ghost use Rattle.kernel_model.specs.laws.Beginnings.{HasRoom};
 
 use elf_image::Image;
-use kernel_calls::{Beginning, is_too_long, opened as open_task, read_executable};
+use kernel_calls::{Beginning, is_too_long, opened as beginning_of, read_executable};
 use kernel_model::GuestSpace;
 use mm_areas::Rights;
 use mm_space::Handed;
@@ -57,7 +57,7 @@ fn running(
     requires short { is_too_long program.now.args program.now.env ≡ false }
     requires pages { HasRoom image.now }
 {
-    open_task(alloc, seed, number, program, image)
+    beginning_of(alloc, seed, number, program, image)
 }
 
 /// The same, where its strings aren't too long.

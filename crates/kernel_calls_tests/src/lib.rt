@@ -30,6 +30,8 @@ mod identity;
 #[cfg(test)]
 mod machine;
 #[cfg(test)]
+mod opened_task;
+#[cfg(test)]
 mod places;
 #[cfg(test)]
 mod random;

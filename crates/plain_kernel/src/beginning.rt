@@ -14,15 +14,15 @@ ghost use Rattle.plain_kernel.specs.Beginnings.{IsRefusedBy};
 
 use crate::OpeningErr;
 use crate::nodes::root_node;
-use crate::walking::{Execved, ROOT, execve};
+use crate::walking::{Execved, execve};
 use elf_image::Image;
 use host_node::Tree;
-use kernel_calls::{Beginning, opened};
+use kernel_calls::{Beginning, open_task, opened};
 use kernel_model::{Given, Kernel, Named, Node, Opened};
 use mount_file::{Mounts, Program, copied_mounts};
 use sn_base::{List, Map, Memory};
 use std::alloc::Global;
-use task_table::{CloneErr, Made, Tasks};
+use task_table::Tasks;
 
 /// The nodes of the roots, numbered in order of the mounts.
 fn number_roots(alloc: Global, trees: &[Tree]) -> Result<Map<Node>, Memory>
@@ -133,20 +133,4 @@ fn add_task(
     open_task(&mut kernel.tasks, number)?;
     kernel.registers.insert(u64::from(number), registers)?;
     kernel.spaces.insert(alloc, 0, number, space)
-}
-
-/// Opens a task, whose memory and descriptor table are named by its number.
-fn open_task(tasks: &mut Tasks, number: u32) -> Result<(), Memory>
-    requires { IsRoomFor tasks.old }
-    ensures { OnOk result (tasks.new ≡ with_opened tasks.old (made_by number) (made_by number) 1) }
-{
-    let name = Made {
-        place: 0,
-        index: number,
-    };
-    match tasks.open(name, name, ROOT) {
-        Ok(_) => Ok(()),
-        Err(CloneErr::Memory) => Err(Memory),
-        Err(CloneErr::Full) => unreachable!(),
-    }
 }
