@@ -69,6 +69,7 @@ int main(void)
     show_names();
     show_time();
     show("sched_yield", ask(CALL_SCHED_YIELD, 0, 0));
+    show("set_tid_address", ask(CALL_SET_TID_ADDRESS, 0, 0));
     show("set_robust_list", ask(CALL_SET_ROBUST_LIST, 0, 24));
     return 0;
 }

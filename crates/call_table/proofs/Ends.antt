@@ -1,4 +1,5 @@
--- What the end of a thread group leaves: tasks in their groups, and groups with their memories.
+-- What the end of a thread group, and a clear word that is set, leave: tasks in their groups, and groups with their
+-- memories.
 use Rattle.std.proofs.Common.{◌≡◌, ℕ, Bool, true, false, cond, eqb, refl, ap, ◌∙◌}
 use Rattle.std.specs.Prelude.{Option, Some, None, ◌==◌}
 use Rattle.std.specs.Option.{option_map, option_map_or}
@@ -13,6 +14,7 @@ use Rattle.task_table.specs.Reaps.{orphaned}
 use Rattle.task_table.specs.Table.{TaskTable, is_live, group_of}
 use Rattle.task_table.proofs.Changes.{get-changed_at, get-each_changed}
 use Rattle.task_table.proofs.Endings.{get-ended_where, live_before_end}
+use Rattle.kernel_model.specs.calls.Ending.{clear_set}
 
 module _ (list : TaskTable) (group : ℕ) (status : Status) where
   -- who lives then lived before
@@ -65,3 +67,31 @@ module _ (list : TaskTable) (group : ℕ) (status : Status) where
           × (after.memory ≡ before.memory)
       by true is = (record (orphaned group before) { ended = Some status }, is, kept)
       by false is = (orphaned group before, is, kept)
+
+module _ (list : TaskTable) (setter address : ℕ) where
+  -- a task whose clear word was set
+  abbrev cleared : Task → Task
+  cleared c = record c { clear = address }
+
+  -- lives as before, and is in the group that it was in
+  pub live_cleared : (task : ℕ) → is_live (clear_set setter address list).tasks task ≡ is_live list.tasks task
+  live_cleared task =
+      ap (λ o. option_map_or (λ (c : Task). c.live) o false) (get-changed_at cleared list.tasks setter task)
+      ∙ by (eqb task setter) (map.get list.tasks task)
+    where
+      by : (b : Bool) (o : Option Task) → option_map_or (λ (c : Task). c.live) (cond b (option_map cleared o) o) false
+          ≡ option_map_or (λ (c : Task). c.live) o false
+      by true None = refl
+      by true (Some c) = refl
+      by false o = refl
+
+  pub group_cleared : (task : ℕ) → group_of (clear_set setter address list).tasks task ≡ group_of list.tasks task
+  group_cleared task =
+      ap (λ o. option_map_or (λ (c : Task). c.group) o 0) (get-changed_at cleared list.tasks setter task)
+      ∙ by (eqb task setter) (map.get list.tasks task)
+    where
+      by : (b : Bool) (o : Option Task) → option_map_or (λ (c : Task). c.group) (cond b (option_map cleared o) o) 0
+          ≡ option_map_or (λ (c : Task). c.group) o 0
+      by true None = refl
+      by true (Some c) = refl
+      by false o = refl

@@ -17,13 +17,14 @@ use Rattle.task_table.specs.Table.{TaskTable, is_live, group_of, no_tasks}
 use Rattle.kernel_model.specs.Names.{NamedMap, get_named, with_named}
 use Rattle.kernel_model.specs.declared.caller.Caller.{Caller}
 use Rattle.kernel_model.specs.declared.kernel.Kernel.{Kernel}
+use Rattle.kernel_model.specs.calls.Ending.{clear_set}
 use Rattle.kernel_model.specs.entries.Parts.{parts, changed}
 use Rattle.kernel_model.proofs.NamedMaps.{same_or_other, get-with, get-with_same}
 use Rattle.kernel_calls.specs.Prepared.{changes_of}
 use Rattle.kernel_calls.specs.declared.prepared.Effect.{Effect}
-use Rattle.kernel_calls.specs.declared.prepared.Effect.TheVariants.{Nothing, TakesBytes, EndsGroup}
+use Rattle.kernel_calls.specs.declared.prepared.Effect.TheVariants.{Nothing, TakesBytes, EndsGroup, SetsClear}
 use Rattle.call_table.specs.Beside.{found_in, AreAtHome}
-use Rattle.call_table.proofs.Ends.{live_before, group_stays, memory_stays}
+use Rattle.call_table.proofs.Ends.{live_before, group_stays, memory_stays, live_cleared, group_cleared}
 use Rattle.call_table.proofs.Found.{Parted, found_by, parted}
 
 -- a value that is there
@@ -65,6 +66,15 @@ module _ (list : TaskTable) (registers : map.FinMap nat_cmp Regs) (spaces : Name
       (ap (map.get (group_ended list group status).groups) (group_stays list group status task) ∙ g.1)
       c.1.registered (ap (λ (m : Made). get_named spaces m.place m.index) (sym memory) ∙ c.1.remembered))
 
+  -- where a clear word was set
+  pub home_cleared : (setter address : ℕ) → AreAtHome (clear_set setter address list) registers spaces
+  home_cleared setter address = λ task live.
+      let c = at_home list registers spaces task home (sym (live_cleared list setter address task) ∙ live) in
+      let memory : c.0.memory ≡ c.1.group.memory = ap (λ (x : Caller). x.memory) c.1.is in
+      ap is_some (found_by (clear_set setter address list) registers spaces task c.1.group c.0.registers c.0.space live
+      (ap (map.get list.groups) (group_cleared list setter address task) ∙ c.1.grouped) c.1.registered
+      (ap (λ (m : Made). get_named spaces m.place m.index) (sym memory) ∙ c.1.remembered))
+
 -- where a call was done
 pub home_committed : (effect : Effect) (group : ℕ) (k : Kernel) (after : TaskTable)
     (registers : map.FinMap nat_cmp Regs) (spaces : NamedMap AddressSpace)
@@ -77,6 +87,8 @@ home_committed (TakesBytes bytes) group k after registers spaces is home =
 home_committed (EndsGroup status) group k after registers spaces is home =
     subst (λ (x : TaskTable). AreAtHome x registers spaces) is
     (home_ended k.tasks registers spaces home group status)
+home_committed (SetsClear task address) group k after registers spaces is home =
+    subst (λ (x : TaskTable). AreAtHome x registers spaces) is (home_cleared k.tasks registers spaces home task address)
 
 -- where there is no task
 pub none_at_home : (registers : map.FinMap nat_cmp Regs) (spaces : NamedMap AddressSpace)

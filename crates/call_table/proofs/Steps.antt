@@ -31,7 +31,7 @@ use Rattle.kernel_model.specs.machine.Registers.{args_of, call_of, replied}
 use Rattle.kernel_model.specs.machine.Spaces.{acting_in, going_in}
 use Rattle.kernel_model.specs.calls.Answers.{replies}
 use Rattle.kernel_model.specs.calls.Callers.{context_of, caller_of, with_memory, in_group}
-use Rattle.kernel_model.specs.calls.Ending.{group_end}
+use Rattle.kernel_model.specs.calls.Ending.{clear_set, group_end}
 use Rattle.kernel_model.specs.calls.Table.{call_row}
 use Rattle.kernel_model.specs.entries.Areas.{Stands, next_row}
 use Rattle.kernel_model.specs.entries.Given.{may_meet}
@@ -45,7 +45,7 @@ use Rattle.kernel_model.proofs.NamedMaps.{get-with_same, with_same}
 use Rattle.kernel_model.proofs.Trees.{outcome-bind}
 use Rattle.kernel_calls.specs.Prepared.{Steps, changes_of}
 use Rattle.kernel_calls.specs.declared.prepared.Effect.{Effect}
-use Rattle.kernel_calls.specs.declared.prepared.Effect.TheVariants.{Nothing, TakesBytes, EndsGroup}
+use Rattle.kernel_calls.specs.declared.prepared.Effect.TheVariants.{Nothing, TakesBytes, EndsGroup, SetsClear}
 use Rattle.kernel_calls.proofs.Runs.{alone_touching, nothing_ran, row_by_step, row_ran, stands_alone}
 use Rattle.call_table.specs.declared.processes.Processes.{Processes}
 use Rattle.call_table.specs.declared.processes.Standing.{Standing}
@@ -154,6 +154,8 @@ pub effect_alike : (effect : Effect) (group : ℕ) (k m : Kernel) → k.tasks �
 effect_alike Nothing group k m e f = refl
 effect_alike (TakesBytes bytes) group k m e f = ap (λ (x : List ℕ). (OfConsole, x ++ bytes) ∷ []) f
 effect_alike (EndsGroup status) group k m e f = ap (group_end group status) e
+effect_alike (SetsClear task address) group k m e f =
+    ap (λ (list : TaskTable). (OfTasks, clear_set task address list) ∷ []) e
 
 module _ (p : Processes) (task : ℕ) (standing : Standing) (stands : StandsAs p task standing) where
   abbrev c : Caller

@@ -4,6 +4,7 @@ use Rattle.task_table.specs.declared.task.Status.{Status}
 use Rattle.task_table.specs.Ends.{group_ended}
 use Rattle.task_table.specs.Table.{TaskTable}
 use Rattle.kernel_model.specs.declared.kernel.Kernel.{Kernel}
+use Rattle.kernel_model.specs.calls.Ending.{clear_set}
 
 -- a kernel with the task list and the console that it has
 pub kernel_kept : (k : Kernel) (list : TaskTable) (console : List ℕ) → k.tasks ≡ list → k.console ≡ console
@@ -27,4 +28,13 @@ pub group_ends : (k : Kernel) (before after : TaskTable) (console : List ℕ) (g
 group_ends k before after console group status e f is =
     ap (λ t. record k { tasks = group_ended t group status; console = k.console }) e
     ∙ ap (λ c. record k { tasks = group_ended before group status; console = c }) f
+    ∙ ap (λ t. record k { tasks = t; console = console }) (sym is)
+
+-- with a clear word of a task at another address
+pub clear_moves : (k : Kernel) (before after : TaskTable) (console : List ℕ) (task address : ℕ)
+    → k.tasks ≡ before → k.console ≡ console → after ≡ clear_set task address before
+    → record k { tasks = clear_set task address k.tasks } ≡ record k { tasks = after; console = console }
+clear_moves k before after console task address e f is =
+    ap (λ t. record k { tasks = clear_set task address t; console = k.console }) e
+    ∙ ap (λ c. record k { tasks = clear_set task address before; console = c }) f
     ∙ ap (λ t. record k { tasks = t; console = console }) (sym is)

@@ -10,20 +10,21 @@ use Rattle.kernel_model.specs.declared.caller.Caller.{Caller}
 use Rattle.kernel_model.specs.declared.kernel.Kernel.{Kernel}
 use Rattle.kernel_model.specs.declared.kernel.Part.TheVariants.{OfTasks, OfConsole}
 use Rattle.kernel_model.specs.calls.Answers.{Answer, replies}
-use Rattle.kernel_model.specs.calls.Ending.{group_end}
+use Rattle.kernel_model.specs.calls.Ending.{group_end, clear_set}
 use Rattle.kernel_model.specs.entries.Parts.{Parts, parts, Prog, outcome_in, Change, changed}
 use Rattle.kernel_model.specs.entries.Steps.{step_row}
 use Rattle.kernel_calls.specs.declared.context.Context.{Context}
 use Rattle.kernel_calls.specs.declared.prepared.Effect.{Effect}
-use Rattle.kernel_calls.specs.declared.prepared.Effect.TheVariants.{Nothing, TakesBytes, EndsGroup}
+use Rattle.kernel_calls.specs.declared.prepared.Effect.TheVariants.{Nothing, TakesBytes, EndsGroup, SetsClear}
 use Rattle.kernel_calls.specs.declared.prepared.Prepared.{Prepared}
 
 -- the changes that an effect of a thread group is, in a state
--- write(2); exit_group(2)
+-- write(2); exit_group(2); set_tid_address(2)
 abbrev pub changes_of : Effect → (group : ℕ) → Parts → List Change
 changes_of Nothing group s = []
 changes_of (TakesBytes bytes) group s = (OfConsole, s OfConsole ++ bytes) ∷ []
 changes_of (EndsGroup status) group s = group_end group status (s OfTasks)
+changes_of (SetsClear task address) group s = (OfTasks, clear_set task address (s OfTasks)) ∷ []
 
 -- the answer that a call prepared is, in a state
 -- syscall(2)
@@ -72,6 +73,7 @@ abbrev pub HasEffect : Effect → Type 0
 HasEffect Nothing = ⊥
 HasEffect (TakesBytes bytes) = ⊤
 HasEffect (EndsGroup status) = ⊤
+HasEffect (SetsClear task address) = ⊤
 
 -- what a call writes is no more than one write may
 -- write(2); the number: profile
@@ -79,6 +81,7 @@ abbrev pub TakesFew : Effect → Type 0
 TakesFew Nothing = ⊤
 TakesFew (TakesBytes bytes) = length bytes ≤ 65536
 TakesFew (EndsGroup status) = ⊤
+TakesFew (SetsClear task address) = ⊤
 
 -- a group that an effect ends is there, and has not ended
 -- exit_group(2)
@@ -87,6 +90,7 @@ EndsLive Nothing group list = ⊤
 EndsLive (TakesBytes bytes) group list = ⊤
 EndsLive (EndsGroup status) group list =
     IsTrue (map.contains_key list.groups group) × IsFalse (has_ended list.groups group)
+EndsLive (SetsClear task address) group list = ⊤
 
 -- a task before its next instruction, in a kernel: with its number, registers and address space, and the shared areas
 -- as they are

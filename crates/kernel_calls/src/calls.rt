@@ -12,7 +12,7 @@ ghost use Rattle.kernel_calls.specs.declared.prepared.Effect.TheVariants.{Nothin
 
 use crate::Context;
 use crate::console::write;
-use crate::ending::{exit_group, set_robust_list};
+use crate::ending::{exit_group, set_robust_list, set_tid_address};
 use crate::identity::{getpid, getppid, gettid, owner, uname};
 use crate::mapping::mmap;
 use crate::memory::{brk, mprotect, munmap};
@@ -104,7 +104,7 @@ fn known(
         CallNo::Fstat => Ok(refused(Errno::ENOSYS)),
         CallNo::Exit => Ok(refused(Errno::ENOSYS)),
         CallNo::ExitGroup => Ok(exit_group(args.a0)),
-        CallNo::SetTidAddress => Ok(refused(Errno::ENOSYS)),
+        CallNo::SetTidAddress => Ok(set_tid_address(context, args.a0)),
         CallNo::Futex => Ok(refused(Errno::ENOSYS)),
         CallNo::SetRobustList => Ok(set_robust_list()),
         CallNo::ClockGettime => clock_gettime(alloc, context, args.a0, args.a1, space, areas),

@@ -2,8 +2,10 @@
 
 use kernel_model::Args;
 
-/// The numbers of write, set_robust_list, clock_gettime, sched_yield and uname.
+/// The numbers of write, set_tid_address, set_robust_list, clock_gettime, sched_yield and uname.
 pub const WRITE: u64 = 64;
+
+pub const SET_TID_ADDRESS: u64 = 96;
 
 pub const SET_ROBUST_LIST: u64 = 99;
 

@@ -1,93 +1,16 @@
 //! Who a guest is told that it is, and which system it runs on.
 
-ghost use Rattle.std.specs.Prelude.{◌-◌, ◌<◌, ◌^◌, IsTrue, IsFalse};
-ghost use Rattle.std.specs.FinMap as map;
-ghost use Rattle.task_table.specs.Table.{has_ended, is_live};
-
 use crate::acts::{Act, expect_acts};
 use crate::asked::{
     EFAULT, GETEGID, GETEUID, GETGID, GETPID, GETPPID, GETTID, GETUID, PRIVATE, SET_ROBUST_LIST,
     SHARED, UNAME,
 };
 use crate::calling::{HEAP, MAPPINGS_END, TOP, guest_among};
+use crate::families::{end, family};
 use std::alloc::Global;
 use std::process::Abort;
 use std::test::Fail;
-use task_table::{Made, Status, Tasks};
-
-/// The memory that tasks are given; no call looks at it.
-const MEMORY: Made = Made { place: 0, index: 1 };
-
-/// Aborts unless a task lives.
-fn expect_live(rt: &impl Abort, tasks: &Tasks, number: u32)
-    ensures { IsTrue (is_live tasks.now.tasks number) }
-{
-    let live = match tasks.task(number) {
-        Some(task) => task.live,
-        None => false,
-    };
-    assert!(rt; live);
-}
-
-/// Aborts unless there is a number left.
-fn expect_next(rt: &impl Abort, tasks: &Tasks)
-    ensures { tasks.now.last < 2 ^ 31 - 1 }
-{
-    let last = tasks.last();
-    assert!(rt; last < 2_147_483_647);
-}
-
-/// Aborts unless a thread group is there and lives.
-fn expect_group(rt: &impl Abort, tasks: &Tasks, number: u32)
-    ensures there { IsTrue (map.contains_key tasks.now.groups number) }
-    ensures lives { IsFalse (has_ended tasks.now.groups number) }
-{
-    let live = match tasks.group(number) {
-        Some(group) => group.ended.is_none(),
-        None => false,
-    };
-    assert!(rt; live);
-}
-
-/// A task opens.
-fn open(rt: &impl Abort, tasks: &mut Tasks) -> Result<(), Fail> {
-    expect_next(rt, tasks);
-    let _ = tasks.open(MEMORY, MEMORY, 1)?;
-    Ok(())
-}
-
-/// A task has a child.
-fn fork(rt: &impl Abort, tasks: &mut Tasks, task: u32) -> Result<(), Fail> {
-    expect_live(rt, tasks, task);
-    expect_next(rt, tasks);
-    let _ = tasks.fork(task, MEMORY, MEMORY, 0)?;
-    Ok(())
-}
-
-/// A task has a thread beside it.
-fn thread(rt: &impl Abort, tasks: &mut Tasks, task: u32) -> Result<(), Fail> {
-    expect_live(rt, tasks, task);
-    expect_next(rt, tasks);
-    let _ = tasks.thread(task, 0)?;
-    Ok(())
-}
-
-/// A thread group ends.
-fn end(rt: &impl Abort, alloc: Global, tasks: &mut Tasks, group: u32) -> Result<(), Fail> {
-    expect_group(rt, tasks, group);
-    let _ = tasks.end_group(alloc, group, Status::Exited(0))?;
-    Ok(())
-}
-
-/// Task 1 has the child 2, and that the child 3 and the thread 4.
-fn family(rt: &impl Abort, alloc: Global) -> Result<Tasks, Fail> {
-    let mut tasks = Tasks::new(alloc);
-    open(rt, &mut tasks)?;
-    fork(rt, &mut tasks, 1)?;
-    fork(rt, &mut tasks, 2)?;
-    thread(rt, &mut tasks, 2)?;
-    Ok(tasks)
-}
+use task_table::Tasks;
 
 /// What each of them is told: its group, its parent's and its own number.
 #[rattlefmt::skip]
@@ -129,7 +52,7 @@ const ORPHAN: [Act; 4] = [
 #[test]
 fn a_group_whose_parent_has_ended_has_none(rt: HostRuntime) -> Result<(), Fail> {
     let mut tasks = family(&rt, rt.alloc())?;
-    end(&rt, rt.alloc(), &mut tasks, 2)?;
+    let _ = end(&rt, rt.alloc(), &mut tasks, 2)?;
     let mut guest = guest_among(rt.alloc(), tasks)?;
     guest.expect_acts(&rt, &ORPHAN)
 }

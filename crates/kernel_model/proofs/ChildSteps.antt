@@ -8,7 +8,8 @@ use Rattle.std.specs.FinMap as map
 use Rattle.sn_errno.specs.declared.errno.Errno.{Errno}
 use Rattle.sn_errno.specs.declared.errno.Errno.TheVariants.{EIO, ENFILE, EFAULT, EBADF, ENOSYS, ENOSPC, EINVAL}
 use Rattle.sn_errno.specs.declared.calls.CallNo.{CallNo}
-use Rattle.sn_errno.specs.declared.calls.CallNo.TheVariants.{Write, ExitGroup, SetRobustList, ClockGettime}
+use Rattle.sn_errno.specs.declared.calls.CallNo.TheVariants.{Write, ExitGroup, SetTidAddress, SetRobustList}
+use Rattle.sn_errno.specs.declared.calls.CallNo.TheVariants.{ClockGettime}
 use Rattle.sn_errno.specs.declared.calls.CallNo.TheVariants.{SchedYield, Uname, Getpid, Getppid, Getuid, Geteuid}
 use Rattle.sn_errno.specs.declared.calls.CallNo.TheVariants.{Getgid, Getegid, Gettid, Brk, Munmap, Mmap, Mprotect}
 use Rattle.sn_errno.specs.declared.calls.CallNo.TheVariants.{Getrandom}
@@ -38,7 +39,7 @@ use Rattle.kernel_model.specs.calls.Answers.{Reply, Replies, NotReady, Answer, r
 use Rattle.kernel_model.specs.calls.Buffers.{filled, fills}
 use Rattle.kernel_model.specs.calls.Callers.{Context, context_of, caller_of}
 use Rattle.kernel_model.specs.calls.Console.{is_written_to, descriptor, to_console, appended, write_row}
-use Rattle.kernel_model.specs.calls.Ending.{exit_group_row, group_end}
+use Rattle.kernel_model.specs.calls.Ending.{exit_group_row, group_end, set_tid_address_row}
 use Rattle.kernel_model.specs.calls.Identity.{owner, parent_of, utsname}
 use Rattle.kernel_model.specs.calls.Memory.{mmap_row}
 use Rattle.kernel_model.specs.calls.Memory.{remaps, unless_refused, fault_errno, map_refusal, protect_refusal}
@@ -129,6 +130,10 @@ module _ (s : Parts) where
   exit_leaves status group ino (inl e) = absurd (cc e)
   exit_leaves status group ino (inr is) = is
 
+  clear_leaves : (address : ℕ) (c : Caller) → Leaves (set_tid_address_row address c)
+  clear_leaves address c ino (inl e) = absurd (cc e)
+  clear_leaves address c ino (inr is) = is
+
   -- what is mapped changes an address space, and makes an area
   unless_leaves : (refusal : Option Errno) (answer : Answer) → LeavesNodes answer.changes
       → LeavesNodes (unless_refused refusal answer).changes
@@ -178,6 +183,7 @@ module _ (s : Parts) where
   row_leaves : (context : Context) (c : Caller) (args : Args) (call : CallNo) → Leaves (row_of_call context c args call)
   row_leaves context c args Write = write_leaves args.a0 args.a1 args.a2 c.space
   row_leaves context c args ExitGroup = exit_leaves args.a0 c.group
+  row_leaves context c args SetTidAddress = clear_leaves args.a0 c
   row_leaves context c args SetRobustList = told_leaves (pos 0)
   row_leaves context c args ClockGettime =
       either_leaves (nat_lt 1 args.a0) _ _ (refused_leaves EINVAL)

@@ -8,8 +8,8 @@ use Rattle.std.specs.Cmp.{nat_cmp_total}
 use Rattle.std.specs.FinMap as map
 use Rattle.sn_base.proofs.Maps.{get-insert_same, get-insert_other, get-remove_same, get-remove_other}
 use Rattle.sn_errno.specs.declared.calls.CallNo.{CallNo}
-use Rattle.sn_errno.specs.declared.calls.CallNo.TheVariants.{Write, ExitGroup, ClockGettime, Uname, Brk, Munmap}
-use Rattle.sn_errno.specs.declared.calls.CallNo.TheVariants.{Mmap, Mprotect, Getrandom}
+use Rattle.sn_errno.specs.declared.calls.CallNo.TheVariants.{Write, ExitGroup, SetTidAddress, ClockGettime, Uname}
+use Rattle.sn_errno.specs.declared.calls.CallNo.TheVariants.{Brk, Munmap, Mmap, Mprotect, Getrandom}
 use Rattle.sn_errno.specs.declared.errno.Errno.{Errno}
 use Rattle.mm_areas.specs.Mappings.{unmap_fault}
 use Rattle.mm_space.specs.Spaces.{Reach}
@@ -343,6 +343,7 @@ module _ (s : Parts) (context : Context) (caller : Caller) (args : Args) where
       (console_answers (outcome_in s (bytes_read caller.space args.a1 (min args.a2 65536))))))
       refl
   row_answers ExitGroup = refl
+  row_answers SetTidAddress = refl
   row_answers ClockGettime =
       either_answers (nat_lt 1 args.a0) _ _ refl (fill_answers args.a1 (timespec (time_at context.place)) 0)
   row_answers Uname = fill_answers args.a0 utsname 0

@@ -2,7 +2,8 @@
 use Rattle.std.specs.Prelude.{ℕ, Option, Some, None}
 use Rattle.sn_errno.specs.declared.errno.Errno.TheVariants.{ENOSYS}
 use Rattle.sn_errno.specs.declared.calls.CallNo.{CallNo}
-use Rattle.sn_errno.specs.declared.calls.CallNo.TheVariants.{Write, ExitGroup, SetRobustList, ClockGettime}
+use Rattle.sn_errno.specs.declared.calls.CallNo.TheVariants.{Write, ExitGroup, SetTidAddress, SetRobustList}
+use Rattle.sn_errno.specs.declared.calls.CallNo.TheVariants.{ClockGettime}
 use Rattle.sn_errno.specs.declared.calls.CallNo.TheVariants.{SchedYield, Uname, Getpid, Getppid, Getuid, Geteuid}
 use Rattle.sn_errno.specs.declared.calls.CallNo.TheVariants.{Getgid, Getegid, Gettid, Brk, Munmap, Mmap, Mprotect}
 use Rattle.sn_errno.specs.declared.calls.CallNo.TheVariants.{Getrandom}
@@ -12,7 +13,7 @@ use Rattle.kernel_model.specs.declared.entry.Args.{Args}
 use Rattle.kernel_model.specs.calls.Answers.{Answer, refuses}
 use Rattle.kernel_model.specs.calls.Callers.{Context}
 use Rattle.kernel_model.specs.calls.Console.{write_row}
-use Rattle.kernel_model.specs.calls.Ending.{exit_group_row, set_robust_list_row}
+use Rattle.kernel_model.specs.calls.Ending.{exit_group_row, set_tid_address_row, set_robust_list_row}
 use Rattle.kernel_model.specs.calls.Identity.{getpid_row, getppid_row, gettid_row, owner_row, uname_row}
 use Rattle.kernel_model.specs.calls.Memory.{brk_row, munmap_row, mmap_row, mprotect_row}
 use Rattle.kernel_model.specs.calls.RandomBytes.{getrandom_row}
@@ -24,6 +25,7 @@ use Rattle.kernel_model.specs.entries.Parts.{Prog, done}
 abbrev pub row_of_call : Context → Caller → Args → CallNo → Prog Answer
 row_of_call context caller args Write = write_row args.a0 args.a1 args.a2 caller.space
 row_of_call context caller args ExitGroup = exit_group_row args.a0 caller.group
+row_of_call context caller args SetTidAddress = set_tid_address_row args.a0 caller
 row_of_call context caller args SetRobustList = set_robust_list_row
 row_of_call context caller args ClockGettime = clock_gettime_row context args.a0 args.a1 caller
 row_of_call context caller args SchedYield = sched_yield_row

@@ -27,6 +27,14 @@ returns-in-ExitGroup-clause-row c caller k calling =
     (ap (λ call. outcome_in (parts k) (row_of_call (context_of k) caller a.args.now call)) c.in-ExitGroup.is
     ∙ c.exit_group.ensures.row (parts k) caller.group) refl (sym calling.areas)
 
+pub returns-in-SetTidAddress-clause-row : goal.returns-in-SetTidAddress-clause-row
+returns-in-SetTidAddress-clause-row c caller k calling =
+    let a = c.args in
+    answers_kept (row_of_call (context_of k) caller a.args.now a.call) c.set_tid_address.result caller k a.space.now
+    a.space.now a.areas.now (has_space caller k a.context.now a.space.now a.areas.now a.tasks.now a.console calling)
+    (ap (λ call. outcome_in (parts k) (row_of_call (context_of k) caller a.args.now call)) c.in-SetTidAddress.is
+    ∙ c.set_tid_address.ensures.row (parts k) caller caller.group calling.task) refl (sym calling.areas)
+
 pub returns-in-ClockGettime-clause-row : goal.returns-in-ClockGettime-clause-row
 returns-in-ClockGettime-clause-row c =
     let a = c.args in
