@@ -13,10 +13,11 @@ use Rattle.plain_kernel.specs.declared.walking.Execved.{Execved}
 use Rattle.plain_kernel.specs.declared.walking.Execved.TheVariants as answers
 use Rattle.host_node.specs.Tree.{Shape}
 use Rattle.elf_image.specs.declared.image.Image.{Image}
-use Rattle.kernel_model.specs.opening.Opening.{Executed, execve_of, bare, Begun, Refuses, Misfits, with_task}
+use Rattle.kernel_model.specs.opening.Opening.{Executed, execve_of, root_of, bare, Begun, Refuses, Misfits, with_task}
 use Rattle.kernel_model.specs.opening.Opening.{task_begun}
 use Rattle.kernel_model.specs.opening.Opening.{tasks_begun, opening_of}
 use Rattle.kernel_model.specs.opening.Records.{is_of}
+use Rattle.kernel_model.specs.entries.Given.{may_meet}
 use Rattle.kernel_model.specs.entries.Parts.{parts, outcome_in, changed}
 use Rattle.plain_kernel.specs.Beginnings.{Executes, IsRefusedBy}
 
@@ -41,17 +42,37 @@ module _ (n : ℕ) (programs : List Program) (opened : List Opened) (k : Kernel)
       by [] e = absurd (omega arith)
       by (p ∷ ps) e = refl
 
-  -- the next program, by its execve
-  pub next_begun : (p : Program) (o : Opened) → i < length programs → p ≡ get_or programs i p → i < length opened
-      → o ≡ get_or opened i o
-      → tasks_begun n (drop i programs) (drop i opened) k
-      ≡ task_begun (tasks_begun (n + 1) (drop (i + 1) programs) (drop (i + 1) opened)) (with_task n p) n k
-      (outcome_in (parts k) (execve_of p o.given))
-  next_begun p o inside program within record_of =
-      ap (λ ps. tasks_begun n ps (drop i opened) k) (drop_more programs i p inside
-      ∙ ap (λ q. q ∷ drop (i + 1) programs) (sym program))
-      ∙ ap (λ os. tasks_begun n (p ∷ drop (i + 1) programs) os k) (drop_more opened i o within
-      ∙ ap (λ q. q ∷ drop (i + 1) opened) (sym record_of))
+  -- the next program, by what it may meet
+  module _ (p : Program) (o : Opened) (inside : i < length programs) (program : p ≡ get_or programs i p)
+      (within : i < length opened) (record_of : o ≡ get_or opened i o) where
+    next_begun : tasks_begun n (drop i programs) (drop i opened) k
+        ≡ cond (may_meet k.nodes o.given)
+        (task_begun (tasks_begun (n + 1) (drop (i + 1) programs) (drop (i + 1) opened)) (with_task n p) n k
+        (outcome_in (parts k) (execve_of (root_of k.mounts) p o.given))) (Misfits n)
+    next_begun =
+        ap (λ ps. tasks_begun n ps (drop i opened) k) (drop_more programs i p inside
+        ∙ ap (λ q. q ∷ drop (i + 1) programs) (sym program))
+        ∙ ap (λ os. tasks_begun n (p ∷ drop (i + 1) programs) os k) (drop_more opened i o within
+        ∙ ap (λ q. q ∷ drop (i + 1) opened) (sym record_of))
+
+    -- it begins by its execve,
+    pub next_may : may_meet k.nodes o.given ≡ true
+        → tasks_begun n (drop i programs) (drop i opened) k
+        ≡ task_begun (tasks_begun (n + 1) (drop (i + 1) programs) (drop (i + 1) opened)) (with_task n p) n k
+        (outcome_in (parts k) (execve_of (root_of k.mounts) p o.given))
+    next_may may =
+        next_begun
+        ∙ ap (λ b. cond b
+        (task_begun (tasks_begun (n + 1) (drop (i + 1) programs) (drop (i + 1) opened)) (with_task n p) n k
+        (outcome_in (parts k) (execve_of (root_of k.mounts) p o.given))) (Misfits n)) may
+
+    -- or its record does not fit
+    pub next_misfits : may_meet k.nodes o.given ≡ false → tasks_begun n (drop i programs) (drop i opened) k ≡ Misfits n
+    next_misfits may_not =
+        next_begun
+        ∙ ap (λ b. cond b
+        (task_begun (tasks_begun (n + 1) (drop (i + 1) programs) (drop (i + 1) opened)) (with_task n p) n k
+        (outcome_in (parts k) (execve_of (root_of k.mounts) p o.given))) (Misfits n)) may_not
 
 -- a record of other mounts or tasks
 pub opening_misfit : (mounts : Mounts) (trees : List Shape) (opening : Opening) → is_of mounts opening ≡ false

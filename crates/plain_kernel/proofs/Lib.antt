@@ -3,6 +3,7 @@ pub mod BeginLemmas
 pub mod CountLemmas
 pub mod FaultLemmas
 pub mod NodeLemmas
+pub mod NodesSoFar
 pub mod Numberings
 pub mod NumberRuns
 pub mod OptionLemmas

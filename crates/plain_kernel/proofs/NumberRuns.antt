@@ -6,7 +6,7 @@ use Rattle.std.proofs.lemmas.List.{take_more, take-append-drop}
 use Rattle.kernel_model.specs.declared.kernel.Kernel.{Kernel}
 use Rattle.kernel_model.specs.declared.opening.Fresh.{Fresh}
 use Rattle.kernel_model.specs.laws.InPlace.{numbered}
-use Rattle.plain_kernel.proofs.Numberings.{numbered_none, numbered-append}
+use Rattle.plain_kernel.proofs.NodesSoFar.{numbered_none, numbered-append}
 
 module _ (fresh : List Fresh) (i : ℕ) (f : Fresh) (inside : i < length fresh) (item : f ≡ get_or fresh i f)
     (before : Kernel) where

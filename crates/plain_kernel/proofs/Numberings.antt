@@ -1,199 +1,41 @@
--- Fresh numbers given in place: the nodes that a step keeps apart come to the same as those of a kernel with them.
-use Rattle.std.proofs.Common.{◌≡◌, ◌≢◌, ℕ, ◌<◌, ◌≤◌, Bool, true, false, cond, List, [], ◌∷◌, ◌++◌, Option, Some, None}
+-- What a fresh number leaves, while it is given in place and while it is taken back.
+use Rattle.std.proofs.Common.{◌≡◌, ◌≢◌, ℕ, ◌<◌, ◌≤◌, Bool, true, false, cond, List, [], ◌∷◌, Option, Some, None}
 use Rattle.std.proofs.Common.{refl, ap, sym, ◌∙◌, ◌⊎◌, inl, inr, option_map, leb}
-use Rattle.std.specs.Prelude.{option_and_then, nat_le, is_some, is_none, IsSome, ◌==◌}
+use Rattle.std.specs.Prelude.{is_some, is_none, not, IsSome}
 use Rattle.std.specs.Ordering.{nat_cmp}
 use Rattle.std.specs.FinMap as map
-use Rattle.std.proofs.lemmas.Bool.{cases_eq, eqb-true, eqb-false, le-leb, lt-leb}
+use Rattle.std.proofs.lemmas.Bool.{cases_eq, le-leb, lt-leb}
 use Rattle.sn_base.proofs.Maps.{get-insert_same, get-insert_other, insert_same, insert-insert, remove-insert}
 use Rattle.sn_base.proofs.Maps.{remove_absent, same_by_get}
 use Rattle.host_node.specs.Tree.{Shape, child_of, lend_child, kind_of, lent}
 use Rattle.host_node.proofs.TreeLemmas.{lend_child_found, child_of-with_same, directory_from_child}
 use Rattle.kernel_model.specs.declared.kernel.Kernel.{Kernel}
 use Rattle.kernel_model.specs.declared.kernel.Node.{Node}
-use Rattle.kernel_model.specs.declared.kernel.Part.TheVariants.{OfNode}
 use Rattle.kernel_model.specs.declared.opening.Fresh.{Fresh}
 use Rattle.kernel_model.specs.files.FileTree.{last_number, Child, Missing, Known, Unnumbered, child_at, child_node}
 use Rattle.kernel_model.specs.files.FileTree.{numbered_in, number_in, known, unnumbered}
-use Rattle.kernel_model.specs.entries.Given.{Nodes_so_far, node_in, node_by, node_now, given_number, number_at}
-use Rattle.kernel_model.specs.entries.Given.{number_one}
-use Rattle.kernel_model.specs.entries.Given.{number_next, number_all, node_changes}
-use Rattle.kernel_model.specs.entries.Parts.{parts, done, outcome_in, ◌>>=◌, Change, put, changed}
-use Rattle.kernel_model.specs.laws.InPlace.{with_nodes, numbered, IsWaiting, Waits}
-use Rattle.kernel_model.proofs.Trees.{outcome-bind}
-
--- ---- changes one after another
-
-pub changed-append : (xs ys : List Change) (k : Kernel) → changed (xs ++ ys) k ≡ changed ys (changed xs k)
-changed-append [] ys k = refl
-changed-append (x ∷ xs) ys k = changed-append xs ys (put x.0 x.1 k)
-
--- the nodes of two lists, the earlier ones first
-pub with_nodes-append : (ns ms : Nodes_so_far) (k : Kernel) → with_nodes (ns ++ ms) k ≡ with_nodes ns (with_nodes ms k)
-with_nodes-append [] ms k = refl
-with_nodes-append (n ∷ ns) ms k =
-    changed-append (node_changes (ns ++ ms)) ((OfNode n.0, Some n.1) ∷ []) k
-    ∙ ap (put (OfNode n.0) (Some n.1)) (with_nodes-append ns ms k)
-    ∙ sym (changed-append (node_changes ns) ((OfNode n.0, Some n.1) ∷ []) (with_nodes ms k))
-
-pub with_nodes_first : (n : ℕ × Node) (ns : Nodes_so_far) (k : Kernel)
-    → with_nodes (n ∷ ns) k ≡ put (OfNode n.0) (Some n.1) (with_nodes ns k)
-with_nodes_first n ns k = changed-append (node_changes ns) ((OfNode n.0, Some n.1) ∷ []) k
-
--- a node as a step has left it so far is the one that the kernel with these nodes has
-pub node_now_is : (nodes : Nodes_so_far) (ino : ℕ) (k : Kernel)
-    → outcome_in (parts k) (node_now nodes ino) ≡ map.get (with_nodes nodes k).nodes ino
-node_now_is [] ino k = refl
-node_now_is (n ∷ ns) ino k = by (n.0 == ino) refl (node_now_is ns ino k)
-  where
-    there : map.get (with_nodes (n ∷ ns) k).nodes ino ≡ map.get (map.insert (with_nodes ns k).nodes n.0 n.1) ino
-    there = ap (λ (m : Kernel). map.get m.nodes ino) (with_nodes_first n ns k)
-
-    by : (b : Bool) → (n.0 == ino) ≡ b → outcome_in (parts k) (node_now ns ino) ≡ map.get (with_nodes ns k).nodes ino
-        → outcome_in (parts k) (node_by (cond b (Some n.1) (node_in ino ns)) ino)
-        ≡ map.get (with_nodes (n ∷ ns) k).nodes ino
-    by true e rest =
-        let same : n.0 ≡ ino = eqb-true n.0 ino e in
-        sym (there ∙ ap (λ i. map.get (map.insert (with_nodes ns k).nodes i n.1) ino) same
-        ∙ get-insert_same (with_nodes ns k).nodes ino n.1)
-    by false e rest = rest ∙ sym (there ∙ get-insert_other (with_nodes ns k).nodes n.0 ino n.1 (eqb-false n.0 ino e))
-
--- ---- a number given behind others is given in the kernel with those
-
-module _ (nodes : Nodes_so_far) where
-  given_behind : (f : Fresh) (dir : Node) (taken : Option Node) (child : Child)
-      → given_number nodes f dir taken child ≡ option_map (λ ns. ns ++ nodes) (given_number [] f dir taken child)
-  given_behind f dir None Missing = refl
-  given_behind f dir None (Known ino) = refl
-  given_behind f dir None (Unnumbered shape) = by (nat_le f.ino last_number)
-    where
-      by : (b : Bool)
-          → cond b (Some ((f.ino, child_node f.dir shape) ∷ (f.dir, numbered_in dir f.name f.ino) ∷ nodes)) (Some nodes)
-          ≡ option_map (λ ns. ns ++ nodes)
-          (cond b (Some ((f.ino, child_node f.dir shape) ∷ (f.dir, numbered_in dir f.name f.ino) ∷ [])) (Some []))
-      by true = refl
-      by false = refl
-  given_behind f dir (Some n) child = refl
-
-  at_behind : (f : Fresh) (dir taken : Option Node)
-      → number_at nodes f dir taken ≡ option_map (λ ns. ns ++ nodes) (number_at [] f dir taken)
-  at_behind f None taken = refl
-  at_behind f (Some dir) taken = given_behind f dir taken (child_at f.name dir)
-
-one_is : (nodes : Nodes_so_far) (f : Fresh) (k : Kernel)
-    → outcome_in (parts k) (number_one nodes f) ≡ number_at nodes f (map.get (with_nodes nodes k).nodes f.dir)
-    (map.get (with_nodes nodes k).nodes f.ino)
-one_is nodes f k =
-    outcome-bind (parts k) (node_now nodes f.dir) (λ dir. node_now nodes f.ino
-    >>= λ taken. done (number_at nodes f dir taken))
-    ∙ outcome-bind (parts k) (node_now nodes f.ino)
-    (λ taken. done (number_at nodes f (outcome_in (parts k) (node_now nodes f.dir)) taken))
-    ∙ ap (λ dir. number_at nodes f dir (outcome_in (parts k) (node_now nodes f.ino))) (node_now_is nodes f.dir k)
-    ∙ ap (number_at nodes f (map.get (with_nodes nodes k).nodes f.dir)) (node_now_is nodes f.ino k)
-
--- what a number leaves: the nodes that it adds
-abbrev number_in_kernel : Fresh → Kernel → Option Nodes_so_far
-number_in_kernel f k = number_at [] f (map.get k.nodes f.dir) (map.get k.nodes f.ino)
-
-one_behind : (nodes : Nodes_so_far) (f : Fresh) (k : Kernel)
-    → outcome_in (parts k) (number_one nodes f)
-    ≡ option_map (λ ns. ns ++ nodes) (number_in_kernel f (with_nodes nodes k))
-one_behind nodes f k =
-    one_is nodes f k
-    ∙ at_behind nodes f (map.get (with_nodes nodes k).nodes f.dir) (map.get (with_nodes nodes k).nodes f.ino)
-
--- numbers behind others come to the kernel of those, numbered on
-on_from : (fresh : List Fresh)
-    → ((nodes : Nodes_so_far) (k : Kernel)
-    → option_map (λ ns. with_nodes ns k) (outcome_in (parts k) (number_all fresh nodes))
-    ≡ numbered fresh (with_nodes nodes k))
-    → (f : Fresh) (nodes : Nodes_so_far) (k : Kernel)
-    → option_map (λ ns. with_nodes ns k) (outcome_in (parts k) (number_all (f ∷ fresh) nodes))
-    ≡ option_and_then (λ ns. numbered fresh (with_nodes ns (with_nodes nodes k)))
-    (number_in_kernel f (with_nodes nodes k))
-on_from fresh rest f nodes k =
-    ap (option_map (λ ns. with_nodes ns k))
-    (outcome-bind (parts k) (number_one nodes f) (number_next (number_all fresh))
-    ∙ ap (λ o. outcome_in (parts k) (number_next (number_all fresh) o)) (one_behind nodes f k))
-    ∙ by (number_in_kernel f (with_nodes nodes k))
-  where
-    by : (added : Option Nodes_so_far)
-        → option_map (λ ns. with_nodes ns k)
-        (outcome_in (parts k) (number_next (number_all fresh) (option_map (λ ns. ns ++ nodes) added)))
-        ≡ option_and_then (λ ns. numbered fresh (with_nodes ns (with_nodes nodes k))) added
-    by None = refl
-    by (Some ns) = rest (ns ++ nodes) k ∙ ap (numbered fresh) (with_nodes-append ns nodes k)
-
-all_behind : (fresh : List Fresh) (nodes : Nodes_so_far) (k : Kernel)
-    → option_map (λ ns. with_nodes ns k) (outcome_in (parts k) (number_all fresh nodes))
-    ≡ numbered fresh (with_nodes nodes k)
-unfolding numbered
-all_behind [] nodes k = refl
-all_behind (f ∷ fresh) nodes k =
-    on_from fresh (all_behind fresh) f nodes k ∙ sym (on_from fresh (all_behind fresh) f [] (with_nodes nodes k))
-
--- ---- numbers one after another
-
-pub numbered_none : (k : Kernel) → numbered [] k ≡ Some k
-unfolding numbered
-numbered_none k = refl
-
-numbered_first : (f : Fresh) (fresh : List Fresh) (k : Kernel)
-    → numbered (f ∷ fresh) k ≡ option_and_then (λ ns. numbered fresh (with_nodes ns k)) (number_in_kernel f k)
-unfolding numbered
-numbered_first f fresh k = on_from fresh (all_behind fresh) f [] k
-
-pub numbered_one : (f : Fresh) (k : Kernel)
-    → numbered (f ∷ []) k ≡ option_map (λ ns. with_nodes ns k) (number_in_kernel f k)
-numbered_one f k = numbered_first f [] k ∙ by (number_in_kernel f k)
-  where
-    by : (added : Option Nodes_so_far) → option_and_then (λ ns. numbered [] (with_nodes ns k)) added
-        ≡ option_map (λ ns. with_nodes ns k) added
-    by None = refl
-    by (Some ns) = numbered_none (with_nodes ns k)
-
-pub numbered_more : (f : Fresh) (fresh : List Fresh) (k : Kernel)
-    → numbered (f ∷ fresh) k ≡ option_and_then (numbered fresh) (numbered (f ∷ []) k)
-numbered_more f fresh k =
-    numbered_first f fresh k ∙ by (number_in_kernel f k)
-    ∙ sym (ap (option_and_then (numbered fresh)) (numbered_one f k))
-  where
-    by : (added : Option Nodes_so_far) → option_and_then (λ ns. numbered fresh (with_nodes ns k)) added
-        ≡ option_and_then (numbered fresh) (option_map (λ ns. with_nodes ns k) added)
-    by None = refl
-    by (Some ns) = refl
-
-and_then_behind : (fresh more : List Fresh) (both : Kernel → Option Kernel)
-    → ((k : Kernel) → both k ≡ option_and_then (numbered more) (numbered fresh k)) → (o : Option Kernel)
-    → option_and_then both o ≡ option_and_then (numbered more) (option_and_then (numbered fresh) o)
-and_then_behind fresh more both same None = refl
-and_then_behind fresh more both same (Some k) = same k
-
-pub numbered-append : (xs ys : List Fresh) (k : Kernel)
-    → numbered (xs ++ ys) k ≡ option_and_then (numbered ys) (numbered xs k)
-numbered-append [] ys k = sym (ap (option_and_then (numbered ys)) (numbered_none k))
-numbered-append (x ∷ xs) ys k =
-    numbered_more x (xs ++ ys) k
-    ∙ and_then_behind xs ys (numbered (xs ++ ys)) (numbered-append xs ys) (numbered (x ∷ []) k)
-    ∙ sym (ap (option_and_then (numbered ys)) (numbered_more x xs k))
+use Rattle.kernel_model.specs.entries.Given.{Nodes_so_far, given_number, number_at}
+use Rattle.kernel_model.specs.entries.Given.{is_unused}
+use Rattle.kernel_model.specs.laws.InPlace.{with_nodes, nodes_for, numbered, IsWaiting, Waits}
+use Rattle.plain_kernel.proofs.NodesSoFar.{unused_at, nodes_given, numbered_one}
 
 -- ---- what one number leaves
-
--- the nodes with the child in its own
-abbrev pub nodes_given : Fresh → Node → Shape → map.FinMap nat_cmp Node → map.FinMap nat_cmp Node
-nodes_given f dir shape nodes =
-    map.insert (map.insert nodes f.dir (numbered_in dir f.name f.ino)) f.ino (child_node f.dir shape)
 
 waiting_child : (f : Fresh) (k : Kernel) (dir : Node) (shape : Shape) → IsWaiting f k dir shape
     → child_at f.name dir ≡ Unnumbered shape
 waiting_child f k dir shape w = ap (λ o. known o (child_of f.name dir.tree)) w.unnumbered_yet ∙ ap unnumbered w.there
 
+-- the number of a child that waits is that of no node
+free_unused : (f : Fresh) (k : Kernel) (dir : Node) (shape : Shape) → IsWaiting f k dir shape
+    → is_unused k.nodes f ≡ true
+free_unused f k dir shape w = ap (λ (o : Option Node). not (is_some o)) w.free
+
 waiting_number : (f : Fresh) (k : Kernel) (dir : Node) (shape : Shape) → IsWaiting f k dir shape
-    → number_in_kernel f k ≡ given_number [] f dir None (Unnumbered shape)
+    → nodes_for f k ≡ given_number [] f dir (Unnumbered shape)
 waiting_number f k dir shape w =
-    ap (λ o. number_at [] f o (map.get k.nodes f.ino)) w.directory
-    ∙ ap (λ o. given_number [] f dir o (child_at f.name dir)) w.free
-    ∙ ap (given_number [] f dir None) (waiting_child f k dir shape w)
+    unused_at f k (free_unused f k dir shape w)
+    ∙ ap (number_at [] f) w.directory
+    ∙ ap (given_number [] f dir) (waiting_child f k dir shape w)
 
 -- a number up to the greatest gets its node
 pub number_given : (f : Fresh) (k : Kernel) (dir : Node) (shape : Shape) → IsWaiting f k dir shape → f.ino ≤ last_number
@@ -202,7 +44,7 @@ number_given f k dir shape w small =
     numbered_one f k ∙ ap (option_map (λ ns. with_nodes ns k)) (waiting_number f k dir shape w
     ∙ by (le-leb f.ino last_number small))
   where
-    by : leb f.ino last_number ≡ true → given_number [] f dir None (Unnumbered shape)
+    by : leb f.ino last_number ≡ true → given_number [] f dir (Unnumbered shape)
         ≡ Some ((f.ino, child_node f.dir shape) ∷ (f.dir, numbered_in dir f.name f.ino) ∷ [])
     by e =
         ap (λ b. cond b (Some ((f.ino, child_node f.dir shape) ∷ (f.dir, numbered_in dir f.name f.ino) ∷ [])) (Some []))
@@ -215,71 +57,67 @@ number_spent f k dir shape w large =
     numbered_one f k ∙ ap (option_map (λ ns. with_nodes ns k)) (waiting_number f k dir shape w
     ∙ by (lt-leb f.ino last_number large))
   where
-    by : leb f.ino last_number ≡ false → given_number [] f dir None (Unnumbered shape) ≡ Some []
+    by : leb f.ino last_number ≡ false → given_number [] f dir (Unnumbered shape) ≡ Some []
     by e =
         ap (λ b. cond b (Some ((f.ino, child_node f.dir shape) ∷ (f.dir, numbered_in dir f.name f.ino) ∷ [])) (Some []))
         e
 
 -- and no other number fits
-not_at : (f : Fresh) (k : Kernel) → number_in_kernel f k ≡ None → numbered (f ∷ []) k ≡ None
+not_at : (f : Fresh) (k : Kernel) → nodes_for f k ≡ None → numbered (f ∷ []) k ≡ None
 not_at f k e = numbered_one f k ∙ ap (option_map (λ ns. with_nodes ns k)) e
 
-pub no_directory : (f : Fresh) (k : Kernel) → map.get k.nodes f.dir ≡ None → numbered (f ∷ []) k ≡ None
-no_directory f k e = not_at f k (ap (λ o. number_at [] f o (map.get k.nodes f.ino)) e)
+-- a number whose directory has it add nothing adds nothing, whether it is unused or not
+none_if : (b : Bool) (added : Option Nodes_so_far) → added ≡ None → cond b added None ≡ None
+none_if true added e = e
+none_if false added e = refl
 
-pub number_taken : (f : Fresh) (k : Kernel) (n : Node) → map.get k.nodes f.ino ≡ Some n → numbered (f ∷ []) k ≡ None
-number_taken f k n e = not_at f k (ap (number_at [] f (map.get k.nodes f.dir)) e ∙ by (map.get k.nodes f.dir))
-  where
-    by : (dir : Option Node) → number_at [] f dir (Some n) ≡ None
-    by None = refl
-    by (Some dir) = refl
+nothing_at : (f : Fresh) (k : Kernel) → number_at [] f (map.get k.nodes f.dir) ≡ None → numbered (f ∷ []) k ≡ None
+nothing_at f k e = not_at f k (none_if (is_unused k.nodes f) (number_at [] f (map.get k.nodes f.dir)) e)
+
+pub no_directory : (f : Fresh) (k : Kernel) → map.get k.nodes f.dir ≡ None → numbered (f ∷ []) k ≡ None
+no_directory f k e = nothing_at f k (ap (number_at [] f) e)
 
 no_child : (f : Fresh) (k : Kernel) (dir : Node) (child : Child) → map.get k.nodes f.dir ≡ Some dir
-    → child_at f.name dir ≡ child → ((taken : Option Node) → given_number [] f dir taken child ≡ None)
-    → numbered (f ∷ []) k ≡ None
+    → child_at f.name dir ≡ child → given_number [] f dir child ≡ None → numbered (f ∷ []) k ≡ None
 no_child f k dir child d c none =
-    not_at f k (ap (λ o. number_at [] f o (map.get k.nodes f.ino)) d
-    ∙ ap (given_number [] f dir (map.get k.nodes f.ino)) c ∙ none (map.get k.nodes f.ino))
+    nothing_at f k (ap (number_at [] f) d ∙ ap (given_number [] f dir) c ∙ none)
 
 pub already_known : (f : Fresh) (k : Kernel) (dir : Node) (ino : ℕ) → map.get k.nodes f.dir ≡ Some dir
     → number_in f.name dir.numbers ≡ Some ino → numbered (f ∷ []) k ≡ None
-already_known f k dir ino d e = no_child f k dir (Known ino) d (ap (λ o. known o (child_of f.name dir.tree)) e) none
-  where
-    none : (taken : Option Node) → given_number [] f dir taken (Known ino) ≡ None
-    none None = refl
-    none (Some n) = refl
+already_known f k dir ino d e = no_child f k dir (Known ino) d (ap (λ o. known o (child_of f.name dir.tree)) e) refl
 
 pub child_missing : (f : Fresh) (k : Kernel) (dir : Node) → map.get k.nodes f.dir ≡ Some dir
     → number_in f.name dir.numbers ≡ None → child_of f.name dir.tree ≡ None → numbered (f ∷ []) k ≡ None
 child_missing f k dir d e c =
-    no_child f k dir Missing d (ap (λ o. known o (child_of f.name dir.tree)) e ∙ ap unnumbered c) none
-  where
-    none : (taken : Option Node) → given_number [] f dir taken Missing ≡ None
-    none None = refl
-    none (Some n) = refl
+    no_child f k dir Missing d (ap (λ o. known o (child_of f.name dir.tree)) e ∙ ap unnumbered c) refl
 
 -- where a number fits, a child waited for it
-waits_by : (f : Fresh) (k after : Kernel) (dir taken : Option Node) → map.get k.nodes f.dir ≡ dir
-    → map.get k.nodes f.ino ≡ taken → option_map (λ ns. with_nodes ns k) (number_at [] f dir taken) ≡ Some after
-    → Waits f k
-waits_by f k after None taken d t e = absurd (cc e)
-waits_by f k after (Some dir) (Some n) d t e = absurd (cc e)
-waits_by f k after (Some dir) None d t e = number (number_in f.name dir.numbers) refl e
-  where
-    child : (c : Option Shape) → child_of f.name dir.tree ≡ c → number_in f.name dir.numbers ≡ None
-        → option_map (λ ns. with_nodes ns k) (given_number [] f dir None (unnumbered c)) ≡ Some after → Waits f k
-    child None c i e = absurd (cc e)
-    child (Some shape) c i e = (dir, shape, record { directory = d; unnumbered_yet = i; there = c; free = t })
+module _ (f : Fresh) (k after : Kernel) where
+  waits_at : (dir : Option Node) → map.get k.nodes f.dir ≡ dir → map.get k.nodes f.ino ≡ None
+      → option_map (λ ns. with_nodes ns k) (number_at [] f dir) ≡ Some after → Waits f k
+  waits_at None d t e = absurd (cc e)
+  waits_at (Some dir) d t e = number (number_in f.name dir.numbers) refl e
+    where
+      child : (c : Option Shape) → child_of f.name dir.tree ≡ c → number_in f.name dir.numbers ≡ None
+          → option_map (λ ns. with_nodes ns k) (given_number [] f dir (unnumbered c)) ≡ Some after → Waits f k
+      child None c i e = absurd (cc e)
+      child (Some shape) c i e = (dir, shape, record { directory = d; unnumbered_yet = i; there = c; free = t })
 
-    number : (o : Option ℕ) → number_in f.name dir.numbers ≡ o
-        → option_map (λ ns. with_nodes ns k) (given_number [] f dir None (known o (child_of f.name dir.tree)))
-        ≡ Some after → Waits f k
-    number (Some ino) i e = absurd (cc e)
-    number None i e = child (child_of f.name dir.tree) refl i e
+      number : (o : Option ℕ) → number_in f.name dir.numbers ≡ o
+          → option_map (λ ns. with_nodes ns k) (given_number [] f dir (known o (child_of f.name dir.tree)))
+          ≡ Some after → Waits f k
+      number (Some ino) i e = absurd (cc e)
+      number None i e = child (child_of f.name dir.tree) refl i e
+
+  waits_by : (taken : Option Node) → map.get k.nodes f.ino ≡ taken
+      → option_map (λ ns. with_nodes ns k) (cond (not (is_some taken)) (number_at [] f (map.get k.nodes f.dir)) None)
+      ≡ Some after → Waits f k
+  waits_by None t e = waits_at (map.get k.nodes f.dir) refl t e
+  waits_by (Some node) t e = absurd (cc e)
 
 pub waited : (f : Fresh) (k after : Kernel) → numbered (f ∷ []) k ≡ Some after → Waits f k
 waited f k after e =
-    waits_by f k after (map.get k.nodes f.dir) (map.get k.nodes f.ino) refl refl (sym (numbered_one f k) ∙ e)
+    waits_by f k after (map.get k.nodes f.ino) refl (sym (numbered_one f k) ∙ e)
 
 -- ---- and back
 
@@ -312,11 +150,8 @@ lent_child name s t e =
 
 -- a number that some node has fits nowhere
 pub taken_number : (f : Fresh) (k : Kernel) → map.contains_key k.nodes f.ino ≡ true → numbered (f ∷ []) k ≡ None
-taken_number f k e = by (map.get k.nodes f.ino) refl e
-  where
-    by : (o : Option Node) → map.get k.nodes f.ino ≡ o → is_some o ≡ true → numbered (f ∷ []) k ≡ None
-    by None g s = absurd (cc s)
-    by (Some n) g s = number_taken f k n g
+taken_number f k e =
+    not_at f k (ap (λ b. cond (not b) (number_at [] f (map.get k.nodes f.dir)) None) e)
 
 -- nor one of a child that has a number, or is not there
 pub has_number : (f : Fresh) (k : Kernel) (dir : Node) → map.get k.nodes f.dir ≡ Some dir

@@ -25,21 +25,24 @@ use Rattle.kernel_model.specs.calls.Answers.{Replies, replies}
 use Rattle.kernel_model.specs.calls.Callers.{Context, context_of, caller_of}
 use Rattle.kernel_model.specs.calls.Table.{call_row}
 use Rattle.kernel_model.specs.entries.Areas.{Stands, next_row}
-use Rattle.kernel_model.specs.entries.Given.{has_any, is_in_order, Nodes_so_far, faulted, risen, number_all, all_known}
+use Rattle.kernel_model.specs.entries.Given.{has_any, is_in_order, Nodes_so_far, faulted, risen, number_all, met}
+use Rattle.kernel_model.specs.entries.Given.{node_changes, may_meet}
 use Rattle.kernel_model.specs.entries.Parts.{Holds, Parts, parts, done, outcome_in, Change, put, changed}
 use Rattle.kernel_model.specs.entries.Steps.{by_given, failing, refused_with, going_on, replied_by, same_args}
-use Rattle.kernel_model.specs.entries.Steps.{stands_at, call_at}
+use Rattle.kernel_model.specs.entries.Steps.{stands_at, call_at, may_enter}
 use Rattle.kernel_model.specs.entries.Steps.{row_of, task_of, if_live, entry_row, stepped, step}
-use Rattle.kernel_model.specs.laws.InPlace.{with_nodes, numbered, changed_by}
+use Rattle.kernel_model.specs.laws.InPlace.{with_nodes, changed_by}
 use Rattle.kernel_model.specs.machine.Registers.{args_of, call_of, replied}
 use Rattle.kernel_model.proofs.CallLemmas.{call_disordered, call_drawing, call_failing, call_quiet}
+use Rattle.kernel_model.proofs.Failing.{faulted_is}
 use Rattle.kernel_model.proofs.Trees.{outcome-bind}
 use Rattle.kernel_calls.specs.Prepared.{changes_of, with_memory}
 use Rattle.kernel_calls.specs.declared.prepared.Effect.{Effect}
-use Rattle.kernel_calls.specs.declared.prepared.Effect.TheVariants.{Nothing, TakesBytes, EndsGroup}
+use Rattle.kernel_calls.specs.declared.prepared.Effect.TheVariants.{Nothing, TakesBytes, EndsGroup, SetsClear}
 use Rattle.plain_kernel.specs.Doing.{Does}
-use Rattle.plain_kernel.proofs.FaultLemmas.{faulted_unnumbered, faulted_unknown, faulted_risen}
-use Rattle.plain_kernel.proofs.Numberings.{with_nodes_first, changed-append}
+use Rattle.plain_kernel.specs.Unused.{AreUnused}
+use Rattle.plain_kernel.proofs.FaultLemmas.{ordered_unused}
+use Rattle.plain_kernel.proofs.NodesSoFar.{with_nodes_first, changed-append}
 
 -- ---- the row of an entry
 
@@ -201,6 +204,7 @@ pub effect_apart : (effect : Effect) (group : ℕ) (k : Kernel) (c : Caller) (sp
 effect_apart Nothing group k c space areas = refl
 effect_apart (TakesBytes bytes) group k c space areas = refl
 effect_apart (EndsGroup status) group k c space areas = refl
+effect_apart (SetsClear task address) group k c space areas = refl
 
 -- what a call does for its task as the call left it, it does for the task as it was before
 pub answered : (k left : Kernel) (c after : Caller) (effect : Effect) (areas : NamedMap AreaState) (reply value : ℤ)
@@ -258,38 +262,21 @@ registers_with_nodes [] k = refl
 registers_with_nodes (n ∷ ns) k =
     ap (λ (m : Kernel). m.registers) (with_nodes_first n ns k) ∙ registers_with_nodes ns k
 
-numbered_registers : (fresh : List Fresh) (k m : Kernel) → numbered fresh k ≡ Some m → m.registers ≡ k.registers
-unfolding numbered
-numbered_registers fresh k m e = by (outcome_in (parts k) (number_all fresh [])) e
-  where
-    by : (nodes : Option Nodes_so_far) → option_map (λ ns. with_nodes ns k) nodes ≡ Some m → m.registers ≡ k.registers
-    by None e = absurd (cc e)
-    by (Some ns) e =
-        let is : m ≡ with_nodes ns k = cc e in ap (λ (n : Kernel). n.registers) is ∙ registers_with_nodes ns k
-
 -- what was drawn and met is of no task
 pub faulted_registers : (given : Given) (k left : Kernel)
     → changed_by (outcome_in (parts k) (faulted given)) k ≡ Some left → left.registers ≡ k.registers
-faulted_registers given k left some = number (numbered given.fresh k) refl
+faulted_registers given k left some =
+    by (outcome_in (parts k) (number_all given.fresh []))
+    (sym (ap (λ changes. changed_by changes k) (faulted_is (parts k) given)) ∙ some)
   where
-    known : (m : Kernel) → numbered given.fresh k ≡ Some m → (b : Bool)
-        → outcome_in (parts m) (all_known given.rises []) ≡ b → left.registers ≡ k.registers
-    known m n false a =
-        let none : changed_by (outcome_in (parts k) (faulted given)) k ≡ None = faulted_unknown given k m n a in
-        absurd (cc (none, some))
-    known m n true a =
-        let is : left ≡ record m { failed = risen given.rises m.failed } =
-        let all : changed_by (outcome_in (parts k) (faulted given)) k
-        ≡ Some (record m { failed = risen given.rises m.failed }) =
-        faulted_risen given k m n a in
-        cc (all, some) in
-        ap (λ (n : Kernel). n.registers) is ∙ numbered_registers given.fresh k m n
-
-    number : (o : Option Kernel) → numbered given.fresh k ≡ o → left.registers ≡ k.registers
-    number None n =
-        let none : outcome_in (parts k) (faulted given) ≡ None = faulted_unnumbered given k n in
-        absurd (cc (none, some))
-    number (Some m) n = known m n (outcome_in (parts m) (all_known given.rises [])) refl
+    by : (nodes : Option Nodes_so_far) → changed_by (met given nodes k.failed) k ≡ Some left
+        → left.registers ≡ k.registers
+    by None e = absurd (cc e)
+    by (Some ns) e =
+        let is : left ≡ changed (node_changes ns ++ (OfFaults, risen given.rises k.failed) ∷ []) k = cc e in
+        ap (λ (n : Kernel). n.registers)
+        (is ∙ changed-append (node_changes ns) ((OfFaults, risen given.rises k.failed) ∷ []) k)
+        ∙ registers_with_nodes ns k
 
 entries_put : (p : Part) (content : Holds p) (k : Kernel) → (put p content k).entries ≡ k.entries
 entries_put OfTasks content k = refl
@@ -320,11 +307,30 @@ done_nothing (Some cs) b k left fits ok is = absurd (cc (fits, is))
 
 -- ---- a whole step
 
-module _ (k left : Kernel) (e : Entry) where
+-- an entry that may be made does what its row comes to, and another fits nothing
+pub step_is : (k : Kernel) (e : Entry) → may_enter k.nodes e ≡ true
+    → step k e ≡ option_map (stepped k) (outcome_in (parts k) (entry_row (context_of k) e))
+unfolding step
+step_is k e may = ap (λ b. cond b (option_map (stepped k) (outcome_in (parts k) (entry_row (context_of k) e))) None) may
+
+pub step_none : (k : Kernel) (e : Entry) → may_enter k.nodes e ≡ false → step k e ≡ None
+unfolding step
+step_none k e not_now =
+    ap (λ b. cond b (option_map (stepped k) (outcome_in (parts k) (entry_row (context_of k) e))) None) not_now
+
+-- a call that may be made, and whose record is in order, draws numbers that are unused
+pub entered_unused : (k kept : Kernel) (e : Entry) (task call : ℕ) (args : Args) (given : Given) (reply : ℤ)
+    → kept ≡ k → e ≡ Call task call args given reply → may_enter k.nodes e ≡ true → is_in_order given ≡ true
+    → AreUnused given.fresh kept
+entered_unused k kept e task call args given reply same is may order =
+    ordered_unused given kept order
+    (ap (λ (m : Kernel). may_meet m.nodes given) same ∙ sym (ap (may_enter k.nodes) is) ∙ may)
+
+module _ (k left : Kernel) (e : Entry) (may : may_enter k.nodes e ≡ true) where
   pub step_fits : (b : Bool) → Does (outcome_in (parts k) (entry_row (context_of k) e)) k left (Ok b)
       → b ≡ is_some (step k e)
-  unfolding step
-  step_fits b does = by (outcome_in (parts k) (entry_row (context_of k) e)) b does
+  step_fits b does =
+      by (outcome_in (parts k) (entry_row (context_of k) e)) b does ∙ sym (ap is_some (step_is k e may))
     where
       by : (changes : Option (List Change)) (b : Bool) → Does changes k left (Ok b)
           → b ≡ is_some (option_map (stepped k) changes)
@@ -347,8 +353,9 @@ module _ (k left : Kernel) (e : Entry) where
 
   pub step_taken : (b : Bool) → Does (outcome_in (parts k) (entry_row (context_of k) e)) k left (Ok b) → b ≡ true
       → record left { entries = left.entries + 1 } ≡ unwrap_or (step k e) k
-  unfolding step
-  step_taken b does is = by (outcome_in (parts k) (entry_row (context_of k) e)) b does is
+  step_taken b does is =
+      by (outcome_in (parts k) (entry_row (context_of k) e)) b does is
+      ∙ sym (ap (λ o. unwrap_or o k) (step_is k e may))
     where
       by : (changes : Option (List Change)) (b : Bool) → Does changes k left (Ok b) → b ≡ true
           → record left { entries = left.entries + 1 } ≡ unwrap_or (option_map (stepped k) changes) k
@@ -362,8 +369,9 @@ module _ (k left : Kernel) (e : Entry) where
 
   pub step_refused : (b : Bool) → Does (outcome_in (parts k) (entry_row (context_of k) e)) k left (Ok b) → b ≡ false
       → left ≡ unwrap_or (step k e) k
-  unfolding step
-  step_refused b does is = by (outcome_in (parts k) (entry_row (context_of k) e)) b does is
+  step_refused b does is =
+      by (outcome_in (parts k) (entry_row (context_of k) e)) b does is
+      ∙ sym (ap (λ o. unwrap_or o k) (step_is k e may))
     where
       by : (changes : Option (List Change)) (b : Bool) → Does changes k left (Ok b) → b ≡ false
           → left ≡ unwrap_or (option_map (stepped k) changes) k

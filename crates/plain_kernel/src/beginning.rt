@@ -1,20 +1,21 @@
 //! The kernel before its first task, and its opening tasks in order.
 
-ghost use Rattle.std.specs.Prelude.{◌≡◌, ◌+◌, ◌<◌, ◌≤◌, ◌^◌, false, length, IfOk, OnOk, IfErr};
+ghost use Rattle.std.specs.Prelude.{◌≡◌, ◌+◌, ◌<◌, ◌≤◌, ◌^◌, true, false, length, IfOk, OnOk, IfErr};
 ghost use Rattle.task_table.specs.Clones.{opened as with_opened};
 ghost use Rattle.task_table.specs.Table.{no_tasks};
 ghost use Rattle.kernel_model.specs.declared.kernel.Kernel.{Kernel as AKernel};
 ghost use Rattle.kernel_model.specs.opening.Opening.{Begun, Opens, rooted, bare, made_by, with_task, execve_of};
-ghost use Rattle.kernel_model.specs.opening.Opening.{task_begun};
-ghost use Rattle.kernel_model.specs.opening.Opening.{tasks_begun};
+ghost use Rattle.kernel_model.specs.opening.Opening.{root_of, task_begun, tasks_begun};
 ghost use Rattle.kernel_model.specs.opening.Arguments.{is_too_long};
+ghost use Rattle.kernel_model.specs.entries.Given.{may_meet};
 ghost use Rattle.kernel_model.specs.entries.Parts.{parts, outcome_in as outcome};
 ghost use Rattle.kernel_model.specs.laws.Beginnings.{HasRoom, IsRoomFor};
 ghost use Rattle.plain_kernel.specs.Beginnings.{IsRefusedBy};
 
 use crate::OpeningErr;
+use crate::meeting::may_meet;
 use crate::nodes::root_node;
-use crate::walking::{Execved, execve};
+use crate::walking::{Execved, execve, root_number};
 use elf_image::Image;
 use host_node::Tree;
 use kernel_calls::{Beginning, open_task, opened};
@@ -72,10 +73,14 @@ pub(crate) fn begin_tasks(
 {
     for index in 0..programs.len() {
         let number = index as u32 + 1;
+        let program = &programs[index];
         let Some(one) = opened.get(index) else {
             return Err(OpeningErr::Misfit { task: number });
         };
-        begin_task(alloc, kernel, number, &programs[index], &one.given)?;
+        if !may_meet(&kernel.nodes, &one.given) {
+            return Err(OpeningErr::Misfit { task: number });
+        }
+        begin_task(alloc, kernel, number, program, &one.given)?;
     }
     Ok(())
 }
@@ -88,14 +93,16 @@ fn begin_task(
     program: &Program,
     given: &Given,
 ) -> Result<(), OpeningErr>
-    requires { IsRoomFor kernel.old.tasks }
+    requires room { IsRoomFor kernel.old.tasks }
+    requires may { may_meet kernel.old.nodes given.now ≡ true }
     ensures ok { OnOk result ((rest : AKernel → Begun) →
         task_begun rest (with_task number program.now) number kernel.old
-        (outcome (parts kernel.old) (execve_of program.now given.now)) ≡ rest kernel.new) }
-    ensures tasks { OnOk result (kernel.new.tasks ≡ with_opened kernel.old.tasks (made_by number) (made_by number) 1) }
+        (outcome (parts kernel.old) (execve_of (root_of kernel.old.mounts) program.now given.now)) ≡ rest kernel.new) }
+    ensures tasks { OnOk result (kernel.new.tasks ≡ with_opened kernel.old.tasks (made_by number) (made_by number)
+        (root_of kernel.new.mounts)) }
     ensures refused { IfErr result (λ e. (rest : AKernel → Begun) →
         IsRefusedBy (task_begun rest (with_task number program.now) number kernel.old
-        (outcome (parts kernel.old) (execve_of program.now given.now))) e) }
+        (outcome (parts kernel.old) (execve_of (root_of kernel.old.mounts) program.now given.now))) e) }
 {
     match execve(alloc, kernel, program, given)? {
         Execved::Starts(image) => {
@@ -130,7 +137,8 @@ fn add_task(
         program,
         image,
     )?;
-    open_task(&mut kernel.tasks, number)?;
+    let root = root_number(kernel);
+    open_task(&mut kernel.tasks, number, root)?;
     kernel.registers.insert(u64::from(number), registers)?;
     kernel.spaces.insert(alloc, 0, number, space)
 }

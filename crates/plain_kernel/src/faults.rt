@@ -1,13 +1,14 @@
 //! What a call leaves in which a host call failed: fresh numbers, and rises of nodes' counts of faults.
 
-ghost use Rattle.std.specs.Prelude.{◌≡◌, [], nat_lt, is_some, unwrap_or, IsTrue, IfOk, OnOk, OnErr, if◌then◌else◌};
+ghost use Rattle.std.specs.Prelude.{◌≡◌, nat_lt, is_some, unwrap_or, IsTrue, IfOk, OnOk, OnErr};
 ghost use Rattle.std.specs.FinMap as map;
 ghost use Rattle.std.specs.List.{list_all, list_any};
 ghost use Rattle.kernel_model.specs.entries.Given.{ascend_from, numbers_of, same_child, are_apart, nodes_of};
 ghost use Rattle.kernel_model.specs.entries.Given.{is_in_order};
-ghost use Rattle.kernel_model.specs.entries.Given.{all_known, risen, faulted};
+ghost use Rattle.kernel_model.specs.entries.Given.{risen, faulted};
 ghost use Rattle.kernel_model.specs.entries.Parts.{parts, outcome_in as outcome, set_at};
 ghost use Rattle.kernel_model.specs.laws.InPlace.{changed_by};
+ghost use Rattle.plain_kernel.specs.Unused.{AreUnused};
 
 use crate::numbering::{number_all, unnumber_all};
 use kernel_model::{Fresh, Given, Kernel, Rise};
@@ -114,9 +115,10 @@ fn restore(failed: &mut Map<u64>, ino: u64, before: Option<u64>)
     }
 }
 
-/// Does what a call leaves in which a host call failed, and answers whether what it drew and met fits. A refusal or
-/// want of memory leaves the kernel as it was.
+/// Does what a call leaves in which a host call failed, and answers whether the fresh numbers fit. A refusal or want of
+/// memory leaves the kernel as it was.
 pub(crate) fn faulted(alloc: Global, kernel: &mut Kernel, given: &Given) -> Result<bool, Memory>
+    requires { AreUnused given.now.fresh kernel.old }
     ensures fits { IfOk result (λ b. b ≡ is_some (outcome (parts kernel.old) (faulted given.now))) }
     ensures ok { OnOk result
         (kernel.new ≡ unwrap_or (changed_by (outcome (parts kernel.old) (faulted given.now)) kernel.old) kernel.old) }
@@ -126,35 +128,11 @@ pub(crate) fn faulted(alloc: Global, kernel: &mut Kernel, given: &Given) -> Resu
     if !number_all(alloc, kernel, fresh)? {
         return Ok(false);
     }
-    match raise_known(kernel, given.rises.as_slice()) {
-        Ok(true) => Ok(true),
-        Ok(false) => {
-            unnumber_all(kernel, fresh);
-            Ok(false)
-        }
+    match raise(&mut kernel.failed, given.rises.as_slice()) {
+        Ok(()) => Ok(true),
         Err(error) => {
             unnumber_all(kernel, fresh);
             Err(error)
         }
     }
-}
-
-/// Adds each rise to its node's count, where each of the nodes has a number.
-fn raise_known(kernel: &mut Kernel, rises: &[Rise]) -> Result<bool, Memory>
-    ensures fits { IfOk result (λ b. b ≡ outcome (parts kernel.old) (all_known rises.now [])) }
-    ensures ok { IfOk result (λ b.
-        kernel.new ≡ (if b then record kernel.old { failed = risen rises.now kernel.old.failed } else kernel.old)) }
-    ensures err { OnErr result (kernel.new ≡ kernel.old) }
-{
-    if !all_known(kernel, rises) {
-        return Ok(false);
-    }
-    raise(&mut kernel.failed, rises)?;
-    Ok(true)
-}
-
-fn all_known(kernel: &Kernel, rises: &[Rise]) -> bool
-    ensures { result ≡ outcome (parts kernel.now) (all_known rises.now []) }
-{
-    rises.iter().all(|rise| kernel.nodes.contains(rise.ino))
 }

@@ -18,6 +18,7 @@ mod beginning;
 mod callers;
 mod entries;
 mod faults;
+mod meeting;
 mod nodes;
 mod numbering;
 mod opened;

@@ -6,6 +6,7 @@ ghost use Rattle.plain_kernel.specs.Beginnings.{IsRefusedBy};
 ghost use Rattle.kernel_model.specs.entries.Steps.{step};
 
 use crate::beginning::{bare, begin_tasks};
+use crate::meeting::may_enter;
 use crate::opened::is_of;
 use crate::step::change;
 use host_node::Tree;
@@ -75,6 +76,9 @@ impl Plain {
         ensures ok { OnOk result (self.new.kernel ≡ unwrap_or (step self.old.kernel entry.now) self.old.kernel) }
         ensures err { OnErr result (self.new.kernel ≡ self.old.kernel) }
     {
+        if !may_enter(&self.kernel.nodes, entry) {
+            return Ok(false);
+        }
         let fits = change(alloc, &mut self.kernel, entry)?;
         if fits {
             self.kernel.entries += 1;

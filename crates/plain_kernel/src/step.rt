@@ -12,8 +12,9 @@ ghost use Rattle.kernel_model.specs.calls.Callers.{context_of};
 ghost use Rattle.kernel_model.specs.calls.Table.{call_row};
 ghost use Rattle.kernel_model.specs.entries.Areas.{next_row};
 ghost use Rattle.kernel_model.specs.entries.Parts.{Change, changed, outcome_in, parts};
-ghost use Rattle.kernel_model.specs.entries.Steps.{entry_row, failing, replied_by, stands_at};
+ghost use Rattle.kernel_model.specs.entries.Steps.{entry_row, failing, may_enter, replied_by, stands_at};
 ghost use Rattle.plain_kernel.specs.Doing.{Does, IsThere};
+ghost use Rattle.plain_kernel.specs.Unused.{AreUnused};
 
 use crate::callers::{caller, copied_areas};
 use crate::entries::{end_task, go_on, run_task, same_args};
@@ -27,7 +28,8 @@ use std::alloc::Global;
 /// Does what an entry does, but for the count of entries, and answers whether the entry fits. It works on copies of the
 /// caller's address space and of the shared areas, so that a refusal or want of memory leaves the kernel as it was.
 pub(crate) fn change(alloc: Global, kernel: &mut Kernel, entry: &Entry) -> Result<bool, Memory>
-    requires { kernel.old.entries < 1048576 }
+    requires few { kernel.old.entries < 1048576 }
+    requires may { may_enter kernel.old.nodes entry.now ≡ true }
     ensures { Does (outcome_in (parts kernel.old) (entry_row (context_of kernel.old) entry.now))
         kernel.old kernel.new result }
 {
@@ -174,7 +176,8 @@ fn failing(
     reply: i64,
     given: &Given,
 ) -> Result<bool, Memory>
-    requires { IsThere caller kernel.old }
+    requires there { IsThere caller kernel.old }
+    requires unused { AreUnused given.now.fresh kernel.old }
     ensures { Does (outcome_in (parts kernel.old) (failing caller reply given.now)) kernel.old kernel.new result }
 {
     if !is_failure(reply) {

@@ -4,9 +4,9 @@ ghost use Rattle.std.specs.Prelude.{◌≡◌, true, false, IfOk};
 ghost use Rattle.std.specs.FinMap as map;
 ghost use Rattle.std.specs.List.{list_any};
 ghost use Rattle.kernel_model.specs.files.FileTree.{owner_executes};
-ghost use Rattle.kernel_model.specs.entries.Given.{has_any, above_last};
+ghost use Rattle.kernel_model.specs.entries.Given.{has_any, above_last, may_meet};
 ghost use Rattle.kernel_model.specs.opening.Opening.{image_in, executed, numbered_image, walk_of, draws_just};
-ghost use Rattle.kernel_model.specs.opening.Opening.{by_walk, name_in_path, execve_of};
+ghost use Rattle.kernel_model.specs.opening.Opening.{by_walk, name_in_path, root_of, execve_of};
 ghost use Rattle.kernel_model.specs.entries.Parts.{parts, outcome_in as outcome};
 ghost use Rattle.kernel_model.specs.laws.Beginnings.{fits};
 ghost use Rattle.plain_kernel.specs.Beginnings.{Executes, IsFrom, MayStart};
@@ -16,7 +16,7 @@ use crate::nodes::number_of;
 use crate::numbering::{LAST_NUMBER, number_all};
 use elf_image::Image;
 use host_node::{Kind, Tree};
-use kernel_calls::{is_too_long, read_executable};
+use kernel_calls::{is_too_long, read_executable, root_of};
 use kernel_model::{Fresh, Given, Kernel};
 use mount_file::Program;
 use sn_base::Memory;
@@ -26,9 +26,6 @@ use std::alloc::Global;
 
 /// The greatest size of an image's file, in bytes.
 const LONGEST_IMAGE: usize = 67_108_864;
-
-/// The number of the root of the mount at `/`.
-pub(crate) const ROOT: u64 = 1;
 
 /// What a walk comes to: whether it is to a child without a number, and its image or error.
 #[derive(Drop)]
@@ -103,13 +100,22 @@ fn executed(alloc: Global, tree: &Tree) -> Result<Result<Image, Errno>, Memory>
     }
 }
 
-/// Whether the fresh numbers are just those that a walk to a name draws.
-fn draws_just(draws: bool, name: &[u8], fresh: &[Fresh]) -> bool
-    ensures { result ≡ draws_just draws name.now fresh.now }
+/// The number of the root of the mount at `/`.
+pub(crate) fn root_number(kernel: &Kernel) -> u64
+    ensures { result ≡ root_of kernel.now.mounts }
+{
+    root_of(kernel.mounts.as_slice())
+}
+
+/// Whether the fresh numbers are just those that a walk from the root to a name draws.
+fn draws_just(kernel: &Kernel, draws: bool, name: &[u8], fresh: &[Fresh]) -> bool
+    ensures { result ≡ draws_just (root_of kernel.now.mounts) draws name.now fresh.now }
 {
     match fresh {
         [] => !draws,
-        [one] => draws && one.dir == ROOT && one.name.is(name) && 0 < one.ino,
+        [one] => {
+            draws && one.dir == root_number(kernel) && one.name.is(name) && 0 < one.ino
+        }
         _ => false,
     }
 }
@@ -144,9 +150,10 @@ fn numbered_image(alloc: Global, kernel: &Kernel, ino: u64) -> Result<Result<Ima
 /// Walks from the root of the mount at `/` to a name.
 fn walk_to(alloc: Global, kernel: &Kernel, name: &[u8]) -> Result<Walk, Memory>
     ensures { IfOk result (λ w.
-        outcome (parts kernel.now) (walk_of name.now) ≡ record { draws = w.draws; image = w.image }) }
+        outcome (parts kernel.now) (walk_of (root_of kernel.now.mounts) name.now)
+        ≡ record { draws = w.draws; image = w.image }) }
 {
-    let Some(root) = kernel.nodes.get(ROOT) else {
+    let Some(root) = kernel.nodes.get(root_number(kernel)) else {
         return Ok(Walk::refused(Errno::ENOENT));
     };
     if !owner_executes(&root.tree) {
@@ -176,8 +183,10 @@ pub(crate) fn execve(
     program: &Program,
     given: &Given,
 ) -> Result<Execved, Memory>
+    requires { may_meet kernel.old.nodes given.now ≡ true }
     ensures does { IfOk result
-        (Executes (outcome (parts kernel.old) (execve_of program.now given.now)) kernel.old kernel.new) }
+        (Executes (outcome (parts kernel.old) (execve_of (root_of kernel.old.mounts) program.now given.now))
+        kernel.old kernel.new) }
     ensures may { IfOk result (MayStart program.now) }
 {
     let name = name_in_path(&program.path);
@@ -196,8 +205,10 @@ fn execve_walked(
     given: &Given,
     walk: Walk,
 ) -> Result<Execved, Memory>
+    requires { may_meet kernel.old.nodes given.now ≡ true }
     ensures does { IfOk result (Executes (outcome (parts kernel.old)
-        (by_walk name.now given.now (record { draws = walk.draws; image = walk.image }))) kernel.old kernel.new) }
+        (by_walk (root_of kernel.old.mounts) name.now given.now
+        (record { draws = walk.draws; image = walk.image }))) kernel.old kernel.new) }
     ensures from { IfOk result (IsFrom walk.image) }
 {
     if given.rises.is_empty() {
@@ -220,14 +231,16 @@ fn execve_unfailed(
     given: &Given,
     walk: Walk,
 ) -> Result<Execved, Memory>
-    requires { has_any given.now.rises ≡ false }
+    requires may { may_meet kernel.old.nodes given.now ≡ true }
+    requires unfailed { has_any given.now.rises ≡ false }
     ensures does { IfOk result (Executes (outcome (parts kernel.old)
-        (by_walk name.now given.now (record { draws = walk.draws; image = walk.image }))) kernel.old kernel.new) }
+        (by_walk (root_of kernel.old.mounts) name.now given.now
+        (record { draws = walk.draws; image = walk.image }))) kernel.old kernel.new) }
     ensures from { IfOk result (IsFrom walk.image) }
 {
     let Walk { draws, image } = walk;
     let fresh = given.fresh.as_slice();
-    if !draws_just(draws, name, fresh) {
+    if !draws_just(kernel, draws, name, fresh) {
         return Ok(Execved::Unfit);
     }
     if any_above_last(fresh) {

@@ -1,10 +1,10 @@
 -- An opening execve that fails refuses the opening, and one that starts leaves the tasks.
-use Rattle.std.proofs.Common.{ap, ◌∙◌}
+use Rattle.std.proofs.Common.{ap, sym, ◌∙◌}
 use Rattle.task_table.specs.Clones.{opened}
 use Rattle.task_table.specs.Table.{TaskTable}
 use Rattle.kernel_model.specs.declared.kernel.Kernel.{Kernel}
 use Rattle.kernel_model.specs.opening.Opening.{made_by}
-use Rattle.kernel_model.specs.opening.Opening.{execve_of, with_task}
+use Rattle.kernel_model.specs.opening.Opening.{execve_of, root_of, with_task}
 use Rattle.kernel_model.specs.entries.Parts.{parts, outcome_in}
 use Rattle.kernel_model.proofs.OpenedTasks.{room_still}
 use Rattle.plain_kernel.proofs.BeginLemmas.{fails_refused}
@@ -13,7 +13,8 @@ use Rattle.plain_kernel.proofs.beginning.begin_task.Goals as goal
 
 pub returns-in-Fails-clause-refused : goal.returns-in-Fails-clause-refused
 returns-in-Fails-clause-refused c = λ rest.
-    fails_refused (outcome_in (parts c.args.kernel.now) (execve_of c.args.program.now c.args.given.now))
+    fails_refused (outcome_in (parts c.args.kernel.now) (execve_of (root_of c.args.kernel.now.mounts) c.args.program.now
+    c.args.given.now))
     c.args.kernel.now c.execve.new.kernel c.in_ok-image.field-0 c.in-Fails.errno rest
     (with_task c.args.number c.args.program.now) c.args.number c.in_ok-image.ensures.does c.in-Fails.is
 
@@ -21,11 +22,14 @@ pub add_task-requires-clause-room : goal.add_task-requires-clause-room
 add_task-requires-clause-room c =
     room_still c.args.kernel.now.tasks c.execve.new.kernel.tasks
     (tasks_stay c.args.kernel.now c.execve.new.kernel c.args.program.now c.args.given.now c.in_ok-image.field-0
-    c.in-Starts.image c.in-Starts.is c.in_ok-image.ensures.does) c.requires
+    c.in-Starts.image c.in-Starts.is c.in_ok-image.ensures.does) c.requires.room
 
 pub returns-in_ok-add_task-in-Starts-clause-tasks : goal.returns-in_ok-add_task-in-Starts-clause-tasks
 returns-in_ok-add_task-in-Starts-clause-tasks c =
     ap (λ (k : Kernel). k.tasks) c.in_ok-add_task-in-Starts.ensures
-    ∙ ap (λ (list : TaskTable). opened list (made_by c.args.number) (made_by c.args.number) 1)
+    ∙ ap (λ (list : TaskTable). opened list (made_by c.args.number) (made_by c.args.number)
+    (root_of c.execve.new.kernel.mounts))
     (tasks_stay c.args.kernel.now c.execve.new.kernel c.args.program.now c.args.given.now c.in_ok-image.field-0
     c.in-Starts.image c.in-Starts.is c.in_ok-image.ensures.does)
+    ∙ ap (λ root. opened c.args.kernel.now.tasks (made_by c.args.number) (made_by c.args.number) root)
+    (sym (ap (λ (k : Kernel). root_of k.mounts) c.in_ok-add_task-in-Starts.ensures))

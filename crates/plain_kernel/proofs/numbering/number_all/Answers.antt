@@ -2,7 +2,7 @@
 use Rattle.std.proofs.Common.{◌≡◌, [], ◌∷◌, ap, sym, ◌∙◌, Some, None, is_some, unwrap_or}
 use Rattle.kernel_model.specs.declared.kernel.Kernel.{Kernel}
 use Rattle.kernel_model.specs.laws.InPlace.{numbered}
-use Rattle.plain_kernel.proofs.Numberings.{numbered_none}
+use Rattle.plain_kernel.proofs.NodesSoFar.{numbered_none}
 use Rattle.plain_kernel.proofs.NumberRuns.{numbered_step, numbered_refused, taken_by, refused_by}
 use Rattle.plain_kernel.proofs.numbering.number_all.Goals as goal
 

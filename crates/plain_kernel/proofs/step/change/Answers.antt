@@ -6,7 +6,7 @@ use Rattle.std.specs.Prelude.{not}
 use Rattle.std.proofs.Math.Facts.{to_z-of_z}
 use Rattle.kernel_model.specs.declared.kernel.Kernel.{Kernel}
 use Rattle.plain_kernel.proofs.StepLemmas.{answered, entry_disordered, entry_drawing, entry_elsewhere, entry_failing}
-use Rattle.plain_kernel.proofs.StepLemmas.{entry_quiet, has_any_not}
+use Rattle.plain_kernel.proofs.StepLemmas.{entered_unused, entry_quiet, has_any_not}
 use Rattle.plain_kernel.proofs.step.change.Goals as goal
 
 pub returns-then-not-stands : goal.returns-then-not-stands
@@ -29,6 +29,12 @@ returns-then-not-is_in_order c =
     c.in-Call.task c.in-Call.no c.in-Call.args c.in-Call.given c.in-Call.reply c.in-Call.reply c.in-Call.is refl
     (sym (c.in_ok-stands-in-Call.ensures.stands c.copied_areas.new.kernel areas) ∙ c.if-not-stands.false)
     (sym c.is_in_order.ensures ∙ c.if-not-is_in_order.true)
+
+pub failing-requires-clause-unused : goal.failing-requires-clause-unused
+failing-requires-clause-unused c =
+    entered_unused c.args.kernel.now c.copied_areas.new.kernel c.args.entry.now c.in-Call.task c.in-Call.no
+    c.in-Call.args c.in-Call.given c.in-Call.reply (c.copied_areas.ensures.kept ∙ c.caller.ensures.kept) c.in-Call.is
+    c.requires.may (sym c.is_in_order.ensures ∙ c.if-not-is_in_order.false)
 
 pub returns-then-not-is_empty : goal.returns-then-not-is_empty
 returns-then-not-is_empty c =

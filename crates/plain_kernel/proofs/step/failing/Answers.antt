@@ -42,7 +42,7 @@ go_on-requires c =
     c.if-not-branch.false in
     ap (λ m. map.contains_key m c.args.caller.task)
     (faulted_registers c.args.given.now c.args.kernel.now c.faulted.new.kernel all)
-    ∙ c.requires.registers
+    ∙ c.requires.there.registers
 
 pub returns : goal.returns
 returns c =

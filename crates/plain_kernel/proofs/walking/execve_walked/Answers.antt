@@ -4,6 +4,7 @@ use Rattle.std.specs.Prelude.{not}
 use Rattle.kernel_model.specs.entries.Given.{faulted}
 use Rattle.kernel_model.specs.entries.Parts.{parts}
 use Rattle.kernel_model.specs.entries.Parts.{outcome_in as outcome}
+use Rattle.plain_kernel.proofs.FaultLemmas.{ordered_unused}
 use Rattle.plain_kernel.proofs.StepLemmas.{has_any_not, done_all, done_nothing}
 use Rattle.plain_kernel.proofs.WalkLemmas.{rises_unfit, rises_fail}
 use Rattle.plain_kernel.proofs.walking.execve_walked.Goals as goal
@@ -24,3 +25,8 @@ returns-clause-does c =
     (sym c.is_in_order.ensures ∙ c.if-not-is_in_order.false) c.faulted.new.kernel
     (done_all (outcome (parts c.args.kernel.now) (faulted c.args.given.now)) c.in_ok-faulted.field-0 c.args.kernel.now
     c.faulted.new.kernel c.in_ok-faulted.ensures.fits c.in_ok-faulted.ensures.ok c.if-not-branch.false)
+
+pub faulted-requires : goal.faulted-requires
+faulted-requires c =
+    ordered_unused c.args.given.now c.args.kernel.now (sym c.is_in_order.ensures ∙ c.if-not-is_in_order.false)
+    c.requires
