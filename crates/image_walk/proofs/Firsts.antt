@@ -9,20 +9,23 @@ use Rattle.kernel_model.specs.entries.Given.{numbers_of}
 use Rattle.kernel_model.specs.files.FileTree.{root_node}
 use Rattle.kernel_model.specs.files.Numbers.{count_up}
 use Rattle.kernel_model.specs.opening.Opening.{rooted}
+use Rattle.image_walk.specs.declared.granted.Numbering.{Numbering}
 use Rattle.image_walk.specs.Standing.{Stands, AreNodes}
 use Rattle.image_walk.specs.Executing.{fresh_for}
 use Rattle.image_walk.proofs.Trees.{faulted_by_none}
 
-pub first_nodes : (t : Shape) → AreNodes (rooted 1 (t ∷ [])) t []
-first_nodes t = record {
-  root = get-insert_same _ 1 (root_node 1 t);
+pub first_nodes : (num : Numbering) (low : num.root < num.first) (t : Shape)
+    → AreNodes num (rooted num.root (t ∷ [])) t []
+first_nodes num low t = record {
+  root = get-insert_same _ num.root (root_node num.root t);
   children = λ ino h.
-      let differs : 1 ≢ ino = λ e. absurd (omega arith) in
-      get-insert_other map.empty 1 ino (root_node 1 t) differs ∙ get_of_empty ino;
+      let differs : num.root ≢ ino = λ e. absurd (omega arith) in
+      get-insert_other map.empty num.root ino (root_node num.root t) differs ∙ get_of_empty ino;
 }
 
-pub first_stands : (t : Shape) → faults_of t < 2 ^ 64 → none_lent t ≡ true → Stands t [] [] (Some t) []
-first_stands t h free = record {
+pub first_stands : (num : Numbering) (t : Shape) → faults_of t < 2 ^ 64 → none_lent t ≡ true → Stands num t [] []
+    (Some t) []
+first_stands num t h free = record {
   small = h;
   free = free;
   there = tt;
@@ -30,10 +33,10 @@ first_stands t h free = record {
   children_tell = refl;
 }
 
-pub numbers_of-fresh : (drawn : Bool) (names : List (List ℕ)) (name : List ℕ)
-    → numbers_of (fresh_for drawn names name) ≡ (if drawn then (length names + 2) ∷ [] else [])
-numbers_of-fresh true names name = refl
-numbers_of-fresh false names name = refl
+pub numbers_of-fresh : (num : Numbering) (drawn : Bool) (names : List (List ℕ)) (name : List ℕ)
+    → numbers_of (fresh_for num drawn names name) ≡ (if drawn then (length names + num.first) ∷ [] else [])
+numbers_of-fresh num true names name = refl
+numbers_of-fresh num false names name = refl
 
 -- one more number
 pub count_up-more : (first n : ℕ) → count_up first (n + 1) ≡ count_up first n ++ (n + first) ∷ []

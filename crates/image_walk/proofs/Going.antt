@@ -7,6 +7,7 @@ use Rattle.std.proofs.lemmas.Option.{same_Some}
 use Rattle.host_node.specs.Tree.{Shape, child_of, lend_child}
 use Rattle.host_node.specs.declared.kind.Kind.{Kind}
 use Rattle.host_node.specs.Told.{CanLend, ComesFrom, TellsLent}
+use Rattle.image_walk.specs.declared.granted.Numbering.{Numbering}
 use Rattle.image_walk.specs.declared.loading.Loaded.{Loaded}
 use Rattle.image_walk.specs.declared.walk.Step.{Step}
 use Rattle.image_walk.specs.Granted.{Child, place_of}
@@ -44,46 +45,50 @@ there_here : (o : Option Shape) → IsThere o → IsHere o
 there_here None h = tt
 there_here (Some s) h = h.0
 
-pub known_here : (name : List ℕ) (root : Option Shape) (children : List Child) (i : ℕ) → IsGrant root children
+pub known_here : (num : Numbering) (name : List ℕ) (root : Option Shape) (children : List Child) (i : ℕ)
+    → IsGrant num root children
     → place_of name children ≡ Some i → IfSome (slice_get children i) (λ c. IsHere c.1)
-known_here name None children i grant e = nothing_here children i grant
-known_here name (Some r) children i grant e =
-    let p = placed grant.0 grant.1 (Some r) children name i grant.3 e in
+known_here num name None children i grant e = nothing_here children i grant
+known_here num name (Some r) children i grant e =
+    let p = placed num grant.0 grant.1 (Some r) children name i grant.3 e in
     subst (λ (o : Option Child). IfSome o (λ c. IsHere c.1)) (sym p.child) (there_here (child_of name grant.0) p.there)
 
-pub walks_known : (name : List ℕ) (told after : Option Shape) (children children' : List Child) (place : ℕ)
+pub walks_known : (num : Numbering) (name : List ℕ) (told after : Option Shape) (children children' : List Child)
+    (place : ℕ)
     (step : Step) → SearchedFor told after None → place_of name children ≡ Some place → step.drawn ≡ false
-    → step.ino ≡ place + 2 → LoadsAt place children children' step.loaded.risen step.loaded.answer
-    → WalksWhere told name children children' after step
-walks_known name None after children children' place step searched e drawn ino loads = (
+    → step.ino ≡ place + num.first → LoadsAt place children children' step.loaded.risen step.loaded.answer
+    → WalksWhere num told name children children' after step
+walks_known num name None after children children' place step searched e drawn ino loads = (
   searched,
   λ h. subst TellNothing (sym loads.set)
       (nothing_set children place loads.child loads.told h loads.at
       (λ n. subst (λ (o : Option Shape). LoadsWhere o loads.told step.loaded.risen step.loaded.answer) n loads.loads)),
 )
-walks_known name (Some t) after children children' place step searched e drawn ino loads =
+walks_known num name (Some t) after children children' place step searched e drawn ino loads =
     Known searched.0 searched.1 drawn place e ino loads
 
 -- ---- a child that was not
 
-pub can_lend_then : (name : List ℕ) (told after : Option Shape) (children : List Child) → IsGrant told children
+pub can_lend_then : (num : Numbering) (name : List ℕ) (told after : Option Shape) (children : List Child)
+    → IsGrant num told children
     → SearchedFor told after None → place_of name children ≡ None → CanLend name after
-can_lend_then name None after children grant searched e =
+can_lend_then num name None after children grant searched e =
     subst (λ (o : Option Shape). CanLend name o) (sym searched) tt
-can_lend_then name (Some r) after children grant searched e =
-    let s : Stands grant.0 grant.1 [] (Some r) children = grant.3 in
-    let u = unplaced grant.0 grant.1 [] (Some r) children name s e in
-    subst (λ (o : Option Shape). CanLend name o) (sym (searched.1 ∙ root_is grant.0 grant.1 (Some r) children s))
+can_lend_then num name (Some r) after children grant searched e =
+    let s : Stands num grant.0 grant.1 [] (Some r) children = grant.3 in
+    let u = unplaced num grant.0 grant.1 [] (Some r) children name s e in
+    subst (λ (o : Option Shape). CanLend name o) (sym (searched.1 ∙ root_is num grant.0 grant.1 (Some r) children s))
     (can_lend grant.0 grant.1 name s.free grant.2 u.new)
 
-pub walks_lent : (name : List ℕ) (told between after : Option Shape) (children children' : List Child) (step : Step)
+pub walks_lent : (num : Numbering) (name : List ℕ) (told between after : Option Shape)
+    (children children' : List Child) (step : Step)
     → SearchedFor told between None → place_of name children ≡ None
-    → LendsWhere between name children children' after step → WalksWhere told name children children' after step
-walks_lent name None between after children children' step searched e lends =
-    subst (λ (o : Option Shape). LendsWhere o name children children' after step) searched lends
-walks_lent name (Some t) between after children children' step searched e lends =
+    → LendsWhere num between name children children' after step → WalksWhere num told name children children' after step
+walks_lent num name None between after children children' step searched e lends =
+    subst (λ (o : Option Shape). LendsWhere num o name children children' after step) searched lends
+walks_lent num name (Some t) between after children children' step searched e lends =
     Lent searched.0 e
-    (subst (λ (o : Option Shape). LendsWhere o name children children' after step) searched.1 lends)
+    (subst (λ (o : Option Shape). LendsWhere num o name children children' after step) searched.1 lends)
 
 -- ---- a child that is lent now
 
@@ -92,21 +97,22 @@ nothing_more : (children : List Child) (child : Child) → child.1 ≡ None → 
 nothing_more [] child e h = (e, tt)
 nothing_more (c ∷ children) child e h = (h.0, nothing_more children child e h.1)
 
-pub lends_child : (told root' child child' : Option Shape) (name : List ℕ) (count : ℕ) (what : Kind) (ino : ℕ)
+pub lends_child : (num : Numbering) (told root' child child' : Option Shape) (name : List ℕ) (count : ℕ) (what : Kind)
+    (ino : ℕ)
     (loaded : Loaded) (children children' : List Child) → TellsLent name told child count what
     → root' ≡ option_map (lend_child name) told → LoadsWhere child child' loaded.risen loaded.answer
-    → children' ≡ children ++ (name, child') ∷ [] → ino ≡ length children + 2
-    → LendsWhere told name children children' root' (record { drawn = true; ino = ino; loaded = loaded })
-lends_child None root' child child' name count what ino loaded children children' lent r loads pushed i = (
+    → children' ≡ children ++ (name, child') ∷ [] → ino ≡ length children + num.first
+    → LendsWhere num told name children children' root' (record { drawn = true; ino = ino; loaded = loaded })
+lends_child num None root' child child' name count what ino loaded children children' lent r loads pushed i = (
   r,
   λ h. subst TellNothing (sym pushed) (nothing_more children (name, child')
       (subst (λ (o : Option Shape). LoadsWhere o child' loaded.risen loaded.answer) lent loads) h),
 )
-lends_child (Some t) root' child child' name count what ino loaded children children' lent r loads pushed i =
+lends_child num (Some t) root' child child' name count what ino loaded children children' lent r loads pushed i =
     from_child (child_of name t) refl lent
   where
     from_child : (o : Option Shape) → child_of name t ≡ o → ComesFrom o child count what
-        → LendsWhere (Some t) name children children' root' (record { drawn = true; ino = ino; loaded = loaded })
+        → LendsWhere num (Some t) name children children' root' (record { drawn = true; ino = ino; loaded = loaded })
     from_child None e from = absurd from
     from_child (Some s) e from =
         let l : LoadsWhere (Some s) child' loaded.risen loaded.answer =
@@ -125,10 +131,11 @@ lends_child (Some t) root' child child' name count what ino loaded children chil
 
 -- ---- the walk as a result
 
-pub walks_ok : {E : Type 0} (name : List ℕ) (told between after : Option Shape) (children children' : List Child)
+pub walks_ok : {E : Type 0} (num : Numbering) (name : List ℕ) (told between after : Option Shape)
+    (children children' : List Child)
     (result : Result Step E) → SearchedFor told between None → place_of name children ≡ None
-    → IfOk result (LendsWhere between name children children' after)
-    → IfOk result (WalksWhere told name children children' after)
-walks_ok name told between after children children' (Ok step) searched e lends =
-    walks_lent name told between after children children' step searched e lends
-walks_ok name told between after children children' (Err x) searched e lends = tt
+    → IfOk result (LendsWhere num between name children children' after)
+    → IfOk result (WalksWhere num told name children children' after)
+walks_ok num name told between after children children' (Ok step) searched e lends =
+    walks_lent num name told between after children children' step searched e lends
+walks_ok num name told between after children children' (Err x) searched e lends = tt

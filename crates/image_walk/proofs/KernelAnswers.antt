@@ -22,15 +22,16 @@ use Rattle.kernel_model.specs.entries.Parts.{parts, outcome_in, Change, changed}
 use Rattle.kernel_model.specs.opening.Arguments.{is_too_long}
 use Rattle.kernel_model.specs.opening.Opening.{Walked, Executed, execve_of, by_walk, unwalked}
 use Rattle.kernel_model.specs.opening.Opening as opening
+use Rattle.image_walk.specs.declared.granted.Numbering.{Numbering}
 use Rattle.image_walk.specs.declared.loading.Answer.{Answer}
 use Rattle.image_walk.specs.declared.loading.Answer.TheVariants.{Starts, Refuses}
 use Rattle.image_walk.specs.Granted.{Child, GivesBack}
-use Rattle.image_walk.specs.Standing.{IsNoneOf, AreNodes, AreThere, Stands}
+use Rattle.image_walk.specs.Standing.{IsNumbering, IsNoneOf, AreNodes, AreThere, Stands}
 use Rattle.image_walk.specs.Standing.{no_left}
 use Rattle.image_walk.specs.Executing.{walked_among, fresh_for, named_then, AnswersBy, Answers, Executes}
 use Rattle.image_walk.proofs.Places.{IsThere}
 use Rattle.image_walk.proofs.KernelWalk.{has_nodes, execve_is, HasNodes}
-use Rattle.image_walk.proofs.KernelNumbers.{nodes_then, Draws, by_walk_quiet, by_walk_failing, most_then}
+use Rattle.image_walk.proofs.KernelNumbers.{nodes_then, Draws, by_walk_quiet, by_walk_failing, number_some}
 use Rattle.image_walk.proofs.KernelNumbers.{may_quiet, may_fail}
 use Rattle.image_walk.proofs.KernelNodes.{Leaves, leaves, changed-more}
 use Rattle.image_walk.proofs.Settling.{settles, settles_risen}
@@ -61,114 +62,108 @@ there_drawn true t names name h e = there_last t names name h
 there_drawn false t names name h e = absurd (cc e)
 
 -- where the strings are too long, what is answered is that of no walk
-answers_by : (long : Bool) (walked : Walked) (drawn : Bool) (most : ℕ) (rises : List Rise) (answer : Answer)
-    → Answers long walked drawn most rises answer
-    → AnswersBy (if long then unwalked else walked) drawn most rises answer
-answers_by false walked drawn most rises answer h = h
-answers_by true walked drawn most rises answer h =
-    subst (λ (rs : List Rise). AnswersBy unwalked drawn most rs answer) (sym h.1)
-    (subst (λ (a : Answer). AnswersBy unwalked drawn most [] a) (sym h.2)
+answers_by : (num : Numbering) (long : Bool) (walked : Walked) (drawn : Bool) (count : ℕ) (rises : List Rise)
+    (answer : Answer)
+    → Answers num long walked drawn count rises answer
+    → AnswersBy num (if long then unwalked else walked) drawn count rises answer
+answers_by num false walked drawn count rises answer h = h
+answers_by num true walked drawn count rises answer h =
+    subst (λ (rs : List Rise). AnswersBy num unwalked drawn count rs answer) (sym h.1)
+    (subst (λ (a : Answer). AnswersBy num unwalked drawn count [] a) (sym h.2)
     (ap (λ d. record { draws = d; image = Err E2BIG }) (sym h.0)))
 
-length_more : (names : List (List ℕ)) (name : List ℕ) → length (names ++ name ∷ []) ≡ length names + 1
-length_more [] name = refl
-length_more (other ∷ names) name =
-    let same : suc (length names + 1) ≡ suc (length names) + 1 = omega arith in ap suc (length_more names name) ∙ same
-
-most_is : (drawn : Bool) (names : List (List ℕ)) (name : List ℕ)
-    → length (named_then drawn names name) + 1 ≡ most_then names drawn
-most_is true names name =
-    let same : length names + 1 + 1 ≡ length names + 2 = omega arith in
-    ap (λ n. n + 1) (length_more names name) ∙ same
-most_is false names name = refl
-
 -- the image begins: what was drawn and met may be, the changes that it begins with, and the nodes then
-pub record Started (k : Kernel) (t : Shape) (names : List (List ℕ)) (p : Program) (given : Given)
+pub record Started (num : Numbering) (k : Kernel) (t : Shape) (names : List (List ℕ)) (p : Program) (given : Given)
     (image : Image) : Type 0 where
   pub changes : List Change
   pub may : may_meet k.nodes given ≡ true
-  pub comes : outcome_in (parts k) (execve_of p given) ≡ opening.Starts image changes
-  pub nodes : AreNodes (changed changes k).nodes t names
+  pub comes : outcome_in (parts k) (execve_of num.root p given) ≡ opening.Starts image changes
+  pub nodes : AreNodes num (changed changes k).nodes t names
   pub rest : changed changes k ≡ record k { nodes = (changed changes k).nodes }
 
 -- the execve fails: what was drawn and met may be, the changes that it leaves, and that the root's tree then is what the
 -- nodes give back
-pub record Failed (k : Kernel) (p : Program) (given : Given) (errno : Errno) (root : Option Shape)
+pub record Failed (num : Numbering) (k : Kernel) (p : Program) (given : Given) (errno : Errno) (root : Option Shape)
     (children : List Child) : Type 0 where
   pub changes : List Change
   pub may : may_meet k.nodes given ≡ true
-  pub comes : outcome_in (parts k) (execve_of p given) ≡ opening.Fails errno changes
-  pub settles : GivesBack root children (tree_now (changed changes k) no_left 1)
+  pub comes : outcome_in (parts k) (execve_of num.root p given) ≡ opening.Fails errno changes
+  pub settles : GivesBack root children (tree_now (changed changes k) no_left num.root)
 
-module _ (k : Kernel) (t : Shape) (names : List (List ℕ)) (name : List ℕ) (given : Given) (answer : Answer)
+module _ (num : Numbering) (facts : IsNumbering num) (k : Kernel) (t : Shape) (names : List (List ℕ)) (name : List ℕ)
+    (given : Given) (answer : Answer)
     (root : Option Shape) (children : List Child) (p : Program) (path : p.path ≡ 47 ∷ name)
-    (a : AreNodes k.nodes t names) (failed : k.failed ≡ map.empty) (room : length names + 2 ≤ last_number)
-    (e : Executes (is_too_long p.args p.env) t names name given answer root children) where
-  drawing : Draws t names name e.drawn
+    (a : AreNodes num k.nodes t names) (failed : k.failed ≡ map.empty) (room : length names + num.first ≤ last_number)
+    (e : Executes num (is_too_long p.args p.env) t names name given answer root children) where
+  drawing : Draws num t names name e.drawn
   drawing = record {
     unnumbered = e.unnumbered;
     there = there_drawn e.drawn t names name e.stands.there;
     room = room;
   }
 
-  has : HasNodes (parts k) t names
-  has = has_nodes k t names a (there_before e.drawn t names name e.stands.there)
+  has : HasNodes num (parts k) t names
+  has = has_nodes num k t names a (there_before e.drawn t names name e.stands.there)
 
   abbrev walked : Walked
-  walked = if is_too_long p.args p.env then unwalked else walked_among t names name
+  walked = if is_too_long p.args p.env then unwalked else walked_among num t names name
 
   abbrev drawn_changes : List Change
-  drawn_changes = node_changes (nodes_then e.drawn t names name)
+  drawn_changes = node_changes (nodes_then num e.drawn t names name)
 
-  left : Leaves k (changed drawn_changes k) t (named_then e.drawn names name)
-  left = leaves e.drawn k t names name a drawing
+  left : Leaves num k (changed drawn_changes k) t (named_then e.drawn names name)
+  left = leaves num facts.1 e.drawn k t names name a drawing
 
   executed_by : (rises : List Rise) → given.rises ≡ rises
-      → outcome_in (parts k) (execve_of p given)
-      ≡ outcome_in (parts k) (by_walk name (record { fresh = fresh_for e.drawn names name; rises = rises }) walked)
+      → outcome_in (parts k) (execve_of num.root p given)
+      ≡ outcome_in (parts k) (by_walk num.root name
+      (record { fresh = fresh_for num e.drawn names name; rises = rises }) walked)
   executed_by rises r =
-      execve_is (parts k) t names has p name given path
-      ∙ ap (λ fresh. outcome_in (parts k) (by_walk name (record { fresh = fresh; rises = given.rises }) walked)) e.fresh
+      execve_is num (parts k) t names has p name given path
+      ∙ ap (λ fresh. outcome_in (parts k) (by_walk num.root name
+      (record { fresh = fresh; rises = given.rises }) walked)) e.fresh
       ∙ ap
       (λ rs. outcome_in (parts k)
-      (by_walk name (record { fresh = fresh_for e.drawn names name; rises = rs }) walked)) r
+      (by_walk num.root name (record { fresh = fresh_for num e.drawn names name; rises = rs }) walked)) r
 
   -- what was drawn and met may be
   may_by : (rises : List Rise) → given.rises ≡ rises
-      → may_meet k.nodes (record { fresh = fresh_for e.drawn names name; rises = rises }) ≡ true
+      → may_meet k.nodes (record { fresh = fresh_for num e.drawn names name; rises = rises }) ≡ true
       → may_meet k.nodes given ≡ true
   may_by rises r may =
       ap (λ fresh. may_meet k.nodes (record { fresh = fresh; rises = given.rises })) e.fresh
-      ∙ ap (λ rs. may_meet k.nodes (record { fresh = fresh_for e.drawn names name; rises = rs })) r
+      ∙ ap (λ rs. may_meet k.nodes (record { fresh = fresh_for num e.drawn names name; rises = rs })) r
       ∙ may
 
-  answered : AnswersBy walked e.drawn (length (named_then e.drawn names name) + 1) given.rises answer
-  answered = answers_by (is_too_long p.args p.env) (walked_among t names name) e.drawn _ given.rises answer e.answers
+  answered : AnswersBy num walked e.drawn (length (named_then e.drawn names name)) given.rises answer
+  answered =
+      answers_by num (is_too_long p.args p.env) (walked_among num t names name) e.drawn _ given.rises answer e.answers
 
   pub execve_starts : (image : Image) → answer ≡ Starts image
-      → Started k t (named_then e.drawn names name) p given image
+      → Started num k t (named_then e.drawn names name) p given image
   execve_starts image is =
       by given.rises refl (subst
-      (λ (x : Answer). AnswersBy walked e.drawn (length (named_then e.drawn names name) + 1) given.rises x) is answered)
+      (λ (x : Answer). AnswersBy num walked e.drawn (length (named_then e.drawn names name)) given.rises x) is answered)
     where
       by : (rises : List Rise) → given.rises ≡ rises
-          → AnswersBy walked e.drawn (length (named_then e.drawn names name) + 1) rises (Starts image)
-          → Started k t (named_then e.drawn names name) p given image
+          → AnswersBy num walked e.drawn (length (named_then e.drawn names name)) rises (Starts image)
+          → Started num k t (named_then e.drawn names name) p given image
       by [] r h = record {
         changes = drawn_changes;
-        may = may_by [] r (may_quiet k t names name has e.drawn);
-        comes = executed_by [] r ∙ by_walk_quiet (parts k) t names name has e.drawn (Ok image) walked drawing h;
+        may = may_by [] r (may_quiet num k t names name has e.drawn);
+        comes =
+            executed_by [] r ∙ by_walk_quiet num facts (parts k) t names name has e.drawn (Ok image) walked drawing h;
         nodes = left.nodes;
         rest = left.rest;
       }
       by (x ∷ []) r h = absurd (let same = h.0 in cc)
       by (x ∷ y ∷ rises) r h = absurd h
 
-  settles_quiet : given.rises ≡ [] → GivesBack root children (tree_now (changed drawn_changes k) no_left 1)
+  settles_quiet : given.rises ≡ [] → GivesBack root children (tree_now (changed drawn_changes k) no_left num.root)
   settles_quiet r =
-      settles (changed drawn_changes k) t (named_then e.drawn names name) root children left.nodes
+      settles num (changed drawn_changes k) t (named_then e.drawn names name) root children left.nodes
       (ap (λ (x : Kernel). x.failed) left.rest ∙ failed)
-      (subst (λ (rs : List Rise). Stands t (named_then e.drawn names name) rs root children) r e.stands)
+      (subst (λ (rs : List Rise). Stands num t (named_then e.drawn names name) rs root children) r e.stands)
 
   abbrev risen_changes : Rise → List Change
   risen_changes x = drawn_changes ++ (OfFaults, risen (x ∷ []) k.failed) ∷ []
@@ -179,63 +174,65 @@ module _ (k : Kernel) (t : Shape) (names : List (List ℕ)) (name : List ℕ) (g
       ∙ ap (λ o. map.insert map.empty x.ino (capped (unwrap_or o 0 + x.count))) (get_of_empty x.ino)
 
   settles_faulted : (x : Rise) → given.rises ≡ x ∷ []
-      → GivesBack root children (tree_now (changed (risen_changes x) k) no_left 1)
+      → GivesBack root children (tree_now (changed (risen_changes x) k) no_left num.root)
   settles_faulted x r =
-      subst (λ (after : Kernel). GivesBack root children (tree_now after no_left 1))
+      subst (λ (after : Kernel). GivesBack root children (tree_now after no_left num.root))
       (sym (changed-more drawn_changes (OfFaults, risen (x ∷ []) k.failed) k))
-      (settles_risen (record (changed drawn_changes k) { failed = risen (x ∷ []) k.failed }) t
+      (settles_risen num (record (changed drawn_changes k) { failed = risen (x ∷ []) k.failed }) t
       (named_then e.drawn names name) x root children left.nodes (risen_once x)
-      (subst (λ (rs : List Rise). Stands t (named_then e.drawn names name) rs root children) r e.stands))
+      (subst (λ (rs : List Rise). Stands num t (named_then e.drawn names name) rs root children) r e.stands))
 
-  pub execve_fails : (errno : Errno) → answer ≡ Refuses errno → Failed k p given errno root children
+  pub execve_fails : (errno : Errno) → answer ≡ Refuses errno → Failed num k p given errno root children
   execve_fails errno is =
       by given.rises refl (subst
-      (λ (x : Answer). AnswersBy walked e.drawn (length (named_then e.drawn names name) + 1) given.rises x) is answered)
+      (λ (x : Answer). AnswersBy num walked e.drawn (length (named_then e.drawn names name)) given.rises x) is answered)
     where
       by : (rises : List Rise) → given.rises ≡ rises
-          → AnswersBy walked e.drawn (length (named_then e.drawn names name) + 1) rises (Refuses errno)
-          → Failed k p given errno root children
+          → AnswersBy num walked e.drawn (length (named_then e.drawn names name)) rises (Refuses errno)
+          → Failed num k p given errno root children
       by [] r h = record {
         changes = drawn_changes;
-        may = may_by [] r (may_quiet k t names name has e.drawn);
-        comes = executed_by [] r ∙ by_walk_quiet (parts k) t names name has e.drawn (Err errno) walked drawing h;
+        may = may_by [] r (may_quiet num k t names name has e.drawn);
+        comes =
+            executed_by [] r ∙ by_walk_quiet num facts (parts k) t names name has e.drawn (Err errno) walked drawing h;
         settles = settles_quiet r;
       }
       by (x ∷ []) r h =
           let same : EIO ≡ errno = let refused = h.0 in cc in
-          let most : x.ino ≤ most_then names e.drawn =
-          subst (λ (n : ℕ). x.ino ≤ n) (most_is e.drawn names name) h.3 in
           record {
             changes = risen_changes x;
-            may = may_by (x ∷ []) r (may_fail k t names name has e.drawn x drawing h.2 most);
+            may = may_by (x ∷ []) r (may_fail num k t names name has e.drawn x drawing h.2);
             comes =
                 executed_by (x ∷ []) r
-                ∙ by_walk_failing (parts k) t names name has e.drawn x walked drawing h.1 h.2
+                ∙ by_walk_failing num facts (parts k) t names name has e.drawn x walked drawing h.1
+                (number_some num facts _ x.ino h.2)
                 ∙ ap (λ errno. opening.Fails errno (risen_changes x)) same;
             settles = settles_faulted x r;
           }
       by (x ∷ y ∷ rises) r h = absurd h
 
 -- where the image begins nothing rose, and the next execve begins with the folder as it then stands
-pub starts_quiet : (long : Bool) (t : Shape) (names : List (List ℕ)) (name : List ℕ) (given : Given) (image : Image)
+pub starts_quiet : (num : Numbering) (long : Bool) (t : Shape) (names : List (List ℕ)) (name : List ℕ) (given : Given)
+    (image : Image)
     (root : Option Shape) (children : List Child)
-    → Executes long t names name given (Starts image) root children → given.rises ≡ []
-starts_quiet long t names name given image root children e =
-    by given.rises (answers_by long (walked_among t names name) e.drawn (length (named_then e.drawn names name) + 1)
+    → Executes num long t names name given (Starts image) root children → given.rises ≡ []
+starts_quiet num long t names name given image root children e =
+    by given.rises (answers_by num long (walked_among num t names name) e.drawn (length (named_then e.drawn names name))
     given.rises (Starts image) e.answers)
   where
     by : (rises : List Rise)
-        → AnswersBy (if long then unwalked else walked_among t names name) e.drawn
-        (length (named_then e.drawn names name) + 1) rises (Starts image)
+        → AnswersBy num (if long then unwalked else walked_among num t names name) e.drawn
+        (length (named_then e.drawn names name)) rises (Starts image)
         → rises ≡ []
     by [] h = refl
     by (x ∷ []) h = absurd (let same = h.0 in cc)
     by (x ∷ y ∷ rises) h = absurd h
 
-pub stands_on : (long : Bool) (t : Shape) (names : List (List ℕ)) (name : List ℕ) (given : Given) (image : Image)
+pub stands_on : (num : Numbering) (long : Bool) (t : Shape) (names : List (List ℕ)) (name : List ℕ) (given : Given)
+    (image : Image)
     (root : Option Shape) (children : List Child)
-    → (e : Executes long t names name given (Starts image) root children)
-    → Stands t (named_then e.drawn names name) [] root children
-stands_on long t names name given image root children e =
-    subst (λ (rs : List Rise). Stands t (named_then e.drawn names name) rs root children)
-    (starts_quiet long t names name given image root children e) e.stands
+    → (e : Executes num long t names name given (Starts image) root children)
+    → Stands num t (named_then e.drawn names name) [] root children
+stands_on num long t names name given image root children e =
+    subst (λ (rs : List Rise). Stands num t (named_then e.drawn names name) rs root children)
+    (starts_quiet num long t names name given image root children e) e.stands

@@ -1,5 +1,5 @@
 -- The kernel's nodes after an opening execve: those of the folder, with one more where a number was drawn.
-use Rattle.std.proofs.Common.{◌≡◌, ◌≢◌, ℕ, suc, ◌+◌, ◌≤◌, Bool, true, false, List, [], ◌∷◌, ◌++◌, length, refl, ap}
+use Rattle.std.proofs.Common.{◌≡◌, ◌≢◌, ℕ, suc, ◌+◌, ◌<◌, ◌≤◌, Bool, true, false, List, [], ◌∷◌, ◌++◌, length, refl, ap}
 use Rattle.std.proofs.Common.{sym, ◌∙◌, arith}
 use Rattle.std.specs.Prelude.{Option, Some, None, option_map}
 use Rattle.std.specs.FinMap as map
@@ -9,6 +9,7 @@ use Rattle.kernel_model.specs.declared.kernel.Kernel.{Kernel}
 use Rattle.kernel_model.specs.files.FileTree.{Nodes, child_node, numbered_in}
 use Rattle.kernel_model.specs.entries.Given.{node_changes}
 use Rattle.kernel_model.specs.entries.Parts.{Change, changed}
+use Rattle.image_walk.specs.declared.granted.Numbering.{Numbering}
 use Rattle.image_walk.specs.Standing.{lend_all, numbers_from, root_with, HaveNodes, AreNodes}
 use Rattle.image_walk.specs.Executing.{named_then}
 use Rattle.image_walk.proofs.Lending.{lend_all-more}
@@ -30,24 +31,29 @@ numbers_from-more n (other ∷ names) name =
     ∙ ap (λ ino. numbers_from (n + 1) names ++ record { name = name; ino = ino } ∷ []) same)
 
 -- the root with one more number
-root_more : (t : Shape) (names : List (List ℕ)) (name : List ℕ)
-    → numbered_in (root_with t names) name (length names + 2) ≡ root_with t (names ++ name ∷ [])
-root_more t names name =
+root_more : (num : Numbering) (t : Shape) (names : List (List ℕ)) (name : List ℕ)
+    → numbered_in (root_with num t names) name (length names + num.first) ≡ root_with num t (names ++ name ∷ [])
+root_more num t names name =
     ap (λ tree. record {
-      parent = 1;
+      parent = num.root;
       linked = true;
       tree = tree;
-      numbers = numbers_from 2 names ++ record { name = name; ino = length names + 2 } ∷ [];
+      numbers = numbers_from num.first names ++ record { name = name; ino = length names + num.first } ∷ [];
     }) (sym (lend_all-more names name t))
-    ∙ ap (λ numbers. record { parent = 1; linked = true; tree = lend_all (names ++ name ∷ []) t; numbers = numbers })
-    (sym (numbers_from-more 2 names name))
+    ∙ ap (λ numbers. record {
+      parent = num.root;
+      linked = true;
+      tree = lend_all (names ++ name ∷ []) t;
+      numbers = numbers;
+    })
+    (sym (numbers_from-more num.first names name))
 
-have_more : (nodes nodes' : Nodes) (n : ℕ) (t : Shape) (names : List (List ℕ)) (name : List ℕ)
-    → HaveNodes nodes n t names
+have_more : (num : Numbering) (nodes nodes' : Nodes) (n : ℕ) (t : Shape) (names : List (List ℕ)) (name : List ℕ)
+    → HaveNodes num nodes n t names
     → ((ino : ℕ) → n ≤ ino → ino ≢ length names + n → map.get nodes' ino ≡ map.get nodes ino)
-    → map.get nodes' (length names + n) ≡ option_map (child_node 1) (child_of name t)
-    → HaveNodes nodes' n t (names ++ name ∷ [])
-have_more nodes nodes' n t [] name h others here =
+    → map.get nodes' (length names + n) ≡ option_map (child_node num.root) (child_of name t)
+    → HaveNodes num nodes' n t (names ++ name ∷ [])
+have_more num nodes nodes' n t [] name h others here =
     let same : n ≡ 0 + n = omega arith in (
       ap (map.get nodes') same ∙ here,
       λ ino low.
@@ -55,12 +61,12 @@ have_more nodes nodes' n t [] name h others here =
           let differs : ino ≢ 0 + n = λ e. absurd (omega arith) in
           others ino above differs ∙ h ino above,
     )
-have_more nodes nodes' n t (other ∷ names) name h others here =
+have_more num nodes nodes' n t (other ∷ names) name h others here =
     let same : suc (length names) + n ≡ length names + (n + 1) = omega arith in
     let low : n ≤ n = omega arith in
     let differs : n ≢ suc (length names) + n = λ e. absurd (omega arith) in (
       others n low differs ∙ h.0,
-      have_more nodes nodes' (n + 1) t names name h.1
+      have_more num nodes nodes' (n + 1) t names name h.1
           (λ ino l d.
           let above : n ≤ ino = omega arith in
           let apart : ino ≢ suc (length names) + n = λ e. d (e ∙ same) in
@@ -68,45 +74,51 @@ have_more nodes nodes' n t (other ∷ names) name h others here =
           (ap (map.get nodes') (sym same) ∙ here),
     )
 
-are_more : (nodes : Nodes) (t : Shape) (names : List (List ℕ)) (name : List ℕ) (x : Shape) → AreNodes nodes t names
+are_more : (num : Numbering) (low : num.root < num.first) (nodes : Nodes) (t : Shape) (names : List (List ℕ))
+    (name : List ℕ) (x : Shape) → AreNodes num nodes t names
     → child_of name t ≡ Some x
-    → AreNodes (map.insert (map.insert nodes 1 (numbered_in (root_with t names) name (length names + 2)))
-    (length names + 2) (child_node 1 x)) t (names ++ name ∷ [])
-are_more nodes t names name x a e = record {
+    → AreNodes num (map.insert (map.insert nodes num.root
+    (numbered_in (root_with num t names) name (length names + num.first)))
+    (length names + num.first) (child_node num.root x)) t (names ++ name ∷ [])
+are_more num low nodes t names name x a e = record {
   root =
-      let apart : length names + 2 ≢ 1 = λ one. absurd (omega arith) in
-      get-insert_other (map.insert nodes 1 (numbered_in (root_with t names) name (length names + 2)))
-      (length names + 2) 1 (child_node 1 x) apart
-      ∙ get-insert_same nodes 1 (numbered_in (root_with t names) name (length names + 2))
-      ∙ ap Some (root_more t names name);
-  children = have_more nodes _ 2 t names name a.children
-      (λ ino low d.
-      let last : length names + 2 ≢ ino = λ same. d (sym same) in
-      let first : 1 ≢ ino = λ one. absurd (omega arith) in
-      get-insert_other (map.insert nodes 1 (numbered_in (root_with t names) name (length names + 2)))
-      (length names + 2) ino (child_node 1 x) last
-      ∙ get-insert_other nodes 1 ino (numbered_in (root_with t names) name (length names + 2)) first)
-      (get-insert_same _ (length names + 2) (child_node 1 x) ∙ ap (option_map (child_node 1)) (sym e));
+      let apart : length names + num.first ≢ num.root = λ one. absurd (omega arith) in
+      get-insert_other (map.insert nodes num.root (numbered_in (root_with num t names) name (length names + num.first)))
+      (length names + num.first) num.root (child_node num.root x) apart
+      ∙ get-insert_same nodes num.root (numbered_in (root_with num t names) name (length names + num.first))
+      ∙ ap Some (root_more num t names name);
+  children = have_more num nodes _ num.first t names name a.children
+      (λ ino from d.
+      let last : length names + num.first ≢ ino = λ same. d (sym same) in
+      let first : num.root ≢ ino = λ one. absurd (omega arith) in
+      get-insert_other (map.insert nodes num.root (numbered_in (root_with num t names) name (length names + num.first)))
+      (length names + num.first) ino (child_node num.root x) last
+      ∙ get-insert_other nodes num.root ino (numbered_in (root_with num t names) name (length names + num.first)) first)
+      (get-insert_same _ (length names + num.first) (child_node num.root x) ∙ ap (option_map (child_node num.root))
+      (sym e));
 }
 
 -- ---- what changes leave
 
 -- the kernel with changed nodes, and the same otherwise but for counts that rose
-pub record Leaves (k after : Kernel) (t : Shape) (names : List (List ℕ)) : Type 0 where
-  pub nodes : AreNodes after.nodes t names
+pub record Leaves (num : Numbering) (k after : Kernel) (t : Shape) (names : List (List ℕ)) : Type 0 where
+  pub nodes : AreNodes num after.nodes t names
   pub rest : after ≡ record k { nodes = after.nodes }
 
-leaves_drawn : (k : Kernel) (t : Shape) (names : List (List ℕ)) (name : List ℕ) (o : Option Shape)
-    → AreNodes k.nodes t names → child_of name t ≡ o → IsThere o
-    → Leaves k (changed (node_changes (nodes_drawn t names name o)) k) t (names ++ name ∷ [])
-leaves_drawn k t names name None a e there = absurd there
-leaves_drawn k t names name (Some x) a e there = record { nodes = are_more k.nodes t names name x a e; rest = refl }
+leaves_drawn : (num : Numbering) (low : num.root < num.first) (k : Kernel) (t : Shape) (names : List (List ℕ))
+    (name : List ℕ) (o : Option Shape)
+    → AreNodes num k.nodes t names → child_of name t ≡ o → IsThere o
+    → Leaves num k (changed (node_changes (nodes_drawn num t names name o)) k) t (names ++ name ∷ [])
+leaves_drawn num low k t names name None a e there = absurd there
+leaves_drawn num low k t names name (Some x) a e there =
+    record { nodes = are_more num low k.nodes t names name x a e; rest = refl }
 
-pub leaves : (drawn : Bool) (k : Kernel) (t : Shape) (names : List (List ℕ)) (name : List ℕ) → AreNodes k.nodes t names
-    → Draws t names name drawn
-    → Leaves k (changed (node_changes (nodes_then drawn t names name)) k) t (named_then drawn names name)
-leaves true k t names name a d = leaves_drawn k t names name (child_of name t) a refl (d.there refl)
-leaves false k t names name a d = record { nodes = a; rest = refl }
+pub leaves : (num : Numbering) (low : num.root < num.first) (drawn : Bool) (k : Kernel) (t : Shape)
+    (names : List (List ℕ)) (name : List ℕ) → AreNodes num k.nodes t names
+    → Draws num t names name drawn
+    → Leaves num k (changed (node_changes (nodes_then num drawn t names name)) k) t (named_then drawn names name)
+leaves num low true k t names name a d = leaves_drawn num low k t names name (child_of name t) a refl (d.there refl)
+leaves num low false k t names name a d = record { nodes = a; rest = refl }
 
 -- one more change
 pub changed-more : (changes : List Change) (change : Change) (k : Kernel)

@@ -4,6 +4,7 @@ use Rattle.std.specs.Prelude.{Option, Some, None, IsSome, IsSomeAnd, option_map}
 use Rattle.host_node.specs.Tree.{Shape, faults_of, with_faults, child_of, is_lent}
 use Rattle.kernel_model.specs.declared.opening.Rise.{Rise}
 use Rattle.kernel_model.specs.files.Settled.{rise_in}
+use Rattle.image_walk.specs.declared.granted.Numbering.{Numbering}
 use Rattle.image_walk.specs.Granted.{Child, IsNew, AreOut, CanGiveBack}
 use Rattle.image_walk.specs.Loading.{faulted_by}
 use Rattle.image_walk.specs.Standing.{lend_all, IsNoneOf, AreThere, lent_from, Stands}
@@ -38,10 +39,10 @@ lent_faulted n t (name ∷ names) l = (
   lent_faulted n t names l.1,
 )
 
-pub can_give_back : (t : Shape) (names : List (List ℕ)) (rises : List Rise) (root : Option Shape)
-    (children : List Child) → Stands t names rises root children → CanGiveBack root children
-can_give_back t names rises root children s =
+pub can_give_back : (num : Numbering) (t : Shape) (names : List (List ℕ)) (rises : List Rise) (root : Option Shape)
+    (children : List Child) → Stands num t names rises root children → CanGiveBack root children
+can_give_back num t names rises root children s =
     subst (λ (cs : List Child). CanGiveBack root cs) (sym s.children_tell)
-    (subst (λ (o : Option Shape). CanGiveBack o (lent_from 2 t names rises)) (sym s.root_tells)
-    (out_from (faulted_by (rise_in 1 rises) (lend_all names t)) t 2 names rises
+    (subst (λ (o : Option Shape). CanGiveBack o (lent_from num.first t names rises)) (sym s.root_tells)
+    (out_from (faulted_by (rise_in num.root rises) (lend_all names t)) t num.first names rises
     (lent_faulted _ (lend_all names t) names (all_lent names t s.there)) s.there))

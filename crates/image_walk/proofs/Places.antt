@@ -10,6 +10,7 @@ use Rattle.host_node.specs.Tree.{none_lent, child_of}
 use Rattle.host_node.specs.Told.{CanLend}
 use Rattle.kernel_model.specs.declared.opening.Rise.{Rise}
 use Rattle.kernel_model.specs.files.FileTree.{number_in}
+use Rattle.image_walk.specs.declared.granted.Numbering.{Numbering}
 use Rattle.image_walk.specs.Granted.{Child, place_of}
 use Rattle.image_walk.specs.Loading.{faulted_by}
 use Rattle.image_walk.specs.Standing.{lend_all, IsNoneOf, AreThere, lent_from, numbers_from, Stands}
@@ -21,9 +22,9 @@ abbrev pub IsThere : Option Shape → Type 0
 IsThere o = IsSomeAnd o (λ s. (is_lent s ≡ false) × (faults_of s < 2 ^ 64))
 
 -- where nothing rose, the root tells the tree without its children
-pub root_is : (t : Shape) (names : List (List ℕ)) (root : Option Shape) (children : List Child)
-    → Stands t names [] root children → root ≡ Some (lend_all names t)
-root_is t names root children s =
+pub root_is : (num : Numbering) (t : Shape) (names : List (List ℕ)) (root : Option Shape) (children : List Child)
+    → Stands num t names [] root children → root ≡ Some (lend_all names t)
+root_is num t names root children s =
     s.root_tells
     ∙ ap Some (faulted_by_none (lend_all names t)
     (subst (λ (n : ℕ). n < 2 ^ 64) (sym (faults_of-lend_all names t)) s.small))
@@ -73,10 +74,12 @@ unplaced_from name n t (other ∷ names) rises e =
     by true d e more = absurd (cc e)
     by false d e more = unplaced_more name n other names d (more (mapped_none _ e))
 
-pub unplaced : (t : Shape) (names : List (List ℕ)) (rises : List Rise) (root : Option Shape) (children : List Child)
-    (name : List ℕ) → Stands t names rises root children → place_of name children ≡ None → Unplaced name 2 names
-unplaced t names rises root children name s e =
-    unplaced_from name 2 t names rises (subst (λ (cs : List Child). place_of name cs ≡ None) s.children_tell e)
+pub unplaced : (num : Numbering) (t : Shape) (names : List (List ℕ)) (rises : List Rise) (root : Option Shape)
+    (children : List Child)
+    (name : List ℕ) → Stands num t names rises root children → place_of name children ≡ None
+    → Unplaced name num.first names
+unplaced num t names rises root children name s e =
+    unplaced_from name num.first t names rises (subst (λ (cs : List Child). place_of name cs ≡ None) s.children_tell e)
 
 -- its child in the tree without its children is that of the tree, and can be lent
 pub can_lend : (t : Shape) (names : List (List ℕ)) (name : List ℕ) → none_lent t ≡ true → is_directory t ≡ true
@@ -152,25 +155,29 @@ placed_from t name n (other ∷ names) i h e =
         let found = mapped_some (place_of name (lent_from (n + 1) t names [])) i e in
         placed_more t name n other names i found.0 d found.2 (more found.0 found.1)
 
-pub placed : (t : Shape) (names : List (List ℕ)) (root : Option Shape) (children : List Child) (name : List ℕ) (i : ℕ)
-    → Stands t names [] root children → place_of name children ≡ Some i → Placed t name 2 names children i
-placed t names root children name i s e =
-    subst (λ (cs : List Child). Placed t name 2 names cs i) (sym s.children_tell)
-    (placed_from t name 2 names i s.there (subst (λ (cs : List Child). place_of name cs ≡ Some i) s.children_tell e))
+pub placed : (num : Numbering) (t : Shape) (names : List (List ℕ)) (root : Option Shape) (children : List Child)
+    (name : List ℕ) (i : ℕ)
+    → Stands num t names [] root children → place_of name children ≡ Some i → Placed t name num.first names children i
+placed num t names root children name i s e =
+    subst (λ (cs : List Child). Placed t name num.first names cs i) (sym s.children_tell)
+    (placed_from t name num.first names i s.there
+    (subst (λ (cs : List Child). place_of name cs ≡ Some i) s.children_tell e))
 
 -- the same of a name that no child has
-pub can_lend_new : (t : Shape) (names : List (List ℕ)) (rises : List Rise) (root : Option Shape) (children : List Child)
-    (name : List ℕ) → Stands t names rises root children → is_directory t ≡ true → place_of name children ≡ None
+pub can_lend_new : (num : Numbering) (t : Shape) (names : List (List ℕ)) (rises : List Rise) (root : Option Shape)
+    (children : List Child)
+    (name : List ℕ) → Stands num t names rises root children → is_directory t ≡ true → place_of name children ≡ None
     → CanLend name (Some (lend_all names t))
-can_lend_new t names rises root children name s d e =
-    can_lend t names name s.free d (unplaced t names rises root children name s e).new
+can_lend_new num t names rises root children name s d e =
+    can_lend t names name s.free d (unplaced num t names rises root children name s e).new
 
 -- its child in the tree without its children is that of the tree
-pub child_of-new : (t : Shape) (names : List (List ℕ)) (rises : List Rise) (root : Option Shape) (children : List Child)
-    (name : List ℕ) → Stands t names rises root children → place_of name children ≡ None
+pub child_of-new : (num : Numbering) (t : Shape) (names : List (List ℕ)) (rises : List Rise) (root : Option Shape)
+    (children : List Child)
+    (name : List ℕ) → Stands num t names rises root children → place_of name children ≡ None
     → child_of name (lend_all names t) ≡ child_of name t
-child_of-new t names rises root children name s e =
-    child_of-lend_all name names t (unplaced t names rises root children name s e).new
+child_of-new num t names rises root children name s e =
+    child_of-lend_all name names t (unplaced num t names rises root children name s e).new
 
 -- a node of a directory's kind that stands here is one
 pub directory_of_kind : (t : Shape) → kind_of t ≡ Dir → none_lent t ≡ true → is_directory t ≡ true

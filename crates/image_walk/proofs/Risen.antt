@@ -8,6 +8,7 @@ use Rattle.host_node.specs.Tree.{lend_child}
 use Rattle.kernel_model.specs.declared.opening.Rise.{Rise}
 use Rattle.kernel_model.specs.files.FileTree.{with_plain}
 use Rattle.kernel_model.specs.files.Settled.{rise_in}
+use Rattle.image_walk.specs.declared.granted.Numbering.{Numbering}
 use Rattle.image_walk.specs.Granted.{Child, put_all}
 use Rattle.image_walk.specs.Loading.{faulted_by}
 use Rattle.image_walk.specs.Standing.{lend_all, AreThere, lent_from, Stands}
@@ -52,24 +53,26 @@ risen_all n t rises (name ∷ names) tree h r =
     risen_all (n + 1) t rises names _ h.2
     (risen_plain name (rise_in n rises) t tree (child_of name t) r refl h.0)
 
-pub risen_back : (t : Shape) (names : List (List ℕ)) (rises : List Rise) → faults_of t < 2 ^ 64 → AreThere t names
-    → HasRisen t (put_all (lent_from 2 t names rises) (faulted_by (rise_in 1 rises) (lend_all names t)))
-risen_back t names rises small there =
-    let d : ℕ = rise_in 1 rises in
+pub risen_back : (num : Numbering) (t : Shape) (names : List (List ℕ)) (rises : List Rise) → faults_of t < 2 ^ 64
+    → AreThere t names
+    → HasRisen t (put_all (lent_from num.first t names rises) (faulted_by (rise_in num.root rises) (lend_all names t)))
+risen_back num t names rises small there =
+    let d : ℕ = rise_in num.root rises in
     let root : faulted_by d (lend_all names t) ≡ lend_all names (faulted_by d t) =
     ap (λ n. with_faults (capped (n + d)) (lend_all names t)) (faults_of-lend_all names t)
     ∙ lend_all-faults (capped (faults_of t + d)) names t in
-    subst (λ (x : Shape). HasRisen t (put_all (lent_from 2 t names rises) x)) (sym root)
-    (subst (λ (x : Shape). HasRisen t x) (sym (put_all_lent 2 t rises names (faulted_by d t) there
+    subst (λ (x : Shape). HasRisen t (put_all (lent_from num.first t names rises) x)) (sym root)
+    (subst (λ (x : Shape). HasRisen t x) (sym (put_all_lent num.first t rises names (faulted_by d t) there
     (there_faults _ names t there)))
-    (risen_all 2 t rises names (faulted_by d t) there (risen_faults d t small)))
+    (risen_all num.first t rises names (faulted_by d t) there (risen_faults d t small)))
 
 -- the root tells a tree that has risen from the granted one, once all children are back
-pub risen : (t : Shape) (names : List (List ℕ)) (rises : List Rise) (root : Option Shape) (children : List Child)
-    → Stands t names rises root children → (r : Shape) × (root ≡ Some r) × HasRisen t (put_all children r)
-risen t names rises root children s = (
-  faulted_by (rise_in 1 rises) (lend_all names t),
+pub risen : (num : Numbering) (t : Shape) (names : List (List ℕ)) (rises : List Rise) (root : Option Shape)
+    (children : List Child)
+    → Stands num t names rises root children → (r : Shape) × (root ≡ Some r) × HasRisen t (put_all children r)
+risen num t names rises root children s = (
+  faulted_by (rise_in num.root rises) (lend_all names t),
   s.root_tells,
-  subst (λ (cs : List Child). HasRisen t (put_all cs (faulted_by (rise_in 1 rises) (lend_all names t))))
-      (sym s.children_tell) (risen_back t names rises s.small s.there),
+  subst (λ (cs : List Child). HasRisen t (put_all cs (faulted_by (rise_in num.root rises) (lend_all names t))))
+      (sym s.children_tell) (risen_back num t names rises s.small s.there),
 )

@@ -8,6 +8,7 @@ use Rattle.host_node.specs.Tree.{Shape, faults_of, child_of, lend_child, none_le
 use Rattle.host_node.proofs.TreeLemmas.{is_lent-none_lent, none_lent-child_of}
 use Rattle.kernel_model.specs.declared.opening.Rise.{Rise}
 use Rattle.kernel_model.specs.files.Settled.{rise_in}
+use Rattle.image_walk.specs.declared.granted.Numbering.{Numbering}
 use Rattle.image_walk.specs.Granted.{Child, place_of}
 use Rattle.image_walk.specs.Loading.{faulted_by}
 use Rattle.image_walk.specs.Standing.{lend_all, IsNoneOf, AreThere, lent_from, Stands}
@@ -85,70 +86,76 @@ is_there t name s free e h =
     subst (λ (o : Option Shape). IsThere o) (sym e) (is_lent-none_lent s (none_lent-child_of name s t free e), h)
 
 -- what the root tells, where the rises are not its
-root_more : (t : Shape) (names : List (List ℕ)) (name : List ℕ) (rises : List Rise) → faults_of t < 2 ^ 64
-    → rise_in 1 rises ≡ 0
-    → Some (lend_child name (lend_all names t)) ≡ Some (faulted_by (rise_in 1 rises) (lend_all (names ++ name ∷ []) t))
-root_more t names name rises h e =
+root_more : (num : Numbering) (t : Shape) (names : List (List ℕ)) (name : List ℕ) (rises : List Rise)
+    → faults_of t < 2 ^ 64
+    → rise_in num.root rises ≡ 0
+    → Some (lend_child name (lend_all names t))
+    ≡ Some (faulted_by (rise_in num.root rises) (lend_all (names ++ name ∷ []) t))
+root_more num t names name rises h e =
     ap Some (sym (lend_all-more names name t))
     ∙ ap Some (sym (faulted_by_none (lend_all (names ++ name ∷ []) t)
     (subst (λ (n : ℕ). n < 2 ^ 64) (sym (faults_of-lend_all (names ++ name ∷ []) t)) h)))
     ∙ ap (λ d. Some (faulted_by d (lend_all (names ++ name ∷ []) t))) (sym e)
 
 -- one more child was lent,
-pub stands_more : (t : Shape) (names : List (List ℕ)) (name : List ℕ) (s : Shape) (root : Option Shape)
-    (children : List Child) → Stands t names [] root children → IsNoneOf name names → child_of name t ≡ Some s
+pub stands_more : (num : Numbering) (t : Shape) (names : List (List ℕ)) (name : List ℕ) (s : Shape)
+    (root : Option Shape)
+    (children : List Child) → Stands num t names [] root children → IsNoneOf name names → child_of name t ≡ Some s
     → faults_of s < 2 ^ 64
-    → Stands t (names ++ name ∷ []) [] (Some (lend_child name (lend_all names t))) (children ++ (name, Some s) ∷ [])
-stands_more t names name s root children st new e h = record {
+    → Stands num t (names ++ name ∷ []) [] (Some (lend_child name (lend_all names t))) (children ++ (name, Some s) ∷ [])
+stands_more num t names name s root children st new e h = record {
   small = st.small;
   free = st.free;
   there = there_more t names name st.there new (is_there t name s st.free e h);
-  root_tells = root_more t names name [] st.small refl;
+  root_tells = root_more num t names name [] st.small refl;
   children_tell =
       ap (λ (cs : List Child). cs ++ (name, Some s) ∷ []) st.children_tell
-      ∙ sym (lent_from-more 2 t names name []
-      ∙ ap (λ (o : Option Shape). lent_from 2 t names [] ++ (name, option_map (faulted_by 0) o) ∷ []) e
-      ∙ ap (λ (x : Shape). lent_from 2 t names [] ++ (name, Some x) ∷ []) (faulted_by_none s h));
+      ∙ sym (lent_from-more num.first t names name []
+      ∙ ap (λ (o : Option Shape). lent_from num.first t names [] ++ (name, option_map (faulted_by 0) o) ∷ []) e
+      ∙ ap (λ (x : Shape). lent_from num.first t names [] ++ (name, Some x) ∷ []) (faulted_by_none s h));
 }
 
 -- and it has met a fault
-pub stands_more_risen : (t : Shape) (names : List (List ℕ)) (name : List ℕ) (s : Shape) (root : Option Shape)
-    (children : List Child) (r : Rise) → Stands t names [] root children → IsNoneOf name names
-    → child_of name t ≡ Some s → faults_of s < 2 ^ 64 → r.ino ≡ length names + 2
-    → Stands t (names ++ name ∷ []) (r ∷ []) (Some (lend_child name (lend_all names t)))
+pub stands_more_risen : (num : Numbering) (low : num.root < num.first) (t : Shape) (names : List (List ℕ))
+    (name : List ℕ) (s : Shape) (root : Option Shape)
+    (children : List Child) (r : Rise) → Stands num t names [] root children → IsNoneOf name names
+    → child_of name t ≡ Some s → faults_of s < 2 ^ 64 → r.ino ≡ length names + num.first
+    → Stands num t (names ++ name ∷ []) (r ∷ []) (Some (lend_child name (lend_all names t)))
     (children ++ (name, Some (faulted_by r.count s)) ∷ [])
-stands_more_risen t names name s root children r st new e h i = record {
+stands_more_risen num low t names name s root children r st new e h i = record {
   small = st.small;
   free = st.free;
   there = there_more t names name st.there new (is_there t name s st.free e h);
   root_tells =
-      let differs : r.ino ≢ 1 = λ one. absurd (omega arith) in
-      root_more t names name (r ∷ []) st.small (rise_elsewhere 1 r differs);
+      let differs : r.ino ≢ num.root = λ one. absurd (omega arith) in
+      root_more num t names name (r ∷ []) st.small (rise_elsewhere num.root r differs);
   children_tell =
-      let above : 2 + length names ≤ r.ino = omega arith in
+      let above : num.first + length names ≤ r.ino = omega arith in
       ap (λ (cs : List Child). cs ++ (name, Some (faulted_by r.count s)) ∷ []) st.children_tell
-      ∙ sym (lent_from-more 2 t names name (r ∷ [])
+      ∙ sym (lent_from-more num.first t names name (r ∷ [])
       ∙ ap
       (λ (cs : List Child). cs
-      ++ (name, option_map (faulted_by (rise_in (length names + 2) (r ∷ []))) (child_of name t)) ∷ [])
-      (lent_from-above 2 t names r above)
+      ++ (name, option_map (faulted_by (rise_in (length names + num.first) (r ∷ []))) (child_of name t)) ∷ [])
+      (lent_from-above num.first t names r above)
       ∙ ap
-      (λ d. lent_from 2 t names [] ++ (name, option_map (faulted_by d) (child_of name t)) ∷ [])
-      (rise_here (length names + 2) r i)
+      (λ d. lent_from num.first t names [] ++ (name, option_map (faulted_by d) (child_of name t)) ∷ [])
+      (rise_here (length names + num.first) r i)
       ∙ ap
-      (λ (o : Option Shape). lent_from 2 t names [] ++ (name, option_map (faulted_by r.count) o) ∷ []) e);
+      (λ (o : Option Shape). lent_from num.first t names [] ++ (name, option_map (faulted_by r.count) o) ∷ []) e);
 }
 
 -- the root has met a fault
-pub stands_root_risen : (t : Shape) (names : List (List ℕ)) (root : Option Shape) (children : List Child) (r : Rise)
-    → Stands t names [] root children → r.ino ≡ 1
-    → Stands t names (r ∷ []) (Some (faulted_by r.count (lend_all names t))) children
-stands_root_risen t names root children r st i = record {
+pub stands_root_risen : (num : Numbering) (low : num.root < num.first) (t : Shape) (names : List (List ℕ))
+    (root : Option Shape) (children : List Child) (r : Rise)
+    → Stands num t names [] root children → r.ino ≡ num.root
+    → Stands num t names (r ∷ []) (Some (faulted_by r.count (lend_all names t))) children
+stands_root_risen num low t names root children r st i = record {
   small = st.small;
   free = st.free;
   there = st.there;
-  root_tells = ap (λ d. Some (faulted_by d (lend_all names t))) (sym (rise_here 1 r i));
-  children_tell = let below : r.ino < 2 = omega arith in st.children_tell ∙ sym (lent_from-below 2 t names r below);
+  root_tells = ap (λ d. Some (faulted_by d (lend_all names t))) (sym (rise_here num.root r i));
+  children_tell =
+      let below : r.ino < num.first = omega arith in st.children_tell ∙ sym (lent_from-below num.first t names r below);
 }
 
 -- ---- a child that was lent before has met a fault
@@ -175,21 +182,23 @@ set_risen n t (other ∷ names) name s (suc i) r g e h =
     ∙ ap (λ (cs : List Child). (other, option_map (faulted_by 0) (child_of other t)) ∷ cs)
     (set_risen (n + 1) t names name s i r g e next)
 
-pub stands_child_risen : (t : Shape) (names : List (List ℕ)) (root : Option Shape) (children : List Child)
-    (name : List ℕ) (i : ℕ) (s : Shape) (r : Rise) → Stands t names [] root children → place_of name children ≡ Some i
-    → child_of name t ≡ Some s → r.ino ≡ i + 2
-    → Stands t names (r ∷ []) root (slice_set children i (name, Some (faulted_by r.count s)))
-stands_child_risen t names root children name i s r st p e h =
-    let found = placed t names root children name i st p in record {
+pub stands_child_risen : (num : Numbering) (low : num.root < num.first) (t : Shape) (names : List (List ℕ))
+    (root : Option Shape) (children : List Child)
+    (name : List ℕ) (i : ℕ) (s : Shape) (r : Rise) → Stands num t names [] root children → place_of name children
+    ≡ Some i
+    → child_of name t ≡ Some s → r.ino ≡ i + num.first
+    → Stands num t names (r ∷ []) root (slice_set children i (name, Some (faulted_by r.count s)))
+stands_child_risen num low t names root children name i s r st p e h =
+    let found = placed num t names root children name i st p in record {
       small = st.small;
       free = st.free;
       there = st.there;
       root_tells =
-          let differs : r.ino ≢ 1 = λ one. absurd (omega arith) in
-          st.root_tells ∙ ap (λ d. Some (faulted_by d (lend_all names t))) (sym (rise_elsewhere 1 r differs));
+          let differs : r.ino ≢ num.root = λ one. absurd (omega arith) in
+          st.root_tells ∙ ap (λ d. Some (faulted_by d (lend_all names t))) (sym (rise_elsewhere num.root r differs));
       children_tell =
           ap (λ (cs : List Child). slice_set cs i (name, Some (faulted_by r.count s))) st.children_tell
-          ∙ sym (set_risen 2 t names name s i r
+          ∙ sym (set_risen num.first t names name s i r
           (subst (λ (cs : List Child). slice_get cs i ≡ Some (name, child_of name t)) st.children_tell found.child) e
           h);
     }

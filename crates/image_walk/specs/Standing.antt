@@ -10,8 +10,14 @@ use Rattle.kernel_model.specs.declared.opening.Left.{Left}
 use Rattle.kernel_model.specs.declared.opening.Rise.{Rise}
 use Rattle.kernel_model.specs.files.FileTree.{Nodes, child_node}
 use Rattle.kernel_model.specs.files.Settled.{rise_in}
+use Rattle.image_walk.specs.declared.granted.Numbering.{Numbering}
 use Rattle.image_walk.specs.Granted.{Child}
 use Rattle.image_walk.specs.Loading.{faulted_by}
+
+-- the numbers of a granted folder: the root's, and those of children from the first on, which are above those of roots
+-- inode(7), st_ino; that there are at most 16 roots: profile
+abbrev pub IsNumbering : Numbering → Type 0
+IsNumbering num = (0 < num.root) × (num.root < num.first) × (num.first ≤ 17)
 
 -- a tree with what stands under names left to borrowers
 -- profile
@@ -40,16 +46,16 @@ lent_from n t [] rises = []
 lent_from n t (name ∷ names) rises =
     (name, option_map (faulted_by (rise_in n rises)) (child_of name t)) ∷ lent_from (n + 1) t names rises
 
--- a granted tree of which these children were lent: what its root, number 1, and the children, numbers 2 up, tell after
--- these rises of counts
+-- a granted tree of which these children were lent: what its root and the children, numbered in order, tell after these
+-- rises of counts
 -- profile
-pub record Stands (t : Shape) (names : List (List ℕ)) (rises : List Rise) (root : Option Shape)
+pub record Stands (num : Numbering) (t : Shape) (names : List (List ℕ)) (rises : List Rise) (root : Option Shape)
     (children : List Child) : Type 0 where
   pub small : faults_of t < 2 ^ 64
   pub free : none_lent t ≡ true
   pub there : AreThere t names
-  pub root_tells : root ≡ Some (faulted_by (rise_in 1 rises) (lend_all names t))
-  pub children_tell : children ≡ lent_from 2 t names rises
+  pub root_tells : root ≡ Some (faulted_by (rise_in num.root rises) (lend_all names t))
+  pub children_tell : children ≡ lent_from num.first t names rises
 
 -- ---- the kernel's nodes
 
@@ -61,22 +67,22 @@ numbers_from n (name ∷ names) = record { name = name; ino = n } ∷ numbers_fr
 
 -- the node of the root
 -- inode(7), st_ino
-abbrev pub root_with : Shape → (names : List (List ℕ)) → Node
-root_with t names =
-    record { parent = 1; linked = true; tree = lend_all names t; numbers = numbers_from 2 names }
+abbrev pub root_with : Numbering → Shape → (names : List (List ℕ)) → Node
+root_with num t names =
+    record { parent = num.root; linked = true; tree = lend_all names t; numbers = numbers_from num.first names }
 
--- the nodes from that number on are those of these names, and there are no others
+-- the nodes from that number on are those of these names, children of the root, and there are no others
 -- inode(7), st_ino
-abbrev pub HaveNodes : Nodes → (number : ℕ) → Shape → (names : List (List ℕ)) → Type 0
-HaveNodes nodes n t [] = (ino : ℕ) → n ≤ ino → map.get nodes ino ≡ None
-HaveNodes nodes n t (name ∷ names) =
-    (map.get nodes n ≡ option_map (child_node 1) (child_of name t)) × HaveNodes nodes (n + 1) t names
+abbrev pub HaveNodes : Numbering → Nodes → (number : ℕ) → Shape → (names : List (List ℕ)) → Type 0
+HaveNodes num nodes n t [] = (ino : ℕ) → n ≤ ino → map.get nodes ino ≡ None
+HaveNodes num nodes n t (name ∷ names) =
+    (map.get nodes n ≡ option_map (child_node num.root) (child_of name t)) × HaveNodes num nodes (n + 1) t names
 
 -- the nodes of a granted tree of which these children have numbers
 -- inode(7), st_ino
-pub record AreNodes (nodes : Nodes) (t : Shape) (names : List (List ℕ)) : Type 0 where
-  pub root : map.get nodes 1 ≡ Some (root_with t names)
-  pub children : HaveNodes nodes 2 t names
+pub record AreNodes (num : Numbering) (nodes : Nodes) (t : Shape) (names : List (List ℕ)) : Type 0 where
+  pub root : map.get nodes num.root ≡ Some (root_with num t names)
+  pub children : HaveNodes num nodes num.first t names
 
 -- nothing that reached no entry, and nothing lent
 -- profile

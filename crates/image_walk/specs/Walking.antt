@@ -5,6 +5,7 @@ use Rattle.std.specs.Prelude.{slice_get, slice_set}
 use Rattle.host_node.specs.Tree.{Shape, faults_of, child_of, is_directory, lend_child, none_lent}
 use Rattle.sn_errno.specs.declared.errno.Errno.TheVariants.{EIO, ENOENT, EACCES}
 use Rattle.kernel_model.specs.files.FileTree.{owner_executes}
+use Rattle.image_walk.specs.declared.granted.Numbering.{Numbering}
 use Rattle.image_walk.specs.declared.loading.Answer.{Answer}
 use Rattle.image_walk.specs.declared.loading.Answer.TheVariants.{Refuses, Memory}
 use Rattle.image_walk.specs.declared.loading.Loaded.{Loaded}
@@ -21,23 +22,23 @@ TellNothing (c ∷ children) = (c.1 ≡ None) × TellNothing children
 
 -- a granted folder of which these children were lent, and none of whose nodes failed so far; or its nodes tell nothing
 -- profile
-abbrev pub IsGrant : (root : Option Shape) → List Child → Type 0
-IsGrant None children = TellNothing children
-IsGrant (Some r) children =
-    (t : Shape) × (names : List (List ℕ)) × (is_directory t ≡ true) × Stands t names [] (Some r) children
+abbrev pub IsGrant : Numbering → (root : Option Shape) → List Child → Type 0
+IsGrant num None children = TellNothing children
+IsGrant num (Some r) children =
+    (t : Shape) × (names : List (List ℕ)) × (is_directory t ≡ true) × Stands num t names [] (Some r) children
 
 -- a walk that draws a number draws the next, for a child that is then behind the others
 -- inode(7), st_ino
-abbrev pub DrawsNext : (drawn : Bool) → (ino before after : ℕ) → Type 0
-DrawsNext true ino before after = (ino ≡ before + 2) × (after ≡ before + 1)
-DrawsNext false ino before after = after ≡ before
+abbrev pub DrawsNext : Numbering → (drawn : Bool) → (ino before after : ℕ) → Type 0
+DrawsNext num true ino before after = (ino ≡ before + num.first) × (after ≡ before + 1)
+DrawsNext num false ino before after = after ≡ before
 
 -- the numbers that an execve draws, by how many children were lent before and after: none, or the next
 -- inode(7), st_ino
-abbrev pub NumbersNext : List ℕ → (before after : ℕ) → Type 0
-NumbersNext [] before after = after ≡ before
-NumbersNext (n ∷ []) before after = (n ≡ before + 2) × (after ≡ before + 1)
-NumbersNext (n ∷ m ∷ numbers) before after = ⊥
+abbrev pub NumbersNext : Numbering → List ℕ → (before after : ℕ) → Type 0
+NumbersNext num [] before after = after ≡ before
+NumbersNext num (n ∷ []) before after = (n ≡ before + num.first) × (after ≡ before + 1)
+NumbersNext num (n ∷ m ∷ numbers) before after = ⊥
 
 -- the nodes of a granted folder tell nothing
 -- profile
@@ -87,19 +88,19 @@ pub record LendsChild (t : Shape) (name : List ℕ) (children children' : List C
   pub pushed : children' ≡ children ++ (name, told) ∷ []
   pub loads : Loads child told risen answer
 
-abbrev pub LendsBy : (drawn : Bool) → Shape → (name : List ℕ) → (children children' : List Child)
+abbrev pub LendsBy : Numbering → (drawn : Bool) → Shape → (name : List ℕ) → (children children' : List Child)
     → (after : Option Shape) → (ino : ℕ) → (risen : Option ℕ) → Answer → Type 0
-LendsBy true t name children children' after ino risen answer =
-    LendsChild t name children children' after risen answer × (ino ≡ length children + 2)
-LendsBy false t name children children' after ino risen answer =
-    LendsNone t name after risen answer × (children' ≡ children) × (ino ≡ 1)
+LendsBy num true t name children children' after ino risen answer =
+    LendsChild t name children children' after risen answer × (ino ≡ length children + num.first)
+LendsBy num false t name children children' after ino risen answer =
+    LendsNone t name after risen answer × (children' ≡ children) × (ino ≡ num.root)
 
-abbrev pub LendsWhere : (told : Option Shape) → (name : List ℕ) → (children children' : List Child)
+abbrev pub LendsWhere : Numbering → (told : Option Shape) → (name : List ℕ) → (children children' : List Child)
     → (after : Option Shape) → Step → Type 0
-LendsWhere None name children children' after step =
+LendsWhere num None name children children' after step =
     (after ≡ None) × (TellNothing children → TellNothing children')
-LendsWhere (Some t) name children children' after step =
-    LendsBy step.drawn t name children children' after step.ino step.loaded.risen step.loaded.answer
+LendsWhere num (Some t) name children children' after step =
+    LendsBy num step.drawn t name children children' after step.ino step.loaded.risen step.loaded.answer
 
 -- the child at a place was loaded again
 -- execve(2)
@@ -112,22 +113,22 @@ pub record LoadsAt (place : ℕ) (children children' : List Child) (risen : Opti
 
 -- how a walk went over a root that tells itself
 -- path_resolution(7); execve(2)
-pub data Walks (t : Shape) (name : List ℕ) (children children' : List Child) (after : Option Shape)
+pub data Walks (num : Numbering) (t : Shape) (name : List ℕ) (children children' : List Child) (after : Option Shape)
     (step : Step) : Type 0 where
   Unsearched : NotSearched t after step.loaded.risen step.loaded.answer → children' ≡ children → step.drawn ≡ false
-      → step.ino ≡ 1 → Walks t name children children' after step
+      → step.ino ≡ num.root → Walks num t name children children' after step
   Known : owner_executes t ≡ true → after ≡ Some t → step.drawn ≡ false → (place : ℕ)
-      → place_of name children ≡ Some place → step.ino ≡ place + 2
+      → place_of name children ≡ Some place → step.ino ≡ place + num.first
       → LoadsAt place children children' step.loaded.risen step.loaded.answer
-      → Walks t name children children' after step
+      → Walks num t name children children' after step
   Lent : owner_executes t ≡ true → place_of name children ≡ None
-      → LendsBy step.drawn t name children children' after step.ino step.loaded.risen step.loaded.answer
-      → Walks t name children children' after step
+      → LendsBy num step.drawn t name children children' after step.ino step.loaded.risen step.loaded.answer
+      → Walks num t name children children' after step
 
 -- the same, where the root tells itself
 -- profile
-abbrev pub WalksWhere : (told : Option Shape) → (name : List ℕ) → (children children' : List Child)
+abbrev pub WalksWhere : Numbering → (told : Option Shape) → (name : List ℕ) → (children children' : List Child)
     → (after : Option Shape) → Step → Type 0
-WalksWhere None name children children' after step =
+WalksWhere num None name children children' after step =
     (after ≡ None) × (TellNothing children → TellNothing children')
-WalksWhere (Some t) name children children' after step = Walks t name children children' after step
+WalksWhere num (Some t) name children children' after step = Walks num t name children children' after step

@@ -8,12 +8,12 @@ ghost use Rattle.kernel_model.specs.opening.Arguments.{is_too_long};
 ghost use Rattle.image_walk.specs.Executing.{Executes, LeavesStanding, fresh_by, rises_by};
 ghost use Rattle.image_walk.specs.Granted.{told_of};
 ghost use Rattle.image_walk.specs.Loading.{is_roomy};
-ghost use Rattle.image_walk.specs.Standing.{Stands};
+ghost use Rattle.image_walk.specs.Standing.{IsNumbering, Stands};
 ghost use Rattle.image_walk.specs.Walking.{IsGrant, IsSilent, NumbersNext};
 
 use crate::granted::Granted;
 use crate::loading::{Answer, Loaded};
-use crate::walk::{ROOT, Step, walk};
+use crate::walk::{Step, walk};
 use host_node::HostNode;
 use kernel_calls::is_too_long;
 use kernel_model::{Fresh, Given, Rise};
@@ -31,22 +31,23 @@ pub struct Executed {
     ghost pages: { is_roomy answer ≡ true },
 }
 
-/// What a walk drew and met: the number of the node that it came to, where that is new, and by how much that node's
-/// count of faults rose.
+/// What a walk from the root of that number drew and met: the number of the node that it came to, where that is new,
+/// and by how much that node's count of faults rose.
 fn gathered(
     alloc: Global,
+    root: u64,
     name: &Name,
     drawn: bool,
     ino: u64,
     risen: Option<u64>,
 ) -> Result<Given, Memory>
-    ensures fresh { IfOk result (λ g. g.fresh ≡ fresh_by drawn ino name.now) }
+    ensures fresh { IfOk result (λ g. g.fresh ≡ fresh_by root drawn ino name.now) }
     ensures rises { IfOk result (λ g. g.rises ≡ rises_by ino risen) }
 {
     let mut fresh = List::new(alloc);
     if drawn {
         fresh.push(Fresh {
-            dir: ROOT,
+            dir: root,
             name: name.copy(alloc)?,
             ino,
         })?;
@@ -69,20 +70,23 @@ pub fn execve<N: HostNode>(
     program: &Program,
     name: &Name,
 ) -> Result<Executed, Memory>
-    requires { IsGrant (N.told granted.old.root) (told_of N.told granted.old.lent.items) }
+    requires numbers { IsNumbering granted.old.numbers }
+    requires grant { IsGrant granted.old.numbers (N.told granted.old.root) (told_of N.told granted.old.lent.items) }
+    ensures same { granted.new.numbers ≡ granted.old.numbers }
     ensures executes { IfOk result (λ e. (t : Shape) (names : Items (Items ℕ)) →
-        Stands t names [] (N.told granted.old.root) (told_of N.told granted.old.lent.items) →
-        Executes (is_too_long program.now.args program.now.env) t names name.now e.given e.answer
-        (N.told granted.new.root) (told_of N.told granted.new.lent.items)) }
-    ensures numbers { IfOk result (λ e. NumbersNext (numbers_of e.given.fresh)
+        Stands granted.old.numbers t names [] (N.told granted.old.root) (told_of N.told granted.old.lent.items) →
+        Executes granted.old.numbers (is_too_long program.now.args program.now.env) t names name.now
+        e.given e.answer (N.told granted.new.root) (told_of N.told granted.new.lent.items)) }
+    ensures numbers { IfOk result (λ e. NumbersNext granted.old.numbers (numbers_of e.given.fresh)
         (length granted.old.lent.items) (length granted.new.lent.items)) }
     ensures silent { IsSilent (N.told granted.old.root) (told_of N.told granted.old.lent.items) →
         IsSilent (N.told granted.new.root) (told_of N.told granted.new.lent.items) }
     ensures long { IfOk result (λ e. is_too_long program.now.args program.now.env ≡ true →
         e.answer ≡ Answer.Refuses E2BIG) }
     ensures err { OnErr result ((t : Shape) (names : Items (Items ℕ)) →
-        Stands t names [] (N.told granted.old.root) (told_of N.told granted.old.lent.items) →
-        LeavesStanding t names name.now (N.told granted.new.root) (told_of N.told granted.new.lent.items)) }
+        Stands granted.old.numbers t names [] (N.told granted.old.root) (told_of N.told granted.old.lent.items) →
+        LeavesStanding granted.old.numbers t names name.now
+        (N.told granted.new.root) (told_of N.told granted.new.lent.items)) }
 {
     if is_too_long(program) {
         return Ok(Executed {
@@ -93,8 +97,9 @@ pub fn execve<N: HostNode>(
             answer: Answer::Refuses(Errno::E2BIG),
         });
     }
+    let root = granted.numbers.root;
     let Step { drawn, ino, loaded } = walk(alloc, granted, name)?;
     let Loaded { risen, answer } = loaded;
-    let given = gathered(alloc, name, drawn, ino, risen)?;
+    let given = gathered(alloc, root, name, drawn, ino, risen)?;
     Ok(Executed { given, answer })
 }

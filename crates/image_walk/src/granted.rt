@@ -15,10 +15,18 @@ pub struct Lent<N: Drop> {
     pub node: N,
 }
 
+/// The inode numbers of a granted folder: that of its root, and the first for a child of the root.
+#[derive(Clone, Copy, Debug, PartialEq, Eq)]
+pub struct Numbering {
+    pub root: u64,
+    pub first: u64,
+}
+
 /// A granted folder: its root, and the children of the root that were lent, in order of their inode numbers.
 #[derive(Drop)]
 pub struct Granted<N: Drop> {
     pub root: N,
+    pub numbers: Numbering,
     pub lent: Vec<Lent<N>>,
 }
 
@@ -27,20 +35,22 @@ impl<N: HostNode> Granted<N> {
     ghost use Rattle.image_walk.specs.Standing.{Stands};
     ghost use Rattle.image_walk.specs.Walking.{IsGrant, IsRoot};
 
-    /// A root as it is granted, with nothing lent.
+    /// A root as it is granted, with nothing lent, whose nodes have these numbers.
     #[tactic(auto, using(crate::proofs::Roots::root_grants, crate::proofs::Roots::root_stands))]
-    pub fn new(alloc: Global, root: N) -> Granted<N>
+    pub fn new(alloc: Global, root: N, numbers: Numbering) -> Granted<N>
         requires { IsRoot (N.told root) }
-        ensures grant { IsGrant (N.told result.root) (told_of N.told result.lent.items) }
+        ensures grant { IsGrant numbers (N.told result.root) (told_of N.told result.lent.items) }
         ensures root { N.told result.root ≡ N.told root }
+        ensures numbers { result.numbers ≡ numbers }
         ensures lent { result.lent.items ≡ [] }
         ensures stands { (t : Shape) → N.told root ≡ Some t →
-            Stands t [] [] (N.told result.root) (told_of N.told result.lent.items) }
+            Stands numbers t [] [] (N.told result.root) (told_of N.told result.lent.items) }
         ensures faults { N.count result.root ≡ N.count root }
     {
         let _faults = root.faults();
         Granted {
             root,
+            numbers,
             lent: Vec::new(alloc),
         }
     }
@@ -51,7 +61,7 @@ impl<N: HostNode> Granted<N> {
         ensures tells { GivesBack (N.told self.root) (told_of N.told self.lent.items) (N.told result) }
         ensures faults { N.count result ≡ N.count self.root }
     {
-        let Granted { root, lent } = self;
+        let Granted { root, lent, .. } = self;
         let mut root = root;
         for child in lent {
             let Lent { name, node } = child;

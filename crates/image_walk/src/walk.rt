@@ -4,21 +4,16 @@ ghost use Rattle.std.specs.Prelude.{◌≡◌, ◌<◌, ◌∷◌, [], length, N
 ghost use Rattle.host_node.specs.Told.{CanLend};
 ghost use Rattle.image_walk.specs.Granted.{place_of, told_of};
 ghost use Rattle.image_walk.specs.Loading.{IsHere, is_roomy};
+ghost use Rattle.image_walk.specs.Standing.{IsNumbering};
 ghost use Rattle.image_walk.specs.Walking.{DrawsNext, IsGrant, LendsWhere, LoadsAt, SearchedFor, WalksWhere};
 
-use crate::granted::{Granted, Lent, place_of};
+use crate::granted::{Granted, Lent, Numbering, place_of};
 use crate::loading::{Answer, Loaded, answered, failed, load};
 use host_node::{HostErr, HostNode};
 use sn_base::Memory;
 use sn_errno::Errno;
 use sn_text::{Name, Route};
 use std::alloc::Global;
-
-/// The inode number of the root.
-pub(crate) const ROOT: u64 = 1;
-
-/// The inode number of the first child that gets one.
-const FIRST: u64 = 2;
 
 /// What a walk came to: whether it drew a number, the number of the node that it came to, and what that node gave.
 #[derive(Drop)]
@@ -88,10 +83,12 @@ fn lend_program<N: HostNode>(
     routes: &Routes,
     name: &Name,
 ) -> Result<Step, Memory>
-    requires { CanLend name.now (N.told granted.old.root) }
-    ensures numbers { IfOk result (λ step. DrawsNext step.drawn step.ino
+    requires numbers { IsNumbering granted.old.numbers }
+    requires lend { CanLend name.now (N.told granted.old.root) }
+    ensures same { granted.new.numbers ≡ granted.old.numbers }
+    ensures numbers { IfOk result (λ step. DrawsNext granted.old.numbers step.drawn step.ino
         (length granted.old.lent.items) (length granted.new.lent.items)) }
-    ensures lends { IfOk result (LendsWhere (N.told granted.old.root) name.now
+    ensures lends { IfOk result (LendsWhere granted.old.numbers (N.told granted.old.root) name.now
         (told_of N.told granted.old.lent.items) (told_of N.told granted.new.lent.items) (N.told granted.new.root)) }
     ensures err { OnErr result (N.told granted.new.root ≡ N.told granted.old.root) }
     ensures err_lent { OnErr result (told_of N.told granted.new.lent.items ≡ told_of N.told granted.old.lent.items) }
@@ -99,11 +96,12 @@ fn lend_program<N: HostNode>(
     let kept = name.copy(alloc)?;
     granted.lent.reserve(1)?;
     let before = granted.root.faults();
+    let Numbering { root, first } = granted.numbers;
     match granted.root.lend(&routes.root, name) {
         Ok(Some(child)) => {
             let mut child = child;
             let loaded = load(alloc, &mut child, &routes.program);
-            let ino = FIRST + granted.lent.len() as u64;
+            let ino = first + granted.lent.len() as u64;
             granted.lent.push_reserved(Lent {
                 name: kept,
                 node: child,
@@ -114,21 +112,21 @@ fn lend_program<N: HostNode>(
                 loaded,
             })
         }
-        Ok(None) => Ok(at_root(answered(Answer::Refuses(Errno::ENOENT)))),
-        Err(HostErr::Failed) => Ok(at_root(failed(before, &granted.root))),
+        Ok(None) => Ok(at_root(root, answered(Answer::Refuses(Errno::ENOENT)))),
+        Err(HostErr::Failed) => Ok(at_root(root, failed(before, &granted.root))),
         Err(HostErr::Memory) => Err(Memory),
     }
 }
 
-/// A walk that ended at the root.
-fn at_root(loaded: Loaded) -> Step
+/// A walk that ended at the root, of that number.
+fn at_root(root: u64, loaded: Loaded) -> Step
     ensures drawn { result.drawn ≡ false }
-    ensures ino { result.ino ≡ 1 }
+    ensures ino { result.ino ≡ root }
     ensures loaded { result.loaded ≡ loaded }
 {
     Step {
         drawn: false,
-        ino: ROOT,
+        ino: root,
         loaded,
     }
 }
@@ -140,22 +138,25 @@ pub(crate) fn walk<N: HostNode>(
     granted: &mut Granted<N>,
     name: &Name,
 ) -> Result<Step, Memory>
-    requires { IsGrant (N.told granted.old.root) (told_of N.told granted.old.lent.items) }
-    ensures numbers { IfOk result (λ step. DrawsNext step.drawn step.ino
+    requires numbers { IsNumbering granted.old.numbers }
+    requires grant { IsGrant granted.old.numbers (N.told granted.old.root) (told_of N.told granted.old.lent.items) }
+    ensures same { granted.new.numbers ≡ granted.old.numbers }
+    ensures numbers { IfOk result (λ step. DrawsNext granted.old.numbers step.drawn step.ino
         (length granted.old.lent.items) (length granted.new.lent.items)) }
-    ensures walks { IfOk result (WalksWhere (N.told granted.old.root) name.now
+    ensures walks { IfOk result (WalksWhere granted.old.numbers (N.told granted.old.root) name.now
         (told_of N.told granted.old.lent.items) (told_of N.told granted.new.lent.items) (N.told granted.new.root)) }
     ensures err { OnErr result (N.told granted.new.root ≡ N.told granted.old.root) }
     ensures err_lent { OnErr result (told_of N.told granted.new.lent.items ≡ told_of N.told granted.old.lent.items) }
 {
     let routes = make_routes(alloc, name)?;
+    let Numbering { root, first } = granted.numbers;
     if let Some(loaded) = search(&mut granted.root, &routes.root) {
-        return Ok(at_root(loaded));
+        return Ok(at_root(root, loaded));
     }
     match place_of(name, granted.lent.as_slice()) {
         Some(place) => Ok(Step {
             drawn: false,
-            ino: FIRST + place as u64,
+            ino: first + place as u64,
             loaded: load_known(alloc, &mut granted.lent, place, &routes.program),
         }),
         None => lend_program(alloc, granted, &routes, name),

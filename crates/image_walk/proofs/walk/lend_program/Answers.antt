@@ -10,9 +10,10 @@ returns-in-Ok-Some-clause-lends g c =
     let told = g.N.HostNode.told in
     let node = rw c.in-Ok-Some.field-0-is at c.in-Ok-Some.ensures.node in
     let tells = rw c.in-Ok-Some.field-0-is at c.in-Ok-Some.ensures.tells in
-    lends_child (told c.args.granted.now.root) (told c.lend.new.self) (told c.in-Ok-Some.child)
+    lends_child c.args.granted.now.numbers (told c.args.granted.now.root) (told c.lend.new.self)
+    (told c.in-Ok-Some.child)
     (told c.load-loaded.new.node) c.args.name.now (g.N.HostNode.count c.in-Ok-Some.child)
-    (g.N.HostNode.what c.in-Ok-Some.child) (2 + c.len.result) c.load-loaded.result
+    (g.N.HostNode.what c.in-Ok-Some.child) (c.args.granted.now.numbers.first + c.len.result) c.load-loaded.result
     (told_of told c.args.granted.now.lent.items) (told_of told c.push_reserved.new.self.items) node tells
     c.load-loaded.ensures
     (ap (told_of told) (c.push_reserved.ensures.items

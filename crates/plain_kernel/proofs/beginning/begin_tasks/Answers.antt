@@ -25,8 +25,8 @@ pub returns-then-not-may_meet-clause-refused : goal.returns-then-not-may_meet-cl
 returns-then-not-may_meet-clause-refused c =
     sym c.loop-index.invariant.begun
     ∙ next_misfits (c.loop-index.index + 1) c.args.programs.now c.args.opened.now c.loop-index.kernel
-    c.loop-index.index c.index-program.result c.in-Some.one.now c.loop-index-test.true
-    c.index-program.is c.in-Some.ensures.lookup.3.0 c.in-Some.ensures.lookup.1
+    c.loop-index.index c.index-programs-index.result c.in-Some.one.now c.loop-index-test.true
+    c.index-programs-index.is c.in-Some.ensures.lookup.3.0 c.in-Some.ensures.lookup.1
     (sym c.may_meet.ensures ∙ c.if-not-may_meet.true)
 
 pub returns-in_err-begin_task-clause-refused : goal.returns-in_err-begin_task-clause-refused
@@ -34,8 +34,8 @@ returns-in_err-begin_task-clause-refused c =
     let p = err_from_is_err_and c.from_residual.result c.from_residual.ensures.1 in
     rw (p.1, p.2) (refused_same _ _ c.in_err-begin_task.field-0.0 (sym c.loop-index.invariant.begun
     ∙ next_may (c.loop-index.index + 1) c.args.programs.now c.args.opened.now c.loop-index.kernel
-    c.loop-index.index c.index-program.result c.in-Some.one.now c.loop-index-test.true
-    c.index-program.is c.in-Some.ensures.lookup.3.0 c.in-Some.ensures.lookup.1
+    c.loop-index.index c.index-programs-index.result c.in-Some.one.now c.loop-index-test.true
+    c.index-programs-index.is c.in-Some.ensures.lookup.3.0 c.in-Some.ensures.lookup.1
     (sym c.may_meet.ensures ∙ c.if-not-may_meet.false))
     (c.in_err-begin_task.ensures.refused (tasks_begun (c.loop-index.index + 1 + 1)
     (drop (c.loop-index.index + 1) c.args.programs.now) (drop (c.loop-index.index + 1) c.args.opened.now))))
@@ -47,8 +47,8 @@ loop-index-preserved c = record {
       (c.in_ok-begin_task.ensures.ok (tasks_begun (c.loop-index.index + 1 + 1)
       (drop (c.loop-index.index + 1) c.args.programs.now) (drop (c.loop-index.index + 1) c.args.opened.now)))
       ∙ sym (next_may (c.loop-index.index + 1) c.args.programs.now c.args.opened.now
-      c.loop-index.kernel c.loop-index.index c.index-program.result c.in-Some.one.now c.loop-index-test.true
-      c.index-program.is c.in-Some.ensures.lookup.3.0 c.in-Some.ensures.lookup.1
+      c.loop-index.kernel c.loop-index.index c.index-programs-index.result c.in-Some.one.now c.loop-index-test.true
+      c.index-programs-index.is c.in-Some.ensures.lookup.3.0 c.in-Some.ensures.lookup.1
       (sym c.may_meet.ensures ∙ c.if-not-may_meet.false))
       ∙ c.loop-index.invariant.begun;
   tasks =
