@@ -3,12 +3,14 @@ use Rattle.std.proofs.Common.{◌≡◌, ℕ, ◌+◌, ◌<◌, ◌≤◌, Bool,
 use Rattle.std.proofs.Common.{sym, ◌∙◌}
 use Rattle.std.proofs.Common.{subst, arith, length-append}
 use Rattle.std.specs.Prelude.{Option, Some, None, Result, Ok, Err, IfOk, IfErr, IsErrAnd, slice_get, if◌then◌else◌}
+use Rattle.std.specs.Prelude.{is_some}
 use Rattle.std.specs.FinMap as map
 use Rattle.std.proofs.lemmas.List.{append_assoc, append-nil, drop_more}
 use Rattle.std.proofs.lemmas.Option.{get_or_from_slice_get, slice_get_within}
 use Rattle.host_node.specs.Tree.{Shape, is_directory}
 use Rattle.sn_errno.specs.declared.errno.Errno.{Errno}
 use Rattle.elf_image.specs.declared.image.Image.{Image as Executable}
+use Rattle.mount_file.specs.Form.{HasForm}
 use Rattle.mount_file.specs.declared.mounts.Mounts.{Mounts}
 use Rattle.mount_file.specs.declared.mounts.Program.{Program}
 use Rattle.task_table.specs.Table.{TaskTable}
@@ -21,14 +23,15 @@ use Rattle.kernel_model.specs.entries.Parts.{parts, outcome_in, changed}
 use Rattle.kernel_model.specs.files.FileTree.{Nodes, last_number}
 use Rattle.kernel_model.specs.opening.Arguments.{is_too_long}
 use Rattle.kernel_model.specs.opening.Opening.{Begun, Executed, Starts, Fails, Misfits, Refuses, bare, execve_of}
-use Rattle.kernel_model.specs.opening.Opening.{made_by}
+use Rattle.kernel_model.specs.opening.Opening.{made_by, root_of}
 use Rattle.kernel_model.specs.opening.Opening.{rooted, task_begun, tasks_begun, with_task}
 use Rattle.kernel_model.proofs.OpenedTasks.{AreOpened, opened_more}
+use Rattle.image_walk.specs.declared.granted.Numbering.{Numbering}
 use Rattle.image_walk.specs.declared.loading.Answer.{Answer}
 use Rattle.image_walk.specs.declared.loading.Answer.TheVariants as answers
 use Rattle.image_walk.specs.Executing.{Executes, named_then}
 use Rattle.image_walk.specs.Granted.{Child}
-use Rattle.image_walk.specs.Standing.{Stands, AreNodes}
+use Rattle.image_walk.specs.Standing.{IsNumbering, Stands, AreNodes}
 use Rattle.image_walk.specs.Walking.{IsGrant, IsRoot, IsSilent}
 use Rattle.image_walk.proofs.KernelAnswers.{Started, Failed, execve_starts, execve_fails, stands_on}
 use Rattle.image_walk.proofs.Firsts.{first_nodes}
@@ -38,14 +41,28 @@ use Rattle.call_table.specs.Beside.{Beside}
 use Rattle.call_table.specs.Processes.{kernel_of}
 use Rattle.run_opening.specs.declared.opening.OpenErr.{OpenErr}
 use Rattle.run_opening.specs.declared.opening.OpenErr.TheVariants.{Image, Memory}
-use Rattle.run_opening.specs.Openings.{Begins, HasBegun, IsRefused, IsStanding, Stops, beside_of}
+use Rattle.run_opening.specs.Openings.{Begins, HasBegun, IsRefused, IsStanding, Stops, beside_of, numbering_of}
+
+-- ---- the numbers, where there is the one mount at `/`
+
+pub root_one : (m : Mounts) → HasForm m → root_of m.mounts ≡ 1
+root_one m form =
+    ap root_of form.mounts_are ∙ ap (λ (place : Option (List ℕ)). if is_some place then 2 else 1) form.at_root
+
+pub are_numbering : (m : Mounts) → HasForm m → IsNumbering (numbering_of m.mounts)
+are_numbering m form =
+    let root : root_of m.mounts ≡ 1 = root_one m form in
+    let count : length m.mounts ≡ 1 = ap length form.mounts_are in
+    (omega arith, omega arith, omega arith)
+
+-- ---- an execve
 
 -- what an execve did, for each tree that its nodes may tell
-abbrev pub ExecutesFor : Program → (name : List ℕ) → Given → Answer → (root root' : Option Shape)
+abbrev pub ExecutesFor : Numbering → Program → (name : List ℕ) → Given → Answer → (root root' : Option Shape)
     → (children children' : List Child) → Type 0
-ExecutesFor program name given answer root root' children children' =
-    (t : Shape) (names : List (List ℕ)) → Stands t names [] root children
-    → Executes (is_too_long program.args program.env) t names name given answer root' children'
+ExecutesFor num program name given answer root root' children children' =
+    (t : Shape) (names : List (List ℕ)) → Stands num t names [] root children
+    → Executes num (is_too_long program.args program.env) t names name given answer root' children'
 
 -- the numbers of the names that an execve leaves
 named_few : (drawn : Bool) (names : List (List ℕ)) (name : List ℕ) → length (named_then drawn names name)
@@ -63,18 +80,25 @@ next_programs programs i p e =
 module _ (m : Mounts) (t : Shape) (i : ℕ) (tasks tasks' : List Opened) (p : Processes) (program : Program)
     (name : List ℕ) (o : Opened) (root root' : Option Shape) (children children' : List Child)
     (h : HasBegun m t i tasks p root children) (at : slice_get m.tasks i ≡ Some program)
-    (path : program.path ≡ 47 ∷ name) (few : i < 64) (pushed : tasks' ≡ tasks ++ o ∷ []) where
+    (path : program.path ≡ 47 ∷ name) (few : i < 64) (pushed : tasks' ≡ tasks ++ o ∷ [])
+    (facts : IsNumbering (numbering_of m.mounts)) where
+  abbrev num : Numbering
+  num = numbering_of m.mounts
+
   abbrev k : Kernel
   k = kernel_of p (beside_of m h.nodes) 0
 
-  room : length h.names + 2 ≤ last_number
-  room = let named : length h.names ≤ i = h.few in omega arith
+  room : length h.names + num.first ≤ last_number
+  room =
+      let named : length h.names ≤ i = h.few in
+      let low : num.first ≤ 17 = facts.2 in
+      omega arith
 
   -- what is left comes to what the next execve does, where what it drew and met may be
   next : (rest : List Opened) → may_meet h.nodes o.given ≡ true
       → tasks_begun 1 m.tasks (tasks' ++ rest) (bare m (t ∷ []))
       ≡ task_begun (tasks_begun (i + 1 + 1) (drop (i + 1) m.tasks) rest) (with_task (i + 1) program) (i + 1) k
-      (outcome_in (parts k) (execve_of program o.given))
+      (outcome_in (parts k) (execve_of num.root program o.given))
   next rest may =
       ap (λ os. tasks_begun 1 m.tasks os (bare m (t ∷ [])))
       (ap (λ os. os ++ rest) pushed ∙ append_assoc tasks (o ∷ []) rest)
@@ -82,20 +106,21 @@ module _ (m : Mounts) (t : Shape) (i : ℕ) (tasks tasks' : List Opened) (p : Pr
       ∙ ap (λ ps. tasks_begun (i + 1) ps (o ∷ rest) k) (next_programs m.tasks i program at)
       ∙ ap (λ b. if b
       then task_begun (tasks_begun (i + 1 + 1) (drop (i + 1) m.tasks) rest) (with_task (i + 1) program) (i + 1) k
-      (outcome_in (parts k) (execve_of program o.given))
+      (outcome_in (parts k) (execve_of num.root program o.given))
       else Misfits (i + 1)) may
 
   -- ---- it starts an image
 
   module _ (image : Executable) (more : Processes)
-      (e : Executes (is_too_long program.args program.env) t h.names name o.given (answers.Starts image) root'
+      (e : Executes num (is_too_long program.args program.env) t h.names name o.given (answers.Starts image) root'
       children')
       (last : p.tasks.last ≡ i)
-      (begun : (beside : Beside) (n : ℕ) → beside.seed ≡ m.seed
+      (begun : (beside : Beside) (n : ℕ) → beside.seed ≡ m.seed → root_of beside.mounts ≡ root_of m.mounts
       → kernel_of more beside n ≡ with_task (p.tasks.last + 1) program image (kernel_of p beside n)) where
-    started : Started k t (named_then e.drawn h.names name) program o.given image
+    started : Started num k t (named_then e.drawn h.names name) program o.given image
     started =
-        execve_starts k t h.names name o.given (answers.Starts image) root' children' program path h.are refl room e
+        execve_starts num facts k t h.names name o.given
+        (answers.Starts image) root' children' program path h.are refl room e
         image refl
 
     abbrev nodes' : Nodes
@@ -105,13 +130,13 @@ module _ (m : Mounts) (t : Shape) (i : ℕ) (tasks tasks' : List Opened) (p : Pr
     after =
         ap (with_task (i + 1) program image) started.rest
         ∙ ap (λ n. with_task (n + 1) program image (kernel_of p (beside_of m nodes') 0)) (sym last)
-        ∙ sym (begun (beside_of m nodes') 0 refl)
+        ∙ sym (begun (beside_of m nodes') 0 refl refl)
 
     pub task_begins : HasBegun m t (i + 1) tasks' more root' children'
     task_begins = record {
       names = named_then e.drawn h.names name;
       nodes = nodes';
-      stands = stands_on (is_too_long program.args program.env) t h.names name o.given image root' children' e;
+      stands = stands_on num (is_too_long program.args program.env) t h.names name o.given image root' children' e;
       are = started.nodes;
       few =
           let named : length (named_then e.drawn h.names name) ≤ length h.names + 1 = named_few e.drawn h.names name in
@@ -127,11 +152,12 @@ module _ (m : Mounts) (t : Shape) (i : ℕ) (tasks tasks' : List Opened) (p : Pr
   -- ---- it fails
 
   module _ (errno : Errno)
-      (e : Executes (is_too_long program.args program.env) t h.names name o.given (answers.Refuses errno) root'
+      (e : Executes num (is_too_long program.args program.env) t h.names name o.given (answers.Refuses errno) root'
       children') where
-    failed : Failed k program o.given errno root' children'
+    failed : Failed num k program o.given errno root' children'
     failed =
-        execve_fails k t h.names name o.given (answers.Refuses errno) root' children' program path h.are refl room e
+        execve_fails num facts k t h.names name o.given
+        (answers.Refuses errno) root' children' program path h.are refl room e
         errno refl
 
     pub task_refused : (task : ℕ) → task ≡ i + 1 → IsRefused m t tasks' task errno root' children'
@@ -147,88 +173,111 @@ module _ (m : Mounts) (t : Shape) (i : ℕ) (tasks tasks' : List Opened) (p : Pr
     }
 
 -- the folder stands, whatever an execve answers
-pub standing : (long : Bool) (t : Shape) (names : List (List ℕ)) (name : List ℕ) (given : Given) (answer : Answer)
-    (root : Option Shape) (children : List Child) → Executes long t names name given answer root children
-    → IsStanding t root children
-standing long t names name given answer root children e =
+pub standing : (num : Numbering) (long : Bool) (t : Shape) (names : List (List ℕ)) (name : List ℕ) (given : Given)
+    (answer : Answer)
+    (root : Option Shape) (children : List Child)
+    → Executes num long t names name given answer root children → IsStanding num t root children
+standing num long t names name given answer root children e =
     record { names = named_then e.drawn names name; rises = given.rises; stands = e.stands }
 
 -- ---- what comes of the answer
 
+-- what is told by the numbers of the folder, by those of the mount file
+pub executes_as : (m : Mounts) (num : Numbering) (program : Program) (name : List ℕ) (given : Given) (answer : Answer)
+    (root root' : Option Shape) (children children' : List Child) → num ≡ numbering_of m.mounts
+    → ExecutesFor num program name given answer root root' children children'
+    → ExecutesFor (numbering_of m.mounts) program name given answer root root' children children'
+executes_as m num program name given answer root root' children children' numbered e =
+    subst (λ (x : Numbering). ExecutesFor x program name given answer root root' children children') numbered e
+
+pub begins_as : (m : Mounts) (num : Numbering) (seed : List ℕ) (program : Program) (answer : Answer) (p : Processes)
+    (result : Result Processes OpenErr) → num ≡ numbering_of m.mounts → seed ≡ m.seed
+    → Begins seed num.root program answer p result → Begins m.seed (root_of m.mounts) program answer p result
+begins_as m num seed program answer p result numbered same b =
+    subst (λ (s : List ℕ). Begins s (root_of m.mounts) program answer p result) same
+    (subst (λ (x : Numbering). Begins seed x.root program answer p result) numbered b)
+
 module _ (m : Mounts) (i : ℕ) (tasks tasks' : List Opened) (p : Processes) (program : Program) (name : List ℕ)
     (o : Opened) (root root' : Option Shape) (children children' : List Child) (answer : Answer)
-    (executes : ExecutesFor program name o.given answer root root' children children')
+    (executes : ExecutesFor (numbering_of m.mounts) program name o.given answer root root' children children')
     (at : slice_get m.tasks i ≡ Some program) (path : program.path ≡ 47 ∷ name) (few : i < 64)
-    (pushed : tasks' ≡ tasks ++ o ∷ []) (last : p.tasks.last ≡ i) where
-  pub begun_then : (result : Result Processes OpenErr) → Begins m.seed program answer p result
+    (pushed : tasks' ≡ tasks ++ o ∷ []) (last : p.tasks.last ≡ i) (facts : IsNumbering (numbering_of m.mounts)) where
+  pub begun_then : (result : Result Processes OpenErr) → Begins m.seed (root_of m.mounts) program answer p result
       → IfOk result (λ q. (t : Shape) → HasBegun m t i tasks p root children
       → HasBegun m t (i + 1) tasks' q root' children')
   begun_then (Err e) b = tt
   begun_then (Ok q) b = λ t h.
-      task_begins m t i tasks tasks' p program name o root root' children children' h at path few pushed b.0 q
-      (subst (λ (x : Answer). Executes (is_too_long program.args program.env) t h.names name o.given x root' children')
+      task_begins m t i tasks tasks' p program name o root root' children children' h at path few pushed facts b.0 q
+      (subst (λ (x : Answer). Executes (numbering_of m.mounts)
+      (is_too_long program.args program.env) t h.names name o.given x root' children')
       b.1 (executes t h.names h.stands)) last b.3
 
-  pub stopped_then : (result : Result Processes OpenErr) → Begins m.seed program answer p result
+  pub stopped_then : (result : Result Processes OpenErr) → Begins m.seed (root_of m.mounts) program answer p result
       → IfErr result (λ e. (t : Shape) → HasBegun m t i tasks p root children → Stops m t e tasks' root' children')
   stopped_then (Ok q) b = tt
   stopped_then (Err (Image task errno)) b = λ t h.
       let e = executes t h.names h.stands in (
-        task_refused m t i tasks tasks' p program name o root root' children children' h at path few pushed errno
-            (subst (λ (x : Answer). Executes (is_too_long program.args program.env) t h.names name o.given x root'
+        task_refused m t i tasks tasks' p program name o root root' children children' h at path few pushed facts errno
+            (subst (λ (x : Answer). Executes (numbering_of m.mounts)
+            (is_too_long program.args program.env) t h.names name o.given x root'
             children') b.1 e) task (b.0 ∙ ap (λ n. n + 1) last),
-        standing (is_too_long program.args program.env) t h.names name o.given answer root' children' e,
+        standing (numbering_of m.mounts)
+            (is_too_long program.args program.env) t h.names name o.given answer root' children' e,
       )
   stopped_then (Err Memory) b = λ t h.
-      standing (is_too_long program.args program.env) t h.names name o.given answer root' children'
+      standing (numbering_of m.mounts)
+      (is_too_long program.args program.env) t h.names name o.given answer root' children'
       (executes t h.names h.stands)
 
 -- so many tasks live, and there is room for more
-pub opened_then : (seed : List ℕ) (program : Program) (answer : Answer) (i : ℕ) (p : Processes)
-    (result : Result Processes OpenErr) → AreOpened i p.tasks → i < 64 → Begins seed program answer p result
+pub opened_then : (seed : List ℕ) (root : ℕ) (program : Program) (answer : Answer) (i : ℕ) (p : Processes)
+    (result : Result Processes OpenErr) → AreOpened i p.tasks → i < 64 → Begins seed root program answer p result
     → IfOk result (λ q. AreOpened (i + 1) q.tasks)
-opened_then seed program answer i p (Err e) o few b = tt
-opened_then seed program answer i p (Ok q) o few b =
+opened_then seed root program answer i p (Err e) o few b = tt
+opened_then seed root program answer i p (Ok q) o few b =
     subst (λ (list : TaskTable). AreOpened (i + 1) list) (sym b.2)
-    (opened_more i p.tasks (made_by (p.tasks.last + 1)) (made_by (p.tasks.last + 1)) 1 few o)
+    (opened_more i p.tasks (made_by (p.tasks.last + 1)) (made_by (p.tasks.last + 1)) root few o)
 
 -- ---- before the first task, and between two
 
 pub begun_none : (m : Mounts) (t : Shape) (p : Processes) (root : Option Shape) (children : List Child)
-    (tasks : List Opened) → Stands t [] [] root children → tasks ≡ []
+    (tasks : List Opened) → HasForm m → Stands (numbering_of m.mounts) t [] [] root children → tasks ≡ []
     → ((nodes : Nodes) → kernel_of p (beside_of m nodes) 0 ≡ record (bare m (t ∷ [])) { nodes = nodes })
     → HasBegun m t 0 tasks p root children
-begun_none m t p root children tasks st none is = record {
+begun_none m t p root children tasks form st none is = record {
   names = [];
   nodes = rooted 1 (t ∷ []);
   stands = st;
-  are = first_nodes t;
+  are =
+      subst (λ (r : ℕ). AreNodes (numbering_of m.mounts) (rooted r (t ∷ [])) t []) (root_one m form)
+      (first_nodes (numbering_of m.mounts) (are_numbering m form).1 t);
   few = omega arith;
   begun = λ rest.
       ap (λ os. tasks_begun 1 m.tasks (os ++ rest) (bare m (t ∷ []))) none
       ∙ ap (tasks_begun 1 m.tasks rest) (sym (is (rooted 1 (t ∷ []))));
 }
 
-pub still_grant : (told root : Option Shape) (children : List Child) → IsRoot told
+pub still_grant : (num : Numbering) (told root : Option Shape) (children : List Child) → IsRoot told
     → (told ≡ None → IsSilent root children)
-    → ((t : Shape) → told ≡ Some t → (names : List (List ℕ)) × Stands t names [] root children)
-    → IsGrant root children
-still_grant None root children is silent tells =
-    let s = silent refl in subst (λ (o : Option Shape). IsGrant o children) (sym s.0) s.1
-still_grant (Some t) root children is silent tells =
+    → ((t : Shape) → told ≡ Some t → (names : List (List ℕ)) × Stands num t names [] root children)
+    → IsGrant num root children
+still_grant num None root children is silent tells =
+    let s = silent refl in subst (λ (o : Option Shape). IsGrant num o children) (sym s.0) s.1
+still_grant num (Some t) root children is silent tells =
     let s = tells t refl in
-    let root_tells = root_is t s.0 root children s.1 in
-    subst (λ (o : Option Shape). IsGrant o children) (sym root_tells)
-    (t, s.0, is.0, subst (λ (o : Option Shape). Stands t s.0 [] o children) root_tells s.1)
+    let root_tells = root_is num t s.0 root children s.1 in
+    subst (λ (o : Option Shape). IsGrant num o children) (sym root_tells)
+    (t, s.0, is.0, subst (λ (o : Option Shape). Stands num t s.0 [] o children) root_tells s.1)
 
 -- want of memory in the record
 pub err_stops : (m : Mounts) (i : ℕ) (tasks tasks' : List Opened) (p : Processes) (program : Program) (name : List ℕ)
     (given : Given) (answer : Answer) (root root' : Option Shape) (children children' : List Child)
-    → ExecutesFor program name given answer root root' children children' → (result : Result Processes OpenErr)
+    → ExecutesFor (numbering_of m.mounts) program name given answer root root' children children' →
+    (result : Result Processes OpenErr)
     → IsErrAnd result (λ e. e ≡ Memory)
     → IfErr result (λ e. (t : Shape) → HasBegun m t i tasks p root children → Stops m t e tasks' root' children')
 err_stops m i tasks tasks' p program name given answer root root' children children' executes (Ok q) is = tt
 err_stops m i tasks tasks' p program name given answer root root' children children' executes (Err e) is = λ t h.
     subst (λ (x : OpenErr). Stops m t x tasks' root' children') (sym is)
-    (standing (is_too_long program.args program.env) t h.names name given answer root' children'
+    (standing (numbering_of m.mounts) (is_too_long program.args program.env) t h.names name given answer root' children'
     (executes t h.names h.stands))

@@ -9,12 +9,15 @@ use Rattle.std.proofs.lemmas.List.{map-append, take_more, append-nil}
 use Rattle.std.proofs.lemmas.Option.{get_or_from_slice_get, slice_get_within, same_Some}
 use Rattle.sn_text.specs.Names.{IsName}
 use Rattle.mount_file.specs.Form.{IsNamed, AreNamed}
+use Rattle.mount_file.specs.declared.mounts.Mounts.{Mounts}
 use Rattle.mount_file.specs.declared.mounts.Program.{Program}
 use Rattle.kernel_model.specs.declared.opening.Opened.{Opened}
 use Rattle.kernel_model.specs.entries.Given.{numbers_of}
 use Rattle.kernel_model.specs.files.Numbers.{count_up}
+use Rattle.image_walk.specs.declared.granted.Numbering.{Numbering}
 use Rattle.image_walk.specs.Walking.{NumbersNext}
 use Rattle.image_walk.proofs.Firsts.{count_up-more}
+use Rattle.run_opening.specs.Openings.{numbering_of}
 use Rattle.run_opening.specs.Records.{IsRecord, IsRecorded, numbers_of_tasks}
 
 -- each of the programs has a path of `/` and a name
@@ -37,40 +40,43 @@ numbers_more tasks o =
     flat_map-append (λ (x : Opened). numbers_of x.given.fresh) tasks (o ∷ [])
     ∙ ap (λ ns. numbers_of_tasks tasks ++ ns) (append-nil (numbers_of o.given.fresh))
 
-counted : (numbers : List ℕ) (drawn drawn' : ℕ) → NumbersNext numbers drawn drawn'
-    → count_up 2 drawn ++ numbers ≡ count_up 2 drawn'
-counted [] drawn drawn' h = append-nil (count_up 2 drawn) ∙ ap (count_up 2) (sym h)
-counted (n ∷ []) drawn drawn' h =
-    ap (λ m. count_up 2 drawn ++ m ∷ []) h.0 ∙ sym (count_up-more 2 drawn) ∙ ap (count_up 2) (sym h.1)
-counted (n ∷ m ∷ numbers) drawn drawn' h = absurd h
+counted : (num : Numbering) (numbers : List ℕ) (drawn drawn' : ℕ) → NumbersNext num numbers drawn drawn'
+    → count_up num.first drawn ++ numbers ≡ count_up num.first drawn'
+counted num [] drawn drawn' h = append-nil (count_up num.first drawn) ∙ ap (count_up num.first) (sym h)
+counted num (n ∷ []) drawn drawn' h =
+    ap (λ m. count_up num.first drawn ++ m ∷ []) h.0 ∙ sym (count_up-more num.first drawn)
+    ∙ ap (count_up num.first) (sym h.1)
+counted num (n ∷ m ∷ numbers) drawn drawn' h = absurd h
 
-pub record_more : (programs : List Program) (tasks tasks' : List Opened) (i drawn drawn' : ℕ) (p : Program) (o : Opened)
-    → IsRecord programs tasks i drawn → slice_get programs i ≡ Some p → o.words ≡ p.args
-    → NumbersNext (numbers_of o.given.fresh) drawn drawn' → tasks' ≡ tasks ++ o ∷ []
-    → IsRecord programs tasks' (i + 1) drawn'
-record_more programs tasks tasks' i drawn drawn' p o r e w n pushed = record {
+pub record_more : (m : Mounts) (num : Numbering) (tasks tasks' : List Opened) (i drawn drawn' : ℕ) (p : Program)
+    (o : Opened)
+    → num ≡ numbering_of m.mounts → IsRecord m tasks i drawn → slice_get m.tasks i ≡ Some p → o.words ≡ p.args
+    → NumbersNext num (numbers_of o.given.fresh) drawn drawn' → tasks' ≡ tasks ++ o ∷ []
+    → IsRecord m tasks' (i + 1) drawn'
+record_more m num tasks tasks' i drawn drawn' p o numbered r e w n pushed = record {
   words =
       ap (map (λ (x : Opened). x.words)) pushed ∙ map-append (λ (x : Opened). x.words) tasks (o ∷ [])
-      ∙ ap (λ ws. ws ++ o.words ∷ []) r.words ∙ ap (λ v. map (λ (q : Program). q.args) (take i programs) ++ v ∷ []) w
-      ∙ sym (map-append (λ (q : Program). q.args) (take i programs) (p ∷ []))
-      ∙ ap (map (λ (q : Program). q.args)) (sym (taken_more programs i p e));
-  few = let within : i < length programs = slice_get_within programs i p e in omega arith;
+      ∙ ap (λ ws. ws ++ o.words ∷ []) r.words ∙ ap (λ v. map (λ (q : Program). q.args) (take i m.tasks) ++ v ∷ []) w
+      ∙ sym (map-append (λ (q : Program). q.args) (take i m.tasks) (p ∷ []))
+      ∙ ap (map (λ (q : Program). q.args)) (sym (taken_more m.tasks i p e));
+  few = let within : i < length m.tasks = slice_get_within m.tasks i p e in omega arith;
   numbers =
       ap numbers_of_tasks pushed ∙ numbers_more tasks o ∙ ap (λ ns. ns ++ numbers_of o.given.fresh) r.numbers
-      ∙ counted (numbers_of o.given.fresh) drawn drawn' n;
+      ∙ counted (numbering_of m.mounts) (numbers_of o.given.fresh) drawn drawn'
+      (subst (λ (x : Numbering). NumbersNext x (numbers_of o.given.fresh) drawn drawn') numbered n);
 }
 
-pub recorded : (programs : List Program) (tasks : List Opened) (count drawn : ℕ) → IsRecord programs tasks count drawn
-    → IsRecorded programs tasks
-recorded programs tasks count drawn r = record { count = count; drawn = drawn; is = r }
+pub recorded : (m : Mounts) (tasks : List Opened) (count drawn : ℕ) → IsRecord m tasks count drawn
+    → IsRecorded m tasks
+recorded m tasks count drawn r = record { count = count; drawn = drawn; is = r }
 
 -- before the first
-pub record_none : (programs : List Program) (tasks : List Opened) (n : ℕ) → tasks ≡ [] → n ≡ 0
-    → IsRecord programs tasks 0 n
+pub record_none : (m : Mounts) (tasks : List Opened) (n : ℕ) → tasks ≡ [] → n ≡ 0
+    → IsRecord m tasks 0 n
 unfolding count_up
-record_none programs tasks n e z =
-    subst (λ (ts : List Opened). IsRecord programs ts 0 n) (sym e)
-    (subst (λ (m : ℕ). IsRecord programs [] 0 m) (sym z)
+record_none m tasks n e z =
+    subst (λ (ts : List Opened). IsRecord m ts 0 n) (sym e)
+    (subst (λ (x : ℕ). IsRecord m [] 0 x) (sym z)
     (record { words = refl; few = omega arith; numbers = refl }))
 
 -- what holds in any case holds on an `Ok`

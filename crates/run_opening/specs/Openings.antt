@@ -5,6 +5,7 @@ use Rattle.std.specs.FinMap as map
 use Rattle.host_node.specs.Tree.{Shape}
 use Rattle.sn_errno.specs.declared.errno.Errno.{Errno}
 use Rattle.elf_image.specs.declared.image.Image.{Image as Executable}
+use Rattle.mount_file.specs.declared.mounts.Mount.{Mount}
 use Rattle.mount_file.specs.declared.mounts.Mounts.{Mounts}
 use Rattle.mount_file.specs.declared.mounts.Program.{Program}
 use Rattle.task_table.specs.Clones.{opened}
@@ -13,7 +14,8 @@ use Rattle.kernel_model.specs.declared.opening.Opened.{Opened}
 use Rattle.kernel_model.specs.declared.opening.Rise.{Rise}
 use Rattle.kernel_model.specs.files.FileTree.{Nodes}
 use Rattle.kernel_model.specs.files.Settled.{tree_now}
-use Rattle.kernel_model.specs.opening.Opening.{Begun, Refuses, bare, made_by, tasks_begun, with_task}
+use Rattle.kernel_model.specs.opening.Opening.{Begun, Refuses, bare, made_by, root_of, tasks_begun, with_task}
+use Rattle.image_walk.specs.declared.granted.Numbering.{Numbering}
 use Rattle.image_walk.specs.declared.loading.Answer.{Answer}
 use Rattle.image_walk.specs.declared.loading.Answer.TheVariants as answers
 use Rattle.image_walk.specs.Granted.{Child, GivesBack}
@@ -23,6 +25,11 @@ use Rattle.call_table.specs.Beside.{Beside}
 use Rattle.call_table.specs.Processes.{kernel_of}
 use Rattle.run_opening.specs.declared.opening.OpenErr.{OpenErr}
 use Rattle.run_opening.specs.declared.opening.OpenErr.TheVariants.{Image, Memory}
+
+-- the inode numbers of the folder that is mounted at `/`: its root's, and the first for a child, behind those of roots
+-- inode(7), st_ino; profile
+abbrev pub numbering_of : List Mount → Numbering
+numbering_of mounts = record { root = root_of mounts; first = length mounts + 1 }
 
 -- what stands beside the processes of a run, with these nodes and no rise of a count
 -- profile
@@ -36,8 +43,8 @@ pub record HasBegun (m : Mounts) (t : Shape) (count : ℕ) (tasks : List Opened)
     (children : List Child) : Type 0 where
   pub names : List (List ℕ)
   pub nodes : Nodes
-  pub stands : Stands t names [] root children
-  pub are : AreNodes nodes t names
+  pub stands : Stands (numbering_of m.mounts) t names [] root children
+  pub are : AreNodes (numbering_of m.mounts) nodes t names
   pub few : length names ≤ count
   pub begun : (rest : List Opened) → tasks_begun 1 m.tasks (tasks ++ rest) (bare m (t ∷ []))
       ≡ tasks_begun (count + 1) (drop count m.tasks) rest (kernel_of p (beside_of m nodes) 0)
@@ -48,30 +55,30 @@ pub record IsRefused (m : Mounts) (t : Shape) (tasks : List Opened) (task : ℕ)
     (children : List Child) : Type 0 where
   pub left : Kernel
   pub refuses : tasks_begun 1 m.tasks tasks (bare m (t ∷ [])) ≡ Refuses left task errno
-  pub settles : GivesBack root children (tree_now left no_left 1)
+  pub settles : GivesBack root children (tree_now left no_left (root_of m.mounts))
 
 -- the folder's tree, of which children may be lent, and counts may have risen
 -- profile
-pub record IsStanding (t : Shape) (root : Option Shape) (children : List Child) : Type 0 where
+pub record IsStanding (num : Numbering) (t : Shape) (root : Option Shape) (children : List Child) : Type 0 where
   pub names : List (List ℕ)
   pub rises : List Rise
-  pub stands : Stands t names rises root children
+  pub stands : Stands num t names rises root children
 
 -- why an opening ended before all tasks had begun
 -- execve(2), ERRORS; profile
 abbrev pub Stops : Mounts → Shape → OpenErr → List Opened → Option Shape → List Child → Type 0
 Stops m t (Image task errno) tasks root children =
-    IsRefused m t tasks task errno root children × IsStanding t root children
-Stops m t Memory tasks root children = IsStanding t root children
+    IsRefused m t tasks task errno root children × IsStanding (numbering_of m.mounts) t root children
+Stops m t Memory tasks root children = IsStanding (numbering_of m.mounts) t root children
 
 -- what comes of an opening execve's answer: the task of the next number begins its image, or why not
 -- execve(2)
-abbrev pub Begins : (seed : List ℕ) → Program → Answer → Processes → Result Processes OpenErr → Type 0
-Begins seed program answer p (Ok next) =
+abbrev pub Begins : (seed : List ℕ) → (root : ℕ) → Program → Answer → Processes → Result Processes OpenErr → Type 0
+Begins seed root program answer p (Ok next) =
     (image : Executable) × (answer ≡ answers.Starts image)
-    × (next.tasks ≡ opened p.tasks (made_by (p.tasks.last + 1)) (made_by (p.tasks.last + 1)) 1)
-    × ((beside : Beside) (n : ℕ) → beside.seed ≡ seed
+    × (next.tasks ≡ opened p.tasks (made_by (p.tasks.last + 1)) (made_by (p.tasks.last + 1)) root)
+    × ((beside : Beside) (n : ℕ) → beside.seed ≡ seed → root_of beside.mounts ≡ root
     → kernel_of next beside n ≡ with_task (p.tasks.last + 1) program image (kernel_of p beside n))
-Begins seed program answer p (Err (Image task errno)) =
+Begins seed root program answer p (Err (Image task errno)) =
     (task ≡ p.tasks.last + 1) × (answer ≡ answers.Refuses errno)
-Begins seed program answer p (Err Memory) = ⊤
+Begins seed root program answer p (Err Memory) = ⊤

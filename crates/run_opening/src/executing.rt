@@ -9,7 +9,7 @@ ghost use Rattle.mount_file.specs.Form.{IsNamed};
 ghost use Rattle.image_walk.specs.Executing.{Executes};
 ghost use Rattle.image_walk.specs.Granted.{told_of};
 ghost use Rattle.image_walk.specs.Loading.{is_roomy};
-ghost use Rattle.image_walk.specs.Standing.{Stands};
+ghost use Rattle.image_walk.specs.Standing.{IsNumbering, Stands};
 ghost use Rattle.image_walk.specs.Walking.{IsGrant, IsSilent, NumbersNext};
 ghost use Rattle.run_opening.specs.Openings.{IsStanding};
 
@@ -57,23 +57,25 @@ pub(crate) fn execute<N: HostNode>(
     granted: &mut Granted<N>,
     program: &Program,
 ) -> Result<Done, Memory>
-    requires grant { IsGrant (N.told granted.old.root) (told_of N.told granted.old.lent.items) }
+    requires numbers { IsNumbering granted.old.numbers }
+    requires grant { IsGrant granted.old.numbers (N.told granted.old.root) (told_of N.told granted.old.lent.items) }
     requires named { IsNamed program.now }
+    ensures same { granted.new.numbers ≡ granted.old.numbers }
     ensures words { IfOk result (λ d. d.opened.words ≡ program.now.args) }
     ensures executes { IfOk result (λ d. (name : Items ℕ) → program.now.path ≡ 47 ∷ name →
         (t : Shape) (names : Items (Items ℕ)) →
-        Stands t names [] (N.told granted.old.root) (told_of N.told granted.old.lent.items) →
-        Executes (is_too_long program.now.args program.now.env) t names name d.opened.given d.answer
-        (N.told granted.new.root) (told_of N.told granted.new.lent.items)) }
-    ensures numbers { IfOk result (λ d. NumbersNext (numbers_of d.opened.given.fresh)
+        Stands granted.old.numbers t names [] (N.told granted.old.root) (told_of N.told granted.old.lent.items) →
+        Executes granted.old.numbers (is_too_long program.now.args program.now.env) t names name
+        d.opened.given d.answer (N.told granted.new.root) (told_of N.told granted.new.lent.items)) }
+    ensures numbers { IfOk result (λ d. NumbersNext granted.old.numbers (numbers_of d.opened.given.fresh)
         (length granted.old.lent.items) (length granted.new.lent.items)) }
     ensures silent { IsSilent (N.told granted.old.root) (told_of N.told granted.old.lent.items) →
         IsSilent (N.told granted.new.root) (told_of N.told granted.new.lent.items) }
     ensures long { IfOk result (λ d. is_too_long program.now.args program.now.env ≡ true →
         d.answer ≡ Answer.Refuses E2BIG) }
     ensures err { OnErr result ((t : Shape) (names : Items (Items ℕ)) →
-        Stands t names [] (N.told granted.old.root) (told_of N.told granted.old.lent.items) →
-        IsStanding t (N.told granted.new.root) (told_of N.told granted.new.lent.items)) }
+        Stands granted.old.numbers t names [] (N.told granted.old.root) (told_of N.told granted.old.lent.items) →
+        IsStanding granted.old.numbers t (N.told granted.new.root) (told_of N.told granted.new.lent.items)) }
 {
     let name = program_name(alloc, program)?;
     let words = copied_words(alloc, program.args.as_slice())?;

@@ -2,7 +2,8 @@
 //!
 //! A caller sees `open_tasks`, which has each program execute in turn and begins a task of its image, and answers the
 //! processes; where an execve is refused it answers which and why (`OpenErr`). What each drew and met stands in the
-//! record of the opening, as an `Opened` for each execve that was done.
+//! record of the opening, as an `Opened` for each execve that was done. `numbering` tells the inode numbers of the
+//! folder that is mounted at `/`.
 //!
 //! Proved, where the folder's root tells its tree: the processes are the kernel that the definitions open, over the
 //! nodes of that folder (`begun`); a refusal is that of the first execve that fails, and leaves the tree that the nodes
@@ -16,6 +17,8 @@
 #![tactic(auto)]
 
 mod executing;
+mod numbers;
 mod opening;
 
+pub use numbers::numbering;
 pub use opening::{OpenErr, open_tasks};

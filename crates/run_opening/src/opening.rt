@@ -6,12 +6,12 @@ ghost use Rattle.sn_errno.specs.declared.errno.Errno.TheVariants.{E2BIG};
 ghost use Rattle.kernel_model.proofs.OpenedTasks.{AreOpened};
 ghost use Rattle.kernel_model.specs.laws.Beginnings.{IsRoomFor};
 ghost use Rattle.kernel_model.specs.opening.Arguments.{is_too_long};
-ghost use Rattle.mount_file.specs.Form.{AreNamed};
+ghost use Rattle.mount_file.specs.Form.{AreNamed, HasForm};
 ghost use Rattle.image_walk.specs.Granted.{told_of};
 ghost use Rattle.image_walk.specs.Loading.{is_roomy};
-ghost use Rattle.image_walk.specs.Standing.{Stands};
+ghost use Rattle.image_walk.specs.Standing.{IsNumbering, Stands};
 ghost use Rattle.image_walk.specs.Walking.{IsGrant, IsRoot, IsSilent};
-ghost use Rattle.run_opening.specs.Openings.{Begins, HasBegun, Stops};
+ghost use Rattle.run_opening.specs.Openings.{Begins, HasBegun, Stops, numbering_of};
 ghost use Rattle.run_opening.specs.Records.{IsRecord, IsRecorded};
 
 use crate::executing::{Done, execute};
@@ -44,10 +44,11 @@ impl From<Memory> for OpenErr {
     }
 }
 
-/// Goes on from what an opening execve of a program answers: the task begins, or why not.
+/// Goes on from what an opening execve of a program answers: the task begins in that directory, or why not.
 fn begin(
     alloc: Global,
     seed: &[u8],
+    root: u64,
     program: &Program,
     answer: Answer,
     processes: Processes,
@@ -55,7 +56,7 @@ fn begin(
     requires long { is_too_long program.now.args program.now.env ≡ true → answer ≡ Answer.Refuses E2BIG }
     requires pages { is_roomy answer ≡ true }
     requires room { IsRoomFor processes.tasks }
-    ensures { Begins seed.now program.now answer processes result }
+    ensures { Begins seed.now root program.now answer processes result }
 {
     match answer {
         Answer::Starts(image) => {
@@ -82,13 +83,16 @@ fn open_task<N: HostNode>(
     requires within { index < length mounts.now.tasks }
     requires few { length mounts.now.tasks ≤ 64 }
     requires named { AreNamed mounts.now.tasks }
-    requires grant { IsGrant (N.told granted.old.root) (told_of N.told granted.old.lent.items) }
+    requires numbers { granted.old.numbers ≡ numbering_of mounts.now.mounts }
+    requires known { IsNumbering granted.old.numbers }
+    requires grant { IsGrant granted.old.numbers (N.told granted.old.root) (told_of N.told granted.old.lent.items) }
     requires opened { AreOpened index processes.tasks }
-    requires record { IsRecord mounts.now.tasks tasks.old index (length granted.old.lent.items) }
+    requires record { IsRecord mounts.now tasks.old index (length granted.old.lent.items) }
+    ensures same { granted.new.numbers ≡ granted.old.numbers }
     ensures opened { IfOk result (λ p. AreOpened (index + 1) p.tasks) }
-    ensures record { IfOk result (λ p. IsRecord mounts.now.tasks tasks.new (index + 1)
+    ensures record { IfOk result (λ p. IsRecord mounts.now tasks.new (index + 1)
         (length granted.new.lent.items)) }
-    ensures recorded { IsRecorded mounts.now.tasks tasks.new }
+    ensures recorded { IsRecorded mounts.now tasks.new }
     ensures silent { IsSilent (N.told granted.old.root) (told_of N.told granted.old.lent.items) →
         IsSilent (N.told granted.new.root) (told_of N.told granted.new.lent.items) }
     ensures begun { IfOk result (λ p. (t : Shape) →
@@ -101,10 +105,18 @@ fn open_task<N: HostNode>(
         (told_of N.told granted.old.lent.items) →
         Stops mounts.now t e tasks.new (N.told granted.new.root) (told_of N.told granted.new.lent.items)) }
 {
+    let root = granted.numbers.root;
     let program = mounts.tasks.at(index);
     let Done { opened, answer } = execute(alloc, granted, program)?;
     tasks.push(opened)?;
-    begin(alloc, mounts.seed.as_slice(), program, answer, processes)
+    begin(
+        alloc,
+        mounts.seed.as_slice(),
+        root,
+        program,
+        answer,
+        processes,
+    )
 }
 
 /// Opens the tasks of a mount file in order, over a granted folder, and records what each execve drew and met. On an
@@ -117,15 +129,15 @@ pub fn open_tasks<N: HostNode>(
     granted: &mut Granted<N>,
     tasks: &mut List<Opened>,
 ) -> Result<Processes, OpenErr>
-    requires few { length mounts.now.tasks ≤ 64 }
-    requires named { AreNamed mounts.now.tasks }
+    requires form { HasForm mounts.now }
+    requires numbers { granted.old.numbers ≡ numbering_of mounts.now.mounts }
     requires root { IsRoot (N.told granted.old.root) }
     requires stands { (t : Shape) → N.told granted.old.root ≡ Some t →
-        Stands t [] [] (N.told granted.old.root) (told_of N.told granted.old.lent.items) }
+        Stands granted.old.numbers t [] [] (N.told granted.old.root) (told_of N.told granted.old.lent.items) }
     requires lent { granted.old.lent.items ≡ [] }
     requires none { tasks.old ≡ [] }
-    ensures recorded { IsRecorded mounts.now.tasks tasks.new }
-    ensures all { IfOk result (λ p. IsRecord mounts.now.tasks tasks.new (length mounts.now.tasks)
+    ensures recorded { IsRecorded mounts.now tasks.new }
+    ensures all { IfOk result (λ p. IsRecord mounts.now tasks.new (length mounts.now.tasks)
         (length granted.new.lent.items)) }
     ensures silent { N.told granted.old.root ≡ None →
         IsSilent (N.told granted.new.root) (told_of N.told granted.new.lent.items) }

@@ -3,7 +3,7 @@
 use crate::folders::{Failing, faults_of, world_of};
 use crate::visits::execute_in;
 use host_memory::Op;
-use image_walk::{Answer, Executed};
+use image_walk::{Answer, Executed, Numbering};
 use kernel_model::{Fresh, Given, Rise};
 use mount_file::Program;
 use sn_base::List;
@@ -21,12 +21,14 @@ enum Told {
     Memory,
 }
 
-/// An execve of a name, by a sentence that says what is so of it: how many bytes the one string of its environment has,
-/// if any, and what is to fail; the number that it draws for the name, the node of which a call failed, and its answer.
+/// An execve of a name, by a sentence that says what is so of it: the numbers of the folder, how many bytes the one
+/// string of its environment has, if any, and what is to fail; the number that it draws for the name, the node of which
+/// a call failed, and its answer.
 #[derive(Clone, Copy)]
 struct Execution {
     says: &'static str,
     name: &'static [u8],
+    numbers: Numbering,
     environment: usize,
     failing: Failing,
     draws: Option<u64>,
@@ -38,6 +40,7 @@ struct Execution {
 const FIRST: Execution = Execution {
     says: "an image is entered where its header says",
     name: b"first",
+    numbers: Numbering { root: 1, first: 2 },
     environment: 0,
     failing: Failing::Nothing,
     draws: Some(2),
@@ -46,8 +49,23 @@ const FIRST: Execution = Execution {
 };
 
 #[rattlefmt::skip]
-const EXECUTIONS: [Execution; 12] = [
+const EXECUTIONS: [Execution; 14] = [
     FIRST,
+    Execution {
+        says: "a child of a root behind which others are draws the number behind those",
+        numbers: Numbering { root: 2, first: 4 },
+        draws: Some(4),
+        ..FIRST
+    },
+    Execution {
+        says: "a lend of a root that fails is told of its number",
+        numbers: Numbering { root: 2, first: 4 },
+        failing: Failing::Call(&["root"], Op::Lend),
+        draws: None,
+        fails: Some(2),
+        answer: Told::Refuses(Errno::EIO),
+        ..FIRST
+    },
     Execution {
         says: "a link is not followed",
         name: b"link",
@@ -148,11 +166,15 @@ fn program(alloc: Global, environment: usize) -> Result<Program, Fail> {
     })
 }
 
-/// Whether a name of the root drew that number, or none was drawn.
-fn has_drawn(fresh: &[Fresh], name: &[u8], draws: Option<u64>) -> bool {
-    match (fresh, draws) {
+/// Whether the execve's name drew its number in the root, or none was drawn.
+fn has_drawn(fresh: &[Fresh], execution: &Execution) -> bool {
+    match (fresh, execution.draws) {
         ([], None) => true,
-        ([one], Some(ino)) => one.dir == 1 && one.name.as_bytes() == name && one.ino == ino,
+        ([one], Some(ino)) => {
+            one.dir == execution.numbers.root
+                && one.name.as_bytes() == execution.name
+                && one.ino == ino
+        }
         _ => false,
     }
 }
@@ -168,7 +190,7 @@ fn has_failed(rises: &[Rise], fails: Option<u64>) -> bool {
 
 /// Whether an execve drew and met that.
 fn has_given(given: &Given, execution: &Execution) -> bool {
-    has_drawn(given.fresh.as_slice(), execution.name, execution.draws)
+    has_drawn(given.fresh.as_slice(), execution)
         && has_failed(given.rises.as_slice(), execution.fails)
 }
 
@@ -194,7 +216,7 @@ fn executed(alloc: Global, execution: &Execution) -> Result<(Executed, Option<u6
     let program = program(alloc, execution.environment)?;
     let name = name_of(alloc, execution.name)?;
     let mut world = world_of(alloc, execution.failing)?;
-    let executed = execute_in(alloc, &mut world, &program, &name)?;
+    let executed = execute_in(alloc, &mut world, execution.numbers, &program, &name)?;
     Ok((executed, faults_of(alloc, &world)?))
 }
 

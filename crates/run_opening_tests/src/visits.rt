@@ -1,19 +1,20 @@
 //! An opening execve and an opening over a granted folder, whose nodes then are back in their places.
 
-ghost use Rattle.std.specs.Prelude.{◌≡◌, ◌≤◌, [], length, Some, true, OnOk};
+ghost use Rattle.std.specs.Prelude.{◌≡◌, [], Some, true, OnOk};
 ghost use Rattle.host_node.specs.Tree.{Shape, none_lent};
 ghost use Rattle.image_walk.specs.Granted.{CanGiveBack, told_of};
-ghost use Rattle.image_walk.specs.Standing.{Stands};
+ghost use Rattle.image_walk.specs.Standing.{IsNumbering, Stands};
 ghost use Rattle.image_walk.specs.Walking.{IsGrant, IsRoot};
-ghost use Rattle.mount_file.specs.Form.{AreNamed};
+ghost use Rattle.mount_file.specs.Form.{HasForm};
+ghost use Rattle.run_opening.specs.Openings.{numbering_of};
 
 use crate::folders::{granted, root_folder};
 use host_memory::World;
 use host_node::{HostNode, HostWorld};
-use image_walk::{Executed, Granted, execve};
+use image_walk::{Executed, Granted, Numbering, execve};
 use kernel_model::Opened;
 use mount_file::{Mounts, Program};
-use run_opening::{OpenErr, open_tasks};
+use run_opening::{OpenErr, numbering, open_tasks};
 use sn_base::{List, Memory};
 use sn_text::Name;
 use std::alloc::Global;
@@ -26,39 +27,46 @@ fn executed<N: HostNode>(
     program: &Program,
     name: &Name,
 ) -> Result<Executed, Memory>
-    requires { IsGrant (N.told granted.old.root) (told_of N.told granted.old.lent.items) }
+    requires numbers { IsNumbering granted.old.numbers }
+    requires grant { IsGrant granted.old.numbers (N.told granted.old.root) (told_of N.told granted.old.lent.items) }
     ensures { OnOk result (CanGiveBack (N.told granted.new.root) (told_of N.told granted.new.lent.items)) }
 {
     let executed = execve(alloc, granted, program, name)?;
     Ok(executed)
 }
 
-/// An opening execve over a root, with all nodes back then.
+/// An opening execve over a root whose nodes have these numbers, with all nodes back then.
 fn execute<N: HostNode>(
     alloc: Global,
     root: N,
+    numbers: Numbering,
     program: &Program,
     name: &Name,
 ) -> Result<(N, Executed), Memory>
-    requires { IsRoot (N.told root) }
+    requires numbers { IsNumbering numbers }
+    requires root { IsRoot (N.told root) }
 {
-    let mut granted = Granted::new(alloc, root);
+    let mut granted = Granted::new(alloc, root, numbers);
     let executed = executed(alloc, &mut granted, program, name)?;
     Ok((granted.give_back(), executed))
 }
 
-/// An opening execve over the folder of a host, which has it back then.
+/// An opening execve over the folder of a host, with these numbers; the host has it back then.
 pub fn execute_in(
     alloc: Global,
     world: &mut World,
+    numbers: Numbering,
     program: &Program,
     name: &Name,
 ) -> Result<Executed, Fail>
     requires { none_lent world.old.tree ≡ true }
 {
+    if numbers.root == 0 || numbers.first <= numbers.root || numbers.first > 17 {
+        return Err(Fail::from("no numbers of a folder"));
+    }
     let folder = root_folder(alloc)?;
     let root = granted(world, &folder)?;
-    let (root, executed) = execute(alloc, root, program, name)?;
+    let (root, executed) = execute(alloc, root, numbers, program, name)?;
     world.settle(&folder, root);
     Ok(executed)
 }
@@ -71,11 +79,11 @@ fn opened<N: HostNode>(
     granted: &mut Granted<N>,
     tasks: &mut List<Opened>,
 ) -> Result<usize, OpenErr>
-    requires few { length mounts.now.tasks ≤ 64 }
-    requires named { AreNamed mounts.now.tasks }
+    requires form { HasForm mounts.now }
+    requires numbers { granted.old.numbers ≡ numbering_of mounts.now.mounts }
     requires root { IsRoot (N.told granted.old.root) }
     requires stands { (t : Shape) → N.told granted.old.root ≡ Some t →
-        Stands t [] [] (N.told granted.old.root) (told_of N.told granted.old.lent.items) }
+        Stands granted.old.numbers t [] [] (N.told granted.old.root) (told_of N.told granted.old.lent.items) }
     requires lent { granted.old.lent.items ≡ [] }
     requires none { tasks.old ≡ [] }
     ensures { CanGiveBack (N.told granted.new.root) (told_of N.told granted.new.lent.items) }
@@ -95,11 +103,11 @@ pub struct Begun {
 
 /// An opening over a root, with all nodes back then.
 fn open<N: HostNode>(alloc: Global, root: N, mounts: &Mounts) -> (N, Begun)
-    requires few { length mounts.now.tasks ≤ 64 }
-    requires named { AreNamed mounts.now.tasks }
+    requires form { HasForm mounts.now }
     requires root { IsRoot (N.told root) }
 {
-    let mut granted = Granted::new(alloc, root);
+    let numbers = numbering(mounts.mounts.as_slice());
+    let mut granted = Granted::new(alloc, root, numbers);
     let mut tasks = List::new(alloc);
     let answer = opened(alloc, mounts, &mut granted, &mut tasks);
     (granted.give_back(), Begun { answer, tasks })
@@ -107,8 +115,7 @@ fn open<N: HostNode>(alloc: Global, root: N, mounts: &Mounts) -> (N, Begun)
 
 /// An opening over the folder of a host, which has it back then.
 pub fn open_in(alloc: Global, world: &mut World, mounts: &Mounts) -> Result<Begun, Fail>
-    requires few { length mounts.now.tasks ≤ 64 }
-    requires named { AreNamed mounts.now.tasks }
+    requires form { HasForm mounts.now }
     requires world { none_lent world.old.tree ≡ true }
 {
     let folder = root_folder(alloc)?;

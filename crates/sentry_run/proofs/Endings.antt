@@ -17,6 +17,7 @@ use Rattle.kernel_model.specs.files.FileTree.{Nodes}
 use Rattle.kernel_model.specs.files.Settled.{tree_now}
 use Rattle.kernel_model.specs.opening.Opening.{bare, opening_of, tasks_begun, Opens}
 use Rattle.kernel_model.specs.entries.History.{replay, each_whole}
+use Rattle.image_walk.specs.declared.granted.Numbering.{Numbering}
 use Rattle.image_walk.specs.Counts.{HasRisen}
 use Rattle.image_walk.specs.Granted.{Child, CanGiveBack, GivesBack, put_all}
 use Rattle.image_walk.specs.Standing.{AreNodes, Stands, no_left}
@@ -28,8 +29,9 @@ use Rattle.call_table.specs.Processes.{kernel_of}
 use Rattle.call_table.specs.Turns.{Leaves}
 use Rattle.run_opening.specs.declared.opening.OpenErr.{OpenErr}
 use Rattle.run_opening.specs.declared.opening.OpenErr.TheVariants as openings
-use Rattle.run_opening.specs.Openings.{HasBegun, IsStanding, Stops, beside_of}
+use Rattle.run_opening.specs.Openings.{HasBegun, IsStanding, Stops, beside_of, numbering_of}
 use Rattle.run_opening.specs.Records.{IsRecorded}
+use Rattle.run_opening.proofs.Beginning.{root_one}
 use Rattle.sentry_run.specs.declared.play.End.{End}
 use Rattle.sentry_run.specs.declared.play.End.TheVariants as ends
 use Rattle.sentry_run.specs.declared.play.Played.{Played}
@@ -49,16 +51,17 @@ gives_same root children r told after e a b =
     ∙ sym (subst (λ (o : Option Shape). GivesBack o children (Some after)) e b)
 
 -- a folder that stands can be put together again,
-pub can_back : (t : Shape) (root : Option Shape) (children : List Child) → IsStanding t root children
+pub can_back : (num : Numbering) (t : Shape) (root : Option Shape) (children : List Child)
+    → IsStanding num t root children
     → CanGiveBack root children
-can_back t root children s = can_give_back t s.names s.rises root children s.stands
+can_back num t root children s = can_give_back num t s.names s.rises root children s.stands
 
 -- and then counts of failed calls rose at most
 pub ended_lacking : (m : Mounts) (t : Shape) (root : Option Shape) (children : List Child) (opening : Opening)
-    (trace : List Entry) (after : Shape) → IsStanding t root children → trace ≡ []
+    (trace : List Entry) (after : Shape) → IsStanding (numbering_of m.mounts) t root children → trace ≡ []
     → GivesBack root children (Some after) → Ended m t after opening trace ends.Memory
 ended_lacking m t root children opening trace after s none gives =
-    let rose = risen t s.names s.rises root children s.stands in
+    let rose = risen (numbering_of m.mounts) t s.names s.rises root children s.stands in
     let is : put_all children rose.0 ≡ after =
     same_Some _ _ (sym (subst (λ (o : Option Shape). GivesBack o children (Some after)) rose.1 gives)) in
     inl (none, subst (λ (x : Shape). HasRisen t x) is rose.2)
@@ -66,38 +69,40 @@ ended_lacking m t root children opening trace after s none gives =
 -- ---- an opening that did not begin all tasks
 
 pub ended_stopped : (m : Mounts) (t : Shape) (why : OpenErr) (tasks : List Opened) (root : Option Shape)
-    (children : List Child) (opening : Opening) (trace : List Entry) → length m.mounts ≡ 1 → IsRecorded m.tasks tasks
+    (children : List Child) (opening : Opening) (trace : List Entry) → HasForm m → IsRecorded m tasks
     → opening ≡ record_with m tasks → trace ≡ [] → Stops m t why tasks root children → (after : Shape)
     → GivesBack root children (Some after) → Ended m t after opening trace (end_of why)
-ended_stopped m t openings.Memory tasks root children opening trace one r o none stops after gives =
+ended_stopped m t openings.Memory tasks root children opening trace form r o none stops after gives =
     ended_lacking m t root children opening trace after stops none gives
-ended_stopped m t (openings.Image task errno) tasks root children opening trace one r o none stops after gives = (
+ended_stopped m t (openings.Image task errno) tasks root children opening trace form r o none stops after gives = (
   record {
     left = stops.0.left;
-    refuses = ap (opening_of m (t ∷ [])) o ∙ opened_by m t tasks one r ∙ stops.0.refuses;
+    refuses = ap (opening_of m (t ∷ [])) o ∙ opened_by m t tasks (one_mount m form) r ∙ stops.0.refuses;
     settles =
-        gives_same root children _ (tree_now stops.0.left no_left 1) after stops.1.stands.root_tells stops.0.settles
-        gives;
+        gives_same root children _ (tree_now stops.0.left no_left 1) after stops.1.stands.root_tells
+        (subst (λ (r : ℕ). GivesBack root children (tree_now stops.0.left no_left r)) (root_one m form)
+        stops.0.settles) gives;
   },
   none,
 )
 
 pub can_stopped : (m : Mounts) (t : Shape) (why : OpenErr) (tasks : List Opened) (root : Option Shape)
     (children : List Child) → Stops m t why tasks root children → CanGiveBack root children
-can_stopped m t openings.Memory tasks root children stops = can_back t root children stops
-can_stopped m t (openings.Image task errno) tasks root children stops = can_back t root children stops.1
+can_stopped m t openings.Memory tasks root children stops = can_back (numbering_of m.mounts) t root children stops
+can_stopped m t (openings.Image task errno) tasks root children stops =
+    can_back (numbering_of m.mounts) t root children stops.1
 
 -- ---- one that began all
 
 module _ (m : Mounts) (t : Shape) (tasks : List Opened) (p : Processes) (root : Option Shape) (children : List Child)
-    (opening : Opening) (one : length m.mounts ≡ 1) (r : IsRecorded m.tasks tasks) (o : opening ≡ record_with m tasks)
+    (opening : Opening) (form : HasForm m) (r : IsRecorded m tasks) (o : opening ≡ record_with m tasks)
     (h : HasBegun m t (length m.tasks) tasks p root children) where
   abbrev start : Kernel
   start = kernel_of p (beside_of m h.nodes) 0
 
   opens : opening_of m (t ∷ []) opening ≡ Opens start
   opens =
-      ap (opening_of m (t ∷ [])) o ∙ opened_by m t tasks one r
+      ap (opening_of m (t ∷ [])) o ∙ opened_by m t tasks (one_mount m form) r
       ∙ ap (λ os. tasks_begun 1 m.tasks os (bare m (t ∷ []))) (sym (append-nil tasks)) ∙ h.begun []
       ∙ ap (λ ps. tasks_begun (length m.tasks + 1) ps [] start) (drop_all (length m.tasks) m.tasks (omega arith))
 
@@ -111,8 +116,9 @@ module _ (m : Mounts) (t : Shape) (tasks : List Opened) (p : Processes) (root : 
     whole = whole;
     settles =
         gives_same root children _ (tree_now state no_left 1) after h.stands.root_tells
-        (settles state t h.names root children (subst (λ (n : Nodes). AreNodes n t h.names) (sym nodes) h.are) failed
-        h.stands) gives;
+        (subst (λ (r : ℕ). GivesBack root children (tree_now state no_left r)) (root_one m form)
+        (settles (numbering_of m.mounts) state t h.names root children
+        (subst (λ (n : Nodes). AreNodes (numbering_of m.mounts) n t h.names) (sym nodes) h.are) failed h.stands)) gives;
   }
 
   left : (found : Option Kernel) (trace : List Entry) (after : Shape) → replay start trace ≡ found
@@ -142,7 +148,7 @@ module _ (m : Mounts) (t : Shape) (tasks : List Opened) (p : Processes) (root : 
   ended_begun trace ends.HostFault ran after gives = absurd ran
   ended_begun trace ends.Grant ran after gives = absurd ran
 
-  pub begun_standing : IsStanding t root children
+  pub begun_standing : IsStanding (numbering_of m.mounts) t root children
   begun_standing = record { names = h.names; rises = []; stands = h.stands }
 
 -- ---- whatever is told
@@ -157,10 +163,12 @@ pub tells_where : (told root : Option Shape) → ((t : Shape) → told ≡ Some 
 tells_where None root tells h = cc h
 tells_where (Some t) root tells h = tells t refl
 
-pub some_told : (t : Shape) (root : Option Shape) (children : List Child) → IsStanding t root children → IsSome root
-some_told t root children s = ap is_some s.stands.root_tells
+pub some_told : (num : Numbering) (t : Shape) (root : Option Shape) (children : List Child)
+    → IsStanding num t root children → IsSome root
+some_told num t root children s = ap is_some s.stands.root_tells
 
 pub some_stopped : (m : Mounts) (t : Shape) (why : OpenErr) (tasks : List Opened) (root : Option Shape)
     (children : List Child) → Stops m t why tasks root children → IsSome root
-some_stopped m t openings.Memory tasks root children stops = some_told t root children stops
-some_stopped m t (openings.Image task errno) tasks root children stops = some_told t root children stops.1
+some_stopped m t openings.Memory tasks root children stops = some_told (numbering_of m.mounts) t root children stops
+some_stopped m t (openings.Image task errno) tasks root children stops =
+    some_told (numbering_of m.mounts) t root children stops.1

@@ -64,7 +64,7 @@ begin_words (p ∷ programs) (suc n) = both (same_lists bytes_eq same_bytes p.ar
 abbrev pub record_with : Mounts → List Opened → Opening
 record_with m tasks = record (first_of m) { tasks = tasks }
 
-record_fits : (m : Mounts) (tasks : List Opened) → length m.mounts ≡ 1 → IsRecorded m.tasks tasks
+record_fits : (m : Mounts) (tasks : List Opened) → length m.mounts ≡ 1 → IsRecorded m tasks
     → is_of m (record_with m tasks) ≡ true
 unfolding count_up
 record_fits m tasks one r =
@@ -80,7 +80,7 @@ record_fits m tasks one r =
         ∙ begin_words m.tasks r.count
 
 -- the opening by such a record is that of its tasks in order
-pub opened_by : (m : Mounts) (t : Shape) (tasks : List Opened) → length m.mounts ≡ 1 → IsRecorded m.tasks tasks
+pub opened_by : (m : Mounts) (t : Shape) (tasks : List Opened) → length m.mounts ≡ 1 → IsRecorded m tasks
     → opening_of m (t ∷ []) (record_with m tasks) ≡ tasks_begun 1 m.tasks tasks (bare m (t ∷ []))
 unfolding opening_of
 opened_by m t tasks one r =
@@ -97,11 +97,12 @@ gapless_up : (n : ℕ) → IsGapless (1 ∷ count_up 2 n)
 unfolding count_up
 gapless_up n = ap (λ k. 1 ∷ count_up 2 k) (sym (counted 2 n))
 
-pub gapless : (m : Mounts) (tasks : List Opened) (opening : Opening) → opening ≡ record_with m tasks
-    → IsRecorded m.tasks tasks → IsGapless (numbers_opened opening)
-gapless m tasks opening o r =
+pub gapless : (m : Mounts) (tasks : List Opened) (opening : Opening) → length m.mounts ≡ 1
+    → opening ≡ record_with m tasks → IsRecorded m tasks → IsGapless (numbers_opened opening)
+gapless m tasks opening one o r =
     subst (λ (x : Opening). IsGapless (numbers_opened x)) (sym o)
-    (subst (λ ns. IsGapless (1 ∷ ns)) (sym r.is.numbers) (gapless_up r.drawn))
+    (subst (λ ns. IsGapless (1 ∷ ns)) (sym (r.is.numbers ∙ ap (λ n. count_up (n + 1) r.drawn) one))
+    (gapless_up r.drawn))
 
 -- an opening that did not come to be has no numbers
 pub gapless_nothing : (opening : Opening) → opening ≡ nothing_opened → IsGapless (numbers_opened opening)

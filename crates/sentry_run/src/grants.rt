@@ -15,6 +15,7 @@ use crate::play::{End, Played, play_granted, stopped};
 use host_node::{HostErr, HostNode, HostWorld};
 use image_walk::Granted;
 use mount_file::Mounts;
+use run_opening::numbering;
 use std::alloc::Global;
 
 /// A granted root after a run over it, with all its nodes back, and the run.
@@ -35,7 +36,8 @@ fn play_root<N: HostNode>(alloc: Global, mounts: &Mounts, root: N) -> Visit<N>
     ensures numbers { IsGapless (numbers_opened result.played.opening) }
     ensures bound { length result.played.trace ≤ mounts.now.entries }
 {
-    let mut granted = Granted::new(alloc, root);
+    let numbers = numbering(mounts.mounts.as_slice());
+    let mut granted = Granted::new(alloc, root, numbers);
     let played = play_granted(alloc, mounts, &mut granted);
     Visit {
         root: granted.give_back(),

@@ -9,7 +9,7 @@ ghost use Rattle.kernel_model.specs.files.Numbers.{IsGapless, numbers_opened, nu
 ghost use Rattle.image_walk.specs.Granted.{CanGiveBack, told_of};
 ghost use Rattle.image_walk.specs.Standing.{Stands};
 ghost use Rattle.image_walk.specs.Walking.{IsRoot};
-ghost use Rattle.run_opening.specs.Openings.{beside_of};
+ghost use Rattle.run_opening.specs.Openings.{beside_of, numbering_of};
 ghost use Rattle.call_table.specs.Processes.{kernel_of};
 ghost use Rattle.sentry_run.specs.Played.{EndsOver, end_of, RanFrom, TraceOf, first_of, nothing_opened};
 ghost use Rattle.sentry_run.specs.Stopped.{EndsAs, FinishesAs, IsInner};
@@ -155,8 +155,9 @@ fn unbegun(alloc: Global, why: OpenErr, opening: Opening) -> Played
 pub fn play_granted<N: HostNode>(alloc: Global, mounts: &Mounts, granted: &mut Granted<N>) -> Played
     requires form { HasForm mounts.now }
     requires root { IsRoot (N.told granted.old.root) }
+    requires numbers { granted.old.numbers ≡ numbering_of mounts.now.mounts }
     requires stands { (t : Shape) → N.told granted.old.root ≡ Some t →
-        Stands t [] [] (N.told granted.old.root) (told_of N.told granted.old.lent.items) }
+        Stands granted.old.numbers t [] [] (N.told granted.old.root) (told_of N.told granted.old.lent.items) }
     requires lent { granted.old.lent.items ≡ [] }
     ensures ended { (t : Shape) → N.told granted.old.root ≡ Some t →
         EndsOver mounts.now t (N.told granted.new.root) (told_of N.told granted.new.lent.items) result }

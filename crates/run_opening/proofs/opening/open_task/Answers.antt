@@ -1,10 +1,9 @@
 -- A task more has begun as its execve answered, and the record has it.
-use Rattle.std.proofs.Common.{◌+◌, length, sym, ap, ◌∙◌, subst, List, ℕ, arith}
-use Rattle.mount_file.specs.declared.mounts.Program.{Program}
+use Rattle.std.proofs.Common.{◌+◌, length, subst, arith}
 use Rattle.image_walk.specs.Granted.{told_of}
-use Rattle.run_opening.specs.Openings.{Begins}
-use Rattle.run_opening.specs.Records.{IsRecord}
-use Rattle.run_opening.proofs.Beginning.{begun_then, stopped_then, opened_then, standing, err_stops}
+use Rattle.image_walk.specs.Standing.{IsNumbering}
+use Rattle.run_opening.proofs.Beginning.{begun_then, stopped_then, opened_then, err_stops, executes_as}
+use Rattle.run_opening.proofs.Beginning.{begins_as}
 use Rattle.run_opening.proofs.Recording.{named_at, record_more, recorded, any_ok}
 use Rattle.run_opening.proofs.opening.open_task.Goals as goal
 
@@ -20,29 +19,34 @@ returns-in_err-push-clause-stopped g c =
     err_stops c.args.mounts.now c.args.index c.args.tasks.now c.push.new.self c.args.processes program named.0
     c.in_ok-opened.field-0.opened.given c.in_ok-opened.field-0.answer (told c.args.granted.now.root)
     (told c.execute.new.granted.root) (told_of told c.args.granted.now.lent.items)
-    (told_of told c.execute.new.granted.lent.items) (c.in_ok-opened.ensures.executes named.0 named.2)
+    (told_of told c.execute.new.granted.lent.items)
+    (executes_as c.args.mounts.now c.args.granted.now.numbers program named.0 c.in_ok-opened.field-0.opened.given
+    c.in_ok-opened.field-0.answer (told c.args.granted.now.root) (told c.execute.new.granted.root)
+    (told_of told c.args.granted.now.lent.items) (told_of told c.execute.new.granted.lent.items) c.requires.numbers
+    (c.in_ok-opened.ensures.executes named.0 named.2))
     c.from_residual-in_err-push.result c.from_residual-in_err-push.ensures.1
 
 pub returns-clause-opened : goal.returns-clause-opened
 returns-clause-opened g c =
-    opened_then c.as_slice.result.now c.at-program.result.now c.in_ok-opened.field-0.answer c.args.index
+    opened_then c.as_slice.result.now c.args.granted.now.numbers.root c.at-program.result.now
+    c.in_ok-opened.field-0.answer c.args.index
     c.args.processes
     c.begin.result c.requires.opened (omega (arith, c.requires.within, c.requires.few)) c.begin.ensures
 
 pub returns-clause-record : goal.returns-clause-record
 returns-clause-record g c =
     any_ok c.begin.result
-    (record_more c.args.mounts.now.tasks c.args.tasks.now c.push.new.self c.args.index
+    (record_more c.args.mounts.now c.args.granted.now.numbers c.args.tasks.now c.push.new.self c.args.index
     (length c.args.granted.now.lent.items) (length c.execute.new.granted.lent.items) c.at-program.result.now
-    c.in_ok-opened.field-0.opened c.requires.record c.at-program.ensures c.in_ok-opened.ensures.words
+    c.in_ok-opened.field-0.opened c.requires.numbers c.requires.record c.at-program.ensures c.in_ok-opened.ensures.words
     c.in_ok-opened.ensures.numbers c.in_ok-push.ensures.ok)
 
 pub returns-clause-recorded : goal.returns-clause-recorded
 returns-clause-recorded g c =
-    recorded c.args.mounts.now.tasks c.push.new.self (c.args.index + 1) (length c.execute.new.granted.lent.items)
-    (record_more c.args.mounts.now.tasks c.args.tasks.now c.push.new.self c.args.index
+    recorded c.args.mounts.now c.push.new.self (c.args.index + 1) (length c.execute.new.granted.lent.items)
+    (record_more c.args.mounts.now c.args.granted.now.numbers c.args.tasks.now c.push.new.self c.args.index
     (length c.args.granted.now.lent.items) (length c.execute.new.granted.lent.items) c.at-program.result.now
-    c.in_ok-opened.field-0.opened c.requires.record c.at-program.ensures c.in_ok-opened.ensures.words
+    c.in_ok-opened.field-0.opened c.requires.numbers c.requires.record c.at-program.ensures c.in_ok-opened.ensures.words
     c.in_ok-opened.ensures.numbers c.in_ok-push.ensures.ok)
 
 pub returns-clause-begun : goal.returns-clause-begun
@@ -54,10 +58,15 @@ returns-clause-begun g c =
     c.in_ok-opened.field-0.opened (told c.args.granted.now.root) (told c.execute.new.granted.root)
     (told_of told c.args.granted.now.lent.items) (told_of told c.execute.new.granted.lent.items)
     c.in_ok-opened.field-0.answer
-    (c.in_ok-opened.ensures.executes named.0 named.2) c.at-program.ensures named.2
-    (omega (arith, c.requires.within, c.requires.few)) c.in_ok-push.ensures.ok c.requires.opened.last c.begin.result
-    (subst (λ (s : List ℕ). Begins s program c.in_ok-opened.field-0.answer c.args.processes c.begin.result)
-    c.as_slice.ensures c.begin.ensures)
+    (executes_as c.args.mounts.now c.args.granted.now.numbers program named.0 c.in_ok-opened.field-0.opened.given
+    c.in_ok-opened.field-0.answer (told c.args.granted.now.root) (told c.execute.new.granted.root)
+    (told_of told c.args.granted.now.lent.items) (told_of told c.execute.new.granted.lent.items) c.requires.numbers
+    (c.in_ok-opened.ensures.executes named.0 named.2)) c.at-program.ensures named.2
+    (omega (arith, c.requires.within, c.requires.few)) c.in_ok-push.ensures.ok c.requires.opened.last
+    (subst IsNumbering c.requires.numbers c.requires.known) c.begin.result
+    (begins_as c.args.mounts.now c.args.granted.now.numbers c.as_slice.result.now program
+    c.in_ok-opened.field-0.answer c.args.processes c.begin.result c.requires.numbers c.as_slice.ensures
+    c.begin.ensures)
 
 pub returns-clause-stopped : goal.returns-clause-stopped
 returns-clause-stopped g c =
@@ -68,7 +77,12 @@ returns-clause-stopped g c =
     c.in_ok-opened.field-0.opened (told c.args.granted.now.root) (told c.execute.new.granted.root)
     (told_of told c.args.granted.now.lent.items) (told_of told c.execute.new.granted.lent.items)
     c.in_ok-opened.field-0.answer
-    (c.in_ok-opened.ensures.executes named.0 named.2) c.at-program.ensures named.2
-    (omega (arith, c.requires.within, c.requires.few)) c.in_ok-push.ensures.ok c.requires.opened.last c.begin.result
-    (subst (λ (s : List ℕ). Begins s program c.in_ok-opened.field-0.answer c.args.processes c.begin.result)
-    c.as_slice.ensures c.begin.ensures)
+    (executes_as c.args.mounts.now c.args.granted.now.numbers program named.0 c.in_ok-opened.field-0.opened.given
+    c.in_ok-opened.field-0.answer (told c.args.granted.now.root) (told c.execute.new.granted.root)
+    (told_of told c.args.granted.now.lent.items) (told_of told c.execute.new.granted.lent.items) c.requires.numbers
+    (c.in_ok-opened.ensures.executes named.0 named.2)) c.at-program.ensures named.2
+    (omega (arith, c.requires.within, c.requires.few)) c.in_ok-push.ensures.ok c.requires.opened.last
+    (subst IsNumbering c.requires.numbers c.requires.known) c.begin.result
+    (begins_as c.args.mounts.now c.args.granted.now.numbers c.as_slice.result.now program
+    c.in_ok-opened.field-0.answer c.args.processes c.begin.result c.requires.numbers c.as_slice.ensures
+    c.begin.ensures)

@@ -3,10 +3,12 @@ use Rattle.std.proofs.Common.{◌≡◌, [], ap, sym, ◌∙◌, subst, length, 
 use Rattle.std.specs.Prelude.{Option, Some, None}
 use Rattle.task_table.specs.Table.{TaskTable}
 use Rattle.kernel_model.proofs.OpenedTasks.{AreOpened, opened_none}
+use Rattle.image_walk.specs.declared.granted.Numbering.{Numbering}
 use Rattle.image_walk.specs.Granted.{Child, told_of}
+use Rattle.image_walk.specs.Standing.{IsNumbering, Stands}
 use Rattle.image_walk.specs.Walking.{TellNothing}
 use Rattle.run_opening.specs.Openings.{beside_of}
-use Rattle.run_opening.proofs.Beginning.{begun_none, still_grant}
+use Rattle.run_opening.proofs.Beginning.{are_numbering, begun_none, still_grant}
 use Rattle.run_opening.proofs.Recording.{record_none}
 use Rattle.run_opening.proofs.opening.open_tasks.Goals as goal
 
@@ -14,20 +16,36 @@ pub loop-index-init : goal.loop-index-init
 loop-index-init g c =
     let told = g.N.HostNode.told in
     record {
+      same = refl;
       opened = subst (λ (list : TaskTable). AreOpened 0 list) (sym c.new-processes.ensures.none) opened_none;
       record_so_far =
-          record_none c.args.mounts.now.tasks c.args.tasks.now (length c.args.granted.now.lent.items) c.requires.none
+          record_none c.args.mounts.now c.args.tasks.now (length c.args.granted.now.lent.items) c.requires.none
           (ap length c.requires.lent);
       silent = λ e. (e, subst (λ ls. TellNothing (told_of told ls)) (sym c.requires.lent) tt);
       begun = λ t e.
           begun_none c.args.mounts.now t c.new-processes.result (told c.args.granted.now.root)
-          (told_of told c.args.granted.now.lent.items) c.args.tasks.now (c.requires.stands t e) c.requires.none
+          (told_of told c.args.granted.now.lent.items) c.args.tasks.now c.requires.form
+          (subst (λ (num : Numbering). Stands num t [] [] (told c.args.granted.now.root)
+          (told_of told c.args.granted.now.lent.items)) c.requires.numbers (c.requires.stands t e)) c.requires.none
           (λ nodes. c.new-processes.ensures.begun (beside_of c.args.mounts.now nodes) 0);
     }
 
 pub open_task-requires-clause-grant : goal.open_task-requires-clause-grant
 open_task-requires-clause-grant g c κs within =
     let told = g.N.HostNode.told in
-    still_grant (told c.args.granted.now.root) (told c.loop-index.granted.root)
+    still_grant c.loop-index.granted.numbers (told c.args.granted.now.root) (told c.loop-index.granted.root)
     (told_of told c.loop-index.granted.lent.items) c.requires.root c.loop-index.invariant.silent
-    (λ t e. let h = c.loop-index.invariant.begun t e in (h.names, h.stands))
+    (λ t e. let h = c.loop-index.invariant.begun t e in (
+      h.names,
+      subst (λ (num : Numbering). Stands num t h.names [] (told c.loop-index.granted.root)
+          (told_of told c.loop-index.granted.lent.items))
+          (sym (c.loop-index.invariant.same ∙ c.requires.numbers)) h.stands,
+    ))
+
+pub open_task-requires-clause-numbers : goal.open_task-requires-clause-numbers
+open_task-requires-clause-numbers g c κs within = c.loop-index.invariant.same ∙ c.requires.numbers
+
+pub open_task-requires-clause-known : goal.open_task-requires-clause-known
+open_task-requires-clause-known g c κs within =
+    subst IsNumbering (sym (c.loop-index.invariant.same ∙ c.requires.numbers))
+    (are_numbering c.args.mounts.now c.requires.form)

@@ -13,8 +13,9 @@ abbrev pub invariant-loop-index : goal.invariant-loop-index
 invariant-loop-index g l =
     let told = g.N.HostNode.told in
     record {
+      same : l.granted.numbers ≡ l.fn.granted.numbers;
       opened : AreOpened l.index l.processes.tasks;
-      record_so_far : IsRecord l.mounts.tasks l.tasks l.index (length l.granted.lent.items);
+      record_so_far : IsRecord l.mounts l.tasks l.index (length l.granted.lent.items);
       silent : told l.fn.granted.root ≡ None → IsSilent (told l.granted.root) (told_of told l.granted.lent.items);
       begun : (t : Shape) → told l.fn.granted.root ≡ Some t
           → HasBegun l.mounts t l.index l.tasks l.processes (told l.granted.root) (told_of told l.granted.lent.items);

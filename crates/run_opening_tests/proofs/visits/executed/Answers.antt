@@ -9,7 +9,8 @@ returns g c =
     let told = g.N.HostNode.told in
     let root' = told c.execve.new.granted.root in
     let children' = told_of told c.execve.new.granted.lent.items in
-    can_then (told c.args.granted.now.root) root' (told_of told c.args.granted.now.lent.items) children' c.requires
+    can_then c.args.granted.now.numbers (told c.args.granted.now.root) root'
+    (told_of told c.args.granted.now.lent.items) children' c.requires.grant
     c.execve.ensures.silent
     (λ t names s. let e = c.in_ok-executed.ensures.executes t names s in
-    can_give_back t _ _ root' children' e.stands)
+    can_give_back c.args.granted.now.numbers t _ _ root' children' e.stands)

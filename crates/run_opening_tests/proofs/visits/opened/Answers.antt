@@ -2,6 +2,7 @@
 use Rattle.std.proofs.Common.{[]}
 use Rattle.image_walk.specs.Granted.{told_of}
 use Rattle.image_walk.proofs.OutAgain.{can_give_back}
+use Rattle.run_opening.specs.Openings.{numbering_of}
 use Rattle.run_opening_tests.proofs.Back.{can_where, can_stopped}
 use Rattle.run_opening_tests.proofs.visits.opened.Goals as goal
 
@@ -11,7 +12,8 @@ returns-in-Ok g c =
     let root = told c.open_tasks.new.granted.root in
     let children = told_of told c.open_tasks.new.granted.lent.items in
     can_where (told c.args.granted.now.root) root children c.open_tasks.ensures.silent
-    (λ t e. let h = c.in-Ok.ensures.begun t e in can_give_back t h.names [] root children h.stands)
+    (λ t e. let h = c.in-Ok.ensures.begun t e in can_give_back (numbering_of c.args.mounts.now.mounts) t h.names
+    [] root children h.stands)
 
 pub returns-in-Err : goal.returns-in-Err
 returns-in-Err g c =

@@ -3,8 +3,11 @@ use Rattle.std.proofs.Common.{◌≡◌, [], ◌∷◌, ap, sym, ◌∙◌, subs
 use Rattle.host_node.specs.Tree.{Shape}
 use Rattle.kernel_model.specs.declared.opening.Opening.{Opening}
 use Rattle.kernel_model.specs.declared.entry.Entry.{Entry}
+use Rattle.image_walk.specs.declared.granted.Numbering.{Numbering}
 use Rattle.image_walk.specs.Granted.{told_of}
+use Rattle.image_walk.specs.Standing.{Stands}
 use Rattle.image_walk.proofs.OutAgain.{can_give_back}
+use Rattle.run_opening.specs.Openings.{numbering_of}
 use Rattle.run_opening.proofs.Recording.{recorded}
 use Rattle.sentry_run.specs.declared.play.End.{End}
 use Rattle.sentry_run.specs.Played.{Ended}
@@ -20,7 +23,14 @@ returns-in-Err-clause-ended g c = λ t e after gives.
     (sym c.stopped.ensures.end)
     (ended_lacking c.args.mounts.now t (told c.args.granted.now.root) (told_of told c.args.granted.now.lent.items)
     c.stopped.result.opening c.stopped.result.trace after
-    (record { names = []; rises = []; stands = c.requires.stands t e }) c.stopped.ensures.trace gives)
+    (record {
+      names = [];
+      rises = [];
+      stands =
+          subst (λ (num : Numbering). Stands num t [] [] (told c.args.granted.now.root)
+          (told_of told c.args.granted.now.lent.items)) c.requires.numbers
+          (c.requires.stands t e);
+    }) c.stopped.ensures.trace gives)
 
 pub returns-in-Ok-open_tasks-clause-ended : goal.returns-in-Ok-open_tasks-clause-ended
 returns-in-Ok-open_tasks-clause-ended g c = λ t e after gives.
@@ -28,7 +38,7 @@ returns-in-Ok-open_tasks-clause-ended g c = λ t e after gives.
     let m = c.args.mounts.now in
     let h = c.in-Ok-open_tasks.ensures.begun t e in
     ended_begun m t c.open_tasks.new.tasks c.in-Ok-open_tasks.processes (told c.open_tasks.new.granted.root)
-    (told_of told c.open_tasks.new.granted.lent.items) c.run_processes.result.opening (one_mount m c.requires.form)
+    (told_of told c.open_tasks.new.granted.lent.items) c.run_processes.result.opening c.requires.form
     c.open_tasks.ensures.recorded
     (c.run_processes.ensures.opening
     ∙ ap (λ (o : Opening). record o { tasks = c.open_tasks.new.tasks }) c.in-Ok.ensures) h
@@ -41,12 +51,14 @@ returns-in-Ok-open_tasks-clause-can g c =
     can_where (told c.args.granted.now.root) (told c.open_tasks.new.granted.root)
     (told_of told c.open_tasks.new.granted.lent.items) (λ n. (c.open_tasks.ensures.silent n).0)
     (λ t e. let h = c.in-Ok-open_tasks.ensures.begun t e in
-    can_give_back t h.names [] (told c.open_tasks.new.granted.root) (told_of told c.open_tasks.new.granted.lent.items)
+    can_give_back (numbering_of c.args.mounts.now.mounts) t h.names [] (told c.open_tasks.new.granted.root)
+    (told_of told c.open_tasks.new.granted.lent.items)
     h.stands)
 
 pub returns-in-Ok-open_tasks-clause-numbers : goal.returns-in-Ok-open_tasks-clause-numbers
 returns-in-Ok-open_tasks-clause-numbers g c =
     gapless c.args.mounts.now c.open_tasks.new.tasks c.run_processes.result.opening
+    (one_mount c.args.mounts.now c.requires.form)
     (c.run_processes.ensures.opening
     ∙ ap (λ (o : Opening). record o { tasks = c.open_tasks.new.tasks }) c.in-Ok.ensures)
     c.open_tasks.ensures.recorded
@@ -58,7 +70,7 @@ returns-in-Err-open_tasks-clause-ended g c = λ t e after gives.
     subst (λ (x : End). Ended m t after c.unbegun.result.opening c.unbegun.result.trace x) (sym c.unbegun.ensures.end)
     (ended_stopped m t c.in-Err-open_tasks.why c.open_tasks.new.tasks (told c.open_tasks.new.granted.root)
     (told_of told c.open_tasks.new.granted.lent.items) c.unbegun.result.opening c.unbegun.result.trace
-    (one_mount m c.requires.form) c.open_tasks.ensures.recorded
+    c.requires.form c.open_tasks.ensures.recorded
     (c.unbegun.ensures.opening
     ∙ ap (λ (o : Opening). record o { tasks = c.open_tasks.new.tasks }) c.in-Ok.ensures) c.unbegun.ensures.trace
     (c.in-Err-open_tasks.ensures.stopped t e) after gives)
@@ -75,6 +87,7 @@ returns-in-Err-open_tasks-clause-can g c =
 pub returns-in-Err-open_tasks-clause-numbers : goal.returns-in-Err-open_tasks-clause-numbers
 returns-in-Err-open_tasks-clause-numbers g c =
     gapless c.args.mounts.now c.open_tasks.new.tasks c.unbegun.result.opening
+    (one_mount c.args.mounts.now c.requires.form)
     (c.unbegun.ensures.opening
     ∙ ap (λ (o : Opening). record o { tasks = c.open_tasks.new.tasks }) c.in-Ok.ensures)
     c.open_tasks.ensures.recorded
@@ -84,7 +97,8 @@ returns-in-Ok-open_tasks-clause-tells g c =
     let told = g.N.HostNode.told in
     tells_where (told c.args.granted.now.root) (told c.open_tasks.new.granted.root)
     (λ t e. let h = c.in-Ok-open_tasks.ensures.begun t e in
-    some_told t (told c.open_tasks.new.granted.root) (told_of told c.open_tasks.new.granted.lent.items)
+    some_told (numbering_of c.args.mounts.now.mounts) t (told c.open_tasks.new.granted.root)
+    (told_of told c.open_tasks.new.granted.lent.items)
     (record { names = h.names; rises = []; stands = h.stands }))
 
 pub returns-in-Err-open_tasks-clause-tells : goal.returns-in-Err-open_tasks-clause-tells
