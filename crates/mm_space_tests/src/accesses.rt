@@ -1,7 +1,6 @@
 //! Loads and fetches.
 
-use crate::acts::{Act, Begins, Case, expect_cases};
-use crate::guest::{FIRST, SECOND};
+use mm_space_acts::{Act, Begins, Case, FIRST, SECOND, expect_cases};
 use rv_table::MemErr;
 use std::test::Fail;
 
@@ -90,5 +89,5 @@ const CASES: [Case; 4] = [
 
 #[test]
 fn loads_and_fetches_go_by_rights_and_by_the_areas_in_hand(rt: HostRuntime) -> Result<(), Fail> {
-    expect_cases(&rt, rt.alloc(), &CASES)
+    expect_cases(rt.alloc(), &CASES)
 }

@@ -1,8 +1,7 @@
 //! Changes of what is mapped, as loads and fetches see them.
 
-use crate::acts::{Act, Begins, Case, expect_cases};
-use crate::guest::{EXECUTE, READ, SECOND};
 use mm_areas::{AreaErr, Backing};
+use mm_space_acts::{Act, Begins, Case, EXECUTE, READ, SECOND, expect_cases};
 use rv_table::MemErr;
 use std::test::Fail;
 
@@ -84,5 +83,5 @@ const CASES: [Case; 4] = [
 
 #[test]
 fn loads_and_fetches_see_each_change_of_what_is_mapped(rt: HostRuntime) -> Result<(), Fail> {
-    expect_cases(&rt, rt.alloc(), &CASES)
+    expect_cases(rt.alloc(), &CASES)
 }

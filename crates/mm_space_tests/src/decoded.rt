@@ -1,10 +1,8 @@
 //! Decoded words of pages that may be executed.
 
-use crate::acts::{Act, Begins, Case, begin, expect_cases};
-use crate::guest::{EXECUTE, Guest, READ, WRITE, Word};
 use mm_areas::Backing;
+use mm_space_acts::{Act, Begins, Case, EXECUTE, Guest, READ, WRITE, Word, begin, expect_cases};
 use std::alloc::Global;
-use std::process::Abort;
 use std::test::Fail;
 
 /// Two pages from the page 256 on that may be read, written and executed, and 200.
@@ -72,45 +70,54 @@ const CASES: [Case; 4] = [
 
 #[test]
 fn a_page_that_may_be_executed_has_the_words_that_lie_there(rt: HostRuntime) -> Result<(), Fail> {
-    expect_cases(&rt, rt.alloc(), &CASES)
+    expect_cases(rt.alloc(), &CASES)
+}
+
+/// That at most 64 pages have their words.
+fn expect_few_decoded(guest: &Guest) -> Result<(), Fail> {
+    let count = guest.decoded();
+    if count <= 64 {
+        Ok(())
+    } else {
+        Err(Fail::new(format_args!("{count} pages have their words")))
+    }
 }
 
 /// Decodes 200 pages in turn, of which at most 64 have their words at a time.
-fn expect_in_turn(rt: &impl Abort, guest: &mut Guest) -> Result<(), Fail> {
+fn expect_in_turn(guest: &mut Guest) -> Result<(), Fail> {
     for page in 256..456 {
         let acts = [Act::Decodes(page, true), Act::HasWords(page, true)];
-        guest.expect(rt, "in turn", &acts)?;
-        assert!(rt; guest.decoded() <= 64, "page {page}");
+        guest.expect("in turn", &acts)?;
+        expect_few_decoded(guest)?;
     }
     Ok(())
 }
 
 /// The last 64 of them have their words.
-fn expect_last(rt: &impl Abort, guest: &mut Guest) -> Result<(), Fail> {
-    guest.expect(rt, "at last", &[Act::Decoded(64)])?;
+fn expect_last(guest: &mut Guest) -> Result<(), Fail> {
+    guest.expect("at last", &[Act::Decoded(64)])?;
     for page in 392..456 {
-        guest.expect(rt, "at last", &[Act::HasWords(page, true)])?;
+        guest.expect("at last", &[Act::HasWords(page, true)])?;
     }
     Ok(())
 }
 
 /// Both, and the same in a child.
-fn expect_few(rt: &impl Abort, guest: &mut Guest) -> Result<(), Fail> {
-    expect_in_turn(rt, guest)?;
-    expect_last(rt, guest)?;
-    guest.expect(rt, "a child", &[Act::Forks(0), Act::Turns(0)])?;
-    expect_in_turn(rt, guest)?;
-    guest.expect(rt, "the parent", &[Act::Turns(0)])?;
-    assert!(rt; guest.decoded() <= 64);
-    Ok(())
+fn expect_few(guest: &mut Guest) -> Result<(), Fail> {
+    expect_in_turn(guest)?;
+    expect_last(guest)?;
+    guest.expect("a child", &[Act::Forks(0), Act::Turns(0)])?;
+    expect_in_turn(guest)?;
+    guest.expect("the parent", &[Act::Turns(0)])?;
+    expect_few_decoded(guest)
 }
 
-fn expect_few_of_many(rt: &impl Abort, alloc: Global) -> Result<(), Fail> {
+fn expect_few_of_many(alloc: Global) -> Result<(), Fail> {
     let mut guest = begin(alloc, MANY)?;
-    expect_few(rt, &mut guest)
+    expect_few(&mut guest)
 }
 
 #[test]
 fn at_most_64_pages_have_their_words(rt: HostRuntime) -> Result<(), Fail> {
-    expect_few_of_many(&rt, rt.alloc())
+    expect_few_of_many(rt.alloc())
 }

@@ -1,11 +1,8 @@
 //! A space and its child.
 
-use crate::acts::{Act, Begins, Case, begin, expect_cases};
-use crate::guest::{FIRST, Guest};
-use crate::pair::{HIGH, LOW, Side};
+use mm_space_acts::{Act, Begins, Case, FIRST, Guest, HIGH, LOW, Side, begin, expect_cases};
 use rv_table::MemErr;
 use std::alloc::Global;
-use std::process::Abort;
 use std::test::Fail;
 
 /// A parent and its child read as the fixture does, with no area in hand.
@@ -74,7 +71,7 @@ const CASES: [Case; 3] = [
 
 #[test]
 fn a_child_has_what_its_parent_had_and_goes_its_own_way(rt: HostRuntime) -> Result<(), Fail> {
-    expect_cases(&rt, rt.alloc(), &CASES)
+    expect_cases(rt.alloc(), &CASES)
 }
 
 /// A store by one of three spaces: which, where, how many bytes of which number, and the eight bytes at 0x1_0ff8 of
@@ -103,44 +100,39 @@ const STORES_AGAIN: [Turn; 5] = [
 ];
 
 /// What one of three spaces does comes to what is expected.
-fn expect_of(rt: &impl Abort, guest: &mut Guest, who: usize, acts: &[Act]) -> Result<(), Fail> {
+fn expect_of(guest: &mut Guest, who: usize, acts: &[Act]) -> Result<(), Fail> {
     if who == 0 {
-        return guest.expect(rt, "the first", acts);
+        return guest.expect("the first", acts);
     }
     guest.turn(who - 1)?;
-    guest.expect(rt, "another", acts)?;
+    guest.expect("another", acts)?;
     guest.turn(who - 1)?;
     Ok(())
 }
 
 /// That one has that number at 0x1_0ff8, and the second page's bytes behind it.
-fn expect_seen(rt: &impl Abort, guest: &mut Guest, who: usize, number: u64) -> Result<(), Fail> {
+fn expect_seen(guest: &mut Guest, who: usize, number: u64) -> Result<(), Fail> {
     let acts = [
         Act::Loads(0x1_0ff8, 8, Ok(number)),
         Act::Loads(0x1_1000, 8, Ok(HIGH)),
     ];
-    expect_of(rt, guest, who, &acts)
+    expect_of(guest, who, &acts)
 }
 
 /// That a store changes what it should.
-fn expect_turn(rt: &impl Abort, guest: &mut Guest, turn: &Turn) -> Result<(), Fail> {
+fn expect_turn(guest: &mut Guest, turn: &Turn) -> Result<(), Fail> {
     let (who, at, width, value, [first, second, third]) = *turn;
-    expect_of(rt, guest, who, &[Act::Stores(1, at, width, value, Ok(()))])?;
-    expect_seen(rt, guest, 0, first)?;
-    expect_seen(rt, guest, 1, second)?;
-    expect_seen(rt, guest, 2, third)
+    expect_of(guest, who, &[Act::Stores(1, at, width, value, Ok(()))])?;
+    expect_seen(guest, 0, first)?;
+    expect_seen(guest, 1, second)?;
+    expect_seen(guest, 2, third)
 }
 
 /// That each does, once there are three spaces.
-fn expect_turns(
-    rt: &impl Abort,
-    guest: &mut Guest,
-    acts: &[Act],
-    turns: &[Turn],
-) -> Result<(), Fail> {
-    guest.expect(rt, "three spaces", acts)?;
+fn expect_turns(guest: &mut Guest, acts: &[Act], turns: &[Turn]) -> Result<(), Fail> {
+    guest.expect("three spaces", acts)?;
     for turn in turns {
-        expect_turn(rt, guest, turn)?;
+        expect_turn(guest, turn)?;
     }
     Ok(())
 }
@@ -156,13 +148,13 @@ const IN_TWO_LINES: [Act; 7] = [
 ];
 
 /// That of two private pages three spaces each see their own stores.
-fn expect_family(rt: &impl Abort, alloc: Global, acts: &[Act], turns: &[Turn]) -> Result<(), Fail> {
+fn expect_family(alloc: Global, acts: &[Act], turns: &[Turn]) -> Result<(), Fail> {
     let mut guest = begin(alloc, PRIVATE)?;
-    expect_turns(rt, &mut guest, acts, turns)
+    expect_turns(&mut guest, acts, turns)
 }
 
 #[test]
 fn a_space_its_child_and_the_childs_each_see_their_own_stores(rt: HostRuntime) -> Result<(), Fail> {
-    expect_family(&rt, rt.alloc(), &IN_LINE, &STORES)?;
-    expect_family(&rt, rt.alloc(), &IN_TWO_LINES, &STORES_AGAIN)
+    expect_family(rt.alloc(), &IN_LINE, &STORES)?;
+    expect_family(rt.alloc(), &IN_TWO_LINES, &STORES_AGAIN)
 }

@@ -17,29 +17,19 @@
 #[cfg(test)]
 mod accesses;
 #[cfg(test)]
-mod acts;
-#[cfg(test)]
 mod changes;
 #[cfg(test)]
 mod decoded;
 #[cfg(test)]
-mod fixture;
-#[cfg(test)]
 mod forks;
-#[cfg(test)]
-mod guest;
 #[cfg(test)]
 mod lost_reservations;
 #[cfg(test)]
 mod near;
 #[cfg(test)]
-mod pair;
-#[cfg(test)]
 mod reads;
 #[cfg(test)]
 mod reservations;
-#[cfg(test)]
-mod run_fixture;
 #[cfg(test)]
 mod shared_areas;
 #[cfg(test)]

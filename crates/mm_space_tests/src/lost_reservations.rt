@@ -1,11 +1,9 @@
 //! Reservations and changes of what is mapped.
 
-use crate::acts::{Act, Case, begin, expect_cases};
-use crate::guest::{FIRST, READ, SECOND, WRITE};
 use crate::reservations::SPACE;
 use mm_areas::{AreaErr, Backing};
+use mm_space_acts::{Act, Case, FIRST, READ, SECOND, WRITE, begin, expect_cases};
 use std::alloc::Global;
-use std::process::Abort;
 use std::test::Fail;
 
 /// Five tasks reserve the first and the last eight bytes of the page at 0x1_1000, the eight before it and behind it,
@@ -42,12 +40,12 @@ const LOST: [Act; 5] = [
 ];
 
 /// That each of these changes loses its page's.
-fn expect_lost(rt: &impl Abort, alloc: Global, changes: &[Act]) -> Result<(), Fail> {
+fn expect_lost(alloc: Global, changes: &[Act]) -> Result<(), Fail> {
     for change in changes {
         let mut guest = begin(alloc, SPACE)?;
-        guest.expect(rt, "reserved", &RESERVED)?;
-        guest.expect(rt, "changed", &[*change])?;
-        guest.expect(rt, "lost", &LOST)?;
+        guest.expect("reserved", &RESERVED)?;
+        guest.expect("changed", &[*change])?;
+        guest.expect("lost", &LOST)?;
     }
     Ok(())
 }
@@ -97,6 +95,6 @@ const CASES: [Case; 2] = [
 fn a_change_takes_the_reservations_of_its_own_space_and_pages_alone(
     rt: HostRuntime,
 ) -> Result<(), Fail> {
-    expect_lost(&rt, rt.alloc(), &CHANGES)?;
-    expect_cases(&rt, rt.alloc(), &CASES)
+    expect_lost(rt.alloc(), &CHANGES)?;
+    expect_cases(rt.alloc(), &CASES)
 }

@@ -1,8 +1,7 @@
 //! Loads and stores by hints.
 
-use crate::acts::{Act, Begins, Case, expect_cases};
-use crate::guest::{FIRST, READ, WRITE};
 use mm_areas::Backing;
+use mm_space_acts::{Act, Begins, Case, FIRST, READ, WRITE, expect_cases};
 use rv_table::MemErr;
 use std::test::Fail;
 
@@ -162,5 +161,5 @@ const CASES: [Case; 6] = [
 
 #[test]
 fn an_access_by_a_hint_is_the_exact_one_or_none(rt: HostRuntime) -> Result<(), Fail> {
-    expect_cases(&rt, rt.alloc(), &CASES)
+    expect_cases(rt.alloc(), &CASES)
 }

@@ -1,11 +1,11 @@
 //! Runs of bytes: whether all of them may be accessed, and what they are.
 
-use crate::acts::{Act, Begins, Case, begin, expect_cases};
-use crate::guest::{EXECUTE, FIRST, Guest, READ, SECOND, WRITE};
-use crate::run_fixture::{Hand, pattern};
+use mm_space_acts::{
+    Act, Begins, Case, EXECUTE, FIRST, Guest, Hand, READ, SECOND, WRITE, begin, expect_cases,
+    expect_of_run, pattern,
+};
 use rv_table::MemErr;
 use std::alloc::Global;
-use std::process::Abort;
 use std::test::Fail;
 
 /// The first byte that isn't the pattern's.
@@ -86,46 +86,34 @@ const ASKED: [(u64, usize, MemErr); 2] = [
 ];
 
 /// That each of these runs may be read, and is the pattern's.
-fn expect_whole(rt: &impl Abort, guest: &Guest, rows: &[(u64, usize)]) -> Result<(), Fail> {
+fn expect_whole(guest: &Guest, rows: &[(u64, usize)]) -> Result<(), Fail> {
     for &(at, count) in rows {
-        assert!(rt; reads_so(guest, (at, count), Ok(()))?, "{count} at {at:x}");
+        expect_of_run(reads_so(guest, (at, count), Ok(()))?, (at, count))?;
     }
     Ok(())
 }
 
 /// That each of these runs is refused so.
-fn expect_refused(
-    rt: &impl Abort,
-    guest: &Guest,
-    rows: &[(u64, usize, MemErr)],
-) -> Result<(), Fail> {
+fn expect_refused(guest: &Guest, rows: &[(u64, usize, MemErr)]) -> Result<(), Fail> {
     for &(at, count, refusal) in rows {
-        assert!(rt;
-            reads_so(guest, (at, count), Err(refusal))?,
-            "{count} at {at:x}"
-        );
+        expect_of_run(reads_so(guest, (at, count), Err(refusal))?, (at, count))?;
     }
     Ok(())
 }
 
-fn expect_whole_of(rt: &impl Abort, alloc: Global, rows: &[(u64, usize)]) -> Result<(), Fail> {
+fn expect_whole_of(alloc: Global, rows: &[(u64, usize)]) -> Result<(), Fail> {
     let guest = begin(alloc, Begins::Runs(Hand::Both))?;
-    expect_whole(rt, &guest, rows)
+    expect_whole(&guest, rows)
 }
 
-fn expect_refused_of(
-    rt: &impl Abort,
-    alloc: Global,
-    hand: Hand,
-    rows: &[(u64, usize, MemErr)],
-) -> Result<(), Fail> {
+fn expect_refused_of(alloc: Global, hand: Hand, rows: &[(u64, usize, MemErr)]) -> Result<(), Fail> {
     let guest = begin(alloc, Begins::Runs(hand))?;
-    expect_refused(rt, &guest, rows)
+    expect_refused(&guest, rows)
 }
 
 #[test]
 fn a_run_is_the_bytes_that_lie_there_one_behind_another(rt: HostRuntime) -> Result<(), Fail> {
-    expect_whole_of(&rt, rt.alloc(), &WHOLE)
+    expect_whole_of(rt.alloc(), &WHOLE)
 }
 
 #[rattlefmt::skip]
@@ -154,7 +142,7 @@ const CASES: [Case; 1] = [
 fn a_run_that_is_refused_moves_nothing_and_needs_the_right_and_the_first_area(
     rt: HostRuntime,
 ) -> Result<(), Fail> {
-    expect_refused_of(&rt, rt.alloc(), Hand::First, &REFUSED)?;
-    expect_refused_of(&rt, rt.alloc(), Hand::Nothing, &ASKED)?;
-    expect_cases(&rt, rt.alloc(), &CASES)
+    expect_refused_of(rt.alloc(), Hand::First, &REFUSED)?;
+    expect_refused_of(rt.alloc(), Hand::Nothing, &ASKED)?;
+    expect_cases(rt.alloc(), &CASES)
 }

@@ -1,11 +1,11 @@
 //! Reservations: which stores end them, and what a store-conditional is told.
 
-use crate::acts::{Act, Begins, Case, begin, expect_cases};
-use crate::guest::{FIRST, Guest, Mapped, READ, SECOND, WRITE, space_of};
-use crate::pair::{Side, THIRD};
 use mm_areas::Backing;
+use mm_space_acts::{
+    Act, Begins, Case, FIRST, Guest, Mapped, READ, SECOND, Side, THIRD, WRITE, begin, expect_cases,
+    space_of,
+};
 use std::alloc::Global;
-use std::process::Abort;
 use std::test::Fail;
 
 /// Six pages to be read and written: two private ones at 0x1_0000, and `FIRST`'s two at 0x4_0000 and once more at
@@ -67,7 +67,6 @@ const PAGES: [(u64, u64); 6] = [
 /// Another task's store ends a reservation or not, here, and from the other space where the page isn't private; the
 /// task's own ends none.
 fn expect_page(
-    rt: &impl Abort,
     guest: &mut Guest,
     (from, count): (u64, u8),
     (at, width): (u64, u8),
@@ -86,12 +85,11 @@ fn expect_page(
         Act::Stores(1, at, width, 0, Ok(())),
         Act::Takes(1, from, count, true),
     ];
-    guest.expect(rt, "about a granule", &acts)
+    guest.expect("about a granule", &acts)
 }
 
 /// The same in private pages and in an area's.
 fn expect_each_page(
-    rt: &impl Abort,
     guest: &mut Guest,
     (from, count): (u8, u8),
     (at, width, stays): (u8, u8, bool),
@@ -100,46 +98,45 @@ fn expect_each_page(
     for (page, stored) in pages {
         let from = page.wrapping_add(u64::from(from));
         let at = stored.wrapping_add(u64::from(at));
-        expect_page(rt, guest, (from, count), (at, width), stays)?;
+        expect_page(guest, (from, count), (at, width), stays)?;
     }
     Ok(())
 }
 
 /// The same for each of these loads and a store.
 fn expect_each_load(
-    rt: &impl Abort,
     guest: &mut Guest,
     loads: &[(u8, u8)],
     row: (u8, u8, bool),
 ) -> Result<(), Fail> {
     for reserved in loads {
-        expect_each_page(rt, guest, *reserved, row, &PAGES)?;
+        expect_each_page(guest, *reserved, row, &PAGES)?;
     }
     Ok(())
 }
 
 /// The same for each of these stores.
-fn expect_about(rt: &impl Abort, guest: &mut Guest, rows: &[(u8, u8, bool)]) -> Result<(), Fail> {
-    guest.expect(rt, "in hand", &HANDED)?;
+fn expect_about(guest: &mut Guest, rows: &[(u8, u8, bool)]) -> Result<(), Fail> {
+    guest.expect("in hand", &HANDED)?;
     for row in rows {
-        expect_each_load(rt, guest, &WITHIN_A_GRANULE, *row)?;
+        expect_each_load(guest, &WITHIN_A_GRANULE, *row)?;
     }
     Ok(())
 }
 
 /// The same where both areas are in hand, and there is another space with the same pages.
-fn expect_about_both(rt: &impl Abort, alloc: Global, rows: &[(u8, u8, bool)]) -> Result<(), Fail> {
+fn expect_about_both(alloc: Global, rows: &[(u8, u8, bool)]) -> Result<(), Fail> {
     let other = space_of(alloc, SIX_PAGES)?;
     let mut guest = begin(alloc, SPACE)?;
     guest.others[0] = other;
-    expect_about(rt, &mut guest, rows)
+    expect_about(&mut guest, rows)
 }
 
 #[test]
 fn another_tasks_store_to_any_byte_of_the_granule_ends_a_reservation(
     rt: HostRuntime,
 ) -> Result<(), Fail> {
-    expect_about_both(&rt, rt.alloc(), &ABOUT_A_GRANULE)
+    expect_about_both(rt.alloc(), &ABOUT_A_GRANULE)
 }
 
 /// Reserves on both sides of a page's end, and beside; a store over that page's end ends those on both sides.
@@ -236,7 +233,6 @@ const CONDITIONALS: [(u64, u8, bool); 6] = [
 
 /// That a store-conditional is told that, from a base on.
 fn expect_told(
-    rt: &impl Abort,
     guest: &mut Guest,
     base: u64,
     (at, width, told): (u64, u8, bool),
@@ -249,20 +245,15 @@ fn expect_told(
         Act::Takes(1, at, width, told),
         Act::Takes(1, held, 8, false),
     ];
-    guest.expect(rt, "told", &acts)
+    guest.expect("told", &acts)
 }
 
 /// That a reservation is of just its address and width, and serves once.
-fn expect_each_told(
-    rt: &impl Abort,
-    guest: &mut Guest,
-    base: u64,
-    rows: &[(u64, u8, bool)],
-) -> Result<(), Fail> {
+fn expect_each_told(guest: &mut Guest, base: u64, rows: &[(u64, u8, bool)]) -> Result<(), Fail> {
     for row in rows {
-        expect_told(rt, guest, base, *row)?;
+        expect_told(guest, base, *row)?;
     }
-    guest.expect(rt, "none left", &[Act::Left(FIRST, 0)])
+    guest.expect("none left", &[Act::Left(FIRST, 0)])
 }
 
 /// Two loads that reserve one after the other, in private pages and in an area.
@@ -279,11 +270,7 @@ const IN_TURN: [(u64, u64); 9] = [
 ];
 
 /// That the last of two, and of three, counts.
-fn expect_last(
-    rt: &impl Abort,
-    guest: &mut Guest,
-    (first, second): (u64, u64),
-) -> Result<(), Fail> {
+fn expect_last(guest: &mut Guest, (first, second): (u64, u64)) -> Result<(), Fail> {
     let acts = [
         Act::Reserves(1, first, 4),
         Act::Reserves(1, second, 4),
@@ -296,35 +283,35 @@ fn expect_last(
         Act::Reserves(1, first, 4),
         Act::Takes(1, first, 4, true),
     ];
-    guest.expect(rt, "in turn", &acts)
+    guest.expect("in turn", &acts)
 }
 
 /// That a second reservation stands in the place of the first.
-fn expect_each_last(rt: &impl Abort, guest: &mut Guest, rows: &[(u64, u64)]) -> Result<(), Fail> {
+fn expect_each_last(guest: &mut Guest, rows: &[(u64, u64)]) -> Result<(), Fail> {
     for places in rows {
-        expect_last(rt, guest, *places)?;
+        expect_last(guest, *places)?;
     }
     Ok(())
 }
 
 /// All of it, in private pages and in an area's.
-fn expect_each(rt: &impl Abort, guest: &mut Guest) -> Result<(), Fail> {
-    guest.expect(rt, "in hand", &HANDED)?;
-    expect_each_told(rt, guest, 0x1_0000, &CONDITIONALS)?;
-    expect_each_told(rt, guest, 0x4_0000, &CONDITIONALS)?;
-    expect_each_told(rt, guest, 0x7_1000, &CONDITIONALS)?;
-    expect_each_last(rt, guest, &IN_TURN)
+fn expect_each(guest: &mut Guest) -> Result<(), Fail> {
+    guest.expect("in hand", &HANDED)?;
+    expect_each_told(guest, 0x1_0000, &CONDITIONALS)?;
+    expect_each_told(guest, 0x4_0000, &CONDITIONALS)?;
+    expect_each_told(guest, 0x7_1000, &CONDITIONALS)?;
+    expect_each_last(guest, &IN_TURN)
 }
 
-fn expect_of_six(rt: &impl Abort, alloc: Global) -> Result<(), Fail> {
+fn expect_of_six(alloc: Global) -> Result<(), Fail> {
     let mut guest = begin(alloc, SPACE)?;
-    expect_each(rt, &mut guest)
+    expect_each(&mut guest)
 }
 
 #[test]
 fn a_reservation_is_of_just_its_address_and_width_serves_once_and_ends_by_others_stores(
     rt: HostRuntime,
 ) -> Result<(), Fail> {
-    expect_cases(&rt, rt.alloc(), &CASES)?;
-    expect_of_six(&rt, rt.alloc())
+    expect_cases(rt.alloc(), &CASES)?;
+    expect_of_six(rt.alloc())
 }

@@ -1,14 +1,13 @@
 //! Shared areas in several address spaces, and in several places of one.
 
-use crate::acts::{Act, Begins, Case, begin, expect_cases};
-use crate::fixture::put_byte;
-use crate::guest::{FIRST, Guest, READ, SECOND, WRITE, space_of};
-use crate::pair::{SHORT, Side};
 use mm_areas::Backing;
 use mm_space::{Handed, SharedArea};
+use mm_space_acts::{
+    Act, Begins, Case, FIRST, Guest, READ, SECOND, SHORT, Side, WRITE, begin, expect_cases,
+    put_byte, space_of,
+};
 use rv_table::MemErr;
 use std::alloc::Global;
-use std::process::Abort;
 use std::test::Fail;
 
 /// So many pages of `FIRST` mapped at 0x1_0000, to be read and written.
@@ -97,7 +96,7 @@ const CASES: [Case; 4] = [
 fn an_access_goes_to_the_first_area_of_the_name_and_not_past_its_end(
     rt: HostRuntime,
 ) -> Result<(), Fail> {
-    expect_cases(&rt, rt.alloc(), &CASES)
+    expect_cases(rt.alloc(), &CASES)
 }
 
 /// Stores through three views of one area: two in one space, at 0x1_0000 and at 0x8_0000, and one in another space at
@@ -121,23 +120,21 @@ const TWO_VIEWS: Begins = Begins::With(&[
 ]);
 
 /// What is done through a view comes to what is expected.
-fn expect_through(rt: &impl Abort, guest: &mut Guest, view: u64, act: Act) -> Result<(), Fail> {
+fn expect_through(guest: &mut Guest, view: u64, act: Act) -> Result<(), Fail> {
     if view == 0x3_0000 {
-        guest.expect(rt, "the other space", &[Act::Turns(0), act, Act::Turns(0)])
+        guest.expect("the other space", &[Act::Turns(0), act, Act::Turns(0)])
     } else {
-        guest.expect(rt, "the one space", &[act])
+        guest.expect("the one space", &[act])
     }
 }
 
 /// That a number is there through a view.
 fn expect_number(
-    rt: &impl Abort,
     guest: &mut Guest,
     view: u64,
     (offset, width, value): (u64, u8, u64),
 ) -> Result<(), Fail> {
     expect_through(
-        rt,
         guest,
         view,
         Act::Loads(view.wrapping_add(offset), width, Ok(value)),
@@ -146,46 +143,40 @@ fn expect_number(
 
 /// That a store is seen through each view.
 fn expect_seen(
-    rt: &impl Abort,
     guest: &mut Guest,
     (view, offset, width, value): (u64, u64, u8, u64),
 ) -> Result<(), Fail> {
     let at = view.wrapping_add(offset);
-    expect_through(rt, guest, view, Act::Stores(1, at, width, value, Ok(())))?;
-    expect_number(rt, guest, 0x1_0000, (offset, width, value))?;
-    expect_number(rt, guest, 0x8_0000, (offset, width, value))?;
-    expect_number(rt, guest, 0x3_0000, (offset, width, value))
+    expect_through(guest, view, Act::Stores(1, at, width, value, Ok(())))?;
+    expect_number(guest, 0x1_0000, (offset, width, value))?;
+    expect_number(guest, 0x8_0000, (offset, width, value))?;
+    expect_number(guest, 0x3_0000, (offset, width, value))
 }
 
 /// That each is, where both areas are in hand.
-fn expect_each_seen(
-    rt: &impl Abort,
-    guest: &mut Guest,
-    rows: &[(u64, u64, u8, u64)],
-) -> Result<(), Fail> {
+fn expect_each_seen(guest: &mut Guest, rows: &[(u64, u64, u8, u64)]) -> Result<(), Fail> {
     guest.expect(
-        rt,
         "in hand",
         &[Act::Hands(SHORT, 2, 0, 0), Act::Hands(FIRST, 2, 0, 0)],
     )?;
     for row in rows {
-        expect_seen(rt, guest, *row)?;
+        expect_seen(guest, *row)?;
     }
     Ok(())
 }
 
-fn expect_views(rt: &impl Abort, alloc: Global, rows: &[(u64, u64, u8, u64)]) -> Result<(), Fail> {
+fn expect_views(alloc: Global, rows: &[(u64, u64, u8, u64)]) -> Result<(), Fail> {
     let other = space_of(alloc, &[(0x3_0000, 8192, READ | WRITE, Backing::Of(FIRST))])?;
     let mut guest = begin(alloc, TWO_VIEWS)?;
     guest.others[0] = other;
-    expect_each_seen(rt, &mut guest, rows)
+    expect_each_seen(&mut guest, rows)
 }
 
 #[test]
 fn what_is_stored_through_one_view_of_an_area_each_other_loads(
     rt: HostRuntime,
 ) -> Result<(), Fail> {
-    expect_views(&rt, rt.alloc(), &STORES)
+    expect_views(rt.alloc(), &STORES)
 }
 
 /// An area of two pages, whose first byte is that value, and in which task 1 has reserved the first granule.

@@ -1,11 +1,11 @@
 //! Stores, over the end of a page and within one, and whether they may be made.
 
-use crate::acts::{Act, Begins, Case, expect_cases};
-use crate::guest::{FIRST, Guest, SECOND};
-use crate::pair::{HIGH, LOW, SHORT, Side, THIRD, first_bytes, pair, second_bytes};
+use mm_space_acts::{
+    Act, Begins, Case, FIRST, Guest, HIGH, LOW, SECOND, SHORT, Side, THIRD, expect_cases,
+    first_bytes, pair_of, second_bytes,
+};
 use rv_table::MemErr;
 use std::alloc::Global;
-use std::process::Abort;
 use std::test::Fail;
 
 /// The bytes 0x11, 0x22 to 0x88, lowest first.
@@ -46,7 +46,6 @@ const WRITABLE: [Sides; 6] = [
 
 /// The two pages' bytes are as expected where they meet, and zeros behind and before; those beside are zeros.
 fn expect_bytes(
-    rt: &impl Abort,
     guest: &mut Guest,
     first: Result<u64, MemErr>,
     second: Result<u64, MemErr>,
@@ -56,14 +55,13 @@ fn expect_bytes(
         Act::Loads(0x1_1000, 8, second),
         Act::Loads(0x1_4000, 8, Ok(0)),
     ];
-    guest.expect(rt, "where the pages meet", &acts)?;
-    expect_zeros(rt, guest, first.is_ok(), (0x1_0ff0, 0x1_0000))?;
-    expect_zeros(rt, guest, second.is_ok(), (0x1_1008, 0x1_1ff8))
+    guest.expect("where the pages meet", &acts)?;
+    expect_zeros(guest, first.is_ok(), (0x1_0ff0, 0x1_0000))?;
+    expect_zeros(guest, second.is_ok(), (0x1_1008, 0x1_1ff8))
 }
 
 /// That eight bytes at each of two addresses are zeros, if they may be read.
 fn expect_zeros(
-    rt: &impl Abort,
     guest: &mut Guest,
     is_readable: bool,
     (one, other): (u64, u64),
@@ -72,42 +70,35 @@ fn expect_zeros(
         return Ok(());
     }
     guest.expect(
-        rt,
         "zeros",
         &[Act::Loads(one, 8, Ok(0)), Act::Loads(other, 8, Ok(0))],
     )
 }
 
 /// Whether the tasks 1, 2 and 3 still have what they reserved, each as expected; the task 4 has.
-fn expect_held(
-    rt: &impl Abort,
-    guest: &mut Guest,
-    [first, second, third]: [bool; 3],
-) -> Result<(), Fail> {
+fn expect_held(guest: &mut Guest, [first, second, third]: [bool; 3]) -> Result<(), Fail> {
     let acts = [
         Act::Takes(1, 0x1_0ff8, 8, first),
         Act::Takes(2, 0x1_0ff8, 8, second),
         Act::Takes(3, 0x1_1000, 8, third),
         Act::Takes(4, 0x1_4000, 8, true),
     ];
-    guest.expect(rt, "held", &acts)
+    guest.expect("held", &acts)
 }
 
 /// That a store is made, the pages then have those bytes, and the tasks those reservations.
 fn expect_stored(
-    rt: &impl Abort,
     guest: &mut Guest,
     (at, width, value, low, high): Stored,
     held: [bool; 3],
 ) -> Result<(), Fail> {
-    guest.expect(rt, "stored", &[Act::Stores(1, at, width, value, Ok(()))])?;
-    expect_bytes(rt, guest, Ok(low), Ok(high))?;
-    expect_held(rt, guest, held)
+    guest.expect("stored", &[Act::Stores(1, at, width, value, Ok(()))])?;
+    expect_bytes(guest, Ok(low), Ok(high))?;
+    expect_held(guest, held)
 }
 
 /// That a child's private pages stay as they were, and others have those bytes.
 fn expect_child(
-    rt: &impl Abort,
     guest: &mut Guest,
     (first, second): Sides,
     (low, high): (u64, u64),
@@ -119,19 +110,17 @@ fn expect_child(
         Act::Loads(0x1_0ff8, 8, Ok(first)),
         Act::Loads(0x1_1000, 8, Ok(second)),
     ];
-    guest.expect(rt, "a child", &acts)
+    guest.expect("a child", &acts)
 }
 
 /// That a store over the end is made, and ends the reservations that it meets.
 fn expect_put(
-    rt: &impl Abort,
     alloc: Global,
     (first, second): Sides,
     (at, width, low, high): (u64, u8, u64, u64),
 ) -> Result<(), Fail> {
-    let mut guest = pair(alloc, first, second)?;
+    let mut guest = pair_of(alloc, first, second)?;
     expect_stored(
-        rt,
         &mut guest,
         (at, width, VALUE, low, high),
         [true, false, false],
@@ -140,7 +129,6 @@ fn expect_put(
 
 /// That a store may be made, which then has the bytes of both pages for itself, if they are private.
 fn expect_own_then(
-    rt: &impl Abort,
     guest: &mut Guest,
     (first, second): Sides,
     (at, width, low, high): (u64, u8, u64, u64),
@@ -157,43 +145,33 @@ fn expect_own_then(
         Act::Owns(17, false),
         Act::Turns(0),
     ];
-    guest.expect(rt, "asked", &acts)?;
-    expect_bytes(rt, guest, Ok(LOW), Ok(HIGH))?;
-    expect_held(rt, guest, [true, true, true])?;
-    guest.expect(rt, "stored", &[Act::Stores(1, at, width, VALUE, Ok(()))])?;
-    expect_bytes(rt, guest, Ok(low), Ok(high))?;
-    expect_child(rt, guest, (first, second), (low, high))
+    guest.expect("asked", &acts)?;
+    expect_bytes(guest, Ok(LOW), Ok(HIGH))?;
+    expect_held(guest, [true, true, true])?;
+    guest.expect("stored", &[Act::Stores(1, at, width, VALUE, Ok(()))])?;
+    expect_bytes(guest, Ok(low), Ok(high))?;
+    expect_child(guest, (first, second), (low, high))
 }
 
-fn expect_own_of(
-    rt: &impl Abort,
-    alloc: Global,
-    sides: Sides,
-    row: (u64, u8, u64, u64),
-) -> Result<(), Fail> {
-    let mut guest = pair(alloc, sides.0, sides.1)?;
-    expect_own_then(rt, &mut guest, sides, row)
+fn expect_own_of(alloc: Global, sides: Sides, row: (u64, u8, u64, u64)) -> Result<(), Fail> {
+    let mut guest = pair_of(alloc, sides.0, sides.1)?;
+    expect_own_then(&mut guest, sides, row)
 }
 
 /// Each of these stores.
-fn expect_each_put(
-    rt: &impl Abort,
-    alloc: Global,
-    sides: Sides,
-    rows: &[(u64, u8, u64, u64)],
-) -> Result<(), Fail> {
+fn expect_each_put(alloc: Global, sides: Sides, rows: &[(u64, u8, u64, u64)]) -> Result<(), Fail> {
     for row in rows {
-        expect_put(rt, alloc, sides, *row)?;
-        expect_own_of(rt, alloc, sides, *row)?;
+        expect_put(alloc, sides, *row)?;
+        expect_own_of(alloc, sides, *row)?;
     }
     Ok(())
 }
 
 /// The same on each of these pairs; and stores within a page.
-fn expect_writable(rt: &impl Abort, alloc: Global, pairs: &[Sides]) -> Result<(), Fail> {
+fn expect_writable(alloc: Global, pairs: &[Sides]) -> Result<(), Fail> {
     for sides in pairs {
-        expect_each_put(rt, alloc, *sides, &OVER_THE_END)?;
-        expect_each_within(rt, alloc, *sides, &WITHIN)?;
+        expect_each_put(alloc, *sides, &OVER_THE_END)?;
+        expect_each_within(alloc, *sides, &WITHIN)?;
     }
     Ok(())
 }
@@ -202,7 +180,7 @@ fn expect_writable(rt: &impl Abort, alloc: Global, pairs: &[Sides]) -> Result<()
 fn a_store_puts_its_bytes_lowest_first_over_a_pages_end_too_and_leaves_the_bytes_beside(
     rt: HostRuntime,
 ) -> Result<(), Fail> {
-    expect_writable(&rt, rt.alloc(), &WRITABLE)
+    expect_writable(rt.alloc(), &WRITABLE)
 }
 
 /// Pairs of which the second page may not be written, or lies in an area that isn't handed in, with what is answered.
@@ -237,38 +215,31 @@ const BARRED: [Sides; 6] = [
 
 /// That a store is refused so, and the question, and nothing changes.
 fn expect_refused(
-    rt: &impl Abort,
     guest: &mut Guest,
     (first, second): Sides,
     (at, width): (u64, u8),
     refusal: MemErr,
 ) -> Result<(), Fail> {
-    guest.expect(rt, "asked", &[Act::Asks(at, width, Err(refusal))])?;
-    expect_bytes(rt, guest, first_bytes(first), second_bytes(second))?;
-    guest.expect(
-        rt,
-        "stored",
-        &[Act::Stores(1, at, width, VALUE, Err(refusal))],
-    )?;
-    expect_bytes(rt, guest, first_bytes(first), second_bytes(second))?;
+    guest.expect("asked", &[Act::Asks(at, width, Err(refusal))])?;
+    expect_bytes(guest, first_bytes(first), second_bytes(second))?;
+    guest.expect("stored", &[Act::Stores(1, at, width, VALUE, Err(refusal))])?;
+    expect_bytes(guest, first_bytes(first), second_bytes(second))?;
     let (one, other) = (first != Side::Of(SECOND), second != Side::Of(SECOND));
-    expect_held(rt, guest, [one, one, other])
+    expect_held(guest, [one, one, other])
 }
 
 fn expect_refused_of(
-    rt: &impl Abort,
     alloc: Global,
     sides: Sides,
     place: (u64, u8),
     refusal: MemErr,
 ) -> Result<(), Fail> {
-    let mut guest = pair(alloc, sides.0, sides.1)?;
-    expect_refused(rt, &mut guest, sides, place, refusal)
+    let mut guest = pair_of(alloc, sides.0, sides.1)?;
+    expect_refused(&mut guest, sides, place, refusal)
 }
 
 /// Stores over the end are refused, with a fault where they begin if no answer is given, and so is the question.
 fn expect_each_refused(
-    rt: &impl Abort,
     alloc: Global,
     sides: Sides,
     refusal: Option<MemErr>,
@@ -276,26 +247,22 @@ fn expect_each_refused(
 ) -> Result<(), Fail> {
     for &(at, width, _, _) in rows {
         let refusal = refusal.unwrap_or(MemErr::Fault { addr: at });
-        expect_refused_of(rt, alloc, sides, (at, width), refusal)?;
+        expect_refused_of(alloc, sides, (at, width), refusal)?;
     }
     Ok(())
 }
 
 /// That on each of these pairs each store is refused.
-fn expect_second(
-    rt: &impl Abort,
-    alloc: Global,
-    rows: &[(Side, Side, MemErr)],
-) -> Result<(), Fail> {
+fn expect_second(alloc: Global, rows: &[(Side, Side, MemErr)]) -> Result<(), Fail> {
     for &(first, second, refusal) in rows {
-        expect_each_refused(rt, alloc, (first, second), Some(refusal), &OVER_THE_END)?;
+        expect_each_refused(alloc, (first, second), Some(refusal), &OVER_THE_END)?;
     }
     Ok(())
 }
 
-fn expect_first(rt: &impl Abort, alloc: Global, pairs: &[Sides]) -> Result<(), Fail> {
+fn expect_first(alloc: Global, pairs: &[Sides]) -> Result<(), Fail> {
     for sides in pairs {
-        expect_each_refused(rt, alloc, *sides, None, &OVER_THE_END)?;
+        expect_each_refused(alloc, *sides, None, &OVER_THE_END)?;
     }
     Ok(())
 }
@@ -304,8 +271,8 @@ fn expect_first(rt: &impl Abort, alloc: Global, pairs: &[Sides]) -> Result<(), F
 fn where_a_page_may_not_be_written_its_first_byte_is_the_fault_and_nothing_changes(
     rt: HostRuntime,
 ) -> Result<(), Fail> {
-    expect_second(&rt, rt.alloc(), &REFUSED)?;
-    expect_first(&rt, rt.alloc(), &BARRED)
+    expect_second(rt.alloc(), &REFUSED)?;
+    expect_first(rt.alloc(), &BARRED)
 }
 
 /// Stores within a page: of how many of a number's bytes, and the same eight bytes of the two pages after each.
@@ -333,49 +300,29 @@ const WITHIN: [Stored; 18] = [
 
 /// Stores within a page, which has its bytes for itself. The other tasks' reservations of eight bytes are lost where
 /// those have changed.
-fn expect_within(
-    rt: &impl Abort,
-    alloc: Global,
-    (first, second): Sides,
-    stored: Stored,
-) -> Result<(), Fail> {
+fn expect_within(alloc: Global, (first, second): Sides, stored: Stored) -> Result<(), Fail> {
     let (_, _, _, low, high) = stored;
-    let mut guest = pair(alloc, first, second)?;
-    expect_stored(rt, &mut guest, stored, [true, low == LOW, high == HIGH])
+    let mut guest = pair_of(alloc, first, second)?;
+    expect_stored(&mut guest, stored, [true, low == LOW, high == HIGH])
 }
 
 /// The same where it shares them with a child's.
-fn expect_parent(
-    rt: &impl Abort,
-    guest: &mut Guest,
-    sides: Sides,
-    stored: Stored,
-) -> Result<(), Fail> {
+fn expect_parent(guest: &mut Guest, sides: Sides, stored: Stored) -> Result<(), Fail> {
     let (_, _, _, low, high) = stored;
-    guest.expect(rt, "a parent", &[Act::Forks(0)])?;
-    expect_stored(rt, guest, stored, [true, low == LOW, high == HIGH])?;
-    expect_child(rt, guest, sides, (low, high))
+    guest.expect("a parent", &[Act::Forks(0)])?;
+    expect_stored(guest, stored, [true, low == LOW, high == HIGH])?;
+    expect_child(guest, sides, (low, high))
 }
 
-fn expect_within_parent(
-    rt: &impl Abort,
-    alloc: Global,
-    sides: Sides,
-    stored: Stored,
-) -> Result<(), Fail> {
-    let mut guest = pair(alloc, sides.0, sides.1)?;
-    expect_parent(rt, &mut guest, sides, stored)
+fn expect_within_parent(alloc: Global, sides: Sides, stored: Stored) -> Result<(), Fail> {
+    let mut guest = pair_of(alloc, sides.0, sides.1)?;
+    expect_parent(&mut guest, sides, stored)
 }
 
-fn expect_each_within(
-    rt: &impl Abort,
-    alloc: Global,
-    sides: Sides,
-    rows: &[Stored],
-) -> Result<(), Fail> {
+fn expect_each_within(alloc: Global, sides: Sides, rows: &[Stored]) -> Result<(), Fail> {
     for stored in rows {
-        expect_within(rt, alloc, sides, *stored)?;
-        expect_within_parent(rt, alloc, sides, *stored)?;
+        expect_within(alloc, sides, *stored)?;
+        expect_within_parent(alloc, sides, *stored)?;
     }
     Ok(())
 }
@@ -459,37 +406,31 @@ const WITHIN_THE_FIRST: [(u64, u8); 6] = [
 ];
 
 /// That each is answered by what the page is, twice: the second time it has its bytes for itself at any rate.
-fn expect_by_right(
-    rt: &impl Abort,
-    guest: &mut Guest,
-    side: Side,
-    rows: &[(u64, u8)],
-) -> Result<(), Fail> {
+fn expect_by_right(guest: &mut Guest, side: Side, rows: &[(u64, u8)]) -> Result<(), Fail> {
     for &(at, width) in rows {
         let told = within(side, at);
         guest.expect(
-            rt,
             "by right",
             &[Act::Asks(at, width, told), Act::Asks(at, width, told)],
         )?;
     }
-    guest.expect(rt, "by right", &[Act::Asks(0x1_1ff8, 8, Ok(()))])?;
-    expect_bytes(rt, guest, first_bytes(side), Ok(HIGH))
+    guest.expect("by right", &[Act::Asks(0x1_1ff8, 8, Ok(()))])?;
+    expect_bytes(guest, first_bytes(side), Ok(HIGH))
 }
 
-fn expect_of_side(rt: &impl Abort, alloc: Global, side: Side) -> Result<(), Fail> {
-    let mut guest = pair(alloc, side, Side::Private)?;
-    expect_by_right(rt, &mut guest, side, &WITHIN_THE_FIRST)
+fn expect_of_side(alloc: Global, side: Side) -> Result<(), Fail> {
+    let mut guest = pair_of(alloc, side, Side::Private)?;
+    expect_by_right(&mut guest, side, &WITHIN_THE_FIRST)
 }
 
 #[test]
 fn each_byte_is_asked_for_by_its_pages_right_and_none_past_the_end_of_all_addresses(
     rt: HostRuntime,
 ) -> Result<(), Fail> {
-    expect_cases(&rt, rt.alloc(), &CASES)?;
-    expect_of_side(&rt, rt.alloc(), Side::Private)?;
-    expect_of_side(&rt, rt.alloc(), Side::ReadOnly)?;
-    expect_of_side(&rt, rt.alloc(), Side::Missing)?;
-    expect_of_side(&rt, rt.alloc(), Side::Of(FIRST))?;
-    expect_of_side(&rt, rt.alloc(), Side::Of(SECOND))
+    expect_cases(rt.alloc(), &CASES)?;
+    expect_of_side(rt.alloc(), Side::Private)?;
+    expect_of_side(rt.alloc(), Side::ReadOnly)?;
+    expect_of_side(rt.alloc(), Side::Missing)?;
+    expect_of_side(rt.alloc(), Side::Of(FIRST))?;
+    expect_of_side(rt.alloc(), Side::Of(SECOND))
 }

@@ -1,11 +1,10 @@
 //! Runs of bytes put into memory.
 
-use crate::acts::{Act, Begins, Case, begin, expect_cases};
-use crate::guest::{Guest, SECOND};
-use crate::run_fixture::{Hand, pattern};
+use mm_space_acts::{
+    Act, Begins, Case, Guest, Hand, SECOND, begin, expect_cases, expect_of_run, pattern,
+};
 use rv_table::MemErr;
 use std::alloc::Global;
-use std::process::Abort;
 use std::test::Fail;
 
 /// What is put at an address: nowhere the byte that lies there.
@@ -56,9 +55,8 @@ fn difference(guest: &Guest, run: (u64, usize)) -> Result<Option<u64>, Fail> {
 }
 
 /// That the private pages and `FIRST` are as they are to be once so many bytes from an address on were put.
-fn expect_as_put(rt: &impl Abort, guest: &Guest, run: (u64, usize)) -> Result<(), Fail> {
-    assert_eq!(rt; difference(guest, run)?, None, "{} at {:x}", run.1, run.0);
-    Ok(())
+fn expect_as_put(guest: &Guest, run: (u64, usize)) -> Result<(), Fail> {
+    expect_of_run(difference(guest, run)?.is_none(), run)
 }
 
 #[rattlefmt::skip]
@@ -71,14 +69,9 @@ const WHOLE: [(u64, usize); 23] = [
 ];
 
 /// That a run can be put by a task, and the bytes around it stay.
-fn expect_put(
-    rt: &impl Abort,
-    guest: &mut Guest,
-    task: u32,
-    (at, count): (u64, usize),
-) -> Result<(), Fail> {
-    assert_eq!(rt; put(guest, task, at, count)?, Ok(()), "{count} at {at:x}");
-    expect_as_put(rt, guest, (at, count))
+fn expect_put(guest: &mut Guest, task: u32, (at, count): (u64, usize)) -> Result<(), Fail> {
+    expect_of_run(put(guest, task, at, count)?.is_ok(), (at, count))?;
+    expect_as_put(guest, (at, count))
 }
 
 #[rattlefmt::skip]
@@ -103,58 +96,45 @@ const REFUSED: [(u64, usize, MemErr); 13] = [
 
 /// That a run is refused so, and puts nothing.
 fn expect_refused(
-    rt: &impl Abort,
     guest: &mut Guest,
     (at, count, refusal): (u64, usize, MemErr),
 ) -> Result<(), Fail> {
-    assert_eq!(rt;
-        put(guest, 1, at, count)?,
-        Err(refusal),
-        "{count} at {at:x}"
-    );
-    expect_as_put(rt, guest, (0, 0))
+    expect_of_run(put(guest, 1, at, count)? == Err(refusal), (at, count))?;
+    expect_as_put(guest, (0, 0))
 }
 
 /// That each of these runs can be put.
-fn expect_whole(rt: &impl Abort, alloc: Global, rows: &[(u64, usize)]) -> Result<(), Fail> {
+fn expect_whole(alloc: Global, rows: &[(u64, usize)]) -> Result<(), Fail> {
     for run in rows {
-        expect_whole_run(rt, alloc, *run)?;
+        expect_whole_run(alloc, *run)?;
     }
     Ok(())
 }
 
-fn expect_whole_run(rt: &impl Abort, alloc: Global, run: (u64, usize)) -> Result<(), Fail> {
+fn expect_whole_run(alloc: Global, run: (u64, usize)) -> Result<(), Fail> {
     let mut guest = begin(alloc, Begins::Runs(Hand::First))?;
-    expect_put(rt, &mut guest, 1, run)
+    expect_put(&mut guest, 1, run)
 }
 
 /// That each of these is refused.
-fn expect_each_refused(
-    rt: &impl Abort,
-    guest: &mut Guest,
-    rows: &[(u64, usize, MemErr)],
-) -> Result<(), Fail> {
+fn expect_each_refused(guest: &mut Guest, rows: &[(u64, usize, MemErr)]) -> Result<(), Fail> {
     for row in rows {
-        expect_refused(rt, guest, *row)?;
+        expect_refused(guest, *row)?;
     }
     Ok(())
 }
 
-fn expect_refused_of(
-    rt: &impl Abort,
-    alloc: Global,
-    rows: &[(u64, usize, MemErr)],
-) -> Result<(), Fail> {
+fn expect_refused_of(alloc: Global, rows: &[(u64, usize, MemErr)]) -> Result<(), Fail> {
     let mut guest = begin(alloc, Begins::Runs(Hand::First))?;
-    expect_each_refused(rt, &mut guest, rows)
+    expect_each_refused(&mut guest, rows)
 }
 
 #[test]
 fn a_run_is_put_in_its_place_and_no_other_byte_and_a_refused_one_puts_nothing(
     rt: HostRuntime,
 ) -> Result<(), Fail> {
-    expect_whole(&rt, rt.alloc(), &WHOLE)?;
-    expect_refused_of(&rt, rt.alloc(), &REFUSED)
+    expect_whole(rt.alloc(), &WHOLE)?;
+    expect_refused_of(rt.alloc(), &REFUSED)
 }
 
 /// Puts four bytes at the end of one page of the area, of which the last lies in the page behind. The byte before them
@@ -193,37 +173,40 @@ const LATER: [Act; 3] = [
 ];
 
 /// That where two addresses are one place the later byte stays.
-fn expect_later(rt: &impl Abort, alloc: Global) -> Result<(), Fail> {
+fn expect_later(alloc: Global) -> Result<(), Fail> {
     let bytes = page_and_two(alloc)?;
     let mut guest = begin(alloc, Begins::Runs(Hand::Both))?;
-    assert_eq!(rt; guest.write(1, 0x21_8000, &bytes), Ok(()));
-    guest.expect(rt, "later", &LATER)
+    expect_of_run(
+        guest.write(1, 0x21_8000, &bytes).is_ok(),
+        (0x21_8000, bytes.len()),
+    )?;
+    guest.expect("later", &LATER)
 }
 
 #[test]
 fn a_run_in_an_area_is_there_wherever_it_is_mapped_and_the_later_byte_stays(
     rt: HostRuntime,
 ) -> Result<(), Fail> {
-    expect_cases(&rt, rt.alloc(), &CASES)?;
-    expect_later(&rt, rt.alloc())
+    expect_cases(rt.alloc(), &CASES)?;
+    expect_later(rt.alloc())
 }
 
 /// That a child that is written leaves its parent its bytes.
-fn expect_apart(rt: &impl Abort, guest: &mut Guest) -> Result<(), Fail> {
-    guest.expect(rt, "a child", &[Act::Forks(0), Act::Turns(0)])?;
-    expect_put(rt, guest, 2, (0x20_0abc, 8192))?;
-    guest.expect(rt, "the parent", &[Act::Turns(0)])?;
-    expect_as_put(rt, guest, (0, 0))
+fn expect_apart(guest: &mut Guest) -> Result<(), Fail> {
+    guest.expect("a child", &[Act::Forks(0), Act::Turns(0)])?;
+    expect_put(guest, 2, (0x20_0abc, 8192))?;
+    guest.expect("the parent", &[Act::Turns(0)])?;
+    expect_as_put(guest, (0, 0))
 }
 
-fn expect_child(rt: &impl Abort, alloc: Global) -> Result<(), Fail> {
+fn expect_child(alloc: Global) -> Result<(), Fail> {
     let mut guest = begin(alloc, Begins::Runs(Hand::First))?;
-    expect_apart(rt, &mut guest)
+    expect_apart(&mut guest)
 }
 
 #[test]
 fn a_child_that_is_written_leaves_its_parent_its_bytes(rt: HostRuntime) -> Result<(), Fail> {
-    expect_child(&rt, rt.alloc())
+    expect_child(rt.alloc())
 }
 
 /// Task 1 reserves eight bytes; a task puts a run; whether task 1 has its reservation then.
@@ -250,30 +233,26 @@ const RESERVED: [Met; 14] = [
 type Met = (u64, u32, u64, usize, bool);
 
 /// That a run of so many bytes ends task 1's reservation or not.
-fn expect_met(
-    rt: &impl Abort,
-    guest: &mut Guest,
-    (reserved, task, at, count, is_held): Met,
-) -> Result<(), Fail> {
-    assert!(rt; guest.reserve(1, reserved, 8));
-    assert_eq!(rt; put(guest, task, at, count)?, Ok(()), "{count} at {at:x}");
-    assert_eq!(rt; guest.take(1, reserved, 8), is_held, "{count} at {at:x}");
-    Ok(())
+fn expect_met(guest: &mut Guest, (reserved, task, at, count, is_held): Met) -> Result<(), Fail> {
+    let is_reserved = guest.reserve(1, reserved, 8);
+    let is_put = put(guest, task, at, count)?.is_ok();
+    let is_taken = guest.take(1, reserved, 8);
+    expect_of_run(is_reserved && is_put && is_taken == is_held, (at, count))
 }
 
-fn expect_met_or_not(rt: &impl Abort, alloc: Global, row: Met) -> Result<(), Fail> {
+fn expect_met_or_not(alloc: Global, row: Met) -> Result<(), Fail> {
     let mut guest = begin(alloc, Begins::Runs(Hand::Both))?;
-    expect_met(rt, &mut guest, row)
+    expect_met(&mut guest, row)
 }
 
-fn expect_each_met(rt: &impl Abort, alloc: Global, rows: &[Met]) -> Result<(), Fail> {
+fn expect_each_met(alloc: Global, rows: &[Met]) -> Result<(), Fail> {
     for row in rows {
-        expect_met_or_not(rt, alloc, *row)?;
+        expect_met_or_not(alloc, *row)?;
     }
     Ok(())
 }
 
 #[test]
 fn a_run_ends_the_reservations_of_others_that_it_meets(rt: HostRuntime) -> Result<(), Fail> {
-    expect_each_met(&rt, rt.alloc(), &RESERVED)
+    expect_each_met(rt.alloc(), &RESERVED)
 }

@@ -1,19 +1,18 @@
-//! What is done in address spaces, one after another, and what comes of each: tests are tables of these.
+//! What is done in an address space, with what is expected of it: tests are tables of these.
 
 use crate::fixture::{area, fixture};
 use crate::guest::{Guest, Mapped, Put, Word, areas_of};
-use crate::pair::{Side, pair};
+use crate::pair::{Side, pair_of};
 use crate::run_fixture::{Hand, run_guest};
 use mm_areas::{AreaErr, Backing};
 use rv_table::{Area, MemErr};
 use std::alloc::Global;
-use std::process::Abort;
 use std::test::Fail;
 
 /// What is done in a space, with what is expected of it last. The first number of a store, and of what is reserved, is
 /// the task's.
 #[derive(Clone, Copy)]
-pub(crate) enum Act {
+pub enum Act {
     /// A load: address, width, and what it is answered.
     Loads(u64, u8, Result<u64, MemErr>),
     /// A fetch: address, and what it is answered.
@@ -89,7 +88,7 @@ fn put_of(task: u32, at: u64, width: u8, value: u64) -> Put {
 impl Guest {
     /// Does that, and answers whether it comes to what is expected.
     #[rattlefmt::skip]
-    pub(crate) fn does(&mut self, act: Act) -> Result<bool, Fail> {
+    pub fn does(&mut self, act: Act) -> Result<bool, Fail> {
         match act {
             Act::Loads(at, width, told) => Ok(self.load(at, width) == told),
             Act::Fetches(at, told) => Ok(self.fetch(at) == told),
@@ -128,17 +127,11 @@ impl Guest {
     }
 
     /// That each of these comes to what is expected, one after another.
-    pub(crate) fn expect(&mut self, rt: &impl Abort, name: &str, acts: &[Act]) -> Result<(), Fail> {
+    pub fn expect(&mut self, name: &str, acts: &[Act]) -> Result<(), Fail> {
         for (index, act) in acts.iter().enumerate() {
-            assert!(rt; self.does(*act)?, "{name}: act {index}");
-        }
-        Ok(())
-    }
-
-    /// That each of these lists does, one behind another.
-    fn expect_lists(&mut self, rt: &impl Abort, lists: &[&[Act]]) -> Result<(), Fail> {
-        for acts in lists {
-            self.expect(rt, "of several lists", acts)?;
+            if !self.does(*act)? {
+                return Err(Fail::new(format_args!("{name}: act {index}")));
+            }
         }
         Ok(())
     }
@@ -146,7 +139,7 @@ impl Guest {
 
 /// What a guest begins with.
 #[derive(Clone, Copy)]
-pub(crate) enum Begins {
+pub enum Begins {
     /// The fixture, and no area in hand.
     Fixture,
     /// The fixture of runs, with these areas in hand.
@@ -158,43 +151,11 @@ pub(crate) enum Begins {
 }
 
 /// A guest that begins so.
-pub(crate) fn begin(alloc: Global, begins: Begins) -> Result<Guest, Fail> {
+pub fn begin(alloc: Global, begins: Begins) -> Result<Guest, Fail> {
     match begins {
         Begins::Fixture => fixture(alloc),
         Begins::Runs(hand) => run_guest(alloc, hand),
-        Begins::Pair(first, second) => pair(alloc, first, second),
+        Begins::Pair(first, second) => pair_of(alloc, first, second),
         Begins::With(rows) => Ok(Guest::of(alloc, areas_of(alloc, rows)?)),
     }
-}
-
-/// What is done, by a sentence that says what is so of it.
-#[derive(Clone, Copy)]
-pub(crate) struct Case {
-    pub(crate) name: &'static str,
-    pub(crate) begins: Begins,
-    pub(crate) acts: &'static [Act],
-}
-
-/// That a guest that begins so comes to what is expected of each of these, one behind another.
-pub(crate) fn expect_lists(
-    rt: &impl Abort,
-    alloc: Global,
-    begins: Begins,
-    lists: &[&[Act]],
-) -> Result<(), Fail> {
-    let mut guest = begin(alloc, begins)?;
-    guest.expect_lists(rt, lists)
-}
-
-fn expect_case(rt: &impl Abort, alloc: Global, case: &Case) -> Result<(), Fail> {
-    let mut guest = begin(alloc, case.begins)?;
-    guest.expect(rt, case.name, case.acts)
-}
-
-/// That each of these comes to what is expected.
-pub(crate) fn expect_cases(rt: &impl Abort, alloc: Global, cases: &[Case]) -> Result<(), Fail> {
-    for case in cases {
-        expect_case(rt, alloc, case)?;
-    }
-    Ok(())
 }

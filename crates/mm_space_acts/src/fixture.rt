@@ -41,7 +41,7 @@ fn fill(alloc: Global, areas: &mut Areas) -> Result<(), Fail> {
 }
 
 /// A guest with that space, and no area in hand.
-pub(crate) fn fixture(alloc: Global) -> Result<Guest, Fail> {
+pub fn fixture(alloc: Global) -> Result<Guest, Fail> {
     let mut areas = areas_of(alloc, &MAPPED)?;
     fill(alloc, &mut areas)?;
     Ok(Guest::of(alloc, areas))
@@ -49,7 +49,7 @@ pub(crate) fn fixture(alloc: Global) -> Result<Guest, Fail> {
 
 /// An area of so many pages, of which the first holds `head` at its begin and the last `tail` at its end, if there are
 /// any.
-pub(crate) fn area(
+pub fn area(
     alloc: Global,
     name: Area,
     pages: usize,

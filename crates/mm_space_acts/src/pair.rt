@@ -17,19 +17,19 @@ use rv_table::{Area, MemErr};
 use std::alloc::Global;
 use std::test::Fail;
 
-pub(crate) const THIRD: Area = Area { place: 3, index: 2 };
+pub const THIRD: Area = Area { place: 3, index: 2 };
 
-pub(crate) const SHORT: Area = Area { place: 4, index: 0 };
+pub const SHORT: Area = Area { place: 4, index: 0 };
 
 /// The bytes 0xa1 to 0xa8.
-pub(crate) const LOW: u64 = 0xa8a7_a6a5_a4a3_a2a1;
+pub const LOW: u64 = 0xa8a7_a6a5_a4a3_a2a1;
 
 /// The bytes 0xb1 to 0xb8.
-pub(crate) const HIGH: u64 = 0xb8b7_b6b5_b4b3_b2b1;
+pub const HIGH: u64 = 0xb8b7_b6b5_b4b3_b2b1;
 
 /// What a page is.
 #[derive(Clone, Copy, PartialEq, Eq)]
-pub(crate) enum Side {
+pub enum Side {
     Private,
     ReadOnly,
     Missing,
@@ -37,7 +37,7 @@ pub(crate) enum Side {
 }
 
 /// A guest with two such pages.
-pub(crate) fn pair(alloc: Global, first: Side, second: Side) -> Result<Guest, Fail> {
+pub fn pair_of(alloc: Global, first: Side, second: Side) -> Result<Guest, Fail> {
     let mut guest = Guest::of(alloc, areas(alloc, first, second)?);
     begin(&mut guest)?;
     Ok(guest)
@@ -91,7 +91,7 @@ fn has_reserved_four(guest: &mut Guest) -> bool {
 }
 
 /// What the first page's last eight bytes are, before a store.
-pub(crate) fn first_bytes(side: Side) -> Result<u64, MemErr> {
+pub fn first_bytes(side: Side) -> Result<u64, MemErr> {
     match side {
         Side::Private => Ok(LOW),
         Side::ReadOnly => Ok(LOW),
@@ -107,7 +107,7 @@ pub(crate) fn first_bytes(side: Side) -> Result<u64, MemErr> {
 }
 
 /// What the second page's first eight bytes are, before a store.
-pub(crate) fn second_bytes(side: Side) -> Result<u64, MemErr> {
+pub fn second_bytes(side: Side) -> Result<u64, MemErr> {
     match side {
         Side::Private => Ok(HIGH),
         Side::ReadOnly => Ok(HIGH),

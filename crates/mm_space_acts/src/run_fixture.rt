@@ -20,7 +20,7 @@ use std::alloc::Global;
 use std::test::Fail;
 
 /// The byte at an address: pages differ, and no page repeats at a power of two.
-pub(crate) fn pattern(address: u64) -> u8 {
+pub fn pattern(address: u64) -> u8 {
     ((address / 4096 % 16 * 13 + address % 4096) % 251) as u8
 }
 
@@ -67,14 +67,14 @@ fn fill_each(alloc: Global, areas: &mut Areas) -> Result<(), Fail> {
 
 /// Which areas are in hand.
 #[derive(Clone, Copy, PartialEq, Eq)]
-pub(crate) enum Hand {
+pub enum Hand {
     Nothing,
     First,
     Both,
 }
 
 /// A guest with that space, and these areas in hand.
-pub(crate) fn run_guest(alloc: Global, hand: Hand) -> Result<Guest, Fail> {
+pub fn run_guest(alloc: Global, hand: Hand) -> Result<Guest, Fail> {
     let mut areas = areas_of(alloc, &MAPPED)?;
     fill_each(alloc, &mut areas)?;
     let mut guest = Guest::of(alloc, areas);
@@ -113,4 +113,13 @@ fn fill_frames(alloc: Global, frames: &mut Frames, at: u64) -> Result<(), Fail> 
         }
     }
     Ok(())
+}
+
+/// That this is so of a run of so many bytes from an address on.
+pub fn expect_of_run(is_so: bool, (at, count): (u64, usize)) -> Result<(), Fail> {
+    if is_so {
+        Ok(())
+    } else {
+        Err(Fail::new(format_args!("{count} at {at:x}")))
+    }
 }

@@ -13,27 +13,27 @@ use std::alloc::Global;
 use std::mem;
 use std::test::Fail;
 
-pub(crate) const FIRST: Area = Area { place: 3, index: 0 };
+pub const FIRST: Area = Area { place: 3, index: 0 };
 
-pub(crate) const SECOND: Area = Area { place: 3, index: 1 };
+pub const SECOND: Area = Area { place: 3, index: 1 };
 
 /// Rights, by the bits of mmap(2).
-pub(crate) const READ: u8 = 1;
+pub const READ: u8 = 1;
 
-pub(crate) const WRITE: u8 = 2;
+pub const WRITE: u8 = 2;
 
-pub(crate) const EXECUTE: u8 = 4;
+pub const EXECUTE: u8 = 4;
 
 /// The rights of these bits.
-pub(crate) fn rights(bits: u8) -> Rights {
+pub fn rights(bits: u8) -> Rights {
     Rights::of(bits & READ != 0, bits & WRITE != 0, bits & EXECUTE != 0)
 }
 
 /// What is mapped somewhere: where it begins, how long it is, its rights, and what it has.
-pub(crate) type Mapped = (u64, u64, u8, Backing);
+pub type Mapped = (u64, u64, u8, Backing);
 
 /// Areas with that.
-pub(crate) fn areas_of(alloc: Global, rows: &[Mapped]) -> Result<Areas, Fail> {
+pub fn areas_of(alloc: Global, rows: &[Mapped]) -> Result<Areas, Fail> {
     let mut areas = Areas::new(alloc, 4096);
     for row in rows {
         map_range(alloc, &mut areas, *row)?;
@@ -42,14 +42,14 @@ pub(crate) fn areas_of(alloc: Global, rows: &[Mapped]) -> Result<Areas, Fail> {
 }
 
 /// Maps a range.
-pub(crate) fn map_range(alloc: Global, areas: &mut Areas, range: Mapped) -> Result<(), Fail> {
+pub fn map_range(alloc: Global, areas: &mut Areas, range: Mapped) -> Result<(), Fail> {
     let (at, length, bits, backing) = range;
     areas.map(alloc, Some(at), length, rights(bits), backing)?;
     Ok(())
 }
 
 /// These pages as an area that is in hand, without reservations.
-pub(crate) fn area_of(alloc: Global, name: Area, frames: Frames) -> HandedArea {
+pub fn area_of(alloc: Global, name: Area, frames: Frames) -> HandedArea {
     HandedArea {
         name,
         area: SharedArea {
@@ -73,16 +73,16 @@ fn width_of(width: u8) -> u8
 
 /// A store of so many of a number's bytes, of a width that an access has, by a task.
 #[derive(Clone, Copy)]
-pub(crate) struct Put {
-    pub(crate) task: u32,
-    pub(crate) at: u64,
-    pub(crate) width: u8,
-    pub(crate) value: u64,
+pub struct Put {
+    pub task: u32,
+    pub at: u64,
+    pub width: u8,
+    pub value: u64,
 }
 
 /// What a word is, of those that the tests store.
 #[derive(Clone, Copy, PartialEq, Eq)]
-pub(crate) enum Word {
+pub enum Word {
     Addi,
     Sub,
     Ecall,
@@ -93,23 +93,23 @@ pub(crate) enum Word {
 
 /// An address space and the areas in hand, hints, two more spaces, and areas that aren't in hand.
 #[derive(Drop)]
-pub(crate) struct Guest {
-    pub(crate) alloc: Global,
-    pub(crate) space: Space,
-    pub(crate) handed: Handed,
-    pub(crate) hints: Hints,
-    pub(crate) others: [Space; 2],
-    pub(crate) aside: Handed,
+pub struct Guest {
+    pub alloc: Global,
+    pub space: Space,
+    pub handed: Handed,
+    pub hints: Hints,
+    pub others: [Space; 2],
+    pub aside: Handed,
 }
 
 /// A space with that mapped.
-pub(crate) fn space_of(alloc: Global, rows: &[Mapped]) -> Result<Space, Fail> {
+pub fn space_of(alloc: Global, rows: &[Mapped]) -> Result<Space, Fail> {
     Ok(Space::of(alloc, areas_of(alloc, rows)?))
 }
 
 impl Guest {
     /// One with no area in hand.
-    pub(crate) fn of(alloc: Global, areas: Areas) -> Guest {
+    pub fn of(alloc: Global, areas: Areas) -> Guest {
         Guest {
             alloc,
             space: Space::of(alloc, areas),
@@ -124,13 +124,13 @@ impl Guest {
     }
 
     /// Hands an area in.
-    pub(crate) fn hand(&mut self, area: HandedArea) -> Result<bool, Fail> {
+    pub fn hand(&mut self, area: HandedArea) -> Result<bool, Fail> {
         self.handed.push(area)?;
         Ok(true)
     }
 
     /// A child of its space is one of the others.
-    pub(crate) fn fork(&mut self, which: usize) -> Result<bool, Fail> {
+    pub fn fork(&mut self, which: usize) -> Result<bool, Fail> {
         let child = self.space.fork(self.alloc)?;
         if which < 2 {
             self.others[which] = child;
@@ -139,7 +139,7 @@ impl Guest {
     }
 
     /// One of the others ends: nothing is mapped in it.
-    pub(crate) fn end(&mut self, which: usize) -> Result<bool, Fail> {
+    pub fn end(&mut self, which: usize) -> Result<bool, Fail> {
         if which < 2 {
             self.others[which] = Space::of(self.alloc, Areas::new(self.alloc, 4096));
         }
@@ -147,7 +147,7 @@ impl Guest {
     }
 
     /// Its space and one of the others change places.
-    pub(crate) fn turn(&mut self, which: usize) -> Result<bool, Fail> {
+    pub fn turn(&mut self, which: usize) -> Result<bool, Fail> {
         if which < 2 {
             mem::swap(&mut self.others[which], &mut self.space);
         }
@@ -155,12 +155,12 @@ impl Guest {
     }
 
     /// The areas in hand and those that aren't change places.
-    pub(crate) fn swap_areas(&mut self) -> Result<bool, Fail> {
+    pub fn swap_areas(&mut self) -> Result<bool, Fail> {
         mem::swap(&mut self.handed, &mut self.aside);
         Ok(true)
     }
 
-    pub(crate) fn map(
+    pub fn map(
         &mut self,
         at: Option<u64>,
         length: u64,
@@ -171,39 +171,39 @@ impl Guest {
             .map(self.alloc, at, length, rights(bits), backing)
     }
 
-    pub(crate) fn unmap(&mut self, at: u64, length: u64) -> Result<(), AreaErr> {
+    pub fn unmap(&mut self, at: u64, length: u64) -> Result<(), AreaErr> {
         self.space.unmap(at, length)
     }
 
-    pub(crate) fn protect(&mut self, at: u64, length: u64, bits: u8) -> Result<(), AreaErr> {
+    pub fn protect(&mut self, at: u64, length: u64, bits: u8) -> Result<(), AreaErr> {
         self.space.protect(at, length, rights(bits))
     }
 
     /// Moves the break, and tells where it is then, unless memory is wanting.
-    pub(crate) fn brk(&mut self, to: u64) -> Option<u64> {
+    pub fn brk(&mut self, to: u64) -> Option<u64> {
         self.space.brk(self.alloc, to).ok()
     }
 
     /// How many pages are mapped.
-    pub(crate) fn pages(&self) -> u64 {
+    pub fn pages(&self) -> u64 {
         self.space.areas().len()
     }
 
     /// Whether a page has its bytes for itself.
-    pub(crate) fn is_own(&self, page: u64) -> bool {
+    pub fn is_own(&self, page: u64) -> bool {
         self.space.areas().is_own(page)
     }
 
     /// A load of so many bytes, of a width that an access has.
-    pub(crate) fn load(&self, at: u64, width: u8) -> Result<u64, MemErr> {
+    pub fn load(&self, at: u64, width: u8) -> Result<u64, MemErr> {
         self.space.load(&self.handed, at, width_of(width))
     }
 
-    pub(crate) fn fetch(&self, at: u64) -> Result<u32, MemErr> {
+    pub fn fetch(&self, at: u64) -> Result<u32, MemErr> {
         self.space.fetch(&self.handed, at)
     }
 
-    pub(crate) fn store(&mut self, put: Put) -> Result<(), MemErr> {
+    pub fn store(&mut self, put: Put) -> Result<(), MemErr> {
         let Put {
             task,
             at,
@@ -220,85 +220,85 @@ impl Guest {
         )
     }
 
-    pub(crate) fn writable(&mut self, at: u64, count: u8) -> Result<(), MemErr> {
+    pub fn writable(&mut self, at: u64, count: u8) -> Result<(), MemErr> {
         self.space.writable(self.alloc, &mut self.handed, at, count)
     }
 
     /// Whether a run of so many bytes may be accessed by a right.
-    pub(crate) fn allowed(&self, bits: u8, at: u64, count: usize) -> Result<(), MemErr> {
+    pub fn allowed(&self, bits: u8, at: u64, count: usize) -> Result<(), MemErr> {
         self.space.allowed(&self.handed, rights(bits), at, count)
     }
 
     /// Puts a run of bytes, by a task.
-    pub(crate) fn write(&mut self, task: u32, at: u64, bytes: &[u8]) -> Result<(), MemErr> {
+    pub fn write(&mut self, task: u32, at: u64, bytes: &[u8]) -> Result<(), MemErr> {
         self.space
             .write(self.alloc, &mut self.handed, task, at, bytes)
     }
 
     /// Whether these bytes can be read.
-    pub(crate) fn has_bytes(&self, at: u64, bytes: &[u8]) -> Result<bool, Fail> {
+    pub fn has_bytes(&self, at: u64, bytes: &[u8]) -> Result<bool, Fail> {
         let mut found = vec![in self.alloc; 0; bytes.len()]?;
         let told = self.space.read(&self.handed, at, &mut found);
         Ok(told.is_ok() && found.as_slice() == bytes)
     }
 
     /// Reserves something, and tells whether it was done.
-    pub(crate) fn reserve(&mut self, task: u32, at: u64, width: u8) -> bool {
+    pub fn reserve(&mut self, task: u32, at: u64, width: u8) -> bool {
         self.space
             .reserve(&mut self.handed, task, at, width)
             .is_ok()
     }
 
     /// Whether something was reserved, which it then isn't.
-    pub(crate) fn take(&mut self, task: u32, at: u64, width: u8) -> bool {
+    pub fn take(&mut self, task: u32, at: u64, width: u8) -> bool {
         self.space.take(&mut self.handed, task, at, width)
     }
 
     /// How many reservations there are in an area in hand.
-    pub(crate) fn reservations(&self, name: Area) -> Option<usize> {
+    pub fn reservations(&self, name: Area) -> Option<usize> {
         Some(self.handed.get(name)?.reservations.len())
     }
 
     /// How many pages an area in hand has.
-    pub(crate) fn area_pages(&self, name: Area) -> Option<usize> {
+    pub fn area_pages(&self, name: Area) -> Option<usize> {
         Some(self.handed.get(name)?.frames.len())
     }
 
     /// A byte of the first page of an area in hand.
-    pub(crate) fn area_byte(&self, name: Area, offset: usize) -> Option<u8> {
+    pub fn area_byte(&self, name: Area, offset: usize) -> Option<u8> {
         self.handed.get(name)?.frames.byte(0, offset)
     }
 
     /// A load by a hint.
-    pub(crate) fn load_near(&mut self, at: u64, width: u8) -> Option<u64> {
+    pub fn load_near(&mut self, at: u64, width: u8) -> Option<u64> {
         self.space.load_near(&mut self.hints, at, width_of(width))
     }
 
     /// A store by a hint.
-    pub(crate) fn store_near(&mut self, put: Put) -> bool {
+    pub fn store_near(&mut self, put: Put) -> bool {
         let width = width_of(put.width);
         self.space
             .store_near(&mut self.hints, put.task, put.at, width, put.value)
     }
 
     /// A store-conditional by a hint.
-    pub(crate) fn conditional_near(&mut self, put: Put) -> Option<bool> {
+    pub fn conditional_near(&mut self, put: Put) -> Option<bool> {
         let width = width_of(put.width);
         self.space
             .conditional_near(&mut self.hints, put.task, put.at, width, put.value)
     }
 
-    pub(crate) fn decode(&mut self, page: u64) -> bool {
+    pub fn decode(&mut self, page: u64) -> bool {
         self.space.decode(self.alloc, page)
     }
 
     /// Whether the words of a page are there.
-    pub(crate) fn has_words(&self, page: u64) -> bool {
+    pub fn has_words(&self, page: u64) -> bool {
         self.space.words(page).is_some()
     }
 
     /// How many of 200 pages from the page 256 on have their words there.
-    pub(crate) fn decoded(&self) -> u64 {
+    pub fn decoded(&self) -> u64 {
         let mut count = 0u64;
         for page in 256..456 {
             if self.has_words(page) {
@@ -314,7 +314,7 @@ impl Guest {
     }
 
     /// What it is.
-    pub(crate) fn word(&self, index: usize) -> Word {
+    pub fn word(&self, index: usize) -> Word {
         match self.instr(index) {
             Some(Instr::Addi { .. }) => Word::Addi,
             Some(Instr::Sub { .. }) => Word::Sub,
@@ -327,7 +327,7 @@ impl Guest {
 
     /// Takes the words of the page 256, decodes the page 320, which has their place, and puts the words back: whether
     /// the first was without its words meanwhile, and the second could be decoded.
-    pub(crate) fn put_back(&mut self) -> bool {
+    pub fn put_back(&mut self) -> bool {
         let row = self.space.take_words(256);
         let is_taken = self.space.words(256).is_none();
         let is_decoded = self.space.decode(self.alloc, 320);
