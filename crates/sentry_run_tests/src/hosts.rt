@@ -1,10 +1,8 @@
 //! Runs over a host some of whose calls are to fail.
 
-use crate::cases::{Case, QUIET, expect_cases};
-use crate::told::Expected;
-use crate::worlds::{Failing, Host};
 use host_memory::Op;
 use sentry_run::Fault;
+use sentry_run_cases::{Case, Expected, Failing, Host, QUIET, expect_cases};
 use sn_errno::Errno;
 use std::test::Fail;
 
@@ -89,7 +87,7 @@ const SECOND_CALLS: [Case; 5] = [
 fn a_call_of_the_host_that_fails_is_told_and_each_is_made_once(
     rt: HostRuntime,
 ) -> Result<(), Fail> {
-    expect_cases(&rt, rt.alloc(), &GRANTS)?;
-    expect_cases(&rt, rt.alloc(), &CALLS)?;
-    expect_cases(&rt, rt.alloc(), &SECOND_CALLS)
+    expect_cases(rt.alloc(), &GRANTS)?;
+    expect_cases(rt.alloc(), &CALLS)?;
+    expect_cases(rt.alloc(), &SECOND_CALLS)
 }

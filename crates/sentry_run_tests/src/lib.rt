@@ -12,19 +12,11 @@
 #![tactic(auto)]
 
 #[cfg(test)]
-mod cases;
-#[cfg(test)]
 mod hosts;
 #[cfg(test)]
 mod memory;
 #[cfg(test)]
-mod memory_guests;
-#[cfg(test)]
-mod mount_files;
-#[cfg(test)]
 mod mounts;
-#[cfg(test)]
-mod narrow;
 #[cfg(test)]
 mod placed;
 #[cfg(test)]
@@ -32,16 +24,8 @@ mod prints;
 #[cfg(test)]
 mod refusals;
 #[cfg(test)]
-mod replays;
-#[cfg(test)]
 mod runs;
-#[cfg(test)]
-mod several;
 #[cfg(test)]
 mod tasks;
 #[cfg(test)]
-mod told;
-#[cfg(test)]
 mod traps;
-#[cfg(test)]
-mod worlds;

@@ -1,9 +1,6 @@
 //! Guests that use memory: their text and their trace, and that a plain kernel does the trace too.
 
-use crate::cases::{Case, QUIET, expect_cases};
-use crate::mount_files::{MountFile, Words};
-use crate::told::Expected;
-use crate::worlds::Host;
+use sentry_run_cases::{Case, Expected, Host, MountFile, QUIET, Words, expect_cases};
 use sn_vectors::programs::{ATOMICS, JUMPS_INTO_A_SHARED_PAGE, STORES, STORES_WITHOUT_THE_RIGHT};
 use std::test::Fail;
 
@@ -100,6 +97,6 @@ const REPLAYS: [Case; 8] = [
 fn guests_use_memory_and_a_plain_kernel_does_each_entry_of_their_traces_too(
     rt: HostRuntime,
 ) -> Result<(), Fail> {
-    expect_cases(&rt, rt.alloc(), &GUESTS)?;
-    expect_cases(&rt, rt.alloc(), &REPLAYS)
+    expect_cases(rt.alloc(), &GUESTS)?;
+    expect_cases(rt.alloc(), &REPLAYS)
 }

@@ -1,12 +1,9 @@
 //! Runs of mount files that are refused, and of what a task may be given.
 
-use crate::cases::{Case, QUIET, expect_cases};
-use crate::mount_files::{MountFile, Table};
-use crate::told::Expected;
-use crate::worlds::Failing;
 use host_memory::Op;
 use mount_file::MountFault;
 use sentry_run::Fault;
+use sentry_run_cases::{Case, Expected, Failing, MountFile, QUIET, Table, expect_cases};
 use sn_errno::Errno;
 use std::test::Fail;
 
@@ -98,7 +95,7 @@ const TASKS: [Case; 3] = [
 fn a_mount_file_with_a_fault_is_refused_with_it_and_a_task_has_its_strings(
     rt: HostRuntime,
 ) -> Result<(), Fail> {
-    expect_cases(&rt, rt.alloc(), &TEXTS)?;
-    expect_cases(&rt, rt.alloc(), &SAID)?;
-    expect_cases(&rt, rt.alloc(), &TASKS)
+    expect_cases(rt.alloc(), &TEXTS)?;
+    expect_cases(rt.alloc(), &SAID)?;
+    expect_cases(rt.alloc(), &TASKS)
 }

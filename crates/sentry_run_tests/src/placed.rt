@@ -4,13 +4,10 @@ ghost use Rattle.std.specs.Prelude.{◌≡◌, Some, refl, true};
 ghost use Rattle.host_node.specs.Tree.{faults_of, kind_of, none_lent};
 ghost use Rattle.host_memory.specs.Access.{opened_as};
 
-use crate::cases::{QUIET, run};
-use crate::mount_files::{source_of, words_of};
-use crate::told::TEXT;
-use crate::worlds::world_of;
 use host_memory::{MemoryNode, Plan, World};
 use host_node::{Attr, HostErr, HostNode, HostWorld, Kind, Listing, Tree};
 use sentry_run::Fault;
+use sentry_run_cases::{QUIET, QUIET_TEXT, run, source_of, words_of, world_of};
 use sn_base::Memory;
 use sn_edge::{MemSink, MemSource};
 use sn_text::{Folder, Name, Route, name_of};
@@ -190,7 +187,7 @@ fn each_call_of_a_run_names_the_place_of_its_node(rt: HostRuntime) -> Result<(),
     let mut out = MemSink::new(rt.alloc());
     let fault = run_placed(rt.alloc(), &mut out)?;
     assert_eq!(rt; fault, Fault::Done);
-    assert_eq!(rt; out.bytes(), TEXT);
+    assert_eq!(rt; out.bytes(), QUIET_TEXT);
     Ok(())
 }
 

@@ -1,9 +1,6 @@
 //! Guests that print, and what calls answer them.
 
-use crate::cases::{Case, QUIET, expect_cases};
-use crate::mount_files::Words;
-use crate::told::Expected;
-use crate::worlds::Host;
+use sentry_run_cases::{Case, Expected, Host, QUIET, Words, expect_cases};
 use sn_vectors::programs::{ATOMICS, STORES};
 use sn_vectors::words::*;
 use std::test::Fail;
@@ -112,6 +109,6 @@ const WRITES: [Case; 4] = [
 
 #[test]
 fn a_guest_prints_what_it_finds_while_there_is_room(rt: HostRuntime) -> Result<(), Fail> {
-    expect_cases(&rt, rt.alloc(), &LINES)?;
-    expect_cases(&rt, rt.alloc(), &WRITES)
+    expect_cases(rt.alloc(), &LINES)?;
+    expect_cases(rt.alloc(), &WRITES)
 }

@@ -1,10 +1,8 @@
 //! Programs that can't be run, with the error of each.
 
-use crate::cases::{Case, QUIET, expect_cases};
-use crate::told::Expected;
-use crate::worlds::{Failing, Host};
 use host_memory::Op;
 use sentry_run::Fault;
+use sentry_run_cases::{Case, Expected, Failing, Host, QUIET, expect_cases};
 use sn_errno::Errno;
 use std::test::Fail;
 
@@ -90,6 +88,6 @@ const IMAGES: [Case; 7] = [
 fn a_program_that_is_no_executable_file_or_no_image_is_refused(
     rt: HostRuntime,
 ) -> Result<(), Fail> {
-    expect_cases(&rt, rt.alloc(), &NODES)?;
-    expect_cases(&rt, rt.alloc(), &IMAGES)
+    expect_cases(rt.alloc(), &NODES)?;
+    expect_cases(rt.alloc(), &IMAGES)
 }

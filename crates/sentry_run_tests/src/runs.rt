@@ -1,12 +1,9 @@
 //! Runs of a guest that writes nothing: their texts and traces, words that are no command, and what fails before and
 //! behind it.
 
-use crate::cases::{Case, QUIET, expect_cases};
-use crate::mount_files::{MountFile, Words};
-use crate::told::Expected;
-use crate::worlds::Failing;
 use mount_file::MountFault;
 use sentry_run::Fault;
+use sentry_run_cases::{Case, Expected, Failing, MountFile, QUIET, Words, expect_cases};
 use std::test::Fail;
 
 /// The text without a task that has ended.
@@ -140,8 +137,8 @@ const SINKS: [Case; 7] = [
 fn a_run_comes_to_its_text_and_trace_and_what_fails_around_it_is_told(
     rt: HostRuntime,
 ) -> Result<(), Fail> {
-    expect_cases(&rt, rt.alloc(), &RUNS)?;
-    expect_cases(&rt, rt.alloc(), &NO_COMMANDS)?;
-    expect_cases(&rt, rt.alloc(), &SOURCES)?;
-    expect_cases(&rt, rt.alloc(), &SINKS)
+    expect_cases(rt.alloc(), &RUNS)?;
+    expect_cases(rt.alloc(), &NO_COMMANDS)?;
+    expect_cases(rt.alloc(), &SOURCES)?;
+    expect_cases(rt.alloc(), &SINKS)
 }

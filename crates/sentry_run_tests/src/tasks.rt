@@ -1,13 +1,11 @@
 //! Runs of several tasks: their turns, their numbers, and which of them can't begin.
 
-use crate::cases::{Case, QUIET, expect_cases};
-use crate::mount_files::{MountFile, Table, Words};
-use crate::several::Several;
-use crate::told::Expected;
-use crate::worlds::{Failing, Host};
 use host_memory::Op;
 use mount_file::MountFault;
 use sentry_run::Fault;
+use sentry_run_cases::{
+    Case, Expected, Failing, Host, MountFile, QUIET, Several, Table, Words, expect_cases,
+};
 use sn_errno::Errno;
 use sn_vectors::words::*;
 use std::test::Fail;
@@ -236,14 +234,14 @@ const REPLAYS: [Case; 4] = [
 fn tasks_take_turns_under_numbers_of_their_own_and_a_plain_kernel_does_their_traces_too(
     rt: HostRuntime,
 ) -> Result<(), Fail> {
-    expect_cases(&rt, rt.alloc(), &TURNS)?;
-    expect_cases(&rt, rt.alloc(), &NUMBERS)?;
-    expect_cases(&rt, rt.alloc(), &REPLAYS)
+    expect_cases(rt.alloc(), &TURNS)?;
+    expect_cases(rt.alloc(), &NUMBERS)?;
+    expect_cases(rt.alloc(), &REPLAYS)
 }
 
 #[test]
 fn the_first_task_that_cannot_begin_ends_the_run_and_leaves_the_folder_as_it_was(
     rt: HostRuntime,
 ) -> Result<(), Fail> {
-    expect_cases(&rt, rt.alloc(), &REFUSED)
+    expect_cases(rt.alloc(), &REFUSED)
 }

@@ -1,10 +1,7 @@
 //! Guests that a trap ends, each by its signal, and one that never ends.
 
-use crate::cases::{Case, QUIET, expect_cases};
-use crate::mount_files::{MountFile, Words};
-use crate::told::Expected;
-use crate::worlds::Host;
 use sentry_run::Fault;
+use sentry_run_cases::{Case, Expected, Host, MountFile, QUIET, Words, expect_cases};
 use sn_vectors::words::*;
 use std::test::Fail;
 
@@ -75,6 +72,6 @@ const FIRST_WORDS: [Case; 4] = [
 fn a_trap_ends_the_guest_by_its_signal_and_a_loop_fills_its_trace(
     rt: HostRuntime,
 ) -> Result<(), Fail> {
-    expect_cases(&rt, rt.alloc(), &TRAPS)?;
-    expect_cases(&rt, rt.alloc(), &FIRST_WORDS)
+    expect_cases(rt.alloc(), &TRAPS)?;
+    expect_cases(rt.alloc(), &FIRST_WORDS)
 }

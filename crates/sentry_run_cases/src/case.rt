@@ -1,4 +1,4 @@
-//! Runs as rows of tables: over what each goes, which call fails, and what is expected of it.
+//! A run as a row of a table: over what it goes, which call fails, and what is expected of it.
 
 ghost use Rattle.std.specs.Prelude.{◌≡◌, true};
 ghost use Rattle.host_node.specs.Tree.{none_lent};
@@ -13,7 +13,6 @@ use host_node::HostWorld;
 use sentry_run::{Outcome, run_sentry};
 use sn_edge::{MemSink, MemSource, Sink, Source};
 use std::alloc::Global;
-use std::process::Abort;
 use std::test::Fail;
 
 /// A run. A row has few bytes beside what is expected, since each test's proof has all of its table.
@@ -117,7 +116,7 @@ fn ran(
 }
 
 /// What a run came to.
-fn told(alloc: Global, case: &Case) -> Result<Told, Fail> {
+fn told_of(alloc: Global, case: &Case) -> Result<Told, Fail> {
     let words = words_of(alloc, case.words)?;
     let files = failing_source(alloc, case.mounts, case.failing)?;
     let out = failing_sink(alloc, case.failing)?;
@@ -126,29 +125,24 @@ fn told(alloc: Global, case: &Case) -> Result<Told, Fail> {
 }
 
 /// That each expectation holds of it.
-fn expect_all(
-    rt: &impl Abort,
-    alloc: Global,
-    told: &Told,
-    case: &Case,
-    number: usize,
-) -> Result<(), Fail> {
+fn expect_all(alloc: Global, told: &Told, case: &Case, number: usize) -> Result<(), Fail> {
     for (index, expected) in case.expected.iter().enumerate() {
-        let is_met = told.is_met(alloc, case.host, *expected)?;
-        assert!(rt; is_met, "case {number}: {index}");
+        if !told.is_met(alloc, case.host, *expected)? {
+            return Err(Fail::new(format_args!("case {number}: {index}")));
+        }
     }
     Ok(())
 }
 
-fn expect_case(rt: &impl Abort, alloc: Global, case: &Case, number: usize) -> Result<(), Fail> {
-    let told = told(alloc, case)?;
-    expect_all(rt, alloc, &told, case, number)
+fn expect_case(alloc: Global, case: &Case, number: usize) -> Result<(), Fail> {
+    let told = told_of(alloc, case)?;
+    expect_all(alloc, &told, case, number)
 }
 
 /// That each of these runs comes to what is expected.
-pub fn expect_cases(rt: &impl Abort, alloc: Global, cases: &[Case]) -> Result<(), Fail> {
+pub fn expect_cases(alloc: Global, cases: &[Case]) -> Result<(), Fail> {
     for (number, case) in cases.iter().enumerate() {
-        expect_case(rt, alloc, case, number)?;
+        expect_case(alloc, case, number)?;
     }
     Ok(())
 }

@@ -22,7 +22,7 @@ pub struct Told {
 }
 
 /// The text of the guest that writes nothing and exits, with its trace.
-pub const TEXT: &[u8] =
+pub const QUIET_TEXT: &[u8] =
     b"group 1 exit 0\n2 1 write 1 0 0 0 0 0 = 0\n4 1 exit_group 0 0 0 0 0 0 = ?\n";
 
 /// What is expected of a run.
@@ -88,8 +88,8 @@ impl Told {
             Expected::Refused(errno) => Ok(self.outcome.fault == Fault::Image { task: 1, errno }),
             Expected::Text(text) => Ok(self.out.bytes() == text),
             Expected::Front(front) => Ok(self.out.bytes().starts_with(front)),
-            Expected::Quiet => Ok(self.out.bytes() == TEXT),
-            Expected::QuietFront(length) => Ok(self.is_front(TEXT, length)),
+            Expected::Quiet => Ok(self.out.bytes() == QUIET_TEXT),
+            Expected::QuietFront(length) => Ok(self.is_front(QUIET_TEXT, length)),
             Expected::Length(length) => Ok(self.out.bytes().len() == length),
             Expected::NoMounts => Ok(self.outcome.mounts.is_none()),
             Expected::Tasks(count) => Ok(self.outcome.opening.tasks.len() == count),
