@@ -10,9 +10,9 @@
 //! Proved: with an opening task more the processes are the kernel with that task (`begun`). An entry is a step of the
 //! kernel that the processes are with that seed, whatever else stands beside them (`step`), and each of its Runs is
 //! whole (`whole`); want of memory leaves what some whole instructions, fewer than 10,000, have left, and each shared
-//! area as it was (`memory`). A run of turns is a history (`history`) each of whose entries is of the task whose turn it
-//! is (`turns`); it leaves the processes (`state`), is no longer than asked for (`bound`), and ends where no task lives
-//! or the trace is full (`ended`).
+//! area as it was (`memory`). A run of turns is a history (`history`), each of whose entries is of the task whose turn
+//! it is (`turns`); it leaves the processes (`state`), is no longer than asked for (`bound`), and ends where no task
+//! lives or the trace is full (`ended`).
 //!
 //! Not said: time, fairness, or what a host is.
 //!

@@ -1,6 +1,6 @@
 -- What a kernel's opening execve comes to is what was answered, and leaves the nodes that then stand.
-use Rattle.std.proofs.Common.{◌≡◌, ℕ, suc, ◌+◌, ◌≤◌, Bool, true, false, List, [], ◌∷◌, ◌++◌, length, refl, ap}
-use Rattle.std.proofs.Common.{sym, ◌∙◌, subst, arith}
+use Rattle.std.proofs.Common.{◌≡◌, ℕ, ◌+◌, ◌≤◌, Bool, true, false, List, [], ◌∷◌, ◌++◌, length, refl, ap}
+use Rattle.std.proofs.Common.{sym, ◌∙◌, subst}
 use Rattle.std.specs.Prelude.{Option, Ok, Err, unwrap_or, if◌then◌else◌}
 use Rattle.std.specs.Ordering.{nat_cmp}
 use Rattle.std.specs.FinMap as map
@@ -81,8 +81,8 @@ pub record Started (num : Numbering) (k : Kernel) (t : Shape) (names : List (Lis
   pub nodes : AreNodes num (changed changes k).nodes t names
   pub rest : changed changes k ≡ record k { nodes = (changed changes k).nodes }
 
--- the execve fails: what was drawn and met may be, the changes that it leaves, and that the root's tree then is what the
--- nodes give back
+-- the execve fails: what was drawn and met may be, the changes that it leaves, and that the root's tree then is what
+-- the nodes give back
 pub record Failed (num : Numbering) (k : Kernel) (p : Program) (given : Given) (errno : Errno) (root : Option Shape)
     (children : List Child) : Type 0 where
   pub changes : List Change

@@ -19,7 +19,6 @@ use Rattle.kernel_model.specs.declared.kernel.Part.{Part}
 use Rattle.kernel_model.specs.declared.kernel.Part.TheVariants.{OfTasks, OfTask, OfSpace, OfArea, OfNode, OfConsole}
 use Rattle.kernel_model.specs.declared.kernel.Part.TheVariants.{OfFaults}
 use Rattle.kernel_model.specs.declared.traps.Next.TheVariants.{Calls}
-use Rattle.kernel_model.specs.declared.opening.Fresh.{Fresh}
 use Rattle.kernel_model.specs.declared.opening.Given.{Given}
 use Rattle.kernel_model.specs.calls.Answers.{Replies, replies}
 use Rattle.kernel_model.specs.calls.Callers.{Context, context_of, caller_of}

@@ -28,25 +28,33 @@ use Rattle.plain_kernel.specs.Unused.{AreUnused}
 use Rattle.kernel_model.proofs.Trees.{outcome-bind}
 use Rattle.plain_kernel.proofs.NodesSoFar.{with_nodes_first, all_numbered_is}
 
+-- the number of the root of the mount at `/`, and what an execve of a name comes to that walked there
+abbrev slash : Kernel → ℕ
+slash k = root_of k.mounts
+
+abbrev goes : Kernel → List ℕ → Given → Walked → Executed
+goes k name given walked = outcome_in (parts k) (by_walk (slash k) name given walked)
+
 -- an execve that is not refused before it walks does as its walk comes out
 pub execve_is : (k : Kernel) (program : Program) (given : Given) (draws : Bool) (image : Result Image Errno)
     → is_too_long program.args program.env ≡ false
-    → outcome_in (parts k) (walk_of (root_of k.mounts) (name_in_path program.path)) ≡ record { draws = draws; image = image }
-    → outcome_in (parts k) (execve_of (root_of k.mounts) program given)
-    ≡ outcome_in (parts k) (by_walk (root_of k.mounts) (name_in_path program.path) given (record { draws = draws; image = image }))
+    → outcome_in (parts k) (walk_of (slash k) (name_in_path program.path)) ≡ record { draws = draws; image = image }
+    → outcome_in (parts k) (execve_of (slash k) program given)
+    ≡ goes k (name_in_path program.path) given (record { draws = draws; image = image })
 execve_is k program given draws image short walks =
-    ap (λ b. outcome_in (parts k) (cond b (by_walk (root_of k.mounts) (name_in_path program.path) given unwalked)
-    (execve (root_of k.mounts) (name_in_path program.path) given))) short
-    ∙ outcome-bind (parts k) (walk_of (root_of k.mounts) (name_in_path program.path)) (by_walk (root_of k.mounts) (name_in_path program.path) given)
-    ∙ ap (λ w. outcome_in (parts k) (by_walk (root_of k.mounts) (name_in_path program.path) given w)) walks
+    ap (λ b. outcome_in (parts k) (cond b (by_walk (slash k) (name_in_path program.path) given unwalked)
+    (execve (slash k) (name_in_path program.path) given))) short
+    ∙ outcome-bind (parts k) (walk_of (slash k) (name_in_path program.path))
+    (by_walk (slash k) (name_in_path program.path) given)
+    ∙ ap (λ w. goes k (name_in_path program.path) given w) walks
 
 -- one that is refused before does as if it had walked to nothing
 pub execve_long : (k : Kernel) (program : Program) (given : Given) → is_too_long program.args program.env ≡ true
-    → outcome_in (parts k) (execve_of (root_of k.mounts) program given)
-    ≡ outcome_in (parts k) (by_walk (root_of k.mounts) (name_in_path program.path) given unwalked)
+    → outcome_in (parts k) (execve_of (slash k) program given)
+    ≡ goes k (name_in_path program.path) given unwalked
 execve_long k program given long =
-    ap (λ b. outcome_in (parts k) (cond b (by_walk (root_of k.mounts) (name_in_path program.path) given unwalked)
-    (execve (root_of k.mounts) (name_in_path program.path) given))) long
+    ap (λ b. outcome_in (parts k) (cond b (by_walk (slash k) (name_in_path program.path) given unwalked)
+    (execve (slash k) (name_in_path program.path) given))) long
 
 -- the numbers that a walk draws ascend: there is at most one
 just_ascend : (root : ℕ) (draws : Bool) (name : List ℕ) (fresh : List Fresh) → draws_just root draws name fresh ≡ true
@@ -61,12 +69,12 @@ module _ (k : Kernel) (name : List ℕ) (given : Given) (draws : Bool) (image : 
   -- ---- with a rise
 
   module _ (met : has_any given.rises ≡ true) (order : is_in_order given ≡ true) where
-    by_failing : outcome_in (parts k) (by_walk (root_of k.mounts) name given (record { draws = draws; image = image }))
+    by_failing : goes k name given (record { draws = draws; image = image })
         ≡ failed_by (outcome_in (parts k) (faulted given))
     by_failing =
         ap (λ b. outcome_in (parts k)
         (cond b (cond (is_in_order given) (faulted given >>= λ changes. done (failed_by changes)) (done Unfit))
-        (cond (not (draws_just (root_of k.mounts) draws name given.fresh)) (done Unfit)
+        (cond (not (draws_just (slash k) draws name given.fresh)) (done Unfit)
         (cond (list_any above_last given.fresh) (done (Fails ENFILE [])) (number_all given.fresh []
         >>= λ nodes. done (by_numbers image nodes)))))) met
         ∙ ap (λ b. outcome_in (parts k) (cond b (faulted given >>= λ changes. done (failed_by changes)) (done Unfit)))
@@ -74,32 +82,32 @@ module _ (k : Kernel) (name : List ℕ) (given : Given) (draws : Bool) (image : 
         ∙ outcome-bind (parts k) (faulted given) (λ changes. done (failed_by changes))
 
     pub rises_unfit : outcome_in (parts k) (faulted given) ≡ None
-        → outcome_in (parts k) (by_walk (root_of k.mounts) name given (record { draws = draws; image = image })) ≡ Unfit
+        → goes k name given (record { draws = draws; image = image }) ≡ Unfit
     rises_unfit none = by_failing ∙ ap failed_by none
 
     pub rises_fail : (m : Kernel) → changed_by (outcome_in (parts k) (faulted given)) k ≡ Some m
-        → (changes : List Change) × (outcome_in (parts k) (by_walk (root_of k.mounts) name given (record { draws = draws; image = image }))
+        → (changes : List Change) × (goes k name given (record { draws = draws; image = image })
         ≡ Fails EIO changes) × (m ≡ changed changes k)
     rises_fail m some = by (outcome_in (parts k) (faulted given)) some by_failing
       where
         by : (o : Option (List Change)) → changed_by o k ≡ Some m
-            → outcome_in (parts k) (by_walk (root_of k.mounts) name given (record { draws = draws; image = image })) ≡ failed_by o
+            → goes k name given (record { draws = draws; image = image }) ≡ failed_by o
             → (changes : List Change)
-            × (outcome_in (parts k) (by_walk (root_of k.mounts) name given (record { draws = draws; image = image }))
+            × (goes k name given (record { draws = draws; image = image })
             ≡ Fails EIO changes) × (m ≡ changed changes k)
         by None e is = absurd (cc e)
         by (Some cs) e is = (cs, is, cc e)
 
   -- ---- without a rise
 
-  module _ (met : has_any given.rises ≡ false) (just : draws_just (root_of k.mounts) draws name given.fresh ≡ true)
+  module _ (met : has_any given.rises ≡ false) (just : draws_just (slash k) draws name given.fresh ≡ true)
       (small : list_any above_last given.fresh ≡ false) where
-    by_drawing : outcome_in (parts k) (by_walk (root_of k.mounts) name given (record { draws = draws; image = image }))
+    by_drawing : goes k name given (record { draws = draws; image = image })
         ≡ by_numbers image (outcome_in (parts k) (number_all given.fresh []))
     by_drawing =
         ap (λ b. outcome_in (parts k)
         (cond b (cond (is_in_order given) (faulted given >>= λ changes. done (failed_by changes)) (done Unfit))
-        (cond (not (draws_just (root_of k.mounts) draws name given.fresh)) (done Unfit)
+        (cond (not (draws_just (slash k) draws name given.fresh)) (done Unfit)
         (cond (list_any above_last given.fresh) (done (Fails ENFILE [])) (number_all given.fresh []
         >>= λ nodes. done (by_numbers image nodes)))))) met
         ∙ ap
@@ -113,12 +121,12 @@ module _ (k : Kernel) (name : List ℕ) (given : Given) (draws : Bool) (image : 
     -- the numbers that it draws are unused
     drawn_unused : may_meet k.nodes given ≡ true → AreUnused given.fresh k
     drawn_unused may = record {
-      ascend = just_ascend (root_of k.mounts) draws name given.fresh just;
+      ascend = just_ascend (slash k) draws name given.fresh just;
       unused = (and_parts _ _ may).0;
     }
 
     pub numbers_unfit : may_meet k.nodes given ≡ true → numbered given.fresh k ≡ None
-        → outcome_in (parts k) (by_walk (root_of k.mounts) name given (record { draws = draws; image = image })) ≡ Unfit
+        → goes k name given (record { draws = draws; image = image }) ≡ Unfit
     numbers_unfit may none =
         by_drawing
         ∙ by (outcome_in (parts k) (number_all given.fresh []))
@@ -129,16 +137,16 @@ module _ (k : Kernel) (name : List ℕ) (given : Given) (draws : Bool) (image : 
         by (Some ns) e = absurd (cc e)
 
     pub numbers_fit : may_meet k.nodes given ≡ true → (m : Kernel) → numbered given.fresh k ≡ Some m
-        → (changes : List Change) × (outcome_in (parts k) (by_walk (root_of k.mounts) name given (record { draws = draws; image = image }))
+        → (changes : List Change) × (goes k name given (record { draws = draws; image = image })
         ≡ by_image image changes) × (m ≡ changed changes k)
     numbers_fit may m some =
         by (outcome_in (parts k) (number_all given.fresh []))
         (all_numbered_is given.fresh k (drawn_unused may) ∙ some) by_drawing
       where
         by : (o : Option Nodes_so_far) → option_map (λ ns. with_nodes ns k) o ≡ Some m
-            → outcome_in (parts k) (by_walk (root_of k.mounts) name given (record { draws = draws; image = image })) ≡ by_numbers image o
+            → goes k name given (record { draws = draws; image = image }) ≡ by_numbers image o
             → (changes : List Change)
-            × (outcome_in (parts k) (by_walk (root_of k.mounts) name given (record { draws = draws; image = image }))
+            × (goes k name given (record { draws = draws; image = image })
             ≡ by_image image changes) × (m ≡ changed changes k)
         by None e is = absurd (cc e)
         by (Some ns) e is = (node_changes ns, is, cc e)
@@ -176,31 +184,31 @@ pub as_refused : (k after : Kernel) (program : Program) (name : List ℕ) (given
     (image : Result Image Errno) (r : Result Execved Memory) → is_too_long program.args program.env ≡ true
     → name ≡ name_in_path program.path
     → record { draws = draws; image = image } ≡ unwalked
-    → IfOk r (Executes (outcome_in (parts k) (by_walk (root_of k.mounts) name given (record { draws = draws; image = image }))) k after)
-    → IfOk r (Executes (outcome_in (parts k) (execve_of (root_of k.mounts) program given)) k after)
+    → IfOk r (Executes (goes k name given (record { draws = draws; image = image })) k after)
+    → IfOk r (Executes (outcome_in (parts k) (execve_of (slash k) program given)) k after)
 as_refused k after program name given draws image r long named walk does =
     subst (λ (d : Executed). IfOk r (Executes d k after)) (sym (execve_long k program given long))
     (subst
-    (λ (w : Walked). IfOk r (Executes (outcome_in (parts k) (by_walk (root_of k.mounts) (name_in_path program.path) given w)) k after))
+    (λ (w : Walked). IfOk r (Executes (goes k (name_in_path program.path) given w) k after))
     walk
     (subst
-    (λ (n : List ℕ). IfOk r (Executes (outcome_in (parts k) (by_walk (root_of k.mounts) n given (record { draws = draws; image = image })))
+    (λ (n : List ℕ). IfOk r (Executes (goes k n given (record { draws = draws; image = image }))
     k after)) named does))
 
 -- and where they are not
 pub as_walked : (k after : Kernel) (program : Program) (name : List ℕ) (given : Given) (draws : Bool)
     (image : Result Image Errno) (r : Result Execved Memory) → is_too_long program.args program.env ≡ false
     → name ≡ name_in_path program.path
-    → outcome_in (parts k) (walk_of (root_of k.mounts) name) ≡ record { draws = draws; image = image }
-    → IfOk r (Executes (outcome_in (parts k) (by_walk (root_of k.mounts) name given (record { draws = draws; image = image }))) k after)
-    → IfOk r (Executes (outcome_in (parts k) (execve_of (root_of k.mounts) program given)) k after)
+    → outcome_in (parts k) (walk_of (slash k) name) ≡ record { draws = draws; image = image }
+    → IfOk r (Executes (goes k name given (record { draws = draws; image = image })) k after)
+    → IfOk r (Executes (outcome_in (parts k) (execve_of (slash k) program given)) k after)
 as_walked k after program name given draws image r short named walks does =
     subst (λ (d : Executed). IfOk r (Executes d k after))
     (sym
-    (execve_is k program given draws image short (subst (λ (n : List ℕ). outcome_in (parts k) (walk_of (root_of k.mounts) n)
+    (execve_is k program given draws image short (subst (λ (n : List ℕ). outcome_in (parts k) (walk_of (slash k) n)
     ≡ record { draws = draws; image = image }) named walks)))
     (subst
-    (λ (n : List ℕ). IfOk r (Executes (outcome_in (parts k) (by_walk (root_of k.mounts) n given (record { draws = draws; image = image })))
+    (λ (n : List ℕ). IfOk r (Executes (goes k n given (record { draws = draws; image = image }))
     k after)) named does)
 
 -- ---- what an execve that starts leaves
@@ -223,10 +231,11 @@ module _ (s : Parts) (k : Kernel) (elf : Image) (changes : List Change) where
   failed_starts None e = cc e
   failed_starts (Some cs) e = cc e
 
-  walk_starts : (name : List ℕ) (given : Given) (w : Walked) → outcome_in s (by_walk (root_of k.mounts) name given w) ≡ Starts elf changes
+  walk_starts : (name : List ℕ) (given : Given) (w : Walked)
+      → outcome_in s (by_walk (slash k) name given w) ≡ Starts elf changes
       → (changed changes k).tasks ≡ k.tasks
   walk_starts name given w =
-      by (has_any given.rises) (is_in_order given) (draws_just (root_of k.mounts) w.draws name given.fresh)
+      by (has_any given.rises) (is_in_order given) (draws_just (slash k) w.draws name given.fresh)
       (list_any above_last given.fresh)
     where
       by : (rises order just above : Bool)
@@ -244,22 +253,26 @@ module _ (s : Parts) (k : Kernel) (elf : Image) (changes : List Change) where
           started_by w.image (outcome_in s (number_all given.fresh []))
           (sym (outcome-bind s (number_all given.fresh []) (λ nodes. done (by_numbers w.image nodes))) ∙ e)
 
-  execve_starts : (program : Program) (given : Given) → outcome_in s (execve_of (root_of k.mounts) program given) ≡ Starts elf changes
+  execve_starts : (program : Program) (given : Given)
+      → outcome_in s (execve_of (slash k) program given) ≡ Starts elf changes
       → (changed changes k).tasks ≡ k.tasks
   execve_starts program given = by (is_too_long program.args program.env)
     where
       by : (long : Bool)
-          → outcome_in s (cond long (by_walk (root_of k.mounts) (name_in_path program.path) given unwalked)
-          (execve (root_of k.mounts) (name_in_path program.path) given)) ≡ Starts elf changes → (changed changes k).tasks ≡ k.tasks
+          → outcome_in s (cond long (by_walk (slash k) (name_in_path program.path) given unwalked)
+          (execve (slash k) (name_in_path program.path) given)) ≡ Starts elf changes
+          → (changed changes k).tasks ≡ k.tasks
       by true e = walk_starts (name_in_path program.path) given unwalked e
       by false e =
-          walk_starts (name_in_path program.path) given (outcome_in s (walk_of (root_of k.mounts) (name_in_path program.path)))
-          (sym (outcome-bind s (walk_of (root_of k.mounts) (name_in_path program.path)) (by_walk (root_of k.mounts) (name_in_path program.path) given)) ∙ e)
+          walk_starts (name_in_path program.path) given (outcome_in s (walk_of (slash k) (name_in_path program.path)))
+          (sym (outcome-bind s (walk_of (slash k) (name_in_path program.path))
+          (by_walk (slash k) (name_in_path program.path) given)) ∙ e)
 
 -- so the tasks are those before, after an execve in place that starts
 pub tasks_stay : (k after : Kernel) (program : Program) (given : Given) (answer : Execved) (image : Image)
-    → answer ≡ answers.Starts image → Executes (outcome_in (parts k) (execve_of (root_of k.mounts) program given)) k after answer
+    → answer ≡ answers.Starts image → Executes (outcome_in (parts k) (execve_of (slash k) program given)) k after answer
     → after.tasks ≡ k.tasks
 tasks_stay k after program given answer image is does =
-    let (changes, starts, left) = subst (Executes (outcome_in (parts k) (execve_of (root_of k.mounts) program given)) k after) is does in
+    let (changes, starts, left) =
+    subst (Executes (outcome_in (parts k) (execve_of (slash k) program given)) k after) is does in
     ap (λ (m : Kernel). m.tasks) left ∙ execve_starts (parts k) k image changes program given starts

@@ -113,9 +113,7 @@ fn draws_just(kernel: &Kernel, draws: bool, name: &[u8], fresh: &[Fresh]) -> boo
 {
     match fresh {
         [] => !draws,
-        [one] => {
-            draws && one.dir == root_number(kernel) && one.name.is(name) && 0 < one.ino
-        }
+        [one] => { draws && one.dir == root_number(kernel) && one.name.is(name) && 0 < one.ino }
         _ => false,
     }
 }

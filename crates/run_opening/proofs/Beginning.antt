@@ -4,17 +4,15 @@ use Rattle.std.proofs.Common.{sym, ◌∙◌}
 use Rattle.std.proofs.Common.{subst, arith, length-append}
 use Rattle.std.specs.Prelude.{Option, Some, None, Result, Ok, Err, IfOk, IfErr, IsErrAnd, slice_get, if◌then◌else◌}
 use Rattle.std.specs.Prelude.{is_some}
-use Rattle.std.specs.FinMap as map
 use Rattle.std.proofs.lemmas.List.{append_assoc, append-nil, drop_more}
 use Rattle.std.proofs.lemmas.Option.{get_or_from_slice_get, slice_get_within}
-use Rattle.host_node.specs.Tree.{Shape, is_directory}
+use Rattle.host_node.specs.Tree.{Shape}
 use Rattle.sn_errno.specs.declared.errno.Errno.{Errno}
 use Rattle.elf_image.specs.declared.image.Image.{Image as Executable}
 use Rattle.mount_file.specs.Form.{HasForm}
 use Rattle.mount_file.specs.declared.mounts.Mounts.{Mounts}
 use Rattle.mount_file.specs.declared.mounts.Program.{Program}
 use Rattle.task_table.specs.Table.{TaskTable}
-use Rattle.task_table.specs.Clones.{opened}
 use Rattle.kernel_model.specs.declared.kernel.Kernel.{Kernel}
 use Rattle.kernel_model.specs.declared.opening.Given.{Given}
 use Rattle.kernel_model.specs.declared.opening.Opened.{Opened}
@@ -22,7 +20,7 @@ use Rattle.kernel_model.specs.entries.Given.{may_meet}
 use Rattle.kernel_model.specs.entries.Parts.{parts, outcome_in, changed}
 use Rattle.kernel_model.specs.files.FileTree.{Nodes, last_number}
 use Rattle.kernel_model.specs.opening.Arguments.{is_too_long}
-use Rattle.kernel_model.specs.opening.Opening.{Begun, Executed, Starts, Fails, Misfits, Refuses, bare, execve_of}
+use Rattle.kernel_model.specs.opening.Opening.{Misfits, Refuses, bare, execve_of}
 use Rattle.kernel_model.specs.opening.Opening.{made_by, root_of}
 use Rattle.kernel_model.specs.opening.Opening.{rooted, task_begun, tasks_begun, with_task}
 use Rattle.kernel_model.proofs.OpenedTasks.{AreOpened, opened_more}

@@ -14,7 +14,7 @@ use Rattle.kernel_model.specs.declared.opening.Opened.{Opened}
 use Rattle.kernel_model.specs.declared.opening.Rise.{Rise}
 use Rattle.kernel_model.specs.files.FileTree.{Nodes}
 use Rattle.kernel_model.specs.files.Settled.{tree_now}
-use Rattle.kernel_model.specs.opening.Opening.{Begun, Refuses, bare, made_by, root_of, tasks_begun, with_task}
+use Rattle.kernel_model.specs.opening.Opening.{Refuses, bare, made_by, root_of, tasks_begun, with_task}
 use Rattle.image_walk.specs.declared.granted.Numbering.{Numbering}
 use Rattle.image_walk.specs.declared.loading.Answer.{Answer}
 use Rattle.image_walk.specs.declared.loading.Answer.TheVariants as answers

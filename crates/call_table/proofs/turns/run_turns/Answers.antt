@@ -26,7 +26,7 @@ loop-place-preserved c =
     let longer : length c.push.new.self ≡ length c.loop-place.trace + 1 =
     ap length grown ∙ length-append c.loop-place.trace (c.in-Ok.entry ∷ []) in
     let turn : next_of c.loop-place.last (live_numbers c.loop-place.processes.tasks.tasks)
-        ≡ Some c.in-Some.task = sym c.next_turn.ensures.next ∙ c.in-Some.is in
+    ≡ Some c.in-Some.task = sym c.next_turn.ensures.next ∙ c.in-Some.is in
     record {
       count = longer ∙ ap (λ (n : ℕ). n + 1) c.loop-place.invariant.count;
       state = λ beside seed.

@@ -1,6 +1,5 @@
 -- Fresh numbers are given and counts raised, or all is as it was.
 use Rattle.std.proofs.Common.{◌≡◌, Some, None, ap, sym, ◌∙◌, is_some, unwrap_or}
-use Rattle.kernel_model.specs.declared.kernel.Kernel.{Kernel}
 use Rattle.kernel_model.specs.entries.Given.{faulted}
 use Rattle.kernel_model.specs.entries.Parts.{parts, outcome_in}
 use Rattle.kernel_model.specs.laws.InPlace.{changed_by}

@@ -26,7 +26,8 @@ returns-then-not-branch-clause-does c =
 pub returns-clause-does : goal.returns-clause-does
 returns-clause-does c =
     executes_by
-    (outcome (parts c.args.kernel.now) (by_walk (root_of c.args.kernel.now.mounts) c.args.name.now c.args.given.now (record {
+    (outcome (parts c.args.kernel.now)
+    (by_walk (root_of c.args.kernel.now.mounts) c.args.name.now c.args.given.now (record {
       draws =
           c.args.walk.draws;
       image = c.args.walk.image;

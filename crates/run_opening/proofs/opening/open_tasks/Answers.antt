@@ -1,10 +1,9 @@
 -- Before the first task nothing has begun, and each task finds the folder as a grant.
-use Rattle.std.proofs.Common.{◌≡◌, [], ap, sym, ◌∙◌, subst, length, refl, List}
-use Rattle.std.specs.Prelude.{Option, Some, None}
+use Rattle.std.proofs.Common.{[], ap, sym, ◌∙◌, subst, length, refl}
 use Rattle.task_table.specs.Table.{TaskTable}
 use Rattle.kernel_model.proofs.OpenedTasks.{AreOpened, opened_none}
 use Rattle.image_walk.specs.declared.granted.Numbering.{Numbering}
-use Rattle.image_walk.specs.Granted.{Child, told_of}
+use Rattle.image_walk.specs.Granted.{told_of}
 use Rattle.image_walk.specs.Standing.{IsNumbering, Stands}
 use Rattle.image_walk.specs.Walking.{TellNothing}
 use Rattle.run_opening.specs.Openings.{beside_of}

@@ -104,7 +104,8 @@ returns-clause-step c = λ beside n seed place.
       spaces = m.spaces;
       areas = m.areas;
       console = c.commit.new.console;
-    }) c.replace.new.self beside n c.requires.calls c.call_of-no.ensures c.args_of-args.ensures c.nothing_given.ensures answers.row_is
+    }) c.replace.new.self beside n c.requires.calls c.call_of-no.ensures c.args_of-args.ensures
+    c.nothing_given.ensures answers.row_is
     (answers.done_is
     ∙ ap (λ changes. changed changes m) (effect_alike c.in_ok-value.field-0.effect c.args.standing.group k m refl refl)
     ∙ c.in_ok-commit.ensures.ok m refl refl)
