@@ -51,6 +51,11 @@ static void ask_for_time(void)
     check(call(CALL_CLOCK_GETTIME, 1, (long)time, 0, 0, 0, 0) == 0); /* CLOCK_MONOTONIC */
 }
 
+static void yield(void)
+{
+    check(call(CALL_SCHED_YIELD, 0, 0, 0, 0, 0, 0) == 0);
+}
+
 static void map_and_unmap(void)
 {
     check(call(CALL_MUNMAP, map(PAGE), PAGE, 0, 0, 0, 0) == 0);
@@ -84,6 +89,7 @@ _Noreturn void begin(char **stack)
     case 'g': repeat(ask_for_random_bytes, times); break;
     case 'm': repeat(map_and_unmap, times); break;
     case 'w': repeat(write_a_byte, times); break;
+    case 'y': repeat(yield, times); break;
     case 't': touch(times); break;
     default: check(0);
     }

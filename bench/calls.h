@@ -22,6 +22,7 @@ __asm__(
 #define CALL_BRK 12
 #define CALL_MUNMAP 11
 #define CALL_MMAP 9
+#define CALL_SCHED_YIELD 24
 #define CALL_GETPID 39
 #define CALL_CLOCK_GETTIME 228
 #define CALL_GETRANDOM 318
