@@ -11,10 +11,9 @@ use Rattle.kernel_model.specs.declared.opening.Rise.{Rise}
 use Rattle.kernel_model.specs.calls.Answers.{replies}
 use Rattle.kernel_model.specs.calls.Callers.{Context}
 use Rattle.kernel_model.specs.calls.Table.{call_row}
-use Rattle.kernel_model.specs.entries.Given.{has_any, is_in_order, above_last}
+use Rattle.kernel_model.specs.entries.Given.{has_any, is_in_order, is_quiet, above_last}
 use Rattle.kernel_model.specs.entries.Parts.{Parts, Prog, done, outcome_in, ◌>>=◌, Change}
 use Rattle.kernel_model.specs.entries.Steps.{by_given, by_answer, failing, going_on}
-use Rattle.kernel_model.specs.laws.InPlace.{is_quiet}
 use Rattle.kernel_model.proofs.Trees.{outcome-bind}
 
 module _ (s : Parts) (context : Context) (c : Caller) (call : ℕ) (args : Args) (reply : ℤ) (given : Given) where

@@ -1,15 +1,17 @@
 -- No row changes a node, so that a child without a number stays as it is through each step that gives it none.
 use Rattle.std.proofs.Common.{◌≡◌, ℕ, ℤ, Bool, true, false, cond, List, [], ◌∷◌, ◌++◌, length, Option, Some, None, ap}
 use Rattle.std.proofs.Common.{refl, sym, ◌∙◌, inl, inr, subst, option_map, pos, nat_cmp}
-use Rattle.std.specs.Prelude.{nat_le, nat_lt, ◌+◌, ◌==◌, ◌%◌, ◌^◌, ◌&&◌, min, not}
+use Rattle.std.specs.Prelude.{nat_le, nat_lt, ◌+◌, ◌==◌, ◌%◌, ◌^◌, ◌&&◌, ◌||◌, min, not}
+use Rattle.std.specs.Int.{from_le_bytes, to_le_bytes, w32}
 use Rattle.std.specs.List.{list_all, list_any}
 use Rattle.std.specs.Ordering.{int_eq}
 use Rattle.std.specs.FinMap as map
 use Rattle.sn_errno.specs.declared.errno.Errno.{Errno}
 use Rattle.sn_errno.specs.declared.errno.Errno.TheVariants.{EIO, ENFILE, EFAULT, EBADF, ENOSYS, ENOSPC, EINVAL}
+use Rattle.sn_errno.specs.declared.errno.Errno.TheVariants.{EAGAIN, ECHILD}
 use Rattle.sn_errno.specs.declared.calls.CallNo.{CallNo}
-use Rattle.sn_errno.specs.declared.calls.CallNo.TheVariants.{Write, ExitGroup, SetTidAddress, SetRobustList}
-use Rattle.sn_errno.specs.declared.calls.CallNo.TheVariants.{ClockGettime}
+use Rattle.sn_errno.specs.declared.calls.CallNo.TheVariants.{Write, Exit, ExitGroup, SetTidAddress, SetRobustList}
+use Rattle.sn_errno.specs.declared.calls.CallNo.TheVariants.{Futex, ClockGettime, Clone, Wait4}
 use Rattle.sn_errno.specs.declared.calls.CallNo.TheVariants.{SchedYield, Uname, Getpid, Getppid, Getuid, Geteuid}
 use Rattle.sn_errno.specs.declared.calls.CallNo.TheVariants.{Getgid, Getegid, Gettid, Brk, Munmap, Mmap, Mprotect}
 use Rattle.sn_errno.specs.declared.calls.CallNo.TheVariants.{Getrandom}
@@ -20,26 +22,44 @@ use Rattle.sn_errno.specs.Calls.{call_of}
 use Rattle.sn_errno.specs.Errors.{reply_of}
 use Rattle.host_node.specs.Tree.{Shape}
 use Rattle.task_table.specs.declared.task.Made.{Made}
-use Rattle.task_table.specs.declared.task.Status.TheVariants.{Killed}
+use Rattle.task_table.specs.declared.task.EndedTask.{EndedTask}
+use Rattle.task_table.specs.declared.task.ReapEnd.{ReapEnd}
+use Rattle.task_table.specs.declared.task.ReapEnd.TheVariants.{Reaped, NotYet, NoChild}
+use Rattle.task_table.specs.declared.task.Status.{Status}
+use Rattle.task_table.specs.declared.task.Status.TheVariants.{Exited, Killed}
+use Rattle.task_table.specs.Ends.{ended_tasks, exited, group_ended, is_itself, is_member}
+use Rattle.task_table.specs.Reaps.{after_reap, reap_end}
+use Rattle.task_table.specs.Status.{status_number}
+use Rattle.task_table.specs.Table.{TaskTable}
 use Rattle.quantum.specs.Instructions.{Going, ran}
-use Rattle.mm_space.specs.Spaces.{AddressSpace, Reach}
+use Rattle.mm_space.specs.Spaces.{AddressSpace, Reach, unreserved}
+use Rattle.futex_core.specs.declared.keys.FutexKey.{FutexKey}
+use Rattle.futex_core.specs.FutexLists.{FutexList, after_leave, after_sleep}
 use Rattle.kernel_model.specs.declared.caller.Caller.{Caller}
 use Rattle.kernel_model.specs.declared.entry.Args.{Args}
 use Rattle.kernel_model.specs.declared.entry.Entry.{Entry}
 use Rattle.kernel_model.specs.declared.entry.Entry.TheVariants.{Run, Call, Sleep, End}
 use Rattle.kernel_model.specs.declared.kernel.Kernel.{Kernel}
 use Rattle.kernel_model.specs.declared.kernel.Part.TheVariants.{OfTasks, OfSpace, OfArea, OfNode, OfConsole}
-use Rattle.kernel_model.specs.declared.kernel.Part.TheVariants.{OfFaults}
+use Rattle.kernel_model.specs.declared.kernel.Part.TheVariants.{OfSleepers, OfFaults}
 use Rattle.kernel_model.specs.declared.opening.Given.{Given}
 use Rattle.kernel_model.specs.declared.traps.Next.{Next}
 use Rattle.kernel_model.specs.declared.traps.Next.TheVariants.{Goes, Calls, Traps, Touches}
+use Rattle.kernel_model.specs.machine.FutexWords.{key_at}
 use Rattle.kernel_model.specs.machine.Random.{random_at}
+use Rattle.kernel_model.specs.machine.Registers.{args_of, call_of as number_of}
 use Rattle.kernel_model.specs.machine.Spaces.{going_in, going_with}
-use Rattle.kernel_model.specs.calls.Answers.{Reply, Replies, NotReady, Answer, refuses, replies, address_reply}
+use Rattle.kernel_model.specs.calls.Answers.{Reply, Replies, Sleeps, NotReady, Answer, refuses, replies, address_reply}
 use Rattle.kernel_model.specs.calls.Buffers.{filled, fills}
 use Rattle.kernel_model.specs.calls.Callers.{Context, context_of, caller_of}
+use Rattle.kernel_model.specs.calls.ClearWords.{Cleared, nothing_cleared, words_cleared}
+use Rattle.kernel_model.specs.calls.Clone.{Cloning, caller_word, clone_of, cloning_of, is_full, is_process, is_thread}
+use Rattle.kernel_model.specs.calls.Clone.{made_for_child, process_by, process_made, process_row, sets_child_word}
+use Rattle.kernel_model.specs.calls.Clone.{thread_by, thread_made, thread_row, word_set}
 use Rattle.kernel_model.specs.calls.Console.{is_written_to, descriptor, to_console, appended, write_row}
-use Rattle.kernel_model.specs.calls.Ending.{exit_group_row, group_end, set_tid_address_row}
+use Rattle.kernel_model.specs.calls.Ending.{end_changes, ends_as, ends_with, exit_row, exit_group_row, group_end}
+use Rattle.kernel_model.specs.calls.Ending.{set_tid_address_row, task_end}
+use Rattle.kernel_model.specs.calls.Futex.{by_word, futex_of, is_wait, is_wake, sleeps_on, wakes_on}
 use Rattle.kernel_model.specs.calls.Identity.{owner, parent_of, utsname}
 use Rattle.kernel_model.specs.calls.Memory.{mmap_row}
 use Rattle.kernel_model.specs.calls.Memory.{remaps, unless_refused, fault_errno, map_refusal, protect_refusal}
@@ -47,16 +67,18 @@ use Rattle.kernel_model.specs.calls.Memory.{is_shared, area_made_at, area_made_b
 use Rattle.kernel_model.specs.calls.Memory.{rights_in}
 use Rattle.kernel_model.specs.calls.Table.{call_row, row_of_call, row_if_known}
 use Rattle.kernel_model.specs.calls.Time.{timespec, time_at}
+use Rattle.kernel_model.specs.calls.Wait.{asked_child, by_child, is_child_asked, is_option, reaps, reaps_at, wait4_of}
 use Rattle.kernel_model.specs.entries.Areas.{Stands, next_row, bytes_read, bytes_written, area_changes, reach_changes}
 use Rattle.kernel_model.specs.entries.Given.{has_any, is_in_order, above_last, Nodes_so_far, number_all, node_changes}
 use Rattle.kernel_model.specs.entries.Given.{met, faulted, risen, is_unused, may_meet}
-use Rattle.kernel_model.specs.entries.Parts.{Parts, parts, Prog, done, outcome_in, ◌>>=◌, IsIn, Change, changed}
-use Rattle.kernel_model.specs.entries.Parts.{parts_of}
+use Rattle.kernel_model.specs.entries.Parts.{Parts, parts, Prog, done, look, outcome_in, ◌>>=◌, IsIn, Change}
+use Rattle.kernel_model.specs.entries.Parts.{changed, parts_of}
 use Rattle.kernel_model.specs.entries.Steps.{run_changes, run_row, run_alone, or_step, step_row, step_with, end_at}
 use Rattle.kernel_model.specs.entries.Steps.{call_at, going_on, replied_by, replied_to}
 use Rattle.kernel_model.specs.entries.Steps.{refused_with, failing, exhausted, numbering, by_answer, by_given}
 use Rattle.kernel_model.specs.entries.Steps.{are_named, are_just, row_of, if_live, task_of, entry_row, stepped}
-use Rattle.kernel_model.specs.entries.Steps.{may_enter, step, stands_at}
+use Rattle.kernel_model.specs.entries.Steps.{may_enter, step, stands_at, sleep_at, slept_by, woken_at, woken_entry}
+use Rattle.kernel_model.specs.entries.Waiting.{Wait, Awake, Asleep, Woken, wait_of}
 use Rattle.kernel_model.specs.laws.Children.{HasUnnumbered, is_given_to, numbers_child}
 use Rattle.kernel_model.proofs.Trees.{outcome-bind}
 use Rattle.kernel_model.proofs.LocalityLaws.{changed_other, entered}
@@ -84,6 +106,18 @@ areas_leave (h ∷ hand) = leaves-append (area_changes hand) _ (areas_leave hand
     last : LeavesNodes ((OfArea h.name, Some h.state) ∷ [])
     last ino (inl e) = absurd (cc e)
     last ino (inr is) = is
+
+-- a memory and areas that were reached
+reach_leaves : (memory : Made) (r : Reach) → LeavesNodes (reach_changes memory r)
+reach_leaves memory r ino (inl e) = absurd (cc e)
+reach_leaves memory r ino (inr is) = areas_leave r.hand ino is
+
+-- what tasks that end leave
+end_leaves : (c : Caller) (ended : List EndedTask) (after : TaskTable) (x : Cleared) (waiting : FutexList)
+    → LeavesNodes (end_changes c ended after x waiting)
+end_leaves c ended after x waiting ino (inl e) = absurd (cc e)
+end_leaves c ended after x waiting ino (inr (inl e)) = absurd (cc e)
+end_leaves c ended after x waiting ino (inr (inr is)) = reach_leaves c.memory x.reach ino is
 
 -- ---- no call's row changes a node
 
@@ -126,9 +160,138 @@ module _ (s : Parts) where
       (console_leaves (outcome_in s (bytes_read space buffer (min count 65536))))))
       (refused_leaves EBADF)
 
-  exit_leaves : (status group : ℕ) → Leaves (exit_group_row status group)
-  exit_leaves status group ino (inl e) = absurd (cc e)
-  exit_leaves status group ino (inr is) = is
+  -- ends
+  ends_leave : (c : Caller) (ended : List EndedTask) (after : TaskTable)
+      → LeavesNodes (outcome_in s (ends_as c ended after))
+  ends_leave c ended after =
+      subst LeavesNodes
+      (sym (outcome-bind s (words_cleared c ended (nothing_cleared c.space))
+      (λ x. look OfSleepers (λ waiting. done (end_changes c ended after x waiting)))))
+      (end_leaves c ended after (outcome_in s (words_cleared c ended (nothing_cleared c.space))) (s OfSleepers))
+
+  group_leaves : (c : Caller) (status : Status) → LeavesNodes (outcome_in s (group_end c status))
+  group_leaves c status =
+      ends_leave c (ended_tasks (is_member c.group) (s OfTasks).tasks) (group_ended (s OfTasks) c.group status)
+
+  task_leaves : (c : Caller) (status : Status) → LeavesNodes (outcome_in s (task_end c status))
+  task_leaves c status =
+      ends_leave c (ended_tasks (is_itself c.task) (s OfTasks).tasks) (exited (s OfTasks) c.task status)
+
+  exit_leaves : (status : ℕ) (c : Caller) → Leaves (exit_row status c)
+  exit_leaves status c =
+      behind_leaves (task_end c (Exited (status % 256))) ends_with (task_leaves c (Exited (status % 256)))
+
+  exit_group_leaves : (status : ℕ) (c : Caller) → Leaves (exit_group_row status c)
+  exit_group_leaves status c =
+      behind_leaves (group_end c (Exited (status % 256))) ends_with (group_leaves c (Exited (status % 256)))
+
+  -- sleepers
+  sleep_leaves : (task : ℕ) (key : FutexKey) (word value : ℕ) → Leaves (sleeps_on task key word value)
+  sleep_leaves task key word value =
+      either_leaves (word == value) _ _ (λ ino is. last ino is) (refused_leaves EAGAIN)
+    where
+      last : LeavesNodes ((OfSleepers, after_sleep (s OfSleepers) task key) ∷ [])
+      last ino (inl e) = absurd (cc e)
+      last ino (inr is) = is
+
+  wake_leaves : (key : FutexKey) (most : ℕ) → Leaves (wakes_on key most)
+  wake_leaves key most ino (inl e) = absurd (cc e)
+  wake_leaves key most ino (inr is) = is
+
+  word_leaves : (c : Caller) (address operation value : ℕ) (bytes : Option (List ℕ))
+      → Leaves (by_word c address operation value bytes)
+  word_leaves c address operation value None = refused_leaves EFAULT
+  word_leaves c address operation value (Some bytes) =
+      either_leaves (is_wait operation) _ _
+      (sleep_leaves c.task (key_at c.memory c.space address) (from_le_bytes w32 bytes) value)
+      (wake_leaves (key_at c.memory c.space address) value)
+
+  futex_leaves : (address operation value timeout : ℕ) (c : Caller) → Leaves (futex_of address operation value timeout c)
+  futex_leaves address operation value timeout c =
+      either_leaves (not (is_wait operation || is_wake operation)) _ _ (refused_leaves ENOSYS)
+      (either_leaves (not (address % 4 == 0)) _ _ (refused_leaves EINVAL)
+      (either_leaves (is_wait operation && not (timeout == 0)) _ _ (refused_leaves ENOSYS)
+      (behind_leaves (bytes_read c.space address 4) (by_word c address operation value)
+      (word_leaves c address operation value (outcome_in s (bytes_read c.space address 4))))))
+
+  -- children that are made,
+  module _ (c : Caller) (x : Cloning) (list : TaskTable) where
+    thread_made_leaves : (reach : Option Reach) → LeavesNodes (thread_made c x list reach).changes
+    thread_made_leaves None ino is = is
+    thread_made_leaves (Some reach) ino (inl e) = absurd (cc e)
+    thread_made_leaves (Some reach) ino (inr (inl e)) = absurd (cc e)
+    thread_made_leaves (Some reach) ino (inr (inr is)) = reach_leaves c.memory reach ino is
+
+    thread_by_leaves : (reach : Option Reach) → Leaves (thread_by c x list reach)
+    thread_by_leaves None = refused_leaves EFAULT
+    thread_by_leaves (Some reach) =
+        behind_leaves
+        (word_set c.task (sets_child_word x.flags) reach.space reach.hand x.child_word (list.last + 1)) _
+        (thread_made_leaves _)
+
+    thread_leaves : Leaves (thread_row c x list)
+    thread_leaves =
+        either_leaves (is_full list) _ _ (refused_leaves EAGAIN)
+        (behind_leaves (caller_word c x list) (thread_by c x list) (thread_by_leaves _))
+
+    module _ (context : Context) where
+      process_made_leaves : (space : AddressSpace) (reach : Option Reach)
+          → LeavesNodes (process_made context c x list space reach).changes
+      process_made_leaves space None ino is = is
+      process_made_leaves space (Some reach) ino (inl e) = absurd (cc e)
+      process_made_leaves space (Some reach) ino (inr (inl e)) = absurd (cc e)
+      process_made_leaves space (Some reach) ino (inr (inr (inl e))) = absurd (cc e)
+      process_made_leaves space (Some reach) ino (inr (inr (inr is))) =
+          reach_leaves (made_for_child context.place) reach ino is
+
+      process_by_leaves : (reach : Option Reach) → Leaves (process_by context c x list reach)
+      process_by_leaves None = refused_leaves EFAULT
+      process_by_leaves (Some reach) =
+          behind_leaves
+          (word_set c.task (sets_child_word x.flags) (unreserved c.space.mapping) reach.hand x.child_word
+          (list.last + 1)) _ (process_made_leaves reach.space _)
+
+      process_leaves : Leaves (process_row context c x list)
+      process_leaves =
+          either_leaves (is_full list) _ _ (refused_leaves EAGAIN)
+          (behind_leaves (caller_word c x list) (process_by context c x list) (process_by_leaves _))
+
+  clone_leaves : (context : Context) (c : Caller) (x : Cloning) → Leaves (clone_of context c x)
+  clone_leaves context c x =
+      either_leaves (is_process x.flags) _ _ (λ ino is. process_leaves c x (s OfTasks) context ino is)
+      (either_leaves (is_thread x.flags) _ _ (λ ino is. thread_leaves c x (s OfTasks) ino is) (refused_leaves EINVAL))
+
+  -- and those that are waited for
+  reaps_leave : (c : Caller) (list : TaskTable) (child : ℕ) (status : Status) (reach : Option Reach)
+      → LeavesNodes (reaps c list child status reach).changes
+  reaps_leave c list child status None ino is = is
+  reaps_leave c list child status (Some reach) ino (inl e) = absurd (cc e)
+  reaps_leave c list child status (Some reach) ino (inr is) = reach_leaves c.memory reach ino is
+
+  reaps_at_leave : (c : Caller) (list : TaskTable) (address child : ℕ) (status : Status)
+      → Leaves (reaps_at c list address child status)
+  reaps_at_leave c list address child status =
+      either_leaves (address == 0) _ _ (λ ino is. last ino is)
+      (behind_leaves (bytes_written c.task c.space address (to_le_bytes w32 (status_number status)))
+      (λ reach. done (reaps c list child status reach)) (reaps_leave c list child status _))
+    where
+      last : LeavesNodes ((OfTasks, after_reap list (Reaped child status)) ∷ [])
+      last ino (inl e) = absurd (cc e)
+      last ino (inr is) = is
+
+  child_leaves : (c : Caller) (list : TaskTable) (address options : ℕ) (end : ReapEnd)
+      → Leaves (by_child c list address options end)
+  child_leaves c list address options NoChild = refused_leaves ECHILD
+  child_leaves c list address options NotYet =
+      either_leaves (options == 1) _ _ (told_leaves (pos 0)) (λ ino is. is)
+  child_leaves c list address options (Reaped child status) = reaps_at_leave c list address child status
+
+  wait_leaves : (child address options usage : ℕ) (c : Caller) → Leaves (wait4_of child address options usage c)
+  wait_leaves child address options usage c =
+      either_leaves (is_child_asked child && is_option options && (usage == 0)) _ _
+      (λ ino is. child_leaves c (s OfTasks) address options
+      (reap_end (s OfTasks).groups c.group (asked_child child)) ino is)
+      (refused_leaves EINVAL)
 
   clear_leaves : (address : ℕ) (c : Caller) → Leaves (set_tid_address_row address c)
   clear_leaves address c ino (inl e) = absurd (cc e)
@@ -182,7 +345,11 @@ module _ (s : Parts) where
 
   row_leaves : (context : Context) (c : Caller) (args : Args) (call : CallNo) → Leaves (row_of_call context c args call)
   row_leaves context c args Write = write_leaves args.a0 args.a1 args.a2 c.space
-  row_leaves context c args ExitGroup = exit_leaves args.a0 c.group
+  row_leaves context c args Exit = exit_leaves args.a0 c
+  row_leaves context c args ExitGroup = exit_group_leaves args.a0 c
+  row_leaves context c args Futex = futex_leaves args.a0 (args.a1 % 2 ^ 32) (args.a2 % 2 ^ 32) args.a3 c
+  row_leaves context c args Clone = clone_leaves context c (cloning_of args)
+  row_leaves context c args Wait4 = wait_leaves (args.a0 % 2 ^ 32) args.a1 (args.a2 % 2 ^ 32) args.a3 c
   row_leaves context c args SetTidAddress = clear_leaves args.a0 c
   row_leaves context c args SetRobustList = told_leaves (pos 0)
   row_leaves context c args ClockGettime =
@@ -293,11 +460,33 @@ module _ (k : Kernel) (dir : ℕ) (name : List ℕ) (shape : Shape) where
     end_fits signal c Calls = tt
     end_fits signal c (Touches area) = tt
     end_fits signal c (Traps t) =
-        either_fits (t == signal) _ _ (untouched (group_end c.group (Killed signal) k.tasks) none) tt
+        either_fits (t == signal) _ _
+        (behind (group_end c (Killed signal)) (λ changes. done (Some changes))
+        (untouched _ (group_leaves (parts k) c (Killed signal)))) tt
+
+    -- a task that goes to sleep, and one that was woken
+    slept_keeps : (answer : Answer) (reply : Reply) → LeavesNodes answer.changes → KeepsIf (slept_by answer reply)
+    slept_keeps answer (Replies value) leaves = tt
+    slept_keeps answer NotReady leaves = tt
+    slept_keeps answer Sleeps leaves = untouched answer.changes leaves
+
+    sleep_fits : (context : Context) (c : Caller) (next : Next) → Fits (sleep_at context c next)
+    sleep_fits context c Goes = tt
+    sleep_fits context c (Traps t) = tt
+    sleep_fits context c (Touches area) = tt
+    sleep_fits context c Calls =
+        behind (call_row context c (number_of c.registers) (args_of c.registers))
+        (λ (answer : Answer). done (slept_by answer answer.reply))
+        (slept_keeps _ _ (known_leaves (parts k) context c (args_of c.registers) (call_of (number_of c.registers))))
+
+    woken_fits : (c : Caller) (call : ℕ) (args : Args) (reply : ℤ) (given : Given)
+        → Fits (woken_entry c call args reply given)
+    woken_fits c call args reply given =
+        either_fits (woken_at c call args reply given) _ _ (untouched _ (λ ino is. none ino is)) tt
       where
-        none : LeavesNodes (group_end c.group (Killed signal) k.tasks)
+        none : LeavesNodes ((OfSleepers, after_leave k.sleepers c.task) ∷ going_on c (pos 0))
         none ino (inl e) = absurd (cc e)
-        none ino (inr is) = is
+        none ino (inr is) = going_on_leaves c (pos 0) ino is
 
     -- ---- calls
 
@@ -319,6 +508,7 @@ module _ (k : Kernel) (dir : ℕ) (name : List ℕ) (shape : Shape) where
 
           by : (r : Reply) → KeepsIf (replied_by c reply (node_changes nodes ++ answer.changes) r)
           by NotReady = tt
+          by Sleeps = tt
           by (Replies value) =
               either_keeps (int_eq reply value) _ _
               (more_keep (node_changes nodes ++ answer.changes) (going_on c value) (going_on_leaves c value) all) tt
@@ -379,22 +569,29 @@ module _ (k : Kernel) (dir : ℕ) (name : List ℕ) (shape : Shape) where
 
     -- ---- each entry
 
-    row_fits : (context : Context) (e : Entry) (c : Caller) → numbers_child e dir name ≡ false
-        → may_enter k.nodes e ≡ true → Fits (row_of context e c)
-    row_fits context (Run task n) c apart may = run_fits n c
-    row_fits context (Call task call args given reply) c apart may =
+    row_fits : (context : Context) (e : Entry) (c : Caller) (wait : Wait) → numbers_child e dir name ≡ false
+        → may_enter k.nodes e ≡ true → Fits (row_of context e c wait)
+    row_fits context e c Asleep apart may = tt
+    row_fits context (Run task n) c Woken apart may = tt
+    row_fits context (Sleep task) c Woken apart may = tt
+    row_fits context (End task signal) c Woken apart may = tt
+    row_fits context (Call task call args given reply) c Woken apart may = woken_fits c call args reply given
+    row_fits context (Run task n) c Awake apart may = run_fits n c
+    row_fits context (Call task call args given reply) c Awake apart may =
         behind (next_row c) (λ (x : Stands). call_at context c call args reply given x.next)
         (either_fits (stands_at call args c.registers (outcome_in (parts k) (next_row c)).next) _ _
         (call_fits c reply given apart may context call args) tt)
-    row_fits context (Sleep task) c apart may = tt
-    row_fits context (End task signal) c apart may =
+    row_fits context (Sleep task) c Awake apart may =
+        behind (next_row c) (λ (x : Stands). sleep_at context c x.next)
+        (sleep_fits context c (outcome_in (parts k) (next_row c)).next)
+    row_fits context (End task signal) c Awake apart may =
         behind (next_row c) (λ (x : Stands). end_at signal c x.next)
         (end_fits signal c (outcome_in (parts k) (next_row c)).next)
 
     live_fits : (context : Context) (e : Entry) (c : Option Caller) → numbers_child e dir name ≡ false
         → may_enter k.nodes e ≡ true → Fits (if_live context e c)
     live_fits context e None apart may = tt
-    live_fits context e (Some c) apart may = row_fits context e c apart may
+    live_fits context e (Some c) apart may = row_fits context e c (wait_of k.sleepers c.task) apart may
 
     entry_fits : (context : Context) (e : Entry) → numbers_child e dir name ≡ false → may_enter k.nodes e ≡ true
         → Fits (entry_row context e)

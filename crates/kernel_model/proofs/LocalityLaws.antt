@@ -2,44 +2,44 @@
 -- changes leave every other part as it was.
 use Rattle.std.proofs.Common.{◌≡◌, ◌≢◌, ℕ, ◌+◌, ◌^◌, List, [], ◌∷◌, length, Bool, true, false, Option, Some, None}
 use Rattle.std.proofs.Common.{cond, refl, ap, sym, ◌∙◌, ◌⊎◌, inl, inr, option_map}
-use Rattle.std.specs.Prelude.{nat_le, nat_lt, ◌==◌, ◌%◌, min, not, is_some}
+use Rattle.std.specs.Prelude.{nat_lt, ◌%◌, min, is_some}
 use Rattle.std.specs.Ordering.{nat_cmp, eq_by_cmp}
 use Rattle.std.specs.Cmp.{nat_cmp_total}
 use Rattle.std.specs.FinMap as map
 use Rattle.sn_base.proofs.Maps.{get-insert_same, get-insert_other, get-remove_same, get-remove_other}
 use Rattle.sn_errno.specs.declared.calls.CallNo.{CallNo}
-use Rattle.sn_errno.specs.declared.calls.CallNo.TheVariants.{Write, ExitGroup, SetTidAddress, ClockGettime, Uname}
-use Rattle.sn_errno.specs.declared.calls.CallNo.TheVariants.{Brk, Munmap, Mmap, Mprotect, Getrandom}
+use Rattle.sn_errno.specs.declared.calls.CallNo.TheVariants.{ClockGettime, Clone, Mmap, Getrandom}
 use Rattle.sn_errno.specs.declared.errno.Errno.{Errno}
-use Rattle.mm_areas.specs.Mappings.{unmap_fault}
-use Rattle.mm_space.specs.Spaces.{Reach}
+use Rattle.mm_space.specs.Spaces.{AddressSpace, Reach, unreserved}
 use Rattle.sn_errno.specs.Calls.{call_of}
 use Rattle.rv_table.specs.declared.error.Area.{Area}
 use Rattle.task_table.specs.declared.task.Made.{Made}
+use Rattle.task_table.specs.Table.{TaskTable}
 use Rattle.kernel_model.specs.declared.caller.Caller.{Caller}
 use Rattle.kernel_model.specs.declared.entry.Args.{Args}
 use Rattle.kernel_model.specs.declared.entry.Entry.{Entry}
 use Rattle.kernel_model.specs.declared.kernel.Kernel.{Kernel}
 use Rattle.kernel_model.specs.declared.kernel.Part.{Part}
 use Rattle.kernel_model.specs.declared.kernel.Part.TheVariants.{OfTasks, OfTask, OfSpace, OfArea, OfNode}
-use Rattle.kernel_model.specs.declared.kernel.Part.TheVariants.{OfConsole, OfFaults}
+use Rattle.kernel_model.specs.declared.kernel.Part.TheVariants.{OfSleepers, OfConsole, OfFaults}
 use Rattle.kernel_model.specs.declared.traps.Next.{Next}
 use Rattle.kernel_model.specs.declared.traps.Next.TheVariants.{Goes, Calls, Traps, Touches}
 use Rattle.kernel_model.specs.machine.Random.{random_at}
 use Rattle.kernel_model.specs.machine.Registers.{args_of, call_of as number_of}
-use Rattle.kernel_model.specs.calls.Answers.{Answer, is_reply}
+use Rattle.kernel_model.specs.calls.Answers.{Answer, makes_entry}
 use Rattle.kernel_model.specs.calls.Buffers.{filled, fills}
 use Rattle.kernel_model.specs.calls.Callers.{Context, context_of, caller_of}
-use Rattle.kernel_model.specs.calls.Console.{is_written_to, descriptor, to_console}
-use Rattle.kernel_model.specs.calls.Identity.{utsname}
-use Rattle.kernel_model.specs.calls.Memory.{unless_refused, fault_errno, map_refusal, protect_refusal}
+use Rattle.kernel_model.specs.calls.Clone.{Cloning, cloning_of, caller_word, is_full, is_process, is_thread}
+use Rattle.kernel_model.specs.calls.Clone.{process_by, process_made, sets_child_word, thread_by, thread_made, word_set}
+use Rattle.kernel_model.specs.calls.Memory.{unless_refused, map_refusal}
 use Rattle.kernel_model.specs.calls.Table.{call_row, row_of_call, row_if_known}
 use Rattle.kernel_model.specs.calls.Time.{timespec, time_at}
-use Rattle.kernel_model.specs.entries.Areas.{Stands, next_row, bytes_read, bytes_written}
+use Rattle.kernel_model.specs.entries.Areas.{Stands, next_row, bytes_written}
 use Rattle.kernel_model.specs.entries.Parts.{Holds, Parts, parts, Prog, done, outcome_in, uses, ◌>>=◌, IsIn, AgreeOn}
 use Rattle.kernel_model.specs.entries.Parts.{Change, set_at, area_made, put, changed, parts_of}
-use Rattle.kernel_model.specs.entries.Ready.{ready_by, ready_if_live, ready_row, is_ready}
+use Rattle.kernel_model.specs.entries.Ready.{ready_as, ready_by, ready_if_live, ready_row, is_ready}
 use Rattle.kernel_model.specs.entries.Steps.{entry_row, may_enter, step, stepped, used, touched, touches}
+use Rattle.kernel_model.specs.entries.Waiting.{Wait, Awake, Asleep, Woken, wait_of}
 use Rattle.kernel_model.proofs.NamedMaps.{get-set_same, get-set_other, get-set_alike}
 use Rattle.kernel_model.proofs.Trees.{outcome_alike, outcome-bind}
 
@@ -88,6 +88,7 @@ put_same (OfTask n) content k = set_same n content k.registers
 put_same (OfSpace n) content k = get-set_same n content k.spaces
 put_same (OfArea n) content k = get-set_same (area_made n) content k.areas
 put_same (OfNode n) content k = set_same n content k.nodes
+put_same OfSleepers content k = refl
 put_same OfConsole content k = refl
 put_same OfFaults content k = refl
 
@@ -98,6 +99,7 @@ put_other OfTasks (OfTask m) content k apart = refl
 put_other OfTasks (OfSpace m) content k apart = refl
 put_other OfTasks (OfArea m) content k apart = refl
 put_other OfTasks (OfNode m) content k apart = refl
+put_other OfTasks OfSleepers content k apart = refl
 put_other OfTasks OfConsole content k apart = refl
 put_other OfTasks OfFaults content k apart = refl
 put_other (OfTask n) OfTasks content k apart = refl
@@ -106,6 +108,7 @@ put_other (OfTask n) (OfTask m) content k apart =
 put_other (OfTask n) (OfSpace m) content k apart = refl
 put_other (OfTask n) (OfArea m) content k apart = refl
 put_other (OfTask n) (OfNode m) content k apart = refl
+put_other (OfTask n) OfSleepers content k apart = refl
 put_other (OfTask n) OfConsole content k apart = refl
 put_other (OfTask n) OfFaults content k apart = refl
 put_other (OfSpace n) OfTasks content k apart = refl
@@ -114,6 +117,7 @@ put_other (OfSpace n) (OfSpace m) content k apart =
     get-set_other n m content k.spaces (λ e. apart (ap (λ i. OfSpace i) (sym e)))
 put_other (OfSpace n) (OfArea m) content k apart = refl
 put_other (OfSpace n) (OfNode m) content k apart = refl
+put_other (OfSpace n) OfSleepers content k apart = refl
 put_other (OfSpace n) OfConsole content k apart = refl
 put_other (OfSpace n) OfFaults content k apart = refl
 put_other (OfArea n) OfTasks content k apart = refl
@@ -122,6 +126,7 @@ put_other (OfArea n) (OfSpace m) content k apart = refl
 put_other (OfArea n) (OfArea m) content k apart =
     get-set_other (area_made n) (area_made m) content k.areas (λ e. apart (ap (λ i. OfArea i) (sym (same_area n m e))))
 put_other (OfArea n) (OfNode m) content k apart = refl
+put_other (OfArea n) OfSleepers content k apart = refl
 put_other (OfArea n) OfConsole content k apart = refl
 put_other (OfArea n) OfFaults content k apart = refl
 put_other (OfNode n) OfTasks content k apart = refl
@@ -130,13 +135,23 @@ put_other (OfNode n) (OfSpace m) content k apart = refl
 put_other (OfNode n) (OfArea m) content k apart = refl
 put_other (OfNode n) (OfNode m) content k apart =
     set_other n m content k.nodes (λ e. apart (ap (λ i. OfNode i) (sym e)))
+put_other (OfNode n) OfSleepers content k apart = refl
 put_other (OfNode n) OfConsole content k apart = refl
 put_other (OfNode n) OfFaults content k apart = refl
+put_other OfSleepers OfTasks content k apart = refl
+put_other OfSleepers (OfTask m) content k apart = refl
+put_other OfSleepers (OfSpace m) content k apart = refl
+put_other OfSleepers (OfArea m) content k apart = refl
+put_other OfSleepers (OfNode m) content k apart = refl
+put_other OfSleepers OfSleepers content k apart = absurd (apart refl)
+put_other OfSleepers OfConsole content k apart = refl
+put_other OfSleepers OfFaults content k apart = refl
 put_other OfConsole OfTasks content k apart = refl
 put_other OfConsole (OfTask m) content k apart = refl
 put_other OfConsole (OfSpace m) content k apart = refl
 put_other OfConsole (OfArea m) content k apart = refl
 put_other OfConsole (OfNode m) content k apart = refl
+put_other OfConsole OfSleepers content k apart = refl
 put_other OfConsole OfConsole content k apart = absurd (apart refl)
 put_other OfConsole OfFaults content k apart = refl
 put_other OfFaults OfTasks content k apart = refl
@@ -144,6 +159,7 @@ put_other OfFaults (OfTask m) content k apart = refl
 put_other OfFaults (OfSpace m) content k apart = refl
 put_other OfFaults (OfArea m) content k apart = refl
 put_other OfFaults (OfNode m) content k apart = refl
+put_other OfFaults OfSleepers content k apart = refl
 put_other OfFaults OfConsole content k apart = refl
 put_other OfFaults OfFaults content k apart = absurd (apart refl)
 
@@ -155,6 +171,7 @@ put_alike OfTasks (OfTask m) content a b e = e
 put_alike OfTasks (OfSpace m) content a b e = e
 put_alike OfTasks (OfArea m) content a b e = e
 put_alike OfTasks (OfNode m) content a b e = e
+put_alike OfTasks OfSleepers content a b e = e
 put_alike OfTasks OfConsole content a b e = e
 put_alike OfTasks OfFaults content a b e = e
 put_alike (OfTask n) OfTasks content a b e = e
@@ -162,6 +179,7 @@ put_alike (OfTask n) (OfTask m) content a b e = set_alike n m content a.register
 put_alike (OfTask n) (OfSpace m) content a b e = e
 put_alike (OfTask n) (OfArea m) content a b e = e
 put_alike (OfTask n) (OfNode m) content a b e = e
+put_alike (OfTask n) OfSleepers content a b e = e
 put_alike (OfTask n) OfConsole content a b e = e
 put_alike (OfTask n) OfFaults content a b e = e
 put_alike (OfSpace n) OfTasks content a b e = e
@@ -169,6 +187,7 @@ put_alike (OfSpace n) (OfTask m) content a b e = e
 put_alike (OfSpace n) (OfSpace m) content a b e = get-set_alike n m content a.spaces b.spaces e
 put_alike (OfSpace n) (OfArea m) content a b e = e
 put_alike (OfSpace n) (OfNode m) content a b e = e
+put_alike (OfSpace n) OfSleepers content a b e = e
 put_alike (OfSpace n) OfConsole content a b e = e
 put_alike (OfSpace n) OfFaults content a b e = e
 put_alike (OfArea n) OfTasks content a b e = e
@@ -176,6 +195,7 @@ put_alike (OfArea n) (OfTask m) content a b e = e
 put_alike (OfArea n) (OfSpace m) content a b e = e
 put_alike (OfArea n) (OfArea m) content a b e = get-set_alike (area_made n) (area_made m) content a.areas b.areas e
 put_alike (OfArea n) (OfNode m) content a b e = e
+put_alike (OfArea n) OfSleepers content a b e = e
 put_alike (OfArea n) OfConsole content a b e = e
 put_alike (OfArea n) OfFaults content a b e = e
 put_alike (OfNode n) OfTasks content a b e = e
@@ -183,13 +203,23 @@ put_alike (OfNode n) (OfTask m) content a b e = e
 put_alike (OfNode n) (OfSpace m) content a b e = e
 put_alike (OfNode n) (OfArea m) content a b e = e
 put_alike (OfNode n) (OfNode m) content a b e = set_alike n m content a.nodes b.nodes e
+put_alike (OfNode n) OfSleepers content a b e = e
 put_alike (OfNode n) OfConsole content a b e = e
 put_alike (OfNode n) OfFaults content a b e = e
+put_alike OfSleepers OfTasks content a b e = e
+put_alike OfSleepers (OfTask m) content a b e = e
+put_alike OfSleepers (OfSpace m) content a b e = e
+put_alike OfSleepers (OfArea m) content a b e = e
+put_alike OfSleepers (OfNode m) content a b e = e
+put_alike OfSleepers OfSleepers content a b e = refl
+put_alike OfSleepers OfConsole content a b e = e
+put_alike OfSleepers OfFaults content a b e = e
 put_alike OfConsole OfTasks content a b e = e
 put_alike OfConsole (OfTask m) content a b e = e
 put_alike OfConsole (OfSpace m) content a b e = e
 put_alike OfConsole (OfArea m) content a b e = e
 put_alike OfConsole (OfNode m) content a b e = e
+put_alike OfConsole OfSleepers content a b e = e
 put_alike OfConsole OfConsole content a b e = refl
 put_alike OfConsole OfFaults content a b e = e
 put_alike OfFaults OfTasks content a b e = e
@@ -197,6 +227,7 @@ put_alike OfFaults (OfTask m) content a b e = e
 put_alike OfFaults (OfSpace m) content a b e = e
 put_alike OfFaults (OfArea m) content a b e = e
 put_alike OfFaults (OfNode m) content a b e = e
+put_alike OfFaults OfSleepers content a b e = e
 put_alike OfFaults OfConsole content a b e = e
 put_alike OfFaults OfFaults content a b e = refl
 
@@ -229,6 +260,7 @@ parts_of_stepped k changes (OfTask n) = refl
 parts_of_stepped k changes (OfSpace n) = refl
 parts_of_stepped k changes (OfArea n) = refl
 parts_of_stepped k changes (OfNode n) = refl
+parts_of_stepped k changes OfSleepers = refl
 parts_of_stepped k changes OfConsole = refl
 parts_of_stepped k changes OfFaults = refl
 
@@ -297,35 +329,25 @@ fits_alike a b e context same may too =
 
 -- ---- when a step is ready
 
--- each row so far replies at once, in any state and context
+-- each row whose context tells what it comes to replies at once, in any state and context
 module _ (s : Parts) (context : Context) (caller : Caller) (args : Args) where
   abbrev Answers : Prog Answer → Type 0
-  Answers row = is_reply (outcome_in s row).reply ≡ true
+  Answers row = makes_entry (outcome_in s row).reply ≡ true
 
   either_answers : (b : Bool) (x y : Prog Answer) → Answers x → Answers y → Answers (cond b x y)
   either_answers true x y here there = here
   either_answers false x y here there = there
 
-  either_replies : (b : Bool) (x y : Answer) → is_reply x.reply ≡ true → is_reply y.reply ≡ true
-      → is_reply (cond b x y).reply ≡ true
-  either_replies true x y here there = here
-  either_replies false x y here there = there
-
   behind_answers : {A : Type 0} (first : Prog A) (next : A → Prog Answer) → Answers (next (outcome_in s first))
       → Answers (first >>= next)
-  behind_answers first next h = ap (λ (a : Answer). is_reply a.reply) (outcome-bind s first next) ∙ h
+  behind_answers first next h = ap (λ (a : Answer). makes_entry a.reply) (outcome-bind s first next) ∙ h
 
-  refused_replies : (refusal : Option Errno) (answer : Answer) → is_reply answer.reply ≡ true
-      → is_reply (unless_refused refusal answer).reply ≡ true
+  refused_replies : (refusal : Option Errno) (answer : Answer) → makes_entry answer.reply ≡ true
+      → makes_entry (unless_refused refusal answer).reply ≡ true
   refused_replies None answer h = h
   refused_replies (Some errno) answer h = refl
 
-  console_answers : (bytes : Option (List ℕ)) → Answers (to_console bytes)
-  console_answers None = refl
-  console_answers (Some bytes) =
-      either_replies (nat_le (length (s OfConsole) + length bytes) 1048576) _ _ refl refl
-
-  filled_replies : (reply : ℕ) (reach : Option Reach) → is_reply (filled caller.memory reply reach).reply ≡ true
+  filled_replies : (reply : ℕ) (reach : Option Reach) → makes_entry (filled caller.memory reply reach).reply ≡ true
   filled_replies reply None = refl
   filled_replies reply (Some reach) = refl
 
@@ -335,53 +357,97 @@ module _ (s : Parts) (context : Context) (caller : Caller) (args : Args) where
       (λ reach. done (filled caller.memory reply reach))
       (filled_replies reply (outcome_in s (bytes_written caller.task caller.space at bytes)))
 
-  row_answers : (call : CallNo) → Answers (row_of_call context caller args call)
-  row_answers Write =
-      either_answers (is_written_to (descriptor args.a0)) _ _
-      (either_answers (args.a2 == 0) _ _ refl
-      (behind_answers (bytes_read caller.space args.a1 (min args.a2 65536)) to_console
-      (console_answers (outcome_in s (bytes_read caller.space args.a1 (min args.a2 65536))))))
-      refl
-  row_answers ExitGroup = refl
-  row_answers SetTidAddress = refl
-  row_answers ClockGettime =
+  clock_answers : Answers (row_of_call context caller args ClockGettime)
+  clock_answers =
       either_answers (nat_lt 1 args.a0) _ _ refl (fill_answers args.a1 (timespec (time_at context.place)) 0)
-  row_answers Uname = fill_answers args.a0 utsname 0
-  row_answers Brk = refl
-  row_answers Munmap = refused_replies (fault_errno (unmap_fault args.a0 args.a1)) _ refl
-  row_answers Mmap =
+
+  map_answers : Answers (row_of_call context caller args Mmap)
+  map_answers =
       refused_replies (map_refusal caller.space args.a0 args.a1 args.a2 args.a3 args.a4 args.a5) _ refl
-  row_answers Mprotect = refused_replies (protect_refusal caller.space args.a0 args.a1 args.a2) _ refl
-  row_answers Getrandom =
+
+  random_answers : Answers (row_of_call context caller args Getrandom)
+  random_answers =
       either_answers (nat_lt 7 (args.a2 % 2 ^ 32)) _ _ refl
       (fill_answers args.a0 (random_at context.seed context.place (min args.a1 256)) (min args.a1 256))
-  row_answers _ = refl
 
-  known_answers : (call : Option CallNo) → Answers (row_if_known context caller args call)
-  known_answers None = refl
-  known_answers (Some call) = row_answers call
+  module _ (x : Cloning) (list : TaskTable) where
+    process_replies : (space : AddressSpace) (reach : Option Reach)
+        → makes_entry (process_made context caller x list space reach).reply ≡ true
+    process_replies space None = refl
+    process_replies space (Some reach) = refl
+
+    process_answers : (reach : Option Reach) → Answers (process_by context caller x list reach)
+    process_answers None = refl
+    process_answers (Some reach) =
+        behind_answers
+        (word_set caller.task (sets_child_word x.flags) (unreserved caller.space.mapping) reach.hand x.child_word
+        (list.last + 1)) _ (process_replies reach.space _)
+
+    thread_replies : (reach : Option Reach) → makes_entry (thread_made caller x list reach).reply ≡ true
+    thread_replies None = refl
+    thread_replies (Some reach) = refl
+
+    thread_answers : (reach : Option Reach) → Answers (thread_by caller x list reach)
+    thread_answers None = refl
+    thread_answers (Some reach) =
+        behind_answers
+        (word_set caller.task (sets_child_word x.flags) reach.space reach.hand x.child_word (list.last + 1)) _
+        (thread_replies _)
+
+  clone_answers : Answers (row_of_call context caller args Clone)
+  clone_answers =
+      either_answers (is_process (args.a0 % 2 ^ 32)) _ _
+      (either_answers (is_full (s OfTasks)) _ _ refl
+      (behind_answers (caller_word caller (cloning_of args) (s OfTasks)) _
+      (process_answers (cloning_of args) (s OfTasks) _)))
+      (either_answers (is_thread (args.a0 % 2 ^ 32)) _ _
+      (either_answers (is_full (s OfTasks)) _ _ refl
+      (behind_answers (caller_word caller (cloning_of args) (s OfTasks)) _
+      (thread_answers (cloning_of args) (s OfTasks) _))) refl)
 
 -- so what is ready is so in any context
+module _ (s : Parts) (c d : Context) (caller : Caller) (args : Args) where
+  abbrev AreAlike : Prog Answer → Prog Answer → Type 0
+  AreAlike x y = makes_entry (outcome_in s x).reply ≡ makes_entry (outcome_in s y).reply
+
+  row_alike : (call : CallNo) → AreAlike (row_of_call c caller args call) (row_of_call d caller args call)
+  row_alike ClockGettime = clock_answers s c caller args ∙ sym (clock_answers s d caller args)
+  row_alike Mmap = map_answers s c caller args ∙ sym (map_answers s d caller args)
+  row_alike Getrandom = random_answers s c caller args ∙ sym (random_answers s d caller args)
+  row_alike Clone = clone_answers s c caller args ∙ sym (clone_answers s d caller args)
+  row_alike _ = refl
+
+  known_alike : (call : Option CallNo) → AreAlike (row_if_known c caller args call) (row_if_known d caller args call)
+  known_alike None = refl
+  known_alike (Some call) = row_alike call
+
 by_next : (s : Parts) (c d : Context) (caller : Caller) (next : Next)
     → outcome_in s (ready_by c caller next) ≡ outcome_in s (ready_by d caller next)
 by_next s c d caller Goes = refl
 by_next s c d caller (Traps signal) = refl
 by_next s c d caller (Touches area) = refl
-by_next s c d caller Calls = here c ∙ sym (here d)
+by_next s c d caller Calls =
+    here c ∙ known_alike s c d caller (args_of caller.registers) (call_of (number_of caller.registers)) ∙ sym (here d)
   where
-    here : (x : Context) → outcome_in s (ready_by x caller Calls) ≡ true
+    here : (x : Context) → outcome_in s (ready_by x caller Calls)
+        ≡ makes_entry (outcome_in s (call_row x caller (number_of caller.registers) (args_of caller.registers))).reply
     here x =
         outcome-bind s (call_row x caller (number_of caller.registers) (args_of caller.registers))
-        (λ answer. done (is_reply answer.reply))
-        ∙ known_answers s x caller (args_of caller.registers) (call_of (number_of caller.registers))
+        (λ answer. done (makes_entry answer.reply))
+
+by_wait : (s : Parts) (c d : Context) (caller : Caller) (wait : Wait)
+    → outcome_in s (ready_as c caller wait) ≡ outcome_in s (ready_as d caller wait)
+by_wait s c d caller Asleep = refl
+by_wait s c d caller Woken = refl
+by_wait s c d caller Awake =
+    outcome-bind s (next_row caller) (λ (x : Stands). ready_by c caller x.next)
+    ∙ by_next s c d caller (outcome_in s (next_row caller)).next
+    ∙ sym (outcome-bind s (next_row caller) (λ (x : Stands). ready_by d caller x.next))
 
 if_live_alike : (s : Parts) (c d : Context) (caller : Option Caller)
     → outcome_in s (ready_if_live c caller) ≡ outcome_in s (ready_if_live d caller)
 if_live_alike s c d None = refl
-if_live_alike s c d (Some caller) =
-    outcome-bind s (next_row caller) (λ (x : Stands). ready_by c caller x.next)
-    ∙ by_next s c d caller (outcome_in s (next_row caller)).next
-    ∙ sym (outcome-bind s (next_row caller) (λ (x : Stands). ready_by d caller x.next))
+if_live_alike s c d (Some caller) = by_wait s c d caller (wait_of (s OfSleepers) caller.task)
 
 any_context : (s : Parts) (c d : Context) (task : ℕ)
     → outcome_in s (ready_row c task) ≡ outcome_in s (ready_row d task)

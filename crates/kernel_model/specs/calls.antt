@@ -2,10 +2,14 @@
 pub mod Answers
 pub mod Buffers
 pub mod Callers
+pub mod ClearWords
+pub mod Clone
 pub mod Console
 pub mod Ending
+pub mod Futex
 pub mod Identity
 pub mod Memory
 pub mod RandomBytes
 pub mod Table
 pub mod Time
+pub mod Wait

@@ -1,6 +1,7 @@
 -- Entries: the parts that they read and change, what they do, and histories of them.
 pub mod Parts
 pub mod Areas
+pub mod Waiting
 pub mod Given
 pub mod Steps
 pub mod Ready

@@ -6,3 +6,4 @@ pub mod Instructions
 pub mod Random
 pub mod AreaCodes
 pub mod Image
+pub mod FutexWords

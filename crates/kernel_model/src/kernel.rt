@@ -1,6 +1,7 @@
 //! The kernel's state, and the parts of it that a step reads and changes.
 
 use crate::{GuestArea, GuestSpace, Named};
+use futex_core::Waiters;
 use host_node::Tree;
 use mount_file::Mount;
 use rv_table::{Area, Regs};
@@ -29,8 +30,8 @@ pub struct Node {
 /// The kernel's state: the task list (which tasks and thread groups there are, and how they stand), the registers of
 /// tasks by number, address spaces by the place of the entry that made them and an index (those of opening tasks by
 /// place 0 and the task's number), shared areas by the place of the entry that made them and an index, nodes by number,
-/// the console's bytes, by how much each node's count of faults rose, the mounts, the key of the random stream, and the
-/// number of entries so far.
+/// the futex list, the console's bytes, by how much each node's count of faults rose, the mounts, the key of the random
+/// stream, and the number of entries so far.
 #[derive(Drop)]
 pub struct Kernel {
     pub tasks: Tasks,
@@ -38,6 +39,7 @@ pub struct Kernel {
     pub spaces: Named<GuestSpace>,
     pub areas: Named<GuestArea>,
     pub nodes: Map<Node>,
+    pub sleepers: Waiters,
     pub console: List<u8>,
     pub failed: Map<u64>,
     pub mounts: List<Mount>,
@@ -53,6 +55,7 @@ pub enum Part {
     OfSpace(Made),
     OfArea(Area),
     OfNode(u64),
+    OfSleepers,
     OfConsole,
     OfFaults,
 }

@@ -5,10 +5,12 @@ use Rattle.sn_errno.specs.declared.errno.Errno.{Errno}
 use Rattle.sn_errno.specs.Errors.{reply_of}
 use Rattle.kernel_model.specs.entries.Parts.{Change}
 
--- what a call replies: a value, of which a negative one is an error's number, or nothing so far, since it waits
--- syscall(2); profile
+-- what a call replies: a value, of which a negative one is an error's number; or nothing so far, since it puts its task
+-- to sleep by an entry of its own, or since it waits
+-- syscall(2); futex(2), FUTEX_WAIT; the entry: profile
 pub data Reply : Type 0 where
   Replies : ℤ → Reply
+  Sleeps : Reply
   NotReady : Reply
 
 -- a child by its directory's number and its name
@@ -30,6 +32,16 @@ pub record Answer : Type 0 where
 abbrev pub replies : ℤ → List Change → Answer
 replies value changes = record { reply = Replies value; changes = changes; fresh = [] }
 
+-- a call that puts its task to sleep, with changes
+-- futex(2), FUTEX_WAIT
+abbrev pub sleeps : List Change → Answer
+sleeps changes = record { reply = Sleeps; changes = changes; fresh = [] }
+
+-- a call that waits, and changes nothing
+-- wait4(2)
+abbrev pub not_ready : Answer
+not_ready = record { reply = NotReady; changes = []; fresh = [] }
+
 -- an address as a reply: the signed number of its 64 bits
 -- syscall(2), RETURN VALUE
 abbrev pub address_reply : ℕ → ℤ
@@ -40,8 +52,9 @@ address_reply address = cast_signed w64 address
 abbrev pub refuses : Errno → Answer
 refuses errno = replies (reply_of errno) []
 
--- whether a call replies
+-- whether there is an entry of a call: it replies, or puts its task to sleep
 -- profile
-abbrev pub is_reply : Reply → Bool
-is_reply (Replies value) = true
-is_reply NotReady = false
+abbrev pub makes_entry : Reply → Bool
+makes_entry (Replies value) = true
+makes_entry Sleeps = true
+makes_entry NotReady = false

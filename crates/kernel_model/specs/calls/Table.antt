@@ -2,8 +2,8 @@
 use Rattle.std.specs.Prelude.{ℕ, Option, Some, None}
 use Rattle.sn_errno.specs.declared.errno.Errno.TheVariants.{ENOSYS}
 use Rattle.sn_errno.specs.declared.calls.CallNo.{CallNo}
-use Rattle.sn_errno.specs.declared.calls.CallNo.TheVariants.{Write, ExitGroup, SetTidAddress, SetRobustList}
-use Rattle.sn_errno.specs.declared.calls.CallNo.TheVariants.{ClockGettime}
+use Rattle.sn_errno.specs.declared.calls.CallNo.TheVariants.{Write, Exit, ExitGroup, SetTidAddress, SetRobustList}
+use Rattle.sn_errno.specs.declared.calls.CallNo.TheVariants.{Futex, ClockGettime, Clone, Wait4}
 use Rattle.sn_errno.specs.declared.calls.CallNo.TheVariants.{SchedYield, Uname, Getpid, Getppid, Getuid, Geteuid}
 use Rattle.sn_errno.specs.declared.calls.CallNo.TheVariants.{Getgid, Getegid, Gettid, Brk, Munmap, Mmap, Mprotect}
 use Rattle.sn_errno.specs.declared.calls.CallNo.TheVariants.{Getrandom}
@@ -12,20 +12,25 @@ use Rattle.kernel_model.specs.declared.caller.Caller.{Caller}
 use Rattle.kernel_model.specs.declared.entry.Args.{Args}
 use Rattle.kernel_model.specs.calls.Answers.{Answer, refuses}
 use Rattle.kernel_model.specs.calls.Callers.{Context}
+use Rattle.kernel_model.specs.calls.Clone.{clone_row}
 use Rattle.kernel_model.specs.calls.Console.{write_row}
-use Rattle.kernel_model.specs.calls.Ending.{exit_group_row, set_tid_address_row, set_robust_list_row}
+use Rattle.kernel_model.specs.calls.Ending.{exit_row, exit_group_row, set_tid_address_row, set_robust_list_row}
+use Rattle.kernel_model.specs.calls.Futex.{futex_row}
 use Rattle.kernel_model.specs.calls.Identity.{getpid_row, getppid_row, gettid_row, owner_row, uname_row}
 use Rattle.kernel_model.specs.calls.Memory.{brk_row, munmap_row, mmap_row, mprotect_row}
 use Rattle.kernel_model.specs.calls.RandomBytes.{getrandom_row}
 use Rattle.kernel_model.specs.calls.Time.{clock_gettime_row, sched_yield_row}
+use Rattle.kernel_model.specs.calls.Wait.{wait4_row}
 use Rattle.kernel_model.specs.entries.Parts.{Prog, done}
 
 -- the row of a call; one that the kernel does not have answers ENOSYS
 -- syscall(2)
 abbrev pub row_of_call : Context → Caller → Args → CallNo → Prog Answer
 row_of_call context caller args Write = write_row args.a0 args.a1 args.a2 caller.space
-row_of_call context caller args ExitGroup = exit_group_row args.a0 caller.group
+row_of_call context caller args Exit = exit_row args.a0 caller
+row_of_call context caller args ExitGroup = exit_group_row args.a0 caller
 row_of_call context caller args SetTidAddress = set_tid_address_row args.a0 caller
+row_of_call context caller args Futex = futex_row args.a0 args.a1 args.a2 args.a3 caller
 row_of_call context caller args SetRobustList = set_robust_list_row
 row_of_call context caller args ClockGettime = clock_gettime_row context args.a0 args.a1 caller
 row_of_call context caller args SchedYield = sched_yield_row
@@ -39,8 +44,10 @@ row_of_call context caller args Getegid = owner_row
 row_of_call context caller args Gettid = gettid_row caller
 row_of_call context caller args Brk = brk_row args.a0 caller
 row_of_call context caller args Munmap = munmap_row args.a0 args.a1 caller
+row_of_call context caller args Clone = clone_row context args caller
 row_of_call context caller args Mmap = mmap_row context args.a0 args.a1 args.a2 args.a3 args.a4 args.a5 caller
 row_of_call context caller args Mprotect = mprotect_row args.a0 args.a1 args.a2 caller
+row_of_call context caller args Wait4 = wait4_row args.a0 args.a1 args.a2 args.a3 caller
 row_of_call context caller args Getrandom = getrandom_row context args.a0 args.a1 args.a2 caller
 row_of_call context caller args _ = done (refuses ENOSYS)
 

@@ -11,7 +11,8 @@ use Rattle.mm_space.specs.Puts.{after_run_stored}
 use Rattle.mm_space.specs.Runs.{bytes_from}
 use Rattle.mm_space.specs.Spaces.{AddressSpace, Reach}
 use Rattle.kernel_model.specs.declared.caller.Caller.{Caller}
-use Rattle.kernel_model.specs.declared.kernel.Part.TheVariants.{OfSpace, OfArea}
+use Rattle.kernel_model.specs.declared.kernel.Part.TheVariants.{OfTasks, OfTask, OfSpace, OfArea, OfNode, OfSleepers}
+use Rattle.kernel_model.specs.declared.kernel.Part.TheVariants.{OfConsole, OfFaults}
 use Rattle.kernel_model.specs.declared.traps.Next.{Next}
 use Rattle.kernel_model.specs.declared.traps.Next.TheVariants.{Goes, Calls, Traps, Touches}
 use Rattle.kernel_model.specs.machine.Instructions.{next_of}
@@ -55,6 +56,26 @@ most_areas = 17
 
 abbrev pub trying : {A : Type 0} → (List InHand → Tried A) → A → Prog A
 trying try lacking = tried_with try lacking most_areas []
+
+-- ---- behind what has changed areas
+
+-- an area as it was left in hand, or else as it is
+-- profile
+abbrev pub left_in : List InHand → Area → Option AreaState → Option AreaState
+left_in hand name content = if is_some (area_in name hand) then area_in name hand else content
+
+-- what is done where these areas have been left so
+-- profile
+abbrev pub over : {A : Type 0} → List InHand → Prog A → Prog A
+over hand (done a) = done a
+over hand (look (OfArea name) then) = look (OfArea name) (λ content. over hand (then (left_in hand name content)))
+over hand (look OfTasks then) = look OfTasks (λ content. over hand (then content))
+over hand (look (OfTask task) then) = look (OfTask task) (λ content. over hand (then content))
+over hand (look (OfSpace name) then) = look (OfSpace name) (λ content. over hand (then content))
+over hand (look (OfNode ino) then) = look (OfNode ino) (λ content. over hand (then content))
+over hand (look OfSleepers then) = look OfSleepers (λ content. over hand (then content))
+over hand (look OfConsole then) = look OfConsole (λ content. over hand (then content))
+over hand (look OfFaults then) = look OfFaults (λ content. over hand (then content))
 
 -- ---- an instruction
 
@@ -113,6 +134,17 @@ written_with task space at bytes hand = after_run_stored task at bytes (reach_wi
 abbrev pub bytes_written : (task : ℕ) → AddressSpace → (at : ℕ) → List ℕ → Prog (Option Reach)
 bytes_written task space at bytes =
     access_row writable space at (length bytes) >>= λ hand. done (option_map (written_with task space at bytes) hand)
+
+-- what is reached, where areas were left so before and others have been since
+-- profile
+abbrev pub reach_over : List InHand → Reach → Reach
+reach_over hand r = reach_with r.space (r.hand ++ hand)
+
+-- the same where areas have been left so: what is reached then has these too
+-- read(2), EFAULT
+abbrev pub bytes_written_over : (task : ℕ) → AddressSpace → List InHand → (at : ℕ) → List ℕ → Prog (Option Reach)
+bytes_written_over task space hand at bytes =
+    over hand (bytes_written task space at bytes) >>= λ reach. done (option_map (reach_over hand) reach)
 
 -- ---- what is left
 

@@ -21,6 +21,11 @@ abbrev pub has_any : {A : Type 0} → List A → Bool
 has_any [] = false
 has_any (x ∷ xs) = true
 
+-- a call drew nothing and met nothing
+-- profile
+abbrev pub is_quiet : Given → Bool
+is_quiet given = not (has_any given.rises) && not (has_any given.fresh)
+
 -- numbers that strictly ascend, the first above that one
 -- profile
 abbrev pub ascend_from : ℕ → List ℕ → Bool

@@ -8,15 +8,16 @@ use Rattle.rv_table.specs.declared.regs.Regs.{Regs}
 use Rattle.task_table.specs.declared.task.Made.{Made}
 use Rattle.task_table.specs.Table.{TaskTable}
 use Rattle.mm_space.specs.Handing.{AreaState}
+use Rattle.futex_core.specs.FutexLists.{FutexList}
 use Rattle.mm_space.specs.Spaces.{AddressSpace}
 use Rattle.kernel_model.specs.declared.kernel.Kernel.{Kernel}
 use Rattle.kernel_model.specs.declared.kernel.Node.{Node}
 use Rattle.kernel_model.specs.declared.kernel.Part.{Part}
 use Rattle.kernel_model.specs.declared.kernel.Part.TheVariants.{OfTasks, OfTask, OfSpace, OfArea, OfNode}
-use Rattle.kernel_model.specs.declared.kernel.Part.TheVariants.{OfConsole, OfFaults}
+use Rattle.kernel_model.specs.declared.kernel.Part.TheVariants.{OfSleepers, OfConsole, OfFaults}
 
--- what a part holds: the task list, a task's registers, an address space, a shared area, a node, the console's bytes,
--- rises of counts
+-- what a part holds: the task list, a task's registers, an address space, a shared area, a node, the futex list, the
+-- console's bytes, rises of counts
 -- profile
 abbrev pub Holds : Part → Type 0
 Holds OfTasks = TaskTable
@@ -24,6 +25,7 @@ Holds (OfTask task) = Option Regs
 Holds (OfSpace name) = Option AddressSpace
 Holds (OfArea name) = Option AreaState
 Holds (OfNode ino) = Option Node
+Holds OfSleepers = FutexList
 Holds OfConsole = List ℕ
 Holds OfFaults = map.FinMap nat_cmp ℕ
 
@@ -40,6 +42,7 @@ parts k (OfTask task) = map.get k.registers task
 parts k (OfSpace name) = get_named k.spaces name.place name.index
 parts k (OfArea name) = get_named k.areas name.place name.index
 parts k (OfNode ino) = map.get k.nodes ino
+parts k OfSleepers = k.sleepers
 parts k OfConsole = k.console
 parts k OfFaults = k.failed
 
@@ -107,6 +110,7 @@ put (OfTask task) content k = record k { registers = set_at task content k.regis
 put (OfSpace name) content k = record k { spaces = set_named name content k.spaces }
 put (OfArea name) content k = record k { areas = set_named (area_made name) content k.areas }
 put (OfNode ino) content k = record k { nodes = set_at ino content k.nodes }
+put OfSleepers content k = record k { sleepers = content }
 put OfConsole content k = record k { console = content }
 put OfFaults content k = record k { failed = content }
 

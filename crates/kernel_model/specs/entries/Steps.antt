@@ -1,5 +1,5 @@
 -- What an entry does: it is defined exactly where the entry fits the state.
-use Rattle.std.specs.Prelude.{ℕ, ◌+◌, ◌==◌, nat_le, ℤ, List, length, [], ◌∷◌, ◌++◌, Bool, true, false, ◌&&◌, Option, Some}
+use Rattle.std.specs.Prelude.{ℕ, ◌+◌, ◌==◌, nat_le, ℤ, pos, List, length, [], ◌∷◌, ◌++◌, Bool, true, false, ◌&&◌, Option, Some}
 use Rattle.std.specs.Prelude.{None}
 use Rattle.std.specs.Prelude.{if◌then◌else◌, option_map}
 use Rattle.std.specs.List.{list_all, list_any}
@@ -9,6 +9,7 @@ use Rattle.sn_errno.specs.declared.errno.Errno.{Errno}
 use Rattle.sn_errno.specs.declared.errno.Errno.TheVariants.{EIO, ENFILE}
 use Rattle.sn_errno.specs.Errors.{reply_of}
 use Rattle.rv_table.specs.declared.regs.Regs.{Regs}
+use Rattle.futex_core.specs.FutexLists.{after_leave}
 use Rattle.mm_space.specs.Handing.{InHand}
 use Rattle.task_table.specs.declared.task.Status.TheVariants.{Killed}
 use Rattle.quantum.specs.Instructions.{Going, ran}
@@ -18,7 +19,7 @@ use Rattle.kernel_model.specs.declared.entry.Entry.{Entry}
 use Rattle.kernel_model.specs.declared.entry.Entry.TheVariants.{Run, Call, Sleep, End}
 use Rattle.kernel_model.specs.declared.kernel.Kernel.{Kernel}
 use Rattle.kernel_model.specs.declared.kernel.Part.{Part}
-use Rattle.kernel_model.specs.declared.kernel.Part.TheVariants.{OfTasks, OfTask, OfSpace}
+use Rattle.kernel_model.specs.declared.kernel.Part.TheVariants.{OfTask, OfSpace, OfSleepers}
 use Rattle.kernel_model.specs.declared.opening.Fresh.{Fresh}
 use Rattle.kernel_model.specs.declared.opening.Given.{Given}
 use Rattle.kernel_model.specs.declared.traps.Next.{Next}
@@ -26,16 +27,17 @@ use Rattle.kernel_model.specs.declared.traps.Next.TheVariants.{Goes, Calls, Trap
 use Rattle.kernel_model.specs.machine.Instructions.{next_of}
 use Rattle.kernel_model.specs.machine.Registers.{args_of, call_of, replied}
 use Rattle.kernel_model.specs.machine.Spaces.{acting_in, going_in, going_with}
-use Rattle.kernel_model.specs.calls.Answers.{Reply, Replies, NotReady, Key, Answer}
+use Rattle.kernel_model.specs.calls.Answers.{Reply, Replies, Sleeps, NotReady, Key, Answer}
 use Rattle.kernel_model.specs.calls.Callers.{Context, context_of, caller_of}
 use Rattle.kernel_model.specs.calls.Ending.{group_end}
 use Rattle.kernel_model.specs.calls.Table.{call_row}
 use Rattle.kernel_model.specs.files.FileTree.{Nodes}
 use Rattle.kernel_model.specs.entries.Areas.{Stands, next_row, area_changes}
 use Rattle.kernel_model.specs.entries.Given.{has_any, is_in_order, above_last, Nodes_so_far, number_all, node_changes}
-use Rattle.kernel_model.specs.entries.Given.{faulted, may_meet}
+use Rattle.kernel_model.specs.entries.Given.{faulted, is_quiet, may_meet}
 use Rattle.kernel_model.specs.entries.Parts.{parts, Prog, done, look, outcome_in, uses, ◌>>=◌, Change, changed}
 use Rattle.kernel_model.specs.entries.Parts.{parts_of}
+use Rattle.kernel_model.specs.entries.Waiting.{Wait, Awake, Asleep, Woken, wait_of}
 
 -- a task has these registers
 -- profile
@@ -80,9 +82,11 @@ run_row n c = or_step n c (run_alone n c)
 
 -- End: the next instruction traps with that signal, which ends the group
 -- signal(7), Term; profile
+abbrev pub killed : ℕ → Caller → Prog (Option (List Change))
+killed signal c = group_end c (Killed signal) >>= λ changes. done (Some changes)
+
 abbrev pub end_at : ℕ → Caller → Next → Prog (Option (List Change))
-end_at signal c (Traps s) =
-    if s == signal then look OfTasks (λ list. done (Some (group_end c.group (Killed signal) list))) else done None
+end_at signal c (Traps s) = if s == signal then killed signal c else done None
 end_at signal c Goes = done None
 end_at signal c Calls = done None
 end_at signal c (Touches area) = done None
@@ -95,10 +99,11 @@ end_row signal c = next_row c >>= λ (s : Stands). end_at signal c s.next
 abbrev pub going_on : Caller → ℤ → List Change
 going_on c value = task_change c.task (replied c.registers value) ∷ []
 
--- the call's changes, where its reply is that of the entry; one that waits has none
+-- the call's changes, where its reply is that of the entry; one that replies nothing so far has none
 -- syscall(2)
 abbrev pub replied_by : Caller → ℤ → List Change → Reply → Option (List Change)
 replied_by c reply changes (Replies value) = if int_eq reply value then Some (changes ++ going_on c value) else None
+replied_by c reply changes Sleeps = None
 replied_by c reply changes NotReady = None
 
 -- with the children numbered that the call names
@@ -177,14 +182,55 @@ abbrev pub call_at : Context → Caller → (call : ℕ) → Args → ℤ → Gi
 call_at context c call args reply given next =
     if stands_at call args c.registers next then by_given context c call args reply given else done None
 
--- what an entry of a live task changes, or None where it does not fit
--- profile
-abbrev pub row_of : Context → Entry → Caller → Prog (Option (List Change))
-row_of context (Run task n) c = run_row n c
-row_of context (Call task call args given reply) c =
+-- Call, of a task that is not on the futex list: the call that its next instruction makes
+-- syscall(2)
+abbrev pub call_entry : Context → Caller → (call : ℕ) → Args → ℤ → Given → Prog (Option (List Change))
+call_entry context c call args reply given =
     next_row c >>= λ (s : Stands). call_at context c call args reply given s.next
-row_of context (Sleep task) c = done None
-row_of context (End task signal) c = end_row signal c
+
+-- Call, of a task that was woken: the call that it slept in replies 0, whatever its code has become, and the task leaves
+-- the futex list
+-- futex(2), RETURN VALUE, FUTEX_WAIT; that such a call draws and meets nothing: profile
+abbrev pub woken_at : Caller → (call : ℕ) → Args → ℤ → Given → Bool
+woken_at c call args reply given = stands_at call args c.registers Calls && is_quiet given && int_eq reply (pos 0)
+
+abbrev pub woken_entry : Caller → (call : ℕ) → Args → ℤ → Given → Prog (Option (List Change))
+woken_entry c call args reply given =
+    if woken_at c call args reply given
+    then look OfSleepers (λ list. done (Some ((OfSleepers, after_leave list c.task) ∷ going_on c (pos 0))))
+    else done None
+
+-- Sleep: the next instruction makes a call that puts its task to sleep
+-- futex(2), FUTEX_WAIT; that it is an entry of its own: profile
+abbrev pub slept_by : Answer → Reply → Option (List Change)
+slept_by answer Sleeps = Some answer.changes
+slept_by answer (Replies value) = None
+slept_by answer NotReady = None
+
+abbrev pub sleep_at : Context → Caller → Next → Prog (Option (List Change))
+sleep_at context c Calls =
+    call_row context c (call_of c.registers) (args_of c.registers)
+    >>= λ (answer : Answer). done (slept_by answer answer.reply)
+sleep_at context c Goes = done None
+sleep_at context c (Traps signal) = done None
+sleep_at context c (Touches area) = done None
+
+abbrev pub sleep_row : Context → Caller → Prog (Option (List Change))
+sleep_row context c = next_row c >>= λ (s : Stands). sleep_at context c s.next
+
+-- what an entry of a live task changes, or None where it does not fit; one that sleeps makes none, and one that was
+-- woken makes the call that it slept in
+-- profile
+abbrev pub row_of : Context → Entry → Caller → Wait → Prog (Option (List Change))
+row_of context (Run task n) c Awake = run_row n c
+row_of context (Call task call args given reply) c Awake = call_entry context c call args reply given
+row_of context (Sleep task) c Awake = sleep_row context c
+row_of context (End task signal) c Awake = end_row signal c
+row_of context (Call task call args given reply) c Woken = woken_entry c call args reply given
+row_of context (Run task n) c Woken = done None
+row_of context (Sleep task) c Woken = done None
+row_of context (End task signal) c Woken = done None
+row_of context entry c Asleep = done None
 
 abbrev pub task_of : Entry → ℕ
 task_of (Run task n) = task
@@ -194,7 +240,7 @@ task_of (End task signal) = task
 
 abbrev pub if_live : Context → Entry → Option Caller → Prog (Option (List Change))
 if_live context entry None = done None
-if_live context entry (Some c) = row_of context entry c
+if_live context entry (Some c) = look OfSleepers (λ list. row_of context entry c (wait_of list c.task))
 
 abbrev pub entry_row : Context → Entry → Prog (Option (List Change))
 entry_row context entry = caller_of (task_of entry) >>= if_live context entry

@@ -40,8 +40,3 @@ pub record IsWaiting (f : Fresh) (k : Kernel) (dir : Node) (shape : Shape) : Typ
 -- profile
 abbrev pub Waits : Fresh → Kernel → Type 0
 Waits f k = (dir : Node) × (shape : Shape) × IsWaiting f k dir shape
-
--- a call drew nothing and met nothing
--- profile
-abbrev pub is_quiet : Given → Bool
-is_quiet given = not (has_any given.rises) && not (has_any given.fresh)

@@ -165,6 +165,7 @@ bare mounts trees = record {
   spaces = map.empty;
   areas = map.empty;
   nodes = rooted 1 trees;
+  sleepers = record { sleepers = []; woken = [] };
   console = [];
   failed = map.empty;
   mounts = mounts.mounts;
