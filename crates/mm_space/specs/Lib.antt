@@ -1,5 +1,6 @@
 -- What contracts of this crate say, by subject.
 pub mod Accesses
+pub mod AreaBytes
 pub mod Changes
 pub mod Conditionals
 pub mod Handing

@@ -15,7 +15,8 @@
 //! pages have their bytes for themselves, as after `writable`, no store or run does (`ready`, `lean`). `take` answers
 //! whether the task has the reservation of just that address and width, and in a shared area still has it there
 //! (`held`). What is done by a hint is what the exact call does, whichever areas are handed in, or nothing (`near`,
-//! `done`, `unchanged`). Decoded words are those of the page's bytes (`words`). `map`, `unmap`, `protect` and `brk`
+//! `done`, `unchanged`). `area_byte` answers which byte of a shared area lies at an address (`area_byte_at`), by which
+//! a futex word is known. Decoded words are those of the page's bytes (`words`). `map`, `unmap`, `protect` and `brk`
 //! leave the mapping that mm_areas' definitions make of the old one, and the first three end the reservations over
 //! their range (`ok`); a fault is answered where it is and only there (`fault`, `faulty`). `fork` gives a space of the
 //! same mapping in which nothing is reserved (`child`), and leaves this one as it was (`kept`).
@@ -28,6 +29,7 @@
 #![tactic(auto)]
 
 mod access;
+mod area_bytes;
 mod area_runs;
 mod changes;
 mod conditionals;
@@ -43,6 +45,7 @@ mod space;
 mod stores;
 mod writes;
 
+pub use area_bytes::AreaByte;
 pub use handed::{Handed, HandedArea, SharedArea};
 pub use hints::Hints;
 pub use space::Space;
