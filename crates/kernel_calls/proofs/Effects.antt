@@ -1,40 +1,27 @@
 -- What a call leaves of a kernel's parts, by its effect.
-use Rattle.std.proofs.Common.{◌≡◌, ℕ, List, ◌++◌, ap, sym, ◌∙◌}
-use Rattle.task_table.specs.declared.task.Status.{Status}
-use Rattle.task_table.specs.Ends.{group_ended}
+use Rattle.std.proofs.Common.{◌≡◌, ℕ, List, [], ◌∷◌, ap, sym, ◌∙◌}
+use Rattle.futex_core.specs.FutexLists.{FutexList}
 use Rattle.task_table.specs.Table.{TaskTable}
 use Rattle.kernel_model.specs.declared.kernel.Kernel.{Kernel}
-use Rattle.kernel_model.specs.calls.Ending.{clear_set}
+use Rattle.kernel_model.specs.declared.kernel.Part.TheVariants.{OfTasks, OfSleepers, OfConsole}
+use Rattle.kernel_model.specs.entries.Parts.{parts, changed}
+use Rattle.kernel_calls.specs.Prepared.{changes_of}
+use Rattle.kernel_calls.specs.declared.prepared.Effect.{Effect}
 
--- a kernel with the task list and the console that it has
-pub kernel_kept : (k : Kernel) (list : TaskTable) (console : List ℕ) → k.tasks ≡ list → k.console ≡ console
-    → k ≡ record k { tasks = list; console = console }
-kernel_kept k list console e f =
-    ap (λ t. record k { tasks = t; console = k.console }) e ∙ ap (λ c. record k { tasks = list; console = c }) f
+-- a kernel with a task list, a futex list and a console
+abbrev pub kept : Kernel → TaskTable → FutexList → List ℕ → Kernel
+kept k list waiting console = record k { tasks = list; sleepers = waiting; console = console }
 
--- with more bytes on the console
-pub bytes_taken : (k : Kernel) (list : TaskTable) (before after bytes : List ℕ) → k.tasks ≡ list
-    → k.console ≡ before → after ≡ before ++ bytes
-    → record k { console = k.console ++ bytes } ≡ record k { tasks = list; console = after }
-bytes_taken k list before after bytes e f is =
-    ap (λ t. record k { tasks = t; console = k.console ++ bytes }) e
-    ∙ ap (λ c. record k { tasks = list; console = c ++ bytes }) f
-    ∙ ap (λ c. record k { tasks = list; console = c }) (sym is)
+module _ (k : Kernel) (list : TaskTable) (waiting : FutexList) (console : List ℕ) (e : k.tasks ≡ list)
+    (f : k.sleepers ≡ waiting) (g : k.console ≡ console) where
+  -- is one with those that it has, where they are these
+  pub same_kernel : k ≡ kept k list waiting console
+  same_kernel =
+      ap (λ t. kept k t k.sleepers k.console) e ∙ ap (λ w. kept k list w k.console) f ∙ ap (λ c. kept k list waiting c) g
 
--- with a thread group that has ended
-pub group_ends : (k : Kernel) (before after : TaskTable) (console : List ℕ) (group : ℕ) (status : Status)
-    → k.tasks ≡ before → k.console ≡ console → after ≡ group_ended before group status
-    → record k { tasks = group_ended k.tasks group status } ≡ record k { tasks = after; console = console }
-group_ends k before after console group status e f is =
-    ap (λ t. record k { tasks = group_ended t group status; console = k.console }) e
-    ∙ ap (λ c. record k { tasks = group_ended before group status; console = c }) f
-    ∙ ap (λ t. record k { tasks = t; console = console }) (sym is)
-
--- with a clear word of a task at another address
-pub clear_moves : (k : Kernel) (before after : TaskTable) (console : List ℕ) (task address : ℕ)
-    → k.tasks ≡ before → k.console ≡ console → after ≡ clear_set task address before
-    → record k { tasks = clear_set task address k.tasks } ≡ record k { tasks = after; console = console }
-clear_moves k before after console task address e f is =
-    ap (λ t. record k { tasks = clear_set task address t; console = k.console }) e
-    ∙ ap (λ c. record k { tasks = clear_set task address before; console = c }) f
-    ∙ ap (λ t. record k { tasks = t; console = console }) (sym is)
+  -- and so where an effect changes some of them
+  module _ (effect : Effect) (group : ℕ) (list' : TaskTable) (waiting' : FutexList) (console' : List ℕ) where
+    pub has_changed : changed (changes_of effect group (parts (kept k list waiting console))) (kept k list waiting console)
+        ≡ kept (kept k list waiting console) list' waiting' console'
+        → changed (changes_of effect group (parts k)) k ≡ kept k list' waiting' console'
+    has_changed h = ap (λ m. changed (changes_of effect group (parts m)) m) same_kernel ∙ h

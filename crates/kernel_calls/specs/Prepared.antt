@@ -4,27 +4,45 @@ use Rattle.std.specs.FinMap as map
 use Rattle.rv_table.specs.declared.regs.Regs.{Regs}
 use Rattle.mm_space.specs.Handing.{AreaState}
 use Rattle.mm_space.specs.Spaces.{AddressSpace}
-use Rattle.task_table.specs.Table.{TaskTable, has_ended}
+use Rattle.futex_core.specs.FutexLists.{FutexList, after_sleep, after_wake}
+use Rattle.task_table.specs.Ends.{exited, group_ended}
+use Rattle.task_table.specs.Reaps.{after_reap, reap_end}
+use Rattle.task_table.specs.Table.{TaskTable, has_ended, is_live}
 use Rattle.kernel_model.specs.Names.{NamedMap, get_named, with_named}
 use Rattle.kernel_model.specs.declared.caller.Caller.{Caller}
 use Rattle.kernel_model.specs.declared.kernel.Kernel.{Kernel}
-use Rattle.kernel_model.specs.declared.kernel.Part.TheVariants.{OfTasks, OfConsole}
-use Rattle.kernel_model.specs.calls.Answers.{Answer, replies}
-use Rattle.kernel_model.specs.calls.Ending.{group_end, clear_set}
+use Rattle.kernel_model.specs.declared.kernel.Part.TheVariants.{OfTasks, OfSleepers, OfConsole}
+use Rattle.kernel_model.specs.calls.Answers.{Answer, replies, sleeps, not_ready}
+use Rattle.kernel_model.specs.calls.Ending.{clear_set, left_by, woken_on}
 use Rattle.kernel_model.specs.entries.Parts.{Parts, parts, Prog, outcome_in, Change, changed}
 use Rattle.kernel_model.specs.entries.Steps.{step_row}
 use Rattle.kernel_calls.specs.declared.context.Context.{Context}
+use Rattle.kernel_calls.specs.declared.prepared.Called.{Called}
+use Rattle.kernel_calls.specs.declared.prepared.Called.TheVariants.{Replies, Sleeps, Waits}
 use Rattle.kernel_calls.specs.declared.prepared.Effect.{Effect}
-use Rattle.kernel_calls.specs.declared.prepared.Effect.TheVariants.{Nothing, TakesBytes, EndsGroup, SetsClear}
+use Rattle.kernel_calls.specs.declared.prepared.Effect.TheVariants.{Nothing, TakesBytes, EndsGroup, EndsTask, SetsClear}
+use Rattle.kernel_calls.specs.declared.prepared.Effect.TheVariants.{Wakes, Reaps}
+use Rattle.kernel_calls.specs.declared.prepared.Ending.{Ending}
 use Rattle.kernel_calls.specs.declared.prepared.Prepared.{Prepared}
 
+-- the futex list without tasks that have ended, after one waiter on each word that was cleared was woken
+-- _exit(2); set_tid_address(2)
+abbrev pub left_behind : Ending → FutexList → FutexList
+left_behind ending waiting = woken_on ending.cleared (left_by ending.ended waiting)
+
 -- the changes that an effect of a thread group is, in a state
--- write(2); exit_group(2); set_tid_address(2)
+-- write(2); exit_group(2); _exit(2); set_tid_address(2); futex(2), FUTEX_WAKE; wait4(2)
 abbrev pub changes_of : Effect → (group : ℕ) → Parts → List Change
 changes_of Nothing group s = []
 changes_of (TakesBytes bytes) group s = (OfConsole, s OfConsole ++ bytes) ∷ []
-changes_of (EndsGroup status) group s = group_end group status (s OfTasks)
+changes_of (EndsGroup ending) group s =
+    (OfTasks, group_ended (s OfTasks) group ending.status) ∷ (OfSleepers, left_behind ending (s OfSleepers)) ∷ []
+changes_of (EndsTask task ending) group s =
+    (OfTasks, exited (s OfTasks) task ending.status) ∷ (OfSleepers, left_behind ending (s OfSleepers)) ∷ []
 changes_of (SetsClear task address) group s = (OfTasks, clear_set task address (s OfTasks)) ∷ []
+changes_of (Wakes key most) group s = (OfSleepers, after_wake (s OfSleepers) key most) ∷ []
+changes_of (Reaps which) group s =
+    (OfTasks, after_reap (s OfTasks) (reap_end (s OfTasks).groups group which)) ∷ []
 
 -- the answer that a call prepared is, in a state
 -- syscall(2)
@@ -32,18 +50,21 @@ abbrev pub answer_of : Prepared → (group : ℕ) → Parts → Answer
 answer_of p group s = replies p.reply (changes_of p.effect group s)
 
 -- a task at a call, in a kernel: with its number and its group's, with its address space and the shared areas as they
--- are, with that task list and so many bytes on the console, and the key and the place of the call's entry
+-- are, with that task list, that futex list and so many bytes on the console, and the key and the place of the call's
+-- entry
 -- syscall(2); profile
 pub record IsCalling (c : Caller) (k : Kernel) (context : Context) (own : AddressSpace) (shared : NamedMap AreaState)
-    (list : TaskTable) (taken : ℕ) : Type 0 where
+    (list : TaskTable) (waiting : FutexList) (taken : ℕ) : Type 0 where
   pub task : c.task ≡ context.task
   pub group : c.group ≡ context.group
+  pub memory : c.memory ≡ context.memory
   pub place : k.entries + 1 ≡ context.place
   pub seed : k.seed ≡ context.seed.now
   pub space : c.space ≡ own
   pub there : get_named k.spaces c.memory.place c.memory.index ≡ Some c.space
   pub areas : k.areas ≡ shared
   pub tasks : k.tasks ≡ list
+  pub sleepers : k.sleepers ≡ waiting
   pub console : length k.console ≡ taken
 
 -- a task whose address space is this, in a kernel that has it
@@ -67,30 +88,75 @@ pub record Answers (row : Prog Answer) (p : Prepared) (c : Caller) (k : Kernel) 
   pub row_is : outcome_in (parts k) row ≡ replies p.reply changes
   pub done_is : changed changes k ≡ changed (changes_of p.effect c.group (parts k)) (with_memory c space areas k)
 
--- an effect is something that is to be done
+-- a row comes to what has become of a call: it replies, or puts its task to sleep, or waits
+-- syscall(2); futex(2), FUTEX_WAIT
+abbrev pub Comes : Prog Answer → Called → Caller → Kernel → AddressSpace → NamedMap AreaState → Type 0
+Comes row (Replies p) c k space areas = Answers row p c k space areas
+Comes row (Sleeps key) c k space areas =
+    outcome_in (parts k) row ≡ sleeps ((OfSleepers, after_sleep k.sleepers c.task key) ∷ [])
+Comes row Waits c k space areas = outcome_in (parts k) row ≡ not_ready
+
+-- an effect takes memory
 -- profile
-abbrev pub HasEffect : Effect → Type 0
-HasEffect Nothing = ⊥
-HasEffect (TakesBytes bytes) = ⊤
-HasEffect (EndsGroup status) = ⊤
-HasEffect (SetsClear task address) = ⊤
+abbrev pub MayLack : Effect → Type 0
+MayLack Nothing = ⊥
+MayLack (TakesBytes bytes) = ⊤
+MayLack (EndsGroup ending) = ⊥
+MayLack (EndsTask task ending) = ⊥
+MayLack (SetsClear task address) = ⊥
+MayLack (Wakes key most) = ⊥
+MayLack (Reaps which) = ⊥
+
+-- what is left to do takes memory, or there is nothing to do
+-- profile
+abbrev pub IsApart : Called → Type 0
+IsApart (Replies p) = MayLack p.effect
+IsApart (Sleeps key) = ⊤
+IsApart Waits = ⊤
 
 -- what a call writes is no more than one write may
 -- write(2); the number: profile
 abbrev pub TakesFew : Effect → Type 0
 TakesFew Nothing = ⊤
 TakesFew (TakesBytes bytes) = length bytes ≤ 65536
-TakesFew (EndsGroup status) = ⊤
+TakesFew (EndsGroup ending) = ⊤
+TakesFew (EndsTask task ending) = ⊤
 TakesFew (SetsClear task address) = ⊤
+TakesFew (Wakes key most) = ⊤
+TakesFew (Reaps which) = ⊤
 
--- a group that an effect ends is there, and has not ended
--- exit_group(2)
+abbrev pub RepliesFew : Called → Type 0
+RepliesFew (Replies p) = TakesFew p.effect
+RepliesFew (Sleeps key) = ⊤
+RepliesFew Waits = ⊤
+
+-- a task that a call ends is its caller
+-- _exit(2)
+abbrev pub EndsOnly : Effect → (task : ℕ) → Type 0
+EndsOnly Nothing task = ⊤
+EndsOnly (TakesBytes bytes) task = ⊤
+EndsOnly (EndsGroup ending) task = ⊤
+EndsOnly (EndsTask ended ending) task = ended ≡ task
+EndsOnly (SetsClear setter address) task = ⊤
+EndsOnly (Wakes key most) task = ⊤
+EndsOnly (Reaps which) task = ⊤
+
+abbrev pub EndsCaller : Called → (task : ℕ) → Type 0
+EndsCaller (Replies p) task = EndsOnly p.effect task
+EndsCaller (Sleeps key) task = ⊤
+EndsCaller Waits task = ⊤
+
+-- a group that an effect ends is there, and has not ended; a task that it ends lives
+-- exit_group(2), _exit(2)
 abbrev pub EndsLive : Effect → (group : ℕ) → TaskTable → Type 0
 EndsLive Nothing group list = ⊤
 EndsLive (TakesBytes bytes) group list = ⊤
-EndsLive (EndsGroup status) group list =
+EndsLive (EndsGroup ending) group list =
     IsTrue (map.contains_key list.groups group) × IsFalse (has_ended list.groups group)
+EndsLive (EndsTask task ending) group list = IsTrue (is_live list.tasks task)
 EndsLive (SetsClear task address) group list = ⊤
+EndsLive (Wakes key most) group list = ⊤
+EndsLive (Reaps which) group list = ⊤
 
 -- a task before its next instruction, in a kernel: with its number, registers and address space, and the shared areas
 -- as they are

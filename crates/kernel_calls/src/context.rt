@@ -1,11 +1,14 @@
 //! What a call may read beside its task's parts.
 
-/// A call's context: its task's number and that of its thread group, the place of its entry, and the mount file's seed,
-/// which is the key of the random stream.
+use task_table::Made;
+
+/// A call's context: its task's number, that of its thread group and the name of the group's memory, the place of its
+/// entry, and the mount file's seed, which is the key of the random stream.
 #[derive(Clone, Copy)]
 pub struct Context<'a> {
     pub task: u32,
     pub group: u32,
+    pub memory: Made,
     pub place: u64,
     pub seed: &'a [u8],
 }

@@ -1,25 +1,37 @@
 //! What a call comes to, before it is done, and the doing of it.
 
 ghost use Rattle.std.specs.Prelude.{◌≡◌, IsTrue, IsFalse, OnOk, OnErr};
-ghost use Rattle.std.specs.FinMap as map;
-ghost use Rattle.task_table.specs.Table.{has_ended};
+ghost use Rattle.futex_core.specs.FutexLists.{after_sleep, is_asleep, is_woken};
 ghost use Rattle.kernel_model.specs.declared.kernel.Kernel.{Kernel as AKernel};
-ghost use Rattle.kernel_model.specs.calls.Ending.{clear_set};
+ghost use Rattle.kernel_model.specs.calls.Ending.{clear_set, left_by, woken_on};
 ghost use Rattle.kernel_model.specs.entries.Parts.{changed, parts};
-ghost use Rattle.kernel_calls.specs.Prepared.{EndsLive, HasEffect, changes_of};
+ghost use Rattle.kernel_calls.specs.Prepared.{EndsLive, MayLack, changes_of};
 
+use futex_core::{FutexKey, Waited, Waiters};
 use sn_base::{List, Memory};
 use std::alloc::Global;
-use task_table::{Status, Tasks};
+use task_table::{EndedTask, Status, Tasks};
+
+/// How tasks end: with which status, which they are, and the clear words of theirs that were cleared.
+#[derive(Debug, Drop)]
+pub struct Ending {
+    pub status: Status,
+    pub ended: List<EndedTask>,
+    pub cleared: List<FutexKey>,
+}
 
 /// What a call is to do beside its reply: nothing, or the console takes bytes, or the caller's thread group ends, or a
-/// task's clear word is at another address.
+/// task does, or a task's clear word is at another address, or so many at most are woken who sleep on a word, or the
+/// ended child that the group waits for, the one of a number or any, is nobody's child any more.
 #[derive(Debug, Drop)]
 pub enum Effect {
     Nothing,
     TakesBytes(List<u8>),
-    EndsGroup(Status),
+    EndsGroup(Ending),
+    EndsTask { task: u32, ending: Ending },
     SetsClear { task: u32, address: u64 },
+    Wakes { key: FutexKey, most: u32 },
+    Reaps { which: Option<u32> },
 }
 
 /// What a call comes to: its reply (a negative one is an error's number), and what is to be done.
@@ -29,34 +41,102 @@ pub struct Prepared {
     pub effect: Effect,
 }
 
-/// Does what a call of a thread group comes to, to the parts that it changes. Want of memory leaves both, and comes
-/// only where there is something to do.
-#[tactic(auto, using(crate::proofs::Effects::kernel_kept, crate::proofs::Effects::bytes_taken, crate::proofs::Effects::group_ends, crate::proofs::Effects::clear_moves))]
+/// What becomes of a call: it replies, or puts its task to sleep on a futex word, or waits.
+#[derive(Debug, Drop)]
+pub enum Called {
+    Replies(Prepared),
+    Sleeps(FutexKey),
+    Waits,
+}
+
+/// Does what a call of a thread group comes to, to the parts that it changes. Want of memory leaves them, and comes only
+/// where the console takes bytes.
+#[tactic(auto, using(crate::proofs::Effects::has_changed))]
 pub fn commit(
     alloc: Global,
     effect: Effect,
     group: u32,
     tasks: &mut Tasks,
+    sleepers: &mut Waiters,
     console: &mut List<u8>,
 ) -> Result<(), Memory>
     requires lives { EndsLive effect group tasks.old }
-    ensures ok { OnOk result ((k : AKernel) → k.tasks ≡ tasks.old → k.console ≡ console.old →
-        changed (changes_of effect group (parts k)) k ≡ record k { tasks = tasks.new; console = console.new }) }
+    ensures ok { OnOk result ((k : AKernel) → k.tasks ≡ tasks.old → k.sleepers ≡ sleepers.old →
+        k.console ≡ console.old → changed (changes_of effect group (parts k)) k
+        ≡ record k { tasks = tasks.new; sleepers = sleepers.new; console = console.new }) }
     ensures err { OnErr result (tasks.new ≡ tasks.old) }
+    ensures err_sleepers { OnErr result (sleepers.new ≡ sleepers.old) }
     ensures err_console { OnErr result (console.new ≡ console.old) }
-    ensures lacking { OnErr result (HasEffect effect) }
+    ensures lacking { OnErr result (MayLack effect) }
 {
     match effect {
         Effect::Nothing => Ok(()),
         Effect::TakesBytes(bytes) => console.extend_from_slice(bytes.as_slice()),
-        Effect::EndsGroup(status) => {
-            tasks.end_group(alloc, group, status)?;
+        Effect::EndsGroup(ending) => {
+            tasks.close(group, ending.status);
+            leave(sleepers, &ending);
+            Ok(())
+        }
+        Effect::EndsTask { task, ending } => {
+            tasks.leave(task, ending.status);
+            leave(sleepers, &ending);
             Ok(())
         }
         Effect::SetsClear { task, address } => {
             set_clear(tasks, task, address);
             Ok(())
         }
+        Effect::Wakes { key, most } => {
+            let _ = sleepers.wake(key, most);
+            Ok(())
+        }
+        Effect::Reaps { which } => {
+            let _ = tasks.reap(group, which);
+            Ok(())
+        }
+    }
+}
+
+/// Tasks that ended leave the futex list, and then one waiter on each word that was cleared is woken.
+fn leave(sleepers: &mut Waiters, ending: &Ending)
+    ensures { sleepers.new ≡ woken_on ending.now.cleared (left_by ending.now.ended sleepers.old) }
+{
+    leave_each(sleepers, ending.ended.as_slice());
+    wake_each(sleepers, ending.cleared.as_slice());
+}
+
+/// Tasks leave the futex list.
+fn leave_each(sleepers: &mut Waiters, ended: &[EndedTask])
+    ensures { sleepers.new ≡ left_by ended.now sleepers.old }
+{
+    if let [first, rest @ ..] = ended {
+        sleepers.leave(first.task);
+        leave_each(sleepers, rest);
+    }
+}
+
+/// Of each of the words, in their order, one waiter is woken.
+fn wake_each(sleepers: &mut Waiters, keys: &[FutexKey])
+    ensures { sleepers.new ≡ woken_on keys.now sleepers.old }
+{
+    if let [first, rest @ ..] = keys {
+        let _ = sleepers.wake(*first, 1);
+        wake_each(sleepers, rest);
+    }
+}
+
+/// Puts a task to sleep on a word, behind all who sleep. An `Err` leaves the list as it was.
+///
+/// futex(2), FUTEX_WAIT.
+pub fn sleep(sleepers: &mut Waiters, task: u32, key: FutexKey) -> Result<(), Memory>
+    requires not_asleep { IsFalse (is_asleep sleepers.old task) }
+    requires not_woken { IsFalse (is_woken sleepers.old task) }
+    ensures ok { OnOk result (sleepers.new ≡ after_sleep sleepers.old task key) }
+    ensures err { OnErr result (sleepers.new ≡ sleepers.old) }
+{
+    match sleepers.wait(task, key, 0, 0)? {
+        Waited::Slept => Ok(()),
+        Waited::Differs => unreachable!(),
     }
 }
 
