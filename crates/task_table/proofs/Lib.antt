@@ -3,6 +3,7 @@ pub mod Changes
 pub mod Endings
 pub mod Exiting
 pub mod Keeping
+pub mod Listing
 pub mod Numbers
 pub mod Waiting
 pub mod Walking

@@ -1,21 +1,19 @@
 -- Laws of walks over numbers, some of which stay; and of the walk over the live tasks, some of which end.
-use Rattle.std.proofs.Common.{◌≡◌, ℕ, ◌+◌, ◌<◌, ◌≤◌, Bool, true, false, cond, not, List, [], ◌∷◌, ◌++◌, map, length, set, take, get_or, refl, ap, sym, ◌∙◌, arith}
-use Rattle.std.specs.Prelude.{Option, Some, None, filter}
+use Rattle.std.proofs.Common.{◌≡◌, ℕ, ◌+◌, ◌<◌, ◌≤◌, Bool, true, false, cond, not, List, length, set, take, get_or, refl, ap, sym, ◌∙◌, arith}
+use Rattle.std.specs.Prelude.{filter}
 use Rattle.std.specs.List.{list_any}
 use Rattle.std.specs.Option.{option_map_or}
 use Rattle.std.specs.Ordering.{nat_cmp}
 use Rattle.std.specs.FinMap.{FinMap, get}
-use Rattle.std.proofs.lemmas.List.{append-nil, drop_more, get_or_default, length_push, map-append, take_all}
-use Rattle.std.proofs.lemmas.List.Elements.{filter_more}
+use Rattle.std.proofs.lemmas.List.{drop_more, get_or_default, take_all}
 use Rattle.std.proofs.lemmas.List.Filters.{FiltersInPlace, FiltersInPlace-all, FiltersInPlace-more_no, FiltersInPlace-more_set}
 use Rattle.task_table.specs.declared.task.Task.{Task}
-use Rattle.task_table.specs.declared.task.EndedTask.{EndedTask}
 use Rattle.task_table.specs.declared.ends.Leaving.{Leaving}
 use Rattle.task_table.specs.declared.ends.Leaving.TheVariants.{Members, OtherMembers}
 use Rattle.task_table.specs.Ends.{ended_if, ended_where}
 use Rattle.task_table.specs.Entries.{changed_at}
 use Rattle.task_table.specs.Leaving.{is_leaving, leaves}
-use Rattle.task_table.specs.Table.{clear_of, live_numbers}
+use Rattle.task_table.specs.Table.{live_numbers}
 use Rattle.task_table.proofs.Changes.{alike, changed_along, changed_along_more, get-changed_along}
 use Rattle.task_table.proofs.Endings.{ended_along_live, ended_twice, live_stays}
 
@@ -59,16 +57,10 @@ module _ {V : Type 0} {f : ℕ → V → V} {stays : ℕ → Bool} {m : FinMap n
 
 -- ---- the walk over the live tasks
 
--- a task as it is answered
-abbrev pub answer : FinMap nat_cmp Task → ℕ → EndedTask
-answer tasks n = record { task = n; clear = clear_of tasks n }
-
--- of the first i live numbers those that leave have ended and are answered, and the others stand in the first k places
+-- of the first i live numbers those that leave have ended, and the others stand in the first k places
 pub record Walked (which : Leaving) (tasks : FinMap nat_cmp Task) (xs : List ℕ) (now : FinMap nat_cmp Task)
-    (ys : List ℕ) (k : ℕ) (ended : List EndedTask) (i : ℕ) : Type 0 where
+    (ys : List ℕ) (k i : ℕ) : Type 0 where
   pub along : WalkedAlong (ended_if (is_leaving which)) (λ n. not (leaves which tasks n)) tasks xs now ys k i
-  pub answered : ended ≡ map (answer tasks) (filter (leaves which tasks) (take i xs))
-  pub count : length ended + k ≡ i
 
 -- ---- what the walk doesn't change
 
@@ -82,14 +74,6 @@ still_leaving which n c = at which (is_leaving which n c)
     at (OtherMembers group task) true = refl
     at w false = refl
 
-same_clear : (which : Leaving) (n : ℕ) (c : Task) → (ended_if (is_leaving which) n c).clear ≡ c.clear
-same_clear which n c =
-    elim (is_leaving which n c) as (λ b. (cond b (record c { live = false }) c).clear ≡ c.clear) [
-      | true ↦ refl
-      | false ↦
-          refl
-    ]
-
 leaves_along : (which : Leaving) (tasks : FinMap nat_cmp Task) (ns : List ℕ) (n : ℕ)
     → leaves which (changed_along (ended_if (is_leaving which)) tasks ns) n ≡ leaves which tasks n
 leaves_along which tasks ns n =
@@ -98,84 +82,40 @@ leaves_along which tasks ns n =
     ∙ alike (ended_if (is_leaving which) n) (is_leaving which n) false (still_leaving which n)
     (list_any _ ns) (get tasks n)
 
-clear_along : (which : Leaving) (tasks : FinMap nat_cmp Task) (ns : List ℕ) (n : ℕ)
-    → clear_of (changed_along (ended_if (is_leaving which)) tasks ns) n ≡ clear_of tasks n
-clear_along which tasks ns n =
-    ap (λ o. option_map_or (λ (c : Task). c.clear) o 0)
-    (get-changed_along (ended_if (is_leaving which)) (ended_twice (is_leaving which)) tasks ns n)
-    ∙ alike (ended_if (is_leaving which) n) (λ (c : Task). c.clear) 0 (same_clear which n) (list_any _ ns) (get tasks n)
-
 -- ---- the walk's steps
 
-told_some : {A : Type 0} (b : Bool) (x y : A) → cond b (Some x) None ≡ Some y → (b ≡ true) × (y ≡ x)
-told_some true x y e = (refl, cc e)
-told_some false x y e = absurd (cc e)
-
-told_none : {A : Type 0} (b : Bool) (x : A) → cond b (Some x) None ≡ None → b ≡ false
-told_none true x e = absurd (cc e)
-told_none false x e = refl
-
-leaving_more : (which : Leaving) (tasks : FinMap nat_cmp Task) (xs : List ℕ) (i n : ℕ) (b : Bool) → i < length xs
-    → n ≡ get_or xs i 0 → leaves which tasks n ≡ b → filter (leaves which tasks) (take (i + 1) xs)
-    ≡ filter (leaves which tasks) (take i xs) ++ cond b (n ∷ []) []
-leaving_more which tasks xs i n b within is told =
-    filter_more (leaves which tasks) xs i 0 within
-    ∙ ap (λ ns. filter (leaves which tasks) (take i xs) ++ ns)
-    (ap (λ q. cond (leaves which tasks q) (q ∷ []) []) (sym is) ∙ ap (λ a. cond a (n ∷ []) []) told)
-
-module _ {which : Leaving} {tasks : FinMap nat_cmp Task} {xs : List ℕ} {now : FinMap nat_cmp Task} {ys : List ℕ} {k : ℕ}
-    {ended : List EndedTask} {i : ℕ} where
+module _ {which : Leaving} {tasks : FinMap nat_cmp Task} {xs : List ℕ} {now : FinMap nat_cmp Task} {ys : List ℕ}
+    {k i : ℕ} where
   -- what it is told of a task is what holds before the walk
-  told_before : Walked which tasks xs now ys k ended i → (n : ℕ) (b : Bool) → leaves which now n ≡ b
+  told_before : Walked which tasks xs now ys k i → (n : ℕ) (b : Bool) → b ≡ leaves which now n
       → leaves which tasks n ≡ b
   told_before w n b told =
-      sym (leaves_along which tasks (take i xs) n) ∙ ap (λ m. leaves which m n) (sym w.along.changed) ∙ told
+      sym (told ∙ ap (λ m. leaves which m n) w.along.changed ∙ leaves_along which tasks (take i xs) n)
 
   -- a task that leaves
-  pub Walked-leaves : Walked which tasks xs now ys k ended i → i < length ys → (n : ℕ) → n ≡ get_or ys i n
-      → (o : Option EndedTask) → o ≡ cond (leaves which now n) (Some (answer now n)) None → (e : EndedTask) → o ≡ Some e
-      → Walked which tasks xs (changed_at (ended_if (is_leaving which) n) now n) ys k (ended ++ e ∷ []) (i + 1)
-  Walked-leaves w within n is o told e some =
-      let before = filter (leaves which tasks) (take i xs) in
-      let stood = read_at w.along within n is in
-      let here = told_some (leaves which now n) (answer now n) e (sym told ∙ some) in
-      let leaving = told_before w n true here.0 in
-      let clear = ap (λ m. clear_of m n) w.along.changed ∙ clear_along which tasks (take i xs) n in
-      record {
-        along = WalkedAlong-dropped w.along within n is (ap not leaving);
-        answered = ap (λ es. es ++ e ∷ []) w.answered
-            ∙ ap (λ x. map (answer tasks) before ++ x ∷ []) (here.1 ∙ ap (λ a. record { task = n; clear = a }) clear)
-            ∙ sym (ap (map (answer tasks)) (leaving_more which tasks xs i n true (inside w.along within) stood leaving)
-            ∙ map-append (answer tasks) before (n ∷ []));
-        count = omega (arith, w.count, length_push ended e);
-      }
+  pub Walked-leaves : Walked which tasks xs now ys k i → i < length ys → (n : ℕ) → n ≡ get_or ys i n
+      → (b : Bool) → b ≡ leaves which now n → b ≡ true
+      → Walked which tasks xs (changed_at (ended_if (is_leaving which) n) now n) ys k (i + 1)
+  Walked-leaves w within n is b told goes =
+      record { along = WalkedAlong-dropped w.along within n is (ap not (told_before w n b told ∙ goes)) }
 
   -- a task that stays
-  pub Walked-stays : Walked which tasks xs now ys k ended i → i < length ys → (n : ℕ) → n ≡ get_or ys i n
-      → (o : Option EndedTask) → o ≡ cond (leaves which now n) (Some (answer now n)) None → o ≡ None
-      → Walked which tasks xs (changed_at (ended_if (is_leaving which) n) now n) (set ys k n) (k + 1) ended (i + 1)
-  Walked-stays w within n is o told none =
-      let before = filter (leaves which tasks) (take i xs) in
-      let stood = read_at w.along within n is in
-      let here = told_before w n false (told_none (leaves which now n) (answer now n) (sym told ∙ none)) in
-      record {
-        along = WalkedAlong-stays w.along within n is (ap not here);
-        answered = w.answered
-            ∙ ap (map (answer tasks))
-            (sym (leaving_more which tasks xs i n false (inside w.along within) stood here ∙ append-nil before));
-        count = omega (arith, w.count);
-      }
+  pub Walked-stays : Walked which tasks xs now ys k i → i < length ys → (n : ℕ) → n ≡ get_or ys i n
+      → (b : Bool) → b ≡ leaves which now n → b ≡ false
+      → Walked which tasks xs (changed_at (ended_if (is_leaving which) n) now n) (set ys k n) (k + 1) (i + 1)
+  Walked-stays w within n is b told here =
+      record { along = WalkedAlong-stays w.along within n is (ap not (told_before w n b told ∙ here)) }
 
   -- ---- its end
 
-  pub tasks_walked : Walked which tasks xs now ys k ended i → length xs ≤ i → xs ≡ live_numbers tasks
+  pub tasks_walked : Walked which tasks xs now ys k i → length xs ≤ i → xs ≡ live_numbers tasks
       → now ≡ ended_where (is_leaving which) tasks
   tasks_walked w past live =
       w.along.changed
       ∙ ap (changed_along (ended_if (is_leaving which)) tasks) (take_all i xs past ∙ live)
       ∙ ended_along_live (is_leaving which) tasks
 
-  pub live_walked : Walked which tasks xs now ys k ended i → length xs ≤ i → xs ≡ live_numbers tasks
+  pub live_walked : Walked which tasks xs now ys k i → length xs ≤ i → xs ≡ live_numbers tasks
       → take k ys ≡ live_numbers now
   live_walked w past live =
       FiltersInPlace-all w.along.staying past

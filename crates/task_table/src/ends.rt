@@ -1,6 +1,6 @@
-//! Ending tasks of a thread group, and the group.
+//! Tasks of a thread group that a call ends: their list, and their end; and the end of the group.
 
-ghost use Rattle.std.specs.Prelude.{◌≡◌, ◌≤◌, [], if◌then◌else◌, None, Some, vec_capacity, vec_len};
+ghost use Rattle.std.specs.Prelude.{◌≡◌, if◌then◌else◌, IfOk, None, Some};
 ghost use Rattle.task_table.specs.Ends.{ended_if, ended_tasks, ended_where, groups_closed};
 ghost use Rattle.task_table.specs.Entries.{changed_at, numbers_where};
 ghost use Rattle.task_table.specs.Leaving.{is_leaving, leaves};
@@ -8,7 +8,8 @@ ghost use Rattle.task_table.specs.Table.{clear_of, has_parent, live_numbers};
 
 use crate::reaps::orphan_children;
 use crate::{EndedTask, Group, Status, Task};
-use sn_base::{List, Map};
+use sn_base::{List, Map, Memory};
+use std::alloc::Global;
 
 /// Which tasks of a thread group a call ends.
 #[derive(Clone, Copy)]
@@ -30,16 +31,51 @@ fn is_leaving(which: &Leaving, number: u32, task: &Task) -> bool
     }
 }
 
-/// Ends the task of a number, if the call ends it, and answers it then.
-#[tactic(auto, using(sn_base::proofs::Maps::insert_same))]
-fn end_task(tasks: &mut Map<Task>, number: u32, which: &Leaving) -> Option<EndedTask>
-    ensures tasks { tasks.new ≡ changed_at (ended_if (is_leaving which.now) number) tasks.old number }
-    ensures ended { result ≡ (if leaves which.now tasks.old number
-        then Some (record { task = number; clear = clear_of tasks.old number }) else None) }
+/// The task of a number as it is answered, if the call ends it.
+fn leaving_task(tasks: &Map<Task>, number: u32, which: &Leaving) -> Option<EndedTask>
+    ensures { result ≡ (if leaves which.now tasks.now number
+        then Some (record { task = number; clear = clear_of tasks.now number }) else None) }
 {
-    let task = tasks.get(u64::from(number)).copied()?;
-    if !is_leaving(which, number, &task) {
+    let task = tasks.get(u64::from(number))?;
+    if !is_leaving(which, number, task) {
         return None;
+    }
+    Some(EndedTask {
+        task: number,
+        clear: task.clear,
+    })
+}
+
+/// The live tasks that a call ends, ascending. It goes over the live ones once.
+pub(crate) fn tasks_leaving(
+    alloc: Global,
+    tasks: &Map<Task>,
+    live: &[u32],
+    which: &Leaving,
+) -> Result<List<EndedTask>, Memory>
+    requires { live.now ≡ live_numbers tasks.now }
+    ensures { IfOk result (λ ended. ended ≡ ended_tasks (is_leaving which.now) tasks.now) }
+{
+    let mut leaving = List::new(alloc);
+    for number in live {
+        if let Some(task) = leaving_task(tasks, *number, which) {
+            leaving.push(task)?;
+        }
+    }
+    Ok(leaving)
+}
+
+/// Ends the task of a number, if the call ends it, and answers whether it does.
+#[tactic(auto, using(sn_base::proofs::Maps::insert_same))]
+fn end_task(tasks: &mut Map<Task>, number: u32, which: &Leaving) -> bool
+    ensures tasks { tasks.new ≡ changed_at (ended_if (is_leaving which.now) number) tasks.old number }
+    ensures ends { result ≡ leaves which.now tasks.old number }
+{
+    let Some(task) = tasks.get(u64::from(number)).copied() else {
+        return false;
+    };
+    if !is_leaving(which, number, &task) {
+        return false;
     }
     tasks.replace(
         u64::from(number),
@@ -48,41 +84,25 @@ fn end_task(tasks: &mut Map<Task>, number: u32, which: &Leaving) -> Option<Ended
             ..task
         },
     );
-    Some(EndedTask {
-        task: number,
-        clear: task.clear,
-    })
+    true
 }
 
-/// Ends the live tasks that a call ends, and answers them in the empty vector, which has room for all. It goes over
-/// the live ones once, and takes no memory.
-pub(crate) fn end_tasks(
-    tasks: &mut Map<Task>,
-    live: &mut Vec<u32>,
-    which: &Leaving,
-    room: Vec<EndedTask>,
-) -> List<EndedTask>
-    requires live { live.old.items ≡ live_numbers tasks.old }
-    requires empty { room.items ≡ [] }
-    requires room { vec_len live.old ≤ vec_capacity room }
-    ensures ended { result ≡ ended_tasks (is_leaving which.now) tasks.old }
+/// Ends the live tasks that a call ends, and keeps the list of live ones. It goes over that list once, and takes no
+/// memory.
+pub(crate) fn end_tasks(tasks: &mut Map<Task>, live: &mut Vec<u32>, which: &Leaving)
+    requires { live.old.items ≡ live_numbers tasks.old }
     ensures tasks { tasks.new ≡ ended_where (is_leaving which.now) tasks.old }
     ensures live { live.new.items ≡ live_numbers tasks.new }
 {
-    let mut ended = room;
     let mut kept = 0;
     for place in 0..live.len() {
         let number = live[place];
-        match end_task(tasks, number, which) {
-            Some(task) => ended.push_reserved(task),
-            None => {
-                live[kept] = number;
-                kept += 1;
-            }
+        if !end_task(tasks, number, which) {
+            live[kept] = number;
+            kept += 1;
         }
     }
     live.truncate(kept);
-    List::from_vec(ended)
 }
 
 /// Notes how a group ended.

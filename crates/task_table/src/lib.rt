@@ -5,13 +5,15 @@
 //! task. What has ended stays in the maps. A memory or a descriptor table is named by a `Made`; what it has isn't here.
 //!
 //! Proved: `open`, `fork` and `thread` leave just one more task, live, with the next number (`ok`, `number`), are
-//! refused as `Full` exactly where 256 tasks live (`full`), and change nothing where they are refused (`err`). `exit`,
-//! `end_group` and `end_others` end just the tasks that they name (`ok`), answer them in ascending order with their
-//! clear words (`ended`) and whether the group ended (`group`); the children of a group that ended have no parent
-//! then. `reap` answers the ended child of lowest number, that none has ended, or that there is no such child
-//! (`answer`), and a child that was answered is nobody's child any more (`after`); `child_to_reap` answers the same.
-//! `task`, `group` and `live` tell what holds at all times (`kept`): numbers are at most the greatest used, each
-//! task's group is there, a live task's group hasn't ended, and at most 256 tasks live.
+//! refused as `Full` exactly where 256 tasks live (`full`), which `is_full` tells, and change nothing where they are
+//! refused (`err`). `members` and `itself` tell which tasks an end would end, in ascending order with their clear
+//! words, and `close` and `leave` end just those: these two take no memory, so they can't be refused. `exit`,
+//! `end_group` and `end_others` do both in one call: they end just the tasks that they name (`ok`), answer them
+//! (`ended`) and whether the group ended (`group`), and change nothing where memory is refused (`err`). The children
+//! of a group that ended have no parent then. `reap` answers the ended child of lowest number, that none has ended,
+//! or that there is no such child (`answer`), and a child that was answered is nobody's child any more (`after`);
+//! `child_to_reap` answers the same. `task`, `group` and `live` tell what holds at all times (`kept`): numbers are at
+//! most the greatest used, each task's group is there, a live task's group hasn't ended, and at most 256 tasks live.
 //!
 //! Not said: what a task runs, who wakes whom, or the order in which tasks go on.
 //!

@@ -1,6 +1,6 @@
 //! The table of tasks and thread groups, and its calls.
 
-ghost use Rattle.std.specs.Prelude.{◌≡◌, ℕ, ◌+◌, ◌-◌, ◌^◌, ◌<◌, ◌≤◌, ◌↔◌, [], ◌∷◌, ◌++◌, find, nat_lt, if◌then◌else◌, IsTrue, IsFalse, IfOk, OnOk, OnErr, None, option_copied, vec_len, vec_capacity};
+ghost use Rattle.std.specs.Prelude.{◌≡◌, ℕ, ◌+◌, ◌-◌, ◌^◌, ◌<◌, ◌≤◌, ◌↔◌, [], ◌∷◌, ◌++◌, find, nat_le, nat_lt, if◌then◌else◌, IsTrue, IsFalse, IfOk, OnOk, OnErr, None, option_copied, vec_len, vec_capacity};
 ghost use Rattle.std.specs.FinMap as map;
 ghost use Rattle.task_table.specs.Clones.{forked, opened, threaded, with_group};
 ghost use Rattle.task_table.specs.Ends.{ended_tasks, exited, group_ended, is_itself, is_last, is_member, is_other_member, others_ended};
@@ -9,11 +9,11 @@ ghost use Rattle.task_table.specs.Kept.{IsKept};
 ghost use Rattle.task_table.specs.Reaps.{after_reap, reap_end};
 ghost use Rattle.task_table.specs.Table.{cwd_of, group_of, has_ended, has_parent, is_live, live_count, live_numbers, no_tasks};
 
-use crate::ends::{Leaving, close_group, end_tasks};
+use crate::ends::{Leaving, close_group, end_tasks, tasks_leaving};
 use crate::exits::{end_one, group_of, is_last_of_group, task_leaving};
 use crate::reaps::{end_of_wait, release};
-use crate::{CloneErr, Ended, Group, Made, ReapEnd, Status, Task};
-use sn_base::{Map, Memory};
+use crate::{CloneErr, Ended, EndedTask, Group, Made, ReapEnd, Status, Task};
+use sn_base::{List, Map, Memory};
 use std::alloc::Global;
 use std::marker::Model;
 
@@ -140,8 +140,49 @@ impl Tasks {
         Ok(number)
     }
 
+    /// The live tasks of a thread group, ascending, each with its clear word: those that the group's end ends. It goes
+    /// over the live tasks once.
+    pub fn members(&self, alloc: Global, group: u32) -> Result<List<EndedTask>, Memory>
+        ensures { IfOk result (λ ended. ended ≡ ended_tasks (is_member group) self.now.tasks) }
+    {
+        tasks_leaving(alloc, &self.tasks, &self.live, &Leaving::Members { group })
+    }
+
+    /// A live task alone, with its clear word: the one that its exit ends.
+    pub fn itself(&self, alloc: Global, task: u32) -> Result<List<EndedTask>, Memory>
+        requires { IsTrue (is_live self.now.tasks task) }
+        ensures { IfOk result (λ ended. ended ≡ ended_tasks (is_itself task) self.now.tasks) }
+    {
+        task_leaving(alloc, &self.tasks, task)
+    }
+
+    /// Ends a thread group and its tasks. It goes over the live tasks once, and once over the groups with a parent, and
+    /// takes no memory.
+    pub fn close(&mut self, group: u32, status: Status)
+        requires there { IsTrue (map.contains_key self.old.groups group) }
+        requires lives { IsFalse (has_ended self.old.groups group) }
+        ensures { self.new ≡ group_ended self.old group status }
+    {
+        let which = Leaving::Members { group };
+        end_tasks(&mut self.tasks, &mut self.live, &which);
+        close_group(&mut self.groups, &mut self.children, group, status);
+    }
+
     /// Ends a task, and with the last one of a thread group the group. It goes over the live tasks once, and where the
-    /// group ends once over the groups with a parent.
+    /// group ends once over the groups with a parent, and takes no memory.
+    pub fn leave(&mut self, task: u32, status: Status)
+        requires { IsTrue (is_live self.old.tasks task) }
+        ensures { self.new ≡ exited self.old task status }
+    {
+        let is_last = is_last_of_group(&self.tasks, &self.live, task);
+        let group = group_of(&self.tasks, task);
+        end_one(&mut self.tasks, &mut self.live, task);
+        if is_last {
+            close_group(&mut self.groups, &mut self.children, group, status);
+        }
+    }
+
+    /// Ends a task as `leave` does, and answers it. It goes over the live tasks once more, for whether its group ends.
     pub fn exit(&mut self, alloc: Global, task: u32, code: u8) -> Result<Ended, Memory>
         requires { IsTrue (is_live self.old.tasks task) }
         ensures ok { OnOk result (self.new ≡ exited self.old task (Status.Exited code)) }
@@ -149,25 +190,13 @@ impl Tasks {
         ensures group { IfOk result (λ e. e.group ≡ is_last self.old.tasks task) }
         ensures err { OnErr result (self.new ≡ self.old) }
     {
-        let tasks = task_leaving(alloc, &self.tasks, task)?;
-        let is_last = is_last_of_group(&self.tasks, &self.live, task);
-        let group = group_of(&self.tasks, task);
-        end_one(&mut self.tasks, &mut self.live, task);
-        if is_last {
-            close_group(
-                &mut self.groups,
-                &mut self.children,
-                group,
-                Status::Exited(code),
-            );
-        }
-        Ok(Ended {
-            tasks,
-            group: is_last,
-        })
+        let tasks = self.itself(alloc, task)?;
+        let group = is_last_of_group(&self.tasks, &self.live, task);
+        self.leave(task, Status::Exited(code));
+        Ok(Ended { tasks, group })
     }
 
-    /// Ends a thread group and its tasks. It goes over the live tasks once, and once over the groups with a parent.
+    /// Ends a thread group and its tasks as `close` does, and answers the tasks. It goes over the live tasks twice.
     pub fn end_group(&mut self, alloc: Global, group: u32, status: Status) -> Result<Ended, Memory>
         requires there { IsTrue (map.contains_key self.old.groups group) }
         requires lives { IsFalse (has_ended self.old.groups group) }
@@ -176,14 +205,12 @@ impl Tasks {
         ensures group { IfOk result (λ e. IsTrue e.group) }
         ensures err { OnErr result (self.new ≡ self.old) }
     {
-        let which = Leaving::Members { group };
-        let room = Vec::with_capacity(alloc, self.live.len())?;
-        let tasks = end_tasks(&mut self.tasks, &mut self.live, &which, room);
-        close_group(&mut self.groups, &mut self.children, group, status);
+        let tasks = self.members(alloc, group)?;
+        self.close(group, status);
         Ok(Ended { tasks, group: true })
     }
 
-    /// Ends the other tasks of a task's thread group. It goes over the live tasks once.
+    /// Ends the other tasks of a task's thread group. It goes over the live tasks twice.
     pub fn end_others(&mut self, alloc: Global, task: u32) -> Result<Ended, Memory>
         requires { IsTrue (is_live self.old.tasks task) }
         ensures ok { OnOk result (self.new ≡ others_ended self.old task) }
@@ -194,8 +221,8 @@ impl Tasks {
     {
         let group = group_of(&self.tasks, task);
         let which = Leaving::OtherMembers { group, task };
-        let room = Vec::with_capacity(alloc, self.live.len())?;
-        let tasks = end_tasks(&mut self.tasks, &mut self.live, &which, room);
+        let tasks = tasks_leaving(alloc, &self.tasks, &self.live, &which)?;
+        end_tasks(&mut self.tasks, &mut self.live, &which);
         Ok(Ended {
             tasks,
             group: false,
@@ -281,6 +308,13 @@ impl Tasks {
         ensures kept { IsKept self.now }
     {
         self.live.len()
+    }
+
+    /// Whether as many tasks live as may live at once, so that no more may be made.
+    pub fn is_full(&self) -> bool
+        ensures { result ≡ nat_le 256 (live_count self.now) }
+    {
+        self.live.len() >= MOST_LIVE
     }
 
     /// The greatest number used, or 0.

@@ -6,6 +6,8 @@ mod answers;
 #[cfg(test)]
 mod calls;
 #[cfg(test)]
+mod endings;
+#[cfg(test)]
 mod limits;
 #[cfg(test)]
 mod rows;

@@ -13,6 +13,7 @@ fn the_256th_task_lives_and_the_257th_is_refused_until_one_ends(
         apply(&rt, rt.alloc(), &mut tasks, Call::Fork(1))?;
     }
     assert_eq!(rt; tasks.live(), 256);
+    assert!(rt; tasks.is_full());
     expect_live(&rt, &tasks, 1);
     expect_next(&rt, &tasks);
     assert_eq!(rt; tasks.fork(1, memory(), table(), 0), Err(CloneErr::Full));
@@ -24,6 +25,7 @@ fn the_256th_task_lives_and_the_257th_is_refused_until_one_ends(
     assert_eq!(rt; tasks.last(), 256);
     apply(&rt, rt.alloc(), &mut tasks, Call::Exit(9, 0))?;
     assert_eq!(rt; tasks.live(), 255);
+    assert!(rt; !tasks.is_full());
     expect_live(&rt, &tasks, 1);
     expect_next(&rt, &tasks);
     assert_eq!(rt; tasks.thread(1, 0), Ok(257));

@@ -9,7 +9,7 @@ invariant_of-self c =
     let old : TaskTable =
     record { tasks = c.self.inside.tasks; groups = c.self.inside.groups; last = c.self.inside.last } in
     sound_of (others_ended old c.args.task) _ _ _ _
-    (c.end_tasks-tasks.ensures.tasks
+    (c.end_tasks.ensures.tasks
     ∙ ap (λ g. ended_where (is_other_member g c.args.task) c.self.inside.tasks) c.group_of-group.ensures)
-    refl c.end_tasks-tasks.ensures.live c.self.invariant.children_are
+    refl c.end_tasks.ensures.live c.self.invariant.children_are
     (kept_others_ended old c.args.task c.self.invariant.kept)
