@@ -95,6 +95,13 @@ impl Waiters {
         (self.woken.len() - before) as u64
     }
 
+    /// How many tasks sleep on a word.
+    pub fn count_on(&self, key: FutexKey) -> u64
+        ensures { result ≡ length (waiters_on self.now.sleepers key) }
+    {
+        count_on(self.sleepers.as_slice(), &key) as u64
+    }
+
     /// Whether a task was woken and its call isn't entered yet.
     pub fn is_woken(&self, task: u32) -> bool
         ensures woken { result ≡ is_woken self.now task }
@@ -118,6 +125,16 @@ impl Waiters {
         self.sleepers.retain(|sleeper| sleeper.task != task);
         self.woken.retain(|woken| *woken != task);
     }
+}
+
+/// How many tasks sleep on a word.
+fn count_on(sleepers: &[Sleeper], key: &FutexKey) -> usize
+    ensures { result ≡ length (waiters_on sleepers.now key.now) }
+{
+    sleepers
+        .iter()
+        .filter(|sleeper| sleeper.key.is_same_word(key))
+        .count()
 }
 
 /// Adds the first `n` tasks that sleep on a word to those woken, moves all other sleepers to the front in their order,

@@ -477,12 +477,13 @@ module _ (k : Kernel) (dir : ℕ) (name : List ℕ) (shape : Shape) where
     sleep_fits context c Calls =
         behind (call_row context c (number_of c.registers) (args_of c.registers))
         (λ (answer : Answer). done (slept_by answer answer.reply))
-        (slept_keeps _ _ (known_leaves (parts k) context c (args_of c.registers) (call_of (number_of c.registers))))
+        (slept_keeps (outcome_in (parts k) (call_row context c (number_of c.registers) (args_of c.registers))) _
+        (known_leaves (parts k) context c (args_of c.registers) (call_of (number_of c.registers))))
 
     woken_fits : (c : Caller) (call : ℕ) (args : Args) (reply : ℤ) (given : Given)
         → Fits (woken_entry c call args reply given)
     woken_fits c call args reply given =
-        either_fits (woken_at c call args reply given) _ _ (untouched _ (λ ino is. none ino is)) tt
+        either_fits (woken_at c call args reply given) _ _ (untouched ((OfSleepers, after_leave k.sleepers c.task) ∷ going_on c (pos 0)) none) tt
       where
         none : LeavesNodes ((OfSleepers, after_leave k.sleepers c.task) ∷ going_on c (pos 0))
         none ino (inl e) = absurd (cc e)

@@ -1,6 +1,6 @@
 -- clone: a new process, or a new thread in the caller's thread group.
-use Rattle.std.specs.Prelude.{ℕ, ◌+◌, ◌*◌, ◌/◌, ◌%◌, ◌^◌, ◌==◌, ◌||◌, nat_le, List, [], ◌∷◌, Bool, Option, Some, None}
-use Rattle.std.specs.Prelude.{pos, if◌then◌else◌}
+use Rattle.std.specs.Prelude.{ℕ, ◌+◌, ◌-◌, ◌*◌, ◌/◌, ◌%◌, ◌^◌, ◌==◌, ◌||◌, nat_le, List, [], ◌∷◌, Bool, Option}
+use Rattle.std.specs.Prelude.{Some, None, pos, if◌then◌else◌}
 use Rattle.std.specs.Int.{to_le_bytes, w32}
 use Rattle.sn_errno.specs.declared.errno.Errno.TheVariants.{EAGAIN, EFAULT, EINVAL}
 use Rattle.rv_table.specs.declared.regs.Regs.{Regs}

@@ -68,14 +68,14 @@ left_in hand name content = if is_some (area_in name hand) then area_in name han
 -- profile
 abbrev pub over : {A : Type 0} → List InHand → Prog A → Prog A
 over hand (done a) = done a
-over hand (look (OfArea name) then) = look (OfArea name) (λ content. over hand (then (left_in hand name content)))
-over hand (look OfTasks then) = look OfTasks (λ content. over hand (then content))
-over hand (look (OfTask task) then) = look (OfTask task) (λ content. over hand (then content))
-over hand (look (OfSpace name) then) = look (OfSpace name) (λ content. over hand (then content))
-over hand (look (OfNode ino) then) = look (OfNode ino) (λ content. over hand (then content))
-over hand (look OfSleepers then) = look OfSleepers (λ content. over hand (then content))
-over hand (look OfConsole then) = look OfConsole (λ content. over hand (then content))
-over hand (look OfFaults then) = look OfFaults (λ content. over hand (then content))
+over hand (look (OfArea name) next) = look (OfArea name) (λ content. over hand (next (left_in hand name content)))
+over hand (look OfTasks next) = look OfTasks (λ content. over hand (next content))
+over hand (look (OfTask task) next) = look (OfTask task) (λ content. over hand (next content))
+over hand (look (OfSpace name) next) = look (OfSpace name) (λ content. over hand (next content))
+over hand (look (OfNode ino) next) = look (OfNode ino) (λ content. over hand (next content))
+over hand (look OfSleepers next) = look OfSleepers (λ content. over hand (next content))
+over hand (look OfConsole next) = look OfConsole (λ content. over hand (next content))
+over hand (look OfFaults next) = look OfFaults (λ content. over hand (next content))
 
 -- ---- an instruction
 
