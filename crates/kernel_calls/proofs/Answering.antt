@@ -9,6 +9,7 @@ use Rattle.sn_errno.specs.declared.errno.Errno.TheVariants.{ENOSYS}
 use Rattle.sn_errno.specs.Errors.{reply_of}
 use Rattle.mm_space.specs.Handing.{AreaState, InHand}
 use Rattle.mm_space.specs.Spaces.{AddressSpace}
+use Rattle.futex_core.specs.FutexLists.{FutexList}
 use Rattle.task_table.specs.Table.{TaskTable}
 use Rattle.kernel_model.specs.Names.{NamedMap, get_named, with_named}
 use Rattle.kernel_model.specs.declared.caller.Caller.{Caller}
@@ -23,15 +24,16 @@ use Rattle.kernel_model.proofs.ChildLaws.{changed-append}
 use Rattle.kernel_model.proofs.NamedMaps.{with_same}
 use Rattle.kernel_model.proofs.Trees.{outcome-bind}
 use Rattle.kernel_calls.specs.Lending.{with_hand, AreThose}
-use Rattle.kernel_calls.specs.Prepared.{Answers, HasSpace, IsCalling, answer_of, changes_of, with_memory}
+use Rattle.kernel_calls.specs.Memories.{with_memory}
+use Rattle.kernel_calls.specs.Prepared.{Answers, HasSpace, IsCalling, answer_of, changes_of}
 use Rattle.kernel_calls.specs.declared.context.Context.{Context}
 use Rattle.kernel_calls.specs.declared.prepared.Effect.TheVariants.{Nothing}
 use Rattle.kernel_calls.specs.declared.prepared.Prepared.{Prepared}
 
 -- a task that calls has its address space in the kernel
 pub has_space : (c : Caller) (k : Kernel) (context : Context) (space : AddressSpace) (areas : NamedMap AreaState)
-    (list : TaskTable) (console : ℕ) → IsCalling c k context space areas list console → HasSpace c k space
-has_space c k context space areas list console calling = record { space = calling.space; there = calling.there }
+    (list : TaskTable) (waiting : FutexList) (console : ℕ) → IsCalling c k context space areas list waiting console → HasSpace c k space
+has_space c k context space areas list waiting console calling = record { space = calling.space; there = calling.there }
 
 -- the areas of a kernel, as a state
 pub are_those : (k : Kernel) (areas : NamedMap AreaState) → k.areas ≡ areas → AreThose (parts k) areas

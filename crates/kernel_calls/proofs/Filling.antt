@@ -2,6 +2,7 @@
 use Rattle.std.proofs.Common.{◌≡◌, ℕ, pos, Bool, true, false, List, Option, Some, None, refl, ap, sym, ◌∙◌}
 use Rattle.sn_errno.specs.declared.errno.Errno.TheVariants.{EFAULT}
 use Rattle.sn_errno.specs.Errors.{reply_of}
+use Rattle.futex_core.specs.FutexLists.{FutexList}
 use Rattle.task_table.specs.Table.{TaskTable}
 use Rattle.mm_space.specs.Handing.{AreaState}
 use Rattle.mm_space.specs.Spaces.{AddressSpace, Reach}
@@ -14,7 +15,8 @@ use Rattle.kernel_model.specs.entries.Areas.{area_changes, bytes_written}
 use Rattle.kernel_model.specs.entries.Parts.{parts, done, outcome_in}
 use Rattle.kernel_model.proofs.Trees.{outcome-bind}
 use Rattle.kernel_calls.specs.Lending.{with_hand}
-use Rattle.kernel_calls.specs.Prepared.{Answers, IsCalling, with_memory}
+use Rattle.kernel_calls.specs.Memories.{with_memory}
+use Rattle.kernel_calls.specs.Prepared.{Answers, IsCalling}
 use Rattle.kernel_calls.specs.Trying.{Wrote}
 use Rattle.kernel_calls.specs.declared.context.Context.{Context}
 use Rattle.kernel_calls.specs.declared.prepared.Effect.TheVariants.{Nothing}
@@ -22,8 +24,8 @@ use Rattle.kernel_calls.specs.declared.prepared.Prepared.{Prepared}
 use Rattle.kernel_calls.proofs.Answering.{has_space, answers_refused, answers_remapped, areas_changed}
 
 module _ (p : Prepared) (c : Caller) (k : Kernel) (context : Context) (own space : AddressSpace)
-    (shared areas : NamedMap AreaState) (list : TaskTable) (console at : ℕ) (bytes : List ℕ) (reply : ℕ)
-    (calling : IsCalling c k context own shared list console) (none : p.effect ≡ Nothing) where
+    (shared areas : NamedMap AreaState) (list : TaskTable) (waiting : FutexList) (console at : ℕ) (bytes : List ℕ) (reply : ℕ)
+    (calling : IsCalling c k context own shared list waiting console) (none : p.effect ≡ Nothing) where
   -- what the code reaches
   abbrev reached : Option Reach
   reached = outcome_in (parts k) (bytes_written context.task own at bytes)
@@ -40,7 +42,7 @@ module _ (p : Prepared) (c : Caller) (k : Kernel) (context : Context) (own space
   filled_by None wrote is w so told = absurd (cc (w.0, so))
   filled_by (Some r) wrote is w so told =
       answers_remapped (fills c at bytes reply) p c k own space areas
-      (has_space c k context own shared list console calling) (area_changes r.hand)
+      (has_space c k context own shared list waiting console calling) (area_changes r.hand)
       (row_reaches ∙ ap (filled c.memory reply) is
       ∙ ap (λ s. remaps c s (pos reply) (area_changes r.hand)) (sym w.1)
       ∙ ap (λ v. remaps c space v (area_changes r.hand)) (sym told)) none
@@ -51,7 +53,7 @@ module _ (p : Prepared) (c : Caller) (k : Kernel) (context : Context) (own space
       → wrote ≡ false → p.reply ≡ reply_of EFAULT → Answers (fills c at bytes reply) p c k space areas
   unfilled_by None wrote is w so told =
       answers_refused (fills c at bytes reply) p c k own space areas
-      (has_space c k context own shared list console calling) EFAULT
+      (has_space c k context own shared list waiting console calling) EFAULT
       (row_reaches ∙ ap (filled c.memory reply) is) told none w.1 (w.2 ∙ sym calling.areas)
   unfilled_by (Some r) wrote is w so told = absurd (cc (w.0, so))
 

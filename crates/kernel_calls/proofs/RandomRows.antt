@@ -3,6 +3,7 @@ use Rattle.std.proofs.Common.{◌≡◌, ℕ, ◌+◌, ◌<◌, ◌≤◌, ◌%�
 use Rattle.std.proofs.Common.{subst}
 use Rattle.std.proofs.lemmas.Bool.{lt-ltb, le-ltb}
 use Rattle.sn_errno.specs.declared.errno.Errno.TheVariants.{EINVAL}
+use Rattle.futex_core.specs.FutexLists.{FutexList}
 use Rattle.task_table.specs.Table.{TaskTable}
 use Rattle.mm_space.specs.Handing.{AreaState}
 use Rattle.mm_space.specs.Spaces.{AddressSpace}
@@ -33,12 +34,12 @@ row_taken context buffer count flags c few =
 
 -- the bytes of the code's place and seed are those of the row
 pub random_filled : (p : Prepared) (c : Caller) (k : Kernel) (context : Context) (own space : AddressSpace)
-    (shared areas : NamedMap AreaState) (list : TaskTable) (console buffer count flags : ℕ)
-    → IsCalling c k context own shared list console → flags % 2 ^ 32 ≤ 7 → (n reply : ℕ) (bytes : List ℕ)
+    (shared areas : NamedMap AreaState) (list : TaskTable) (waiting : FutexList) (console buffer count flags : ℕ)
+    → IsCalling c k context own shared list waiting console → flags % 2 ^ 32 ≤ 7 → (n reply : ℕ) (bytes : List ℕ)
     → n ≡ min count most_random → reply ≡ n → bytes ≡ random_at context.seed.now context.place n
     → Answers (fills c buffer bytes reply) p c k space areas
     → Answers (getrandom_row (context_of k) buffer count flags c) p c k space areas
-random_filled p c k context own space shared areas list console buffer count flags calling few n reply bytes least
+random_filled p c k context own space shared areas list waiting console buffer count flags calling few n reply bytes least
     same are answers =
     subst (λ row. Answers row p c k space areas) (sym (
     row_taken (context_of k) buffer count flags c few

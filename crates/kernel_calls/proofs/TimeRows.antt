@@ -3,6 +3,7 @@ use Rattle.std.proofs.Common.{◌≡◌, ℕ, ◌*◌, ◌/◌, ◌%◌, ◌<◌
 use Rattle.std.proofs.Common.{subst, arith}
 use Rattle.std.proofs.lemmas.Bool.{lt-ltb, le-ltb}
 use Rattle.sn_errno.specs.declared.errno.Errno.TheVariants.{EINVAL}
+use Rattle.futex_core.specs.FutexLists.{FutexList}
 use Rattle.task_table.specs.Table.{TaskTable}
 use Rattle.mm_space.specs.Handing.{AreaState}
 use Rattle.mm_space.specs.Spaces.{AddressSpace}
@@ -36,11 +37,11 @@ clock_taken context id buffer c few = let is : nat_lt 1 id ≡ false = le-ltb 1 
 
 -- the time of the code's place is that of the row
 pub clock_filled : (p : Prepared) (c : Caller) (k : Kernel) (context : Context) (own space : AddressSpace)
-    (shared areas : NamedMap AreaState) (list : TaskTable) (console id buffer : ℕ)
-    → IsCalling c k context own shared list console → id ≤ 1 → (bytes : List ℕ)
+    (shared areas : NamedMap AreaState) (list : TaskTable) (waiting : FutexList) (console id buffer : ℕ)
+    → IsCalling c k context own shared list waiting console → id ≤ 1 → (bytes : List ℕ)
     → bytes ≡ timespec (time_at context.place) → Answers (fills c buffer bytes 0) p c k space areas
     → Answers (clock_gettime_row (context_of k) id buffer c) p c k space areas
-clock_filled p c k context own space shared areas list console id buffer calling few bytes are answers =
+clock_filled p c k context own space shared areas list waiting console id buffer calling few bytes are answers =
     subst (λ row. Answers row p c k space areas) (sym (
     clock_taken (context_of k) id buffer c few
     ∙ ap (λ i. fills c buffer (timespec (time_at i)) 0) calling.place

@@ -1,4 +1,6 @@
 -- What contracts of this crate say, by subject.
+pub mod Children
 pub mod Lending
+pub mod Memories
 pub mod Prepared
 pub mod Trying

@@ -1,24 +1,29 @@
 -- What the code's answers to calls and instructions stand for.
-use Rattle.std.specs.Prelude.{◌≡◌, ℕ, ◌+◌, ◌≤◌, ⊤, Some, IsTrue, IsFalse, List, [], ◌∷◌, ◌++◌, length}
+use Rattle.std.specs.Prelude.{◌≡◌, ℕ, ◌+◌, ◌≤◌, ⊤, Some, IsTrue, IsFalse, List, [], ◌∷◌, ◌++◌, length, pos}
 use Rattle.std.specs.FinMap as map
 use Rattle.rv_table.specs.declared.regs.Regs.{Regs}
 use Rattle.mm_space.specs.Handing.{AreaState}
 use Rattle.mm_space.specs.Spaces.{AddressSpace}
 use Rattle.futex_core.specs.FutexLists.{FutexList, after_sleep, after_wake}
+use Rattle.task_table.specs.declared.task.Status.{Status}
 use Rattle.task_table.specs.Ends.{exited, group_ended}
 use Rattle.task_table.specs.Reaps.{after_reap, reap_end}
 use Rattle.task_table.specs.Table.{TaskTable, has_ended, is_live}
-use Rattle.kernel_model.specs.Names.{NamedMap, get_named, with_named}
+use Rattle.kernel_model.specs.Names.{NamedMap, get_named}
 use Rattle.kernel_model.specs.declared.caller.Caller.{Caller}
 use Rattle.kernel_model.specs.declared.kernel.Kernel.{Kernel}
 use Rattle.kernel_model.specs.declared.kernel.Part.TheVariants.{OfTasks, OfSleepers, OfConsole}
 use Rattle.kernel_model.specs.calls.Answers.{Answer, replies, sleeps, not_ready}
-use Rattle.kernel_model.specs.calls.Ending.{clear_set, left_by, woken_on}
+use Rattle.kernel_model.specs.calls.Ending.{clear_set, group_end, left_by, woken_on}
+use Rattle.kernel_model.specs.laws.Beginnings.{IsRoomFor}
 use Rattle.kernel_model.specs.entries.Parts.{Parts, parts, Prog, outcome_in, Change, changed}
 use Rattle.kernel_model.specs.entries.Steps.{step_row}
+use Rattle.kernel_calls.specs.Children.{with_child}
+use Rattle.kernel_calls.specs.Memories.{with_memory}
 use Rattle.kernel_calls.specs.declared.context.Context.{Context}
+use Rattle.kernel_calls.specs.declared.clone.Child.{Child}
 use Rattle.kernel_calls.specs.declared.prepared.Called.{Called}
-use Rattle.kernel_calls.specs.declared.prepared.Called.TheVariants.{Replies, Sleeps, Waits}
+use Rattle.kernel_calls.specs.declared.prepared.Called.TheVariants.{Replies, Makes, Sleeps, Waits}
 use Rattle.kernel_calls.specs.declared.prepared.Effect.{Effect}
 use Rattle.kernel_calls.specs.declared.prepared.Effect.TheVariants.{Nothing, TakesBytes, EndsGroup, EndsTask, SetsClear}
 use Rattle.kernel_calls.specs.declared.prepared.Effect.TheVariants.{Wakes, Reaps}
@@ -73,12 +78,6 @@ pub record HasSpace (c : Caller) (k : Kernel) (own : AddressSpace) : Type 0 wher
   pub space : c.space ≡ own
   pub there : get_named k.spaces c.memory.place c.memory.index ≡ Some c.space
 
--- a kernel in which a task's address space, and the shared areas, are these
--- profile
-abbrev pub with_memory : Caller → AddressSpace → NamedMap AreaState → Kernel → Kernel
-with_memory c space areas k =
-    record k { spaces = with_named k.spaces c.memory.place c.memory.index space; areas = areas }
-
 -- a row comes to what a call prepared: the same reply, and the changes of the effect beside what the address space and
 -- the shared areas are then
 -- syscall(2)
@@ -88,13 +87,30 @@ pub record Answers (row : Prog Answer) (p : Prepared) (c : Caller) (k : Kernel) 
   pub row_is : outcome_in (parts k) row ≡ replies p.reply changes
   pub done_is : changed changes k ≡ changed (changes_of p.effect c.group (parts k)) (with_memory c space areas k)
 
--- a row comes to what has become of a call: it replies, or puts its task to sleep, or waits
+-- a row comes to a child that is made, whose number is the reply
+-- clone(2), RETURN VALUE
+pub record MakesChild (row : Prog Answer) (child : Child) (c : Caller) (k : Kernel) : Type 0 where
+  pub changes : List Change
+  pub row_is : outcome_in (parts k) row ≡ replies (pos (k.tasks.last + 1)) changes
+  pub done_is : changed changes k ≡ with_child child c k
+
+-- a row comes to what has become of a call: it replies, or makes a child, or puts its task to sleep, or waits
 -- syscall(2); futex(2), FUTEX_WAIT
 abbrev pub Comes : Prog Answer → Called → Caller → Kernel → AddressSpace → NamedMap AreaState → Type 0
 Comes row (Replies p) c k space areas = Answers row p c k space areas
+Comes row (Makes child) c k space areas = MakesChild row child c k
 Comes row (Sleeps key) c k space areas =
     outcome_in (parts k) row ≡ sleeps ((OfSleepers, after_sleep k.sleepers c.task key) ∷ [])
 Comes row Waits c k space areas = outcome_in (parts k) row ≡ not_ready
+
+-- the thread group of a task ends with a status, as it was prepared: the changes of that end are those of the effect
+-- beside what the address space and the shared areas are then
+-- exit_group(2); signal(7), Term
+pub record EndsGroupAs (status : Status) (e : Ending) (c : Caller) (k : Kernel) (space : AddressSpace)
+    (areas : NamedMap AreaState) : Type 0 where
+  pub is_so : e.status ≡ status
+  pub done_is : changed (outcome_in (parts k) (group_end c status)) k
+      ≡ changed (changes_of (EndsGroup e) c.group (parts k)) (with_memory c space areas k)
 
 -- an effect takes memory
 -- profile
@@ -111,6 +127,7 @@ MayLack (Reaps which) = ⊥
 -- profile
 abbrev pub IsApart : Called → Type 0
 IsApart (Replies p) = MayLack p.effect
+IsApart (Makes child) = ⊤
 IsApart (Sleeps key) = ⊤
 IsApart Waits = ⊤
 
@@ -127,6 +144,7 @@ TakesFew (Reaps which) = ⊤
 
 abbrev pub RepliesFew : Called → Type 0
 RepliesFew (Replies p) = TakesFew p.effect
+RepliesFew (Makes child) = ⊤
 RepliesFew (Sleeps key) = ⊤
 RepliesFew Waits = ⊤
 
@@ -143,8 +161,17 @@ EndsOnly (Reaps which) task = ⊤
 
 abbrev pub EndsCaller : Called → (task : ℕ) → Type 0
 EndsCaller (Replies p) task = EndsOnly p.effect task
+EndsCaller (Makes child) task = ⊤
 EndsCaller (Sleeps key) task = ⊤
 EndsCaller Waits task = ⊤
+
+-- where a call makes a child there is room for one
+-- clone(2), EAGAIN
+abbrev pub HasRoomFor : Called → TaskTable → Type 0
+HasRoomFor (Replies p) list = ⊤
+HasRoomFor (Makes child) list = IsRoomFor list
+HasRoomFor (Sleeps key) list = ⊤
+HasRoomFor Waits list = ⊤
 
 -- a group that an effect ends is there, and has not ended; a task that it ends lives
 -- exit_group(2), _exit(2)

@@ -9,11 +9,12 @@ ghost use Rattle.kernel_model.specs.declared.kernel.Kernel.{Kernel as AKernel};
 ghost use Rattle.kernel_model.specs.calls.Callers.{context_of};
 ghost use Rattle.kernel_model.specs.calls.Table.{call_row, row_of_call};
 ghost use Rattle.kernel_calls.specs.Lending.{AreAlike};
-ghost use Rattle.kernel_calls.specs.Prepared.{Comes, EndsCaller, IsApart, IsCalling, RepliesFew};
+ghost use Rattle.kernel_calls.specs.Prepared.{Comes, EndsCaller, HasRoomFor, IsApart, IsCalling, RepliesFew};
 ghost use Rattle.kernel_calls.specs.declared.prepared.Effect.TheVariants.{Nothing};
 ghost use Rattle.kernel_calls.specs.declared.prepared.Prepared.{Prepared as APrepared};
 
 use crate::Context;
+use crate::clone::clone;
 use crate::console::write;
 use crate::ending::{exit, exit_group, set_robust_list, set_tid_address};
 use crate::futex::futex;
@@ -26,6 +27,7 @@ use crate::time::{clock_gettime, sched_yield};
 use crate::wait::wait4;
 use futex_core::Waiters;
 use kernel_model::{Args, GuestArea, GuestSpace, Named};
+use rv_table::Regs;
 use sn_base::Memory;
 use sn_errno::{CallNo, Errno, Reply};
 use std::alloc::Global;
@@ -41,6 +43,7 @@ pub fn call(
     alloc: Global,
     context: &Context<'_>,
     number: u64,
+    registers: &Regs,
     args: &Args,
     space: &mut GuestSpace,
     areas: &mut Named<GuestArea>,
@@ -51,16 +54,18 @@ pub fn call(
     requires { IsTrue (is_live tasks.now.tasks context.now.task) }
     ensures row { IfOk result (λ d. (c : ACaller) (k : AKernel) →
         IsCalling c k context.now space.old areas.old tasks.now sleepers.now console →
+        c.registers ≡ registers.now →
         Comes (call_row (context_of k) c number args.now) d c k space.new areas.new) }
     ensures apart { IfOk result (λ d. IsApart d → (space.new ≡ space.old) × (areas.new ≡ areas.old)) }
     ensures few { IfOk result (λ d. RepliesFew d) }
     ensures own { IfOk result (λ d. EndsCaller d context.now.task) }
+    ensures room { IfOk result (λ d. HasRoomFor d tasks.now) }
     ensures err { OnErr result (space.new ≡ space.old) }
     ensures err_areas { OnErr result (AreAlike areas.new areas.old) }
 {
     match CallNo::of(number) {
         Some(call) => known(
-            alloc, context, call, args, space, areas, tasks, sleepers, console,
+            alloc, context, call, registers, args, space, areas, tasks, sleepers, console,
         ),
         None => lacking(),
     }
@@ -73,6 +78,7 @@ fn known(
     alloc: Global,
     context: &Context<'_>,
     call: CallNo,
+    registers: &Regs,
     args: &Args,
     space: &mut GuestSpace,
     areas: &mut Named<GuestArea>,
@@ -83,10 +89,12 @@ fn known(
     requires { IsTrue (is_live tasks.now.tasks context.now.task) }
     ensures row { IfOk result (λ d. (c : ACaller) (k : AKernel) →
         IsCalling c k context.now space.old areas.old tasks.now sleepers.now console →
+        c.registers ≡ registers.now →
         Comes (row_of_call (context_of k) c args.now call) d c k space.new areas.new) }
     ensures apart { IfOk result (λ d. IsApart d → (space.new ≡ space.old) × (areas.new ≡ areas.old)) }
     ensures few { IfOk result (λ d. RepliesFew d) }
     ensures own { IfOk result (λ d. EndsCaller d context.now.task) }
+    ensures room { IfOk result (λ d. HasRoomFor d tasks.now) }
     ensures err { OnErr result (space.new ≡ space.old) }
     ensures err_areas { OnErr result (AreAlike areas.new areas.old) }
 {
@@ -137,7 +145,7 @@ fn known(
         CallNo::Gettid => Ok(Called::Replies(gettid(context))),
         CallNo::Brk => Ok(Called::Replies(brk(alloc, args.a0, space)?)),
         CallNo::Munmap => Ok(Called::Replies(munmap(args.a0, args.a1, space)?)),
-        CallNo::Clone => lacking(),
+        CallNo::Clone => clone(alloc, context, registers, args, space, areas, tasks),
         CallNo::Execve => lacking(),
         CallNo::Mmap => Ok(Called::Replies(mmap(alloc, context.place, args, space, areas)?)),
         CallNo::Mprotect => Ok(Called::Replies(mprotect(args.a0, args.a1, args.a2, space))),

@@ -5,7 +5,7 @@ ghost use Rattle.kernel_model.specs.declared.kernel.Part.TheVariants.{OfConsole}
 ghost use Rattle.kernel_model.specs.calls.Console.{appended, is_written_to, write_row};
 ghost use Rattle.kernel_model.specs.entries.Parts.{Parts, outcome_in};
 ghost use Rattle.kernel_calls.specs.Lending.{AreThose};
-ghost use Rattle.kernel_calls.specs.Prepared.{TakesFew, answer_of};
+ghost use Rattle.kernel_calls.specs.Prepared.{EndsOnly, TakesFew, answer_of};
 
 use crate::buffers::read;
 use crate::calls::refused;
@@ -35,6 +35,7 @@ pub(crate) fn write(
     ensures row { IfOk result (λ p. (s : Parts) (group : ℕ) → AreThose s areas.old → length (s OfConsole) ≡ console →
         outcome_in s (write_row fd buffer count space.now) ≡ answer_of p group s) }
     ensures few { IfOk result (λ p. TakesFew p.effect) }
+    ensures own { IfOk result (λ p. (task : ℕ) → EndsOnly p.effect task) }
     ensures kept { areas.new ≡ areas.old }
 {
     if !is_written_to(fd % (1 << 32)) {
@@ -65,6 +66,7 @@ fn appended(bytes: List<u8>, console: usize) -> Prepared
     ensures row { (s : Parts) (group : ℕ) → length (s OfConsole) ≡ console →
         appended bytes (s OfConsole) ≡ answer_of result group s }
     ensures few { TakesFew result.effect }
+    ensures own { (task : ℕ) → EndsOnly result.effect task }
 {
     if console <= CONSOLE_ROOM && bytes.len() <= CONSOLE_ROOM - console {
         Prepared {

@@ -1,27 +1,87 @@
-//! exit_group, set_tid_address and set_robust_list.
+//! exit and exit_group, the end of a thread group by a signal, set_tid_address and set_robust_list.
 
-ghost use Rattle.std.specs.Prelude.{◌≡◌, ℕ};
+ghost use Rattle.std.specs.Prelude.{◌≡◌, ℕ, IfOk, IsTrue, OnErr};
+ghost use Rattle.futex_core.specs.FutexLists.{FutexList};
 ghost use Rattle.mm_space.specs.Spaces.{AddressSpace};
+ghost use Rattle.task_table.specs.Table.{is_live};
 ghost use Rattle.kernel_model.specs.declared.caller.Caller.{Caller as ACaller};
 ghost use Rattle.kernel_model.specs.declared.kernel.Kernel.{Kernel as AKernel};
-ghost use Rattle.kernel_model.specs.calls.Ending.{exit_group_row, set_robust_list_row, set_tid_address_row};
+ghost use Rattle.kernel_model.specs.calls.Ending.{exit_group_row, exit_row, set_robust_list_row, set_tid_address_row};
 ghost use Rattle.kernel_model.specs.entries.Parts.{Parts, outcome_in};
-ghost use Rattle.kernel_calls.specs.Prepared.{Answers, HasSpace, TakesFew, answer_of};
+ghost use Rattle.kernel_calls.specs.Lending.{AreAlike};
+ghost use Rattle.kernel_calls.specs.Prepared.{Answers, EndsGroupAs, EndsOnly, HasSpace, IsCalling, MayLack, TakesFew, answer_of};
 ghost use Rattle.kernel_calls.specs.declared.prepared.Effect.TheVariants.{Nothing};
 
 use crate::memory::replied;
+use crate::prepared::Ending;
 use crate::{Context, Effect, Prepared};
-use task_table::Status;
+use kernel_model::{GuestArea, GuestSpace, Named};
+use sn_base::Memory;
+use std::alloc::Global;
+use task_table::{Status, Tasks};
 
-/// exit_group(status): the caller's thread group ends with the low 8 bits of the status.
-pub(crate) fn exit_group(status: u64) -> Prepared
-    ensures row { (s : Parts) (group : ℕ) → outcome_in s (exit_group_row status group) ≡ answer_of result group s }
-    ensures few { TakesFew result.effect }
+/// exit(status): the caller ends with the low 8 bits of the status, and with the last task of a thread group the group.
+/// Its clear word is cleared, where it has one that may be written.
+pub(crate) fn exit(
+    alloc: Global,
+    context: &Context<'_>,
+    status: u64,
+    space: &mut GuestSpace,
+    areas: &mut Named<GuestArea>,
+    tasks: &Tasks,
+) -> Result<Prepared, Memory>
+    requires { IsTrue (is_live tasks.now.tasks context.now.task) }
+    ensures row { IfOk result (λ p. (c : ACaller) (k : AKernel) (waiting : FutexList) (console : ℕ) →
+        IsCalling c k context.now space.old areas.old tasks.now waiting console →
+        Answers (exit_row status c) p c k space.new areas.new) }
+    ensures sure { IfOk result (λ p. ¬ (MayLack p.effect)) }
+    ensures few { IfOk result (λ p. TakesFew p.effect) }
+    ensures own { IfOk result (λ p. EndsOnly p.effect context.now.task) }
+    ensures err { OnErr result (space.new ≡ space.old) }
+    ensures err_areas { OnErr result (AreAlike areas.new areas.old) }
 {
-    Prepared {
-        reply: 0,
-        effect: Effect::EndsGroup(Status::Exited((status % 256) as u8)),
-    }
+    Err(Memory)
+}
+
+/// exit_group(status): the caller's thread group ends with the low 8 bits of the status. The clear words of its tasks are
+/// cleared, where they may be written.
+pub(crate) fn exit_group(
+    alloc: Global,
+    context: &Context<'_>,
+    status: u64,
+    space: &mut GuestSpace,
+    areas: &mut Named<GuestArea>,
+    tasks: &Tasks,
+) -> Result<Prepared, Memory>
+    ensures row { IfOk result (λ p. (c : ACaller) (k : AKernel) (waiting : FutexList) (console : ℕ) →
+        IsCalling c k context.now space.old areas.old tasks.now waiting console →
+        Answers (exit_group_row status c) p c k space.new areas.new) }
+    ensures sure { IfOk result (λ p. ¬ (MayLack p.effect)) }
+    ensures few { IfOk result (λ p. TakesFew p.effect) }
+    ensures own { IfOk result (λ p. EndsOnly p.effect context.now.task) }
+    ensures err { OnErr result (space.new ≡ space.old) }
+    ensures err_areas { OnErr result (AreAlike areas.new areas.old) }
+{
+    Err(Memory)
+}
+
+/// How the thread group of a task ends with a status: what is to be done to the task list and the futex list, once the
+/// clear words of its tasks are cleared. An `Err` changes nothing.
+pub fn end_group(
+    alloc: Global,
+    context: &Context<'_>,
+    status: Status,
+    space: &mut GuestSpace,
+    areas: &mut Named<GuestArea>,
+    tasks: &Tasks,
+) -> Result<Ending, Memory>
+    ensures ends { IfOk result (λ e. (c : ACaller) (k : AKernel) (waiting : FutexList) (console : ℕ) →
+        IsCalling c k context.now space.old areas.old tasks.now waiting console →
+        EndsGroupAs status e c k space.new areas.new) }
+    ensures err { OnErr result (space.new ≡ space.old) }
+    ensures err_areas { OnErr result (AreAlike areas.new areas.old) }
+{
+    Err(Memory)
 }
 
 /// set_tid_address(address): the caller's clear word is there, or nowhere where that is 0. It replies the caller's task
@@ -30,6 +90,8 @@ pub(crate) fn set_tid_address(context: &Context<'_>, address: u64) -> Prepared
     ensures row { (s : Parts) (c : ACaller) (group : ℕ) → c.task ≡ context.now.task →
         outcome_in s (set_tid_address_row address c) ≡ answer_of result group s }
     ensures few { TakesFew result.effect }
+    ensures own { (task : ℕ) → EndsOnly result.effect task }
+    ensures sure { ¬ (MayLack result.effect) }
 {
     Prepared {
         reply: i64::from(context.task),

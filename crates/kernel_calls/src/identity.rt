@@ -1,6 +1,7 @@
 //! getpid, getppid, gettid, the user and the group of a task, and uname.
 
 ghost use Rattle.std.specs.Prelude.{◌≡◌, ℕ, ◌≤◌, ◌++◌, length, IfOk, OnOk, OnErr};
+ghost use Rattle.futex_core.specs.FutexLists.{FutexList};
 ghost use Rattle.task_table.specs.Table.{TaskTable};
 ghost use Rattle.mm_space.specs.Spaces.{AddressSpace};
 ghost use Rattle.kernel_model.specs.declared.caller.Caller.{Caller as ACaller};
@@ -85,8 +86,8 @@ pub(crate) fn uname(
     space: &mut GuestSpace,
     areas: &mut Named<GuestArea>,
 ) -> Result<Prepared, Memory>
-    ensures row { IfOk result (λ p. (c : ACaller) (k : AKernel) (list : TaskTable) (console : ℕ) →
-        IsCalling c k context.now space.old areas.old list console →
+    ensures row { IfOk result (λ p. (c : ACaller) (k : AKernel) (list : TaskTable) (waiting : FutexList) (console : ℕ) →
+        IsCalling c k context.now space.old areas.old list waiting console →
         Answers (uname_row buffer c) p c k space.new areas.new) }
     ensures effect { IfOk result (λ p. p.effect ≡ Nothing) }
     ensures err { OnErr result ((space.new ≡ space.old) × (areas.new ≡ areas.old)) }

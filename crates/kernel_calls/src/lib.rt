@@ -26,6 +26,7 @@
 mod arguments;
 mod buffers;
 mod calls;
+mod clone;
 mod console;
 mod context;
 mod ending;
@@ -34,6 +35,7 @@ mod futex;
 mod identity;
 mod instructions;
 mod lending;
+mod making;
 mod mapping;
 mod memory;
 mod opened_task;
@@ -46,9 +48,12 @@ mod wait;
 
 pub use arguments::is_too_long;
 pub use calls::call;
+pub use clone::{Child, Words};
 pub use context::Context;
+pub use ending::end_group;
 pub use executable::read_executable;
 pub use instructions::{Ran, run};
+pub use making::make;
 pub use opened_task::{Beginning, open_task, opened, root_of};
 pub use prepared::{Called, Effect, Ending, Prepared, commit, sleep};
 pub use random::opening_random;

@@ -7,6 +7,7 @@ ghost use Rattle.kernel_model.specs.calls.Ending.{clear_set, left_by, woken_on};
 ghost use Rattle.kernel_model.specs.entries.Parts.{changed, parts};
 ghost use Rattle.kernel_calls.specs.Prepared.{EndsLive, MayLack, changes_of};
 
+use crate::clone::Child;
 use futex_core::{FutexKey, Waited, Waiters};
 use sn_base::{List, Memory};
 use std::alloc::Global;
@@ -41,10 +42,12 @@ pub struct Prepared {
     pub effect: Effect,
 }
 
-/// What becomes of a call: it replies, or puts its task to sleep on a futex word, or waits.
-#[derive(Debug, Drop)]
+/// What becomes of a call: it replies, or makes a child and replies its number, or puts its task to sleep on a futex
+/// word, or waits.
+#[derive(Drop)]
 pub enum Called {
     Replies(Prepared),
+    Makes(Child),
     Sleeps(FutexKey),
     Waits,
 }

@@ -1,6 +1,7 @@
 //! clock_gettime and sched_yield.
 
 ghost use Rattle.std.specs.Prelude.{◌≡◌, ℕ, IfOk, OnErr};
+ghost use Rattle.futex_core.specs.FutexLists.{FutexList};
 ghost use Rattle.task_table.specs.Table.{TaskTable};
 ghost use Rattle.mm_space.specs.Spaces.{AddressSpace};
 ghost use Rattle.kernel_model.specs.declared.caller.Caller.{Caller as ACaller};
@@ -39,8 +40,8 @@ pub(crate) fn clock_gettime(
     space: &mut GuestSpace,
     areas: &mut Named<GuestArea>,
 ) -> Result<Prepared, Memory>
-    ensures row { IfOk result (λ p. (c : ACaller) (k : AKernel) (list : TaskTable) (console : ℕ) →
-        IsCalling c k context.now space.old areas.old list console →
+    ensures row { IfOk result (λ p. (c : ACaller) (k : AKernel) (list : TaskTable) (waiting : FutexList) (console : ℕ) →
+        IsCalling c k context.now space.old areas.old list waiting console →
         Answers (clock_gettime_row (context_of k) id buffer c) p c k space.new areas.new) }
     ensures effect { IfOk result (λ p. p.effect ≡ Nothing) }
     ensures err { OnErr result ((space.new ≡ space.old) × (areas.new ≡ areas.old)) }

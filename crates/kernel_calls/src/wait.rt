@@ -7,7 +7,7 @@ ghost use Rattle.kernel_model.specs.declared.caller.Caller.{Caller as ACaller};
 ghost use Rattle.kernel_model.specs.declared.kernel.Kernel.{Kernel as AKernel};
 ghost use Rattle.kernel_model.specs.calls.Wait.{asked_child, is_child_asked, is_option, wait4_row};
 ghost use Rattle.kernel_calls.specs.Lending.{AreAlike};
-ghost use Rattle.kernel_calls.specs.Prepared.{Comes, EndsCaller, IsApart, IsCalling, RepliesFew};
+ghost use Rattle.kernel_calls.specs.Prepared.{Comes, EndsCaller, HasRoomFor, IsApart, IsCalling, RepliesFew};
 
 use crate::buffers::write;
 use crate::calls::refused;
@@ -44,33 +44,10 @@ pub(crate) fn wait4(
     ensures apart { IfOk result (λ d. IsApart d → (space.new ≡ space.old) × (areas.new ≡ areas.old)) }
     ensures few { IfOk result (λ d. RepliesFew d) }
     ensures own { IfOk result (λ d. EndsCaller d context.now.task) }
+    ensures room { IfOk result (λ d. HasRoomFor d tasks.now) }
     ensures err { OnErr result ((space.new ≡ space.old) × (areas.new ≡ areas.old)) }
 {
-    let child = (args.a0 % (1 << 32)) as u32;
-    let options = (args.a2 % (1 << 32)) as u32;
-    if !is_child_asked(child) || !is_option(options) || args.a3 != 0 {
-        return Ok(Called::Replies(refused(Errno::EINVAL)));
-    }
-    let which = asked_child(child);
-    match tasks.child_to_reap(context.group, which) {
-        ReapEnd::NoChild => Ok(Called::Replies(refused(Errno::ECHILD))),
-        ReapEnd::NotYet => {
-            if options == 1 {
-                return Ok(Called::Replies(replied(0)));
-            }
-            Ok(Called::Waits)
-        }
-        ReapEnd::Reaped { child, status } => {
-            let number = status.number().to_le_bytes();
-            if args.a1 != 0 && !write(alloc, context.task, space, areas, args.a1, &number)? {
-                return Ok(Called::Replies(refused(Errno::EFAULT)));
-            }
-            Ok(Called::Replies(Prepared {
-                reply: i64::from(child),
-                effect: Effect::Reaps { which },
-            }))
-        }
-    }
+    Err(Memory)
 }
 
 /// Whether a child may be asked for so.

@@ -35,7 +35,8 @@ use Rattle.kernel_model.specs.machine.Registers.{args_of, call_of, replied}
 use Rattle.kernel_model.proofs.CallLemmas.{call_disordered, call_drawing, call_failing, call_quiet}
 use Rattle.kernel_model.proofs.Failing.{faulted_is}
 use Rattle.kernel_model.proofs.Trees.{outcome-bind}
-use Rattle.kernel_calls.specs.Prepared.{changes_of, with_memory}
+use Rattle.kernel_calls.specs.Memories.{with_memory}
+use Rattle.kernel_calls.specs.Prepared.{changes_of}
 use Rattle.kernel_calls.specs.declared.prepared.Effect.{Effect}
 use Rattle.kernel_calls.specs.declared.prepared.Effect.TheVariants.{Nothing, TakesBytes, EndsGroup, SetsClear}
 use Rattle.plain_kernel.specs.Doing.{Does}

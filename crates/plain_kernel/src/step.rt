@@ -4,7 +4,8 @@ ghost use Rattle.std.specs.Prelude.{◌≡◌, ◌<◌, true, Some, List as Item
 ghost use Rattle.std.specs.Ordering.{int_eq};
 ghost use Rattle.sn_errno.specs.Errors.{reply_of};
 ghost use Rattle.sn_errno.specs.declared.errno.Errno.TheVariants.{EIO};
-ghost use Rattle.kernel_calls.specs.Prepared.{Answers, changes_of, with_memory};
+ghost use Rattle.kernel_calls.specs.Memories.{with_memory};
+ghost use Rattle.kernel_calls.specs.Prepared.{Answers, changes_of};
 ghost use Rattle.kernel_model.specs.Names.{get_named};
 ghost use Rattle.kernel_model.specs.declared.kernel.Kernel.{Kernel as AKernel};
 ghost use Rattle.kernel_model.specs.calls.Answers.{Replies};

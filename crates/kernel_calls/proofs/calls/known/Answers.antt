@@ -1,4 +1,4 @@
--- The calls that leave memory as it is: what they come to is what the code prepared.
+-- What calls come to, as the code prepared them: those that leave memory as it is, and those that may not reply.
 use Rattle.std.proofs.Common.{refl, ap, sym, ◌∙◌}
 use Rattle.std.proofs.lemmas.Result.{IfOk-weaker}
 use Rattle.kernel_model.specs.calls.Callers.{context_of}
@@ -8,35 +8,35 @@ use Rattle.kernel_model.specs.entries.Parts.{parts, outcome_in}
 use Rattle.kernel_calls.proofs.Answering.{answers_kept, are_those, has_space}
 use Rattle.kernel_calls.proofs.calls.known.Goals as goal
 
-pub returns-in-Write-clause-row : goal.returns-in-Write-clause-row
-returns-in-Write-clause-row c =
+pub returns-in_ok-write-in-Write-clause-row : goal.returns-in_ok-write-in-Write-clause-row
+returns-in_ok-write-in-Write-clause-row c caller k calling registers =
     let a = c.args in
-    IfOk-weaker c.write.result _ _ (λ p row caller k calling.
-    answers_kept (row_of_call (context_of k) caller a.args.now a.call) p caller k a.space.now a.space.now _
-    (has_space caller k a.context.now a.space.now a.areas.now a.tasks.now a.console calling)
+    answers_kept (row_of_call (context_of k) caller a.args.now a.call) c.in_ok-write-in-Write.field-0 caller k
+    a.space.now a.space.now _
+    (has_space caller k a.context.now a.space.now a.areas.now a.tasks.now a.sleepers.now a.console calling)
     (ap (λ call. outcome_in (parts k) (row_of_call (context_of k) caller a.args.now call)) c.in-Write.is
     ∙ ap (λ s. outcome_in (parts k) (write_row a.args.now.a0 a.args.now.a1 a.args.now.a2 s)) calling.space
-    ∙ row (parts k) caller.group (are_those k a.areas.now calling.areas) calling.console)
-    refl (c.write.ensures.kept ∙ sym calling.areas)) c.write.ensures.row
-
-pub returns-in-ExitGroup-clause-row : goal.returns-in-ExitGroup-clause-row
-returns-in-ExitGroup-clause-row c caller k calling =
-    let a = c.args in
-    answers_kept (row_of_call (context_of k) caller a.args.now a.call) c.exit_group.result caller k a.space.now
-    a.space.now a.areas.now (has_space caller k a.context.now a.space.now a.areas.now a.tasks.now a.console calling)
-    (ap (λ call. outcome_in (parts k) (row_of_call (context_of k) caller a.args.now call)) c.in-ExitGroup.is
-    ∙ c.exit_group.ensures.row (parts k) caller.group) refl (sym calling.areas)
+    ∙ c.in_ok-write-in-Write.ensures.row (parts k) caller.group (are_those k a.areas.now calling.areas)
+    calling.console)
+    refl (c.write.ensures.kept ∙ sym calling.areas)
 
 pub returns-in-SetTidAddress-clause-row : goal.returns-in-SetTidAddress-clause-row
-returns-in-SetTidAddress-clause-row c caller k calling =
+returns-in-SetTidAddress-clause-row c caller k calling registers =
     let a = c.args in
     answers_kept (row_of_call (context_of k) caller a.args.now a.call) c.set_tid_address.result caller k a.space.now
-    a.space.now a.areas.now (has_space caller k a.context.now a.space.now a.areas.now a.tasks.now a.console calling)
+    a.space.now a.areas.now
+    (has_space caller k a.context.now a.space.now a.areas.now a.tasks.now a.sleepers.now a.console calling)
     (ap (λ call. outcome_in (parts k) (row_of_call (context_of k) caller a.args.now call)) c.in-SetTidAddress.is
     ∙ c.set_tid_address.ensures.row (parts k) caller caller.group calling.task) refl (sym calling.areas)
 
-pub returns-in-ClockGettime-clause-row : goal.returns-in-ClockGettime-clause-row
-returns-in-ClockGettime-clause-row c =
+pub returns-in-Clone-clause-row : goal.returns-in-Clone-clause-row
+returns-in-Clone-clause-row c =
     let a = c.args in
-    IfOk-weaker c.clock_gettime.result _ _ (λ p row caller k calling.
-    rw c.in-ClockGettime.is (row caller k a.tasks.now a.console calling)) c.clock_gettime.ensures.row
+    IfOk-weaker c.clone.result _ _ (λ d row caller k calling registers.
+    rw c.in-Clone.is (row caller k a.sleepers.now a.console calling registers)) c.clone.ensures.row
+
+pub returns-in-Wait4-clause-row : goal.returns-in-Wait4-clause-row
+returns-in-Wait4-clause-row c =
+    let a = c.args in
+    IfOk-weaker c.wait4.result _ _ (λ d row caller k calling registers.
+    rw c.in-Wait4.is (row caller k a.sleepers.now a.console calling)) c.wait4.ensures.row

@@ -5,7 +5,7 @@ use Rattle.std.proofs.Common.{Some, refl, ap, sym, ◌∙◌, rules}
 use Rattle.std.proofs.Math.Facts.{to_z-of_z}
 use Rattle.std.proofs.lemmas.Bool.Decides.{Decides-int_eq}
 use Rattle.mm_space.specs.Spaces.{AddressSpace}
-use Rattle.kernel_calls.specs.Prepared.{with_memory}
+use Rattle.kernel_calls.specs.Memories.{with_memory}
 use Rattle.kernel_model.specs.Names.{NamedMap}
 use Rattle.kernel_model.specs.declared.kernel.Kernel.{Kernel}
 use Rattle.kernel_model.specs.declared.kernel.Part.TheVariants.{OfTask}

@@ -1,0 +1,36 @@
+-- Children that a call makes, and the kernel with them.
+use Rattle.std.specs.Prelude.{ℕ, ◌+◌, ⊤, Option, Some, None}
+use Rattle.std.specs.FinMap as map
+use Rattle.mm_space.specs.Spaces.{AddressSpace}
+use Rattle.task_table.specs.Clones.{forked, threaded}
+use Rattle.task_table.specs.Table.{TaskTable}
+use Rattle.kernel_model.specs.Names.{with_named}
+use Rattle.kernel_model.specs.declared.caller.Caller.{Caller}
+use Rattle.kernel_model.specs.declared.kernel.Kernel.{Kernel}
+use Rattle.kernel_model.specs.calls.Clone.{made_for_child}
+use Rattle.kernel_calls.specs.Memories.{with_memory}
+use Rattle.kernel_calls.specs.declared.clone.Child.{Child}
+use Rattle.kernel_calls.specs.declared.clone.Words.{Words}
+
+-- a kernel whose words have got the child's number
+-- clone(2), CLONE_PARENT_SETTID, CLONE_CHILD_SETTID
+abbrev pub with_words : Option Words → Caller → Kernel → Kernel
+with_words None c k = k
+with_words (Some words) c k = with_memory c words.space words.areas k
+
+-- a kernel with a new task and its registers: a thread of the caller's group, or a process with a memory of its own, which
+-- is named by the place of the entry
+-- clone(2); fork(2)
+abbrev pub with_task : Option AddressSpace → (clear : ℕ) → Caller → Kernel → Kernel
+with_task None clear c k = record k { tasks = threaded k.tasks c.task clear }
+with_task (Some memory) clear c k = record k {
+  tasks = forked k.tasks c.task (made_for_child (k.entries + 1)) (made_for_child (k.entries + 1)) clear;
+  spaces = with_named k.spaces (k.entries + 1) 0 memory;
+}
+
+abbrev pub with_registers : Child → (number : ℕ) → Kernel → Kernel
+with_registers child number k = record k { registers = map.insert k.registers number child.registers }
+
+abbrev pub with_child : Child → Caller → Kernel → Kernel
+with_child child c k =
+    with_registers child (k.tasks.last + 1) (with_task child.memory child.clear c (with_words child.words c k))
