@@ -1,5 +1,5 @@
 -- Each live task stays at home: with registers, and with its group's memory.
-use Rattle.std.proofs.Common.{◌≡◌, ◌≢◌, ℕ, ◌+◌, inl, inr, true, false, refl, ap, sym, ◌∙◌, subst}
+use Rattle.std.proofs.Common.{◌≡◌, ◌≢◌, ℕ, ◌+◌, Bool, inl, inr, true, false, refl, ap, sym, ◌∙◌, subst}
 use Rattle.std.specs.Prelude.{Option, Some, None, is_some}
 use Rattle.std.specs.Option.{option_map_or}
 use Rattle.std.specs.Ordering.{nat_cmp}
@@ -12,19 +12,24 @@ use Rattle.task_table.specs.declared.task.Made.{Made}
 use Rattle.task_table.specs.declared.task.Task.{Task}
 use Rattle.task_table.specs.declared.task.Status.{Status}
 use Rattle.task_table.specs.Clones.{opened}
-use Rattle.task_table.specs.Ends.{group_ended}
+use Rattle.task_table.specs.declared.task.ReapEnd.{ReapEnd}
+use Rattle.task_table.specs.Ends.{ended_where, exited, group_ended, is_itself, is_last, is_member}
+use Rattle.task_table.specs.Reaps.{after_reap, reap_end}
 use Rattle.task_table.specs.Table.{TaskTable, is_live, group_of, no_tasks}
 use Rattle.kernel_model.specs.Names.{NamedMap, get_named, with_named}
 use Rattle.kernel_model.specs.declared.caller.Caller.{Caller}
 use Rattle.kernel_model.specs.declared.kernel.Kernel.{Kernel}
 use Rattle.kernel_model.specs.calls.Ending.{clear_set}
 use Rattle.kernel_model.specs.entries.Parts.{parts, changed}
+use Rattle.task_table.proofs.Endings.{live_before_end}
 use Rattle.kernel_model.proofs.NamedMaps.{same_or_other, get-with, get-with_same}
 use Rattle.kernel_calls.specs.Prepared.{changes_of}
 use Rattle.kernel_calls.specs.declared.prepared.Effect.{Effect}
-use Rattle.kernel_calls.specs.declared.prepared.Effect.TheVariants.{Nothing, TakesBytes, EndsGroup, SetsClear}
+use Rattle.kernel_calls.specs.declared.prepared.Effect.TheVariants.{Nothing, TakesBytes, EndsGroup, EndsTask, SetsClear}
+use Rattle.kernel_calls.specs.declared.prepared.Effect.TheVariants.{Wakes, Reaps}
 use Rattle.call_table.specs.Beside.{found_in, AreAtHome}
-use Rattle.call_table.proofs.Ends.{live_before, group_stays, memory_stays, live_cleared, group_cleared}
+use Rattle.call_table.proofs.Ends.{Keeps, group_stays, memory_stays, memory_stays_if, memory_released, tasks_released}
+use Rattle.call_table.proofs.Ends.{live_cleared, group_cleared}
 use Rattle.call_table.proofs.Found.{Parted, found_by, parted}
 
 -- a value that is there
@@ -55,15 +60,38 @@ module _ (list : TaskTable) (registers : map.FinMap nat_cmp Regs) (spaces : Name
       (ap (λ (m : Made). get_named spaces m.place m.index) (sym memory) ∙ c.1.remembered) in
       ap is_some (found_by list registers' spaces' task c.1.group r.0 a.0 c.1.live c.1.grouped r.1 a.1)
 
-  -- where a thread group ends
-  pub home_ended : (group : ℕ) (status : Status) → AreAtHome (group_ended list group status) registers spaces
-  home_ended group status = λ task live.
-      let before = live_before list group status task live in
+  -- where tasks end, and groups keep their memories
+  home_after : (test : ℕ → Task → Bool) (list' : TaskTable) → list'.tasks ≡ ended_where test list.tasks
+      → ((g : ℕ) (before : Group) → map.get list.groups g ≡ Some before → Keeps list'.groups g before)
+      → AreAtHome list' registers spaces
+  home_after test list' is keeps = λ task live.
+      let before = live_before_end test list.tasks task (ap (λ t. is_live t task) (sym is) ∙ live) in
       let c = at_home list registers spaces task home before in
-      let g = memory_stays list group status (group_of list.tasks task) c.1.group c.1.grouped in
+      let g = keeps (group_of list.tasks task) c.1.group c.1.grouped in
       let memory : c.0.memory ≡ g.0.memory = ap (λ (x : Caller). x.memory) c.1.is ∙ sym g.2 in
-      ap is_some (found_by (group_ended list group status) registers spaces task g.0 c.0.registers c.0.space live
-      (ap (map.get (group_ended list group status).groups) (group_stays list group status task) ∙ g.1)
+      ap is_some (found_by list' registers spaces task g.0 c.0.registers c.0.space live
+      (ap (map.get list'.groups) (ap (λ t. group_of t task) is ∙ group_stays test list.tasks task) ∙ g.1)
+      c.1.registered (ap (λ (m : Made). get_named spaces m.place m.index) (sym memory) ∙ c.1.remembered))
+
+  -- a thread group with all its tasks,
+  pub home_ended : (group : ℕ) (status : Status) → AreAtHome (group_ended list group status) registers spaces
+  home_ended group status =
+      home_after (is_member group) (group_ended list group status) refl (memory_stays list.groups group status)
+
+  -- or one task
+  pub home_exited : (task : ℕ) (status : Status) → AreAtHome (exited list task status) registers spaces
+  home_exited task status =
+      home_after (is_itself task) (exited list task status) refl
+      (memory_stays_if (is_last list.tasks task) list.groups (group_of list.tasks task) status)
+
+  -- where a child is nobody's child any more
+  pub home_released : (end : ReapEnd) → AreAtHome (after_reap list end) registers spaces
+  home_released end = λ task live.
+      let c = at_home list registers spaces task home (ap (λ t. is_live t task) (sym (tasks_released list end)) ∙ live) in
+      let g = memory_released list end (group_of list.tasks task) c.1.group c.1.grouped in
+      let memory : c.0.memory ≡ g.0.memory = ap (λ (x : Caller). x.memory) c.1.is ∙ sym g.2 in
+      ap is_some (found_by (after_reap list end) registers spaces task g.0 c.0.registers c.0.space live
+      (ap (λ t. map.get (after_reap list end).groups (group_of t task)) (tasks_released list end) ∙ g.1)
       c.1.registered (ap (λ (m : Made). get_named spaces m.place m.index) (sym memory) ∙ c.1.remembered))
 
   -- where a clear word was set
@@ -84,9 +112,17 @@ home_committed Nothing group k after registers spaces is home =
     subst (λ (x : TaskTable). AreAtHome x registers spaces) is home
 home_committed (TakesBytes bytes) group k after registers spaces is home =
     subst (λ (x : TaskTable). AreAtHome x registers spaces) is home
-home_committed (EndsGroup status) group k after registers spaces is home =
+home_committed (EndsGroup ending) group k after registers spaces is home =
     subst (λ (x : TaskTable). AreAtHome x registers spaces) is
-    (home_ended k.tasks registers spaces home group status)
+    (home_ended k.tasks registers spaces home group ending.status)
+home_committed (EndsTask task ending) group k after registers spaces is home =
+    subst (λ (x : TaskTable). AreAtHome x registers spaces) is
+    (home_exited k.tasks registers spaces home task ending.status)
+home_committed (Wakes key most) group k after registers spaces is home =
+    subst (λ (x : TaskTable). AreAtHome x registers spaces) is home
+home_committed (Reaps which) group k after registers spaces is home =
+    subst (λ (x : TaskTable). AreAtHome x registers spaces) is
+    (home_released k.tasks registers spaces home (reap_end k.tasks.groups group which))
 home_committed (SetsClear task address) group k after registers spaces is home =
     subst (λ (x : TaskTable). AreAtHome x registers spaces) is (home_cleared k.tasks registers spaces home task address)
 

@@ -1,5 +1,5 @@
 -- Where processes are as they were, and where they lacked memory.
-use Rattle.std.proofs.Common.{◌≡◌, ℕ, refl, ap, sym, ◌∙◌, arith, subst}
+use Rattle.std.proofs.Common.{◌≡◌, ℕ, Bool, refl, ap, sym, ◌∙◌, arith, subst}
 use Rattle.std.specs.FinMap as map
 use Rattle.kernel_model.specs.Names.{get_named}
 use Rattle.kernel_model.specs.machine.Spaces.{going_in}
@@ -7,8 +7,11 @@ use Rattle.kernel_calls.specs.Lending.{AreAlike}
 use Rattle.kernel_calls.proofs.Runs.{ran_none}
 use Rattle.call_table.specs.declared.processes.Processes.{Processes}
 use Rattle.call_table.specs.declared.processes.Standing.{Standing}
-use Rattle.call_table.specs.Beside.{found_in}
-use Rattle.call_table.specs.Processes.{AreKept, HasRunPart, RunsIn, StandsAs, caller_in, caller_with}
+use Rattle.call_table.specs.Beside.{Beside, Held, found_in, kernel_with}
+use Rattle.call_table.specs.Processes.{AreKept, HasRunPart, RunsIn, StandsAs, caller_in, caller_with, held_by}
+use Rattle.call_table.specs.Processes.{ReadyIs, kernel_of}
+use Rattle.kernel_model.specs.declared.kernel.Kernel.{Kernel}
+use Rattle.kernel_model.specs.entries.Ready.{is_ready}
 use Rattle.call_table.proofs.Steps.{registers_same, space_same}
 
 -- a live task is who it was
@@ -30,9 +33,9 @@ stands_kept p q task standing kept stands = record {
 
 -- no instruction has run
 pub part_none : (p q : Processes) (task : ℕ) (standing : Standing) → StandsAs p task standing → q.tasks ≡ p.tasks
-    → q.registers ≡ p.registers → q.spaces ≡ p.spaces → AreAlike q.areas p.areas → q.console ≡ p.console
+    → q.registers ≡ p.registers → q.spaces ≡ p.spaces → AreAlike q.areas p.areas → q.sleepers ≡ p.sleepers → q.console ≡ p.console
     → HasRunPart task p q
-part_none p q task standing stands e f g areas i = record {
+part_none p q task standing stands e f g areas w i = record {
   caller = caller_with task standing stands.space;
   found = stands.found;
   count = 0;
@@ -48,6 +51,7 @@ part_none p q task standing stands e f g areas i = record {
   kept_registers = f ∙ sym (registers_same p task standing stands standing.registers refl);
   kept_tasks = e;
   kept_areas = areas;
+  kept_sleepers = w;
   kept_console = i;
 }
 
@@ -55,7 +59,7 @@ pub part_kept : (p q : Processes) (task : ℕ) (standing : Standing) → AreKept
     → HasRunPart task p q
 part_kept p q task standing kept stands =
     part_none p q task standing stands kept.tasks kept.registers kept.spaces
-    (λ place index. ap (λ x. get_named x place index) kept.areas) kept.console
+    (λ place index. ap (λ x. get_named x place index) kept.areas) kept.sleepers kept.console
 
 -- nor any before those that have
 pub part_behind : (p q r : Processes) (task : ℕ) → AreKept p q → HasRunPart task q r → HasRunPart task p r
@@ -71,5 +75,23 @@ part_behind p q r task kept part = record {
   kept_registers = part.kept_registers ∙ ap (λ x. map.insert x task part.registers) kept.registers;
   kept_tasks = part.kept_tasks ∙ kept.tasks;
   kept_areas = λ place index. part.kept_areas place index ∙ ap (λ x. get_named x place index) kept.areas;
+  kept_sleepers = part.kept_sleepers ∙ kept.sleepers;
   kept_console = part.kept_console ∙ kept.console;
 }
+
+-- and they are the same kernel
+pub kernel_kept : (p q : Processes) → AreKept p q → (beside : Beside) (n : ℕ)
+    → kernel_of q beside n ≡ kernel_of p beside n
+kernel_kept p q kept beside n =
+    ap (λ (h : Held). kernel_with h beside n) (
+    ap (λ x. record (held_by q) { tasks = x }) kept.tasks
+    ∙ ap (λ x. record (held_by q) { tasks = p.tasks; registers = x }) kept.registers
+    ∙ ap (λ x. record (held_by q) { tasks = p.tasks; registers = p.registers; spaces = x }) kept.spaces
+    ∙ ap (λ x. record (held_by p) { areas = x; sleepers = q.sleepers; console = q.console }) kept.areas
+    ∙ ap (λ x. record (held_by p) { sleepers = x; console = q.console }) kept.sleepers
+    ∙ ap (λ x. record (held_by p) { console = x }) kept.console)
+
+-- so that a step is ready as it was
+pub ready_kept : (p q : Processes) (task : ℕ) (b : Bool) → AreKept p q → ReadyIs q task b → ReadyIs p task b
+ready_kept p q task b kept ready = λ beside n.
+    ap (λ (k : Kernel). is_ready k task) (sym (kernel_kept p q kept beside n)) ∙ ready beside n

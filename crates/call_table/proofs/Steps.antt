@@ -1,6 +1,6 @@
 -- What an entry of a live task is to the kernel of its processes.
 use Rattle.std.proofs.Common.{◌≡◌, ℕ, ◌+◌, ◌≤◌, Bool, true, false, cond, List, [], ◌∷◌, ◌++◌, refl, ap, sym}
-use Rattle.std.proofs.Common.{◌∙◌, arith, ℤ, option_map, subst}
+use Rattle.std.proofs.Common.{◌∙◌, arith, ℤ, option_map, pos, subst}
 use Rattle.std.specs.Prelude.{Option, Some, None, if◌then◌else◌, ◌&&◌, ◌||◌, not, nat_eq}
 use Rattle.std.specs.Ordering.{int_eq, nat_cmp}
 use Rattle.std.specs.FinMap as map
@@ -14,44 +14,51 @@ use Rattle.quantum.specs.Instructions.{Going, ran}
 use Rattle.task_table.specs.declared.task.Group.{Group}
 use Rattle.task_table.specs.declared.task.Made.{Made}
 use Rattle.task_table.specs.declared.task.Status.TheVariants.{Killed}
-use Rattle.task_table.specs.Ends.{group_ended}
+use Rattle.futex_core.specs.declared.keys.FutexKey.{FutexKey}
+use Rattle.futex_core.specs.FutexLists.{FutexList, after_leave, after_sleep, after_wake}
+use Rattle.task_table.specs.Ends.{exited, group_ended}
+use Rattle.task_table.specs.Reaps.{after_reap, reap_end}
 use Rattle.task_table.specs.Table.{TaskTable, is_live, group_of}
 use Rattle.kernel_model.specs.Names.{NamedMap, get_named, with_named}
 use Rattle.kernel_model.specs.declared.caller.Caller.{Caller}
 use Rattle.kernel_model.specs.declared.entry.Args.{Args}
 use Rattle.kernel_model.specs.declared.entry.Entry.{Entry}
-use Rattle.kernel_model.specs.declared.entry.Entry.TheVariants.{Run, Call, End}
+use Rattle.kernel_model.specs.declared.entry.Entry.TheVariants.{Run, Call, Sleep, End}
 use Rattle.kernel_model.specs.declared.kernel.Kernel.{Kernel}
-use Rattle.kernel_model.specs.declared.kernel.Part.TheVariants.{OfTasks, OfTask, OfSpace, OfConsole}
+use Rattle.kernel_model.specs.declared.kernel.Part.TheVariants.{OfTasks, OfTask, OfSpace, OfSleepers, OfConsole}
 use Rattle.kernel_model.specs.declared.opening.Given.{Given}
 use Rattle.kernel_model.specs.declared.traps.Next.{Next}
 use Rattle.kernel_model.specs.declared.traps.Next.TheVariants.{Goes, Calls, Traps, Touches}
 use Rattle.kernel_model.specs.machine.Instructions.{StopsAt, goes_on, next_of, touches_area}
 use Rattle.kernel_model.specs.machine.Registers.{args_of, call_of, replied}
 use Rattle.kernel_model.specs.machine.Spaces.{acting_in, going_in}
-use Rattle.kernel_model.specs.calls.Answers.{replies}
+use Rattle.kernel_model.specs.calls.Answers.{Answer, makes_entry, replies, sleeps}
 use Rattle.kernel_model.specs.calls.Callers.{context_of, caller_of, with_memory, in_group}
 use Rattle.kernel_model.specs.calls.Ending.{clear_set, group_end}
 use Rattle.kernel_model.specs.calls.Table.{call_row}
 use Rattle.kernel_model.specs.entries.Areas.{Stands, next_row}
-use Rattle.kernel_model.specs.entries.Given.{may_meet}
+use Rattle.kernel_model.specs.entries.Given.{is_quiet, may_meet}
 use Rattle.kernel_model.specs.entries.History.{is_whole, goes_next, has_next, has_touching, touches_next}
 use Rattle.kernel_model.specs.entries.Parts.{Parts, parts, done, look, outcome_in, Change, put, changed}
 use Rattle.kernel_model.specs.entries.Steps.{by_given, call_at, end_at, entry_row, going_on, if_live, next_in, row_of}
 use Rattle.kernel_model.specs.entries.Steps.{may_enter, run_alone, same_args, stands_at, step, stepped, task_change}
-use Rattle.kernel_model.specs.entries.Steps.{task_of}
+use Rattle.kernel_model.specs.entries.Steps.{killed, sleep_at, slept_by, task_of, woken_at}
+use Rattle.kernel_model.specs.entries.Ready.{is_ready, ready_as, ready_by, ready_if_live}
+use Rattle.kernel_model.specs.entries.Waiting.{Wait, Awake, Asleep, Woken, wait_of}
 use Rattle.kernel_model.proofs.CallLemmas.{call_quiet}
 use Rattle.kernel_model.proofs.NamedMaps.{get-with_same, with_same}
 use Rattle.kernel_model.proofs.Trees.{outcome-bind}
-use Rattle.kernel_calls.specs.Prepared.{Steps, changes_of}
+use Rattle.kernel_calls.specs.Prepared.{Steps, changes_of, left_behind}
 use Rattle.kernel_calls.specs.declared.prepared.Effect.{Effect}
-use Rattle.kernel_calls.specs.declared.prepared.Effect.TheVariants.{Nothing, TakesBytes, EndsGroup, SetsClear}
-use Rattle.kernel_calls.proofs.Runs.{alone_touching, nothing_ran, row_by_step, row_ran, stands_alone}
+use Rattle.kernel_calls.specs.declared.prepared.Effect.TheVariants.{Nothing, TakesBytes, EndsGroup, EndsTask, SetsClear}
+use Rattle.kernel_calls.specs.declared.prepared.Effect.TheVariants.{Wakes, Reaps}
+use Rattle.kernel_calls.proofs.Runs.{alone_ran, alone_short, alone_touching, nothing_ran, ran_none, row_by_step}
+use Rattle.kernel_calls.proofs.Runs.{row_ran, stands_alone}
 use Rattle.call_table.specs.declared.processes.Processes.{Processes}
 use Rattle.call_table.specs.declared.processes.Standing.{Standing}
 use Rattle.call_table.specs.Beside.{Beside, Held, nothing_beside, nothing_held, kernel_with, found_in}
 use Rattle.call_table.specs.Processes.{held_by, kernel_of, caller_with, StandsAs, RunsIn, NextIn, IsNextOf}
-use Rattle.call_table.specs.Processes.{is_touching}
+use Rattle.call_table.specs.Processes.{IsAwake, ReadyIs, is_touching}
 use Rattle.call_table.proofs.Found.{Parted, found_by, parted}
 
 -- ---- numbers and arguments are themselves
@@ -104,20 +111,30 @@ module _ (h : Held) (beside : Beside) (n task : ℕ) where
 
 -- ---- an entry of a task that was found
 
-row_found : (k : Kernel) (e : Entry) (c : Caller) → outcome_in (parts k) (caller_of (task_of e)) ≡ Some c
-    → outcome_in (parts k) (entry_row (context_of k) e) ≡ outcome_in (parts k) (row_of (context_of k) e c)
-row_found k e c found =
+row_found : (k : Kernel) (e : Entry) (c : Caller) (wait : Wait) → outcome_in (parts k) (caller_of (task_of e)) ≡ Some c
+    → wait_of k.sleepers c.task ≡ wait
+    → outcome_in (parts k) (entry_row (context_of k) e) ≡ outcome_in (parts k) (row_of (context_of k) e c wait)
+row_found k e c wait found is =
     outcome-bind (parts k) (caller_of (task_of e)) (if_live (context_of k) e)
     ∙ ap (λ o. outcome_in (parts k) (if_live (context_of k) e o)) found
+    ∙ ap (λ w. outcome_in (parts k) (row_of (context_of k) e c w)) is
 
 -- which may be made, and whose row comes to changes
-step_found : (k : Kernel) (e : Entry) (c : Caller) (changes : List Change) → may_enter k.nodes e ≡ true
-    → outcome_in (parts k) (caller_of (task_of e)) ≡ Some c
-    → outcome_in (parts k) (row_of (context_of k) e c) ≡ Some changes → step k e ≡ Some (stepped k changes)
+step_found : (k : Kernel) (e : Entry) (c : Caller) (wait : Wait) (changes : List Change) → may_enter k.nodes e ≡ true
+    → outcome_in (parts k) (caller_of (task_of e)) ≡ Some c → wait_of k.sleepers c.task ≡ wait
+    → outcome_in (parts k) (row_of (context_of k) e c wait) ≡ Some changes → step k e ≡ Some (stepped k changes)
 unfolding step
-step_found k e c changes may found row =
+step_found k e c wait changes may found is row =
     ap (λ b. cond b (option_map (stepped k) (outcome_in (parts k) (entry_row (context_of k) e))) None) may
-    ∙ ap (option_map (stepped k)) (row_found k e c found ∙ row)
+    ∙ ap (option_map (stepped k)) (row_found k e c wait found is ∙ row)
+
+-- whether its next step is ready
+ready_found : (k : Kernel) (task : ℕ) (c : Caller) (wait : Wait) → outcome_in (parts k) (caller_of task) ≡ Some c
+    → wait_of k.sleepers c.task ≡ wait → is_ready k task ≡ outcome_in (parts k) (ready_as (context_of k) c wait)
+ready_found k task c wait found is =
+    outcome-bind (parts k) (caller_of task) (ready_if_live (context_of k))
+    ∙ ap (λ o. outcome_in (parts k) (ready_if_live (context_of k) o)) found
+    ∙ ap (λ w. outcome_in (parts k) (ready_as (context_of k) c w)) is
 
 -- changes and then others
 changed-append : (xs ys : List Change) (k : Kernel) → changed (xs ++ ys) k ≡ changed ys (changed xs k)
@@ -148,14 +165,27 @@ area_touched Calls e = absurd (cc e)
 area_touched (Traps signal) e = absurd (cc e)
 area_touched (Touches area) e = (area, refl)
 
--- an effect is the same to kernels with the same task list and console
-pub effect_alike : (effect : Effect) (group : ℕ) (k m : Kernel) → k.tasks ≡ m.tasks → k.console ≡ m.console
-    → changes_of effect group (parts k) ≡ changes_of effect group (parts m)
-effect_alike Nothing group k m e f = refl
-effect_alike (TakesBytes bytes) group k m e f = ap (λ (x : List ℕ). (OfConsole, x ++ bytes) ∷ []) f
-effect_alike (EndsGroup status) group k m e f = ap (group_end group status) e
-effect_alike (SetsClear task address) group k m e f =
+-- an effect is the same to kernels with the same task list, futex list and console
+pub effect_alike : (effect : Effect) (group : ℕ) (k m : Kernel) → k.tasks ≡ m.tasks → k.sleepers ≡ m.sleepers
+    → k.console ≡ m.console → changes_of effect group (parts k) ≡ changes_of effect group (parts m)
+effect_alike Nothing group k m e w f = refl
+effect_alike (TakesBytes bytes) group k m e w f = ap (λ (x : List ℕ). (OfConsole, x ++ bytes) ∷ []) f
+effect_alike (EndsGroup ending) group k m e w f =
+    ap (λ (list : TaskTable). (OfTasks, group_ended list group ending.status)
+    ∷ (OfSleepers, left_behind ending k.sleepers) ∷ []) e
+    ∙ ap (λ (waiting : FutexList). (OfTasks, group_ended m.tasks group ending.status)
+    ∷ (OfSleepers, left_behind ending waiting) ∷ []) w
+effect_alike (EndsTask task ending) group k m e w f =
+    ap (λ (list : TaskTable). (OfTasks, exited list task ending.status)
+    ∷ (OfSleepers, left_behind ending k.sleepers) ∷ []) e
+    ∙ ap (λ (waiting : FutexList). (OfTasks, exited m.tasks task ending.status)
+    ∷ (OfSleepers, left_behind ending waiting) ∷ []) w
+effect_alike (SetsClear task address) group k m e w f =
     ap (λ (list : TaskTable). (OfTasks, clear_set task address list) ∷ []) e
+effect_alike (Wakes key most) group k m e w f =
+    ap (λ (waiting : FutexList). (OfSleepers, after_wake waiting key most) ∷ []) w
+effect_alike (Reaps which) group k m e w f =
+    ap (λ (list : TaskTable). (OfTasks, after_reap list (reap_end list.groups group which)) ∷ []) e
 
 module _ (p : Processes) (task : ℕ) (standing : Standing) (stands : StandsAs p task standing) where
   abbrev c : Caller
@@ -190,6 +220,28 @@ module _ (p : Processes) (task : ℕ) (standing : Standing) (stands : StandsAs p
       → (outcome_in (parts k) (next_row c)).next ≡ next
   next_here next is = subst (λ (o : Option Caller). IsNextOf p.areas o next) stands.found is
 
+  -- whether its step is ready then
+  pub ready_next : (next : Next) → IsAwake p task → NextIn p task next → (beside : Beside) (n : ℕ)
+      → is_ready (kernel_of p beside n) task
+      ≡ outcome_in (parts (kernel_of p beside n)) (ready_by (context_of (kernel_of p beside n)) c next)
+  ready_next next awake is beside n =
+      ready_found (kernel_of p beside n) task c Awake (found_here beside n) awake
+      ∙ outcome-bind (parts (kernel_of p beside n)) (next_row c)
+      (λ (x : Stands). ready_by (context_of (kernel_of p beside n)) c x.next)
+      ∙ ap (λ x. outcome_in (parts (kernel_of p beside n)) (ready_by (context_of (kernel_of p beside n)) c x))
+      (next_here next is (kernel_of p beside n) refl)
+
+  pub ready_call : IsAwake p task → NextIn p task Calls → (beside : Beside) (n : ℕ) (answer : Answer)
+      → outcome_in (parts (kernel_of p beside n)) (call_row (context_of (kernel_of p beside n)) c
+      (call_of standing.registers) (args_of standing.registers)) ≡ answer
+      → is_ready (kernel_of p beside n) task ≡ makes_entry answer.reply
+  ready_call awake calls beside n answer is =
+      ready_next Calls awake calls beside n
+      ∙ outcome-bind (parts (kernel_of p beside n))
+      (call_row (context_of (kernel_of p beside n)) c (call_of standing.registers) (args_of standing.registers))
+      (λ answer. done (makes_entry answer.reply))
+      ∙ ap (λ (x : Answer). makes_entry x.reply) is
+
   -- ---- runs
 
   module _ (count : ℕ) (after : Regs) (spaces' : NamedMap AddressSpace)
@@ -205,17 +257,50 @@ module _ (p : Processes) (task : ℕ) (standing : Standing) (stands : StandsAs p
     abbrev pub held_run : Held
     held_run = record (held_by p) { registers = map.insert p.registers task after; spaces = spaces' }
 
-    pub step_run : (h : Held) (beside : Beside) (n : ℕ) → 1 ≤ count → count ≤ 10000 → h ≡ held_run
+    pub step_run : (h : Held) (beside : Beside) (n : ℕ) → IsAwake p task → 1 ≤ count → count ≤ 10000 → h ≡ held_run
         → step (kernel_of p beside n) (Run task count) ≡ Some (kernel_with h beside (n + 1))
-    step_run h beside n low high e =
-        step_found (kernel_of p beside n) (Run task count) c
-        ((OfSpace standing.memory, Some runs.left) ∷ task_change task after ∷ []) refl (found_here beside n)
+    step_run h beside n awake low high e =
+        step_found (kernel_of p beside n) (Run task count) c Awake
+        ((OfSpace standing.memory, Some runs.left) ∷ task_change task after ∷ []) refl (found_here beside n) awake
         (row_ran count c runs.left after (parts (kernel_of p beside n)) ran_here low high)
         ∙ ap (λ x. Some (kernel_with (record (held_by p) {
           registers = map.insert p.registers task after;
           spaces = x;
         }) beside (n + 1))) (sym runs.put)
         ∙ ap (λ x. Some (kernel_with x beside (n + 1))) (sym e)
+
+    -- its first instruction goes on, so that the step was ready
+    stops : 1 ≤ count → count ≤ 10000 → (next : Next) → next_in c ≡ next → goes_on next ≡ false → ⊥
+    stops low high next is off = by next is off
+      where
+        ran_alone : run_alone count c ≡ Some ((OfSpace standing.memory, Some runs.left) ∷ task_change task after ∷ [])
+        ran_alone = alone_ran count c runs.left after ran_here low high
+
+        short : (told : Next) → StopsAt count 0 told (next_in c) → ⊥
+        short told stop =
+            absurd (cc (ran_alone, alone_short count c stands.space standing.registers 0 told
+            (ran_none (going_in task stands.space standing.registers)) stop (λ e. omega arith)))
+
+        by : (next : Next) → next_in c ≡ next → goes_on next ≡ false → ⊥
+        by Goes is off = absurd (cc off)
+        by Calls is off = short Calls (omega arith, is)
+        by (Traps signal) is off = short (Traps signal) (omega arith, is)
+        by (Touches area) is off = short (Touches area) (omega arith, is)
+
+    goes : 1 ≤ count → count ≤ 10000 → (next : Next) → next_in c ≡ next → next_in c ≡ Goes
+    goes low high Goes is = is
+    goes low high Calls is = absurd (stops low high Calls is refl)
+    goes low high (Traps signal) is = absurd (stops low high (Traps signal) is refl)
+    goes low high (Touches area) is = absurd (stops low high (Touches area) is refl)
+
+    pub ready_run : IsAwake p task → 1 ≤ count → count ≤ 10000 → ReadyIs p task true
+    ready_run awake low high = λ beside n.
+        ready_found (kernel_of p beside n) task c Awake (found_here beside n) awake
+        ∙ outcome-bind (parts (kernel_of p beside n)) (next_row c)
+        (λ (x : Stands). ready_by (context_of (kernel_of p beside n)) c x.next)
+        ∙ ap (λ (x : Stands). outcome_in (parts (kernel_of p beside n))
+        (ready_by (context_of (kernel_of p beside n)) c x.next))
+        (stands_alone c (parts (kernel_of p beside n)) Goes (goes low high (next_in c) refl) refl)
 
     -- what its task is then
     found_after : (h : Held) (beside : Beside) (n : ℕ) → h ≡ held_run
@@ -320,15 +405,15 @@ module _ (p : Processes) (task : ℕ) (standing : Standing) (stands : StandsAs p
         alone_touching c touched.0 touched.1
 
     pub step_touching : (after : Regs) (space : AddressSpace) (areas : NamedMap AreaState) (h : Held)
-        (beside : Beside) (n : ℕ) → Steps c (kernel_of p beside n) after space areas
+        (beside : Beside) (n : ℕ) → IsAwake p task → Steps c (kernel_of p beside n) after space areas
         → h ≡ record (held_by p) {
           registers = map.insert p.registers task after;
           spaces = with_named p.spaces standing.memory.place standing.memory.index space;
           areas = areas;
         }
         → step (kernel_of p beside n) (Run task 1) ≡ Some (kernel_with h beside (n + 1))
-    step_touching after space areas h beside n steps e =
-        step_found (kernel_of p beside n) (Run task 1) c steps.changes refl (found_here beside n)
+    step_touching after space areas h beside n awake steps e =
+        step_found (kernel_of p beside n) (Run task 1) c Awake steps.changes refl (found_here beside n) awake
         (row_by_step 1 c alone (parts (kernel_of p beside n)) refl ∙ steps.row_is)
         ∙ ap (λ (m : Kernel). Some (record m { entries = n + 1 })) steps.done_is
         ∙ ap (λ x. Some (kernel_with x beside (n + 1))) (sym e)
@@ -343,23 +428,31 @@ module _ (p : Processes) (task : ℕ) (standing : Standing) (stands : StandsAs p
 
   -- ---- calls
 
+  stands_here : (number : ℕ) (args : Args) → number ≡ call_of standing.registers → args ≡ args_of standing.registers
+      → stands_at number args standing.registers Calls ≡ true
+  stands_here number args is same =
+      ap (λ b. b && same_args (args_of standing.registers) args)
+      (ap (λ x. nat_eq x number) (sym is) ∙ nat_same number)
+      ∙ ap (λ x. same_args x args) (sym same) ∙ args_same args
+
   pub step_call : (number : ℕ) (args : Args) (given : Given) (value : ℤ) (changes : List Change) (h : Held)
-      (registers : map.FinMap nat_cmp Regs) (beside : Beside) (n : ℕ) → NextIn p task Calls
+      (between registers : map.FinMap nat_cmp Regs) (beside : Beside) (n : ℕ) → IsAwake p task → NextIn p task Calls
       → number ≡ call_of standing.registers → args ≡ args_of standing.registers
       → given ≡ record { fresh = []; rises = [] }
       → outcome_in (parts (kernel_of p beside n)) (call_row (context_of (kernel_of p beside n)) c number args)
       ≡ replies value changes
-      → changed changes (kernel_of p beside n) ≡ kernel_with (record h { registers = p.registers }) beside n
-      → registers ≡ map.insert p.registers task (replied standing.registers value)
+      → changed changes (kernel_of p beside n) ≡ kernel_with (record h { registers = between }) beside n
+      → registers ≡ map.insert between task (replied standing.registers value)
       → step (kernel_of p beside n) (Call task number args given value)
       ≡ Some (kernel_with (record h { registers = registers }) beside (n + 1))
-  step_call number args given value changes h registers beside n calls is same nothing_met row left f =
-      step_found k (Call task number args given value) c (changes ++ going_on c value)
-      (ap (may_meet k.nodes) nothing_met) (found_here beside n)
+  step_call number args given value changes h between registers beside n awake calls is same nothing_met row left f =
+      step_found k (Call task number args given value) c Awake (changes ++ going_on c value)
+      (ap (may_meet k.nodes) nothing_met) (found_here beside n) awake
       (outcome-bind (parts k) (next_row c) (λ (x : Stands). call_at (context_of k) c number args value given x.next)
       ∙ ap (λ x. outcome_in (parts k) (call_at (context_of k) c number args value given x))
       (next_here Calls calls k refl)
-      ∙ ap (λ b. outcome_in (parts k) (if b then by_given (context_of k) c number args value given else done None)) at
+      ∙ ap (λ b. outcome_in (parts k) (if b then by_given (context_of k) c number args value given else done None))
+      (stands_here number args is same)
       ∙ ap (λ x. outcome_in (parts k) (by_given (context_of k) c number args value x)) nothing_met
       ∙ call_quiet (parts k) (context_of k) c number args value value changes (record { fresh = []; rises = [] }) row
       refl
@@ -372,27 +465,79 @@ module _ (p : Processes) (task : ℕ) (standing : Standing) (stands : StandsAs p
       k : Kernel
       k = kernel_of p beside n
 
-      at : stands_at number args standing.registers Calls ≡ true
+  -- a task that was woken
+  pub step_woken : (number : ℕ) (args : Args) (given : Given) (waiting : FutexList)
+      (registers : map.FinMap nat_cmp Regs) (beside : Beside) (n : ℕ) → wait_of p.sleepers task ≡ Woken
+      → number ≡ call_of standing.registers → args ≡ args_of standing.registers
+      → given ≡ record { fresh = []; rises = [] } → waiting ≡ after_leave p.sleepers task
+      → registers ≡ map.insert p.registers task (replied standing.registers (pos 0))
+      → step (kernel_of p beside n) (Call task number args given (pos 0))
+      ≡ Some (kernel_with (record (held_by p) { registers = registers; sleepers = waiting }) beside (n + 1))
+  step_woken number args given waiting registers beside n woken is same nothing_met left f =
+      step_found k (Call task number args given (pos 0)) c Woken
+      ((OfSleepers, after_leave p.sleepers task) ∷ going_on c (pos 0))
+      (ap (may_meet k.nodes) nothing_met) (found_here beside n) woken
+      (ap (λ b. outcome_in (parts k) (if b
+      then look OfSleepers (λ list. done (Some ((OfSleepers, after_leave list task) ∷ going_on c (pos 0))))
+      else done None)) at)
+      ∙ ap (λ x. Some (kernel_with (record (held_by p) {
+        registers = x;
+        sleepers = after_leave p.sleepers task;
+      }) beside (n + 1))) (sym f)
+      ∙ ap (λ x. Some (kernel_with (record (held_by p) { registers = registers; sleepers = x }) beside (n + 1)))
+      (sym left)
+    where
+      k : Kernel
+      k = kernel_of p beside n
+
+      at : woken_at c number args (pos 0) given ≡ true
       at =
-          ap (λ b. b && same_args (args_of standing.registers) args)
-          (ap (λ x. nat_eq x number) (sym is) ∙ nat_same number)
-          ∙ ap (λ x. same_args x args) (sym same) ∙ args_same args
+          ap (λ b. b && is_quiet given && int_eq (pos 0) (pos 0)) (stands_here number args is same)
+          ∙ ap (λ (x : Given). is_quiet x && int_eq (pos 0) (pos 0)) nothing_met
+
+  pub ready_woken : wait_of p.sleepers task ≡ Woken → ReadyIs p task true
+  ready_woken woken = λ beside n. ready_found (kernel_of p beside n) task c Woken (found_here beside n) woken
+
+  pub ready_asleep : wait_of p.sleepers task ≡ Asleep → ReadyIs p task false
+  ready_asleep asleep = λ beside n. ready_found (kernel_of p beside n) task c Asleep (found_here beside n) asleep
+
+  -- one that goes to sleep
+  pub step_sleep : (waiting : FutexList) (key : FutexKey) (beside : Beside) (n : ℕ) → IsAwake p task
+      → NextIn p task Calls
+      → outcome_in (parts (kernel_of p beside n)) (call_row (context_of (kernel_of p beside n)) c
+      (call_of standing.registers) (args_of standing.registers))
+      ≡ sleeps ((OfSleepers, after_sleep p.sleepers task key) ∷ [])
+      → waiting ≡ after_sleep p.sleepers task key
+      → step (kernel_of p beside n) (Sleep task)
+      ≡ Some (kernel_with (record (held_by p) { sleepers = waiting }) beside (n + 1))
+  step_sleep waiting key beside n awake calls row left =
+      step_found k (Sleep task) c Awake ((OfSleepers, after_sleep p.sleepers task key) ∷ []) refl (found_here beside n)
+      awake
+      (outcome-bind (parts k) (next_row c) (λ (x : Stands). sleep_at (context_of k) c x.next)
+      ∙ ap (λ x. outcome_in (parts k) (sleep_at (context_of k) c x)) (next_here Calls calls k refl)
+      ∙ outcome-bind (parts k)
+      (call_row (context_of k) c (call_of standing.registers) (args_of standing.registers))
+      (λ (answer : Answer). done (slept_by answer answer.reply))
+      ∙ ap (λ (answer : Answer). slept_by answer answer.reply) row)
+      ∙ ap (λ x. Some (kernel_with (record (held_by p) { sleepers = x }) beside (n + 1))) (sym left)
+    where
+      k : Kernel
+      k = kernel_of p beside n
 
   -- ---- ends
 
-  pub step_end : (signal : ℕ) (list : TaskTable) (beside : Beside) (n : ℕ) → NextIn p task (Traps signal)
-      → list ≡ group_ended p.tasks standing.group (Killed signal)
-      → step (kernel_of p beside n) (End task signal)
-      ≡ Some (kernel_with (record (held_by p) { tasks = list }) beside (n + 1))
-  step_end signal list beside n traps e =
-      step_found k (End task signal) c
-      ((OfTasks, group_ended p.tasks standing.group (Killed signal)) ∷ []) refl (found_here beside n)
+  pub step_end : (signal : ℕ) (h : Held) (beside : Beside) (n : ℕ) → IsAwake p task → NextIn p task (Traps signal)
+      → changed (outcome_in (parts (kernel_of p beside n)) (group_end c (Killed signal))) (kernel_of p beside n)
+      ≡ kernel_with h beside n
+      → step (kernel_of p beside n) (End task signal) ≡ Some (kernel_with h beside (n + 1))
+  step_end signal h beside n awake traps left =
+      step_found k (End task signal) c Awake (outcome_in (parts k) (group_end c (Killed signal))) refl
+      (found_here beside n) awake
       (outcome-bind (parts k) (next_row c) (λ (x : Stands). end_at signal c x.next)
       ∙ ap (λ x. outcome_in (parts k) (end_at signal c x)) (next_here (Traps signal) traps k refl)
-      ∙ ap (λ b. outcome_in (parts k) (if b
-      then look OfTasks (λ list. done (Some (group_end standing.group (Killed signal) list))) else done None))
-      (nat_same signal))
-      ∙ ap (λ x. Some (kernel_with (record (held_by p) { tasks = x }) beside (n + 1))) (sym e)
+      ∙ ap (λ b. outcome_in (parts k) (if b then killed signal c else done None)) (nat_same signal)
+      ∙ outcome-bind (parts k) (group_end c (Killed signal)) (λ changes. done (Some changes)))
+      ∙ ap (λ (m : Kernel). Some (record m { entries = n + 1 })) left
     where
       k : Kernel
       k = kernel_of p beside n

@@ -3,6 +3,7 @@ use Rattle.std.specs.Prelude.{ℕ, List, [], Option, IsTrue, is_some}
 use Rattle.std.specs.Ordering.{nat_cmp}
 use Rattle.std.specs.FinMap as map
 use Rattle.mount_file.specs.declared.mounts.Mount.{Mount}
+use Rattle.futex_core.specs.FutexLists.{FutexList}
 use Rattle.rv_table.specs.declared.regs.Regs.{Regs}
 use Rattle.mm_space.specs.Handing.{AreaState}
 use Rattle.mm_space.specs.Spaces.{AddressSpace}
@@ -25,13 +26,15 @@ pub record Beside : Type 0 where
 abbrev pub nothing_beside : Beside
 nothing_beside = record { nodes = map.empty; failed = map.empty; mounts = []; seed = [] }
 
--- what processes hold: the task list, registers by task, address spaces and shared areas by name, and the console
+-- what processes hold: the task list, registers by task, address spaces and shared areas by name, the futex list, and
+-- the console
 -- profile
 pub record Held : Type 0 where
   pub tasks : TaskTable
   pub registers : map.FinMap nat_cmp Regs
   pub spaces : NamedMap AddressSpace
   pub areas : NamedMap AreaState
+  pub sleepers : FutexList
   pub console : List ℕ
 
 abbrev pub nothing_held : Held
@@ -40,6 +43,7 @@ nothing_held = record {
   registers = map.empty;
   spaces = map.empty;
   areas = map.empty;
+  sleepers = record { sleepers = []; woken = [] };
   console = [];
 }
 
@@ -52,6 +56,7 @@ kernel_with held beside entries = record {
   spaces = held.spaces;
   areas = held.areas;
   nodes = beside.nodes;
+  sleepers = held.sleepers;
   console = held.console;
   failed = beside.failed;
   mounts = beside.mounts;

@@ -1,5 +1,6 @@
 -- Processes as a kernel, with what stands beside them.
-use Rattle.std.specs.Prelude.{◌≡◌, ℕ, ◌<◌, Bool, Option, Some, None}
+use Rattle.std.specs.Prelude.{◌≡◌, ℕ, ◌<◌, Bool, Option, Some, None, Result, IfOk, IfSome, IfNone}
+use Rattle.sn_base.specs.declared.memory.Memory.{Memory}
 use Rattle.rv_table.specs.declared.regs.Regs.{Regs}
 use Rattle.mm_space.specs.Handing.{AreaState}
 use Rattle.mm_space.specs.Spaces.{AddressSpace}
@@ -12,8 +13,12 @@ use Rattle.kernel_model.specs.machine.Spaces.{going_in}
 use Rattle.kernel_model.specs.declared.traps.Next.{Next}
 use Rattle.kernel_model.specs.entries.Areas.{next_row}
 use Rattle.kernel_model.specs.entries.History.{touches_next}
+use Rattle.kernel_model.specs.declared.entry.Entry.{Entry}
 use Rattle.kernel_model.specs.entries.Parts.{parts, outcome_in, set_at}
+use Rattle.kernel_model.specs.entries.Ready.{is_ready}
+use Rattle.kernel_model.specs.entries.Waiting.{Awake, wait_of}
 use Rattle.kernel_calls.specs.Lending.{AreAlike}
+use Rattle.kernel_calls.specs.declared.context.Context.{Context}
 use Rattle.call_table.specs.declared.processes.Processes.{Processes}
 use Rattle.call_table.specs.declared.processes.Standing.{Standing}
 use Rattle.call_table.specs.Beside.{Beside, Held, kernel_with, found_in}
@@ -26,6 +31,7 @@ held_by p = record {
   registers = p.registers;
   spaces = p.spaces;
   areas = p.areas;
+  sleepers = p.sleepers;
   console = p.console;
 }
 
@@ -76,6 +82,7 @@ pub record HasRunPart (task : ℕ) (before after : Processes) : Type 0 where
   pub kept_registers : after.registers ≡ set_at task (Some registers) before.registers
   pub kept_tasks : after.tasks ≡ before.tasks
   pub kept_areas : AreAlike after.areas before.areas
+  pub kept_sleepers : after.sleepers ≡ before.sleepers
   pub kept_console : after.console ≡ before.console
 
 -- what the next instruction of a live task does, in each kernel with these shared areas
@@ -92,6 +99,30 @@ NextIn p task next = IsNextOf p.areas (caller_in p task) next
 abbrev pub is_touching : Processes → (task : ℕ) → Bool
 is_touching p task = touches_next (caller_in p task)
 
+-- a context is of a task that stands so
+-- profile
+pub record IsOf (context : Context) (s : Standing) : Type 0 where
+  pub group : context.group ≡ s.group
+  pub memory : context.memory ≡ s.memory
+
+-- a task is not on the futex list
+-- futex(2)
+abbrev pub IsAwake : Processes → (task : ℕ) → Type 0
+IsAwake p task = wait_of p.sleepers task ≡ Awake
+
+-- whether a task's next step is ready, whatever stands beside the processes
+-- profile
+abbrev pub ReadyIs : Processes → (task : ℕ) → Bool → Type 0
+ReadyIs p task b = (beside : Beside) (n : ℕ) → is_ready (kernel_of p beside n) task ≡ b
+
+-- a fact of the entry that a turn made, where it made one, or of a turn whose task's step was not ready
+-- profile
+abbrev pub IfEntered : Result (Option Entry) Memory → (Entry → Type 0) → Type 0
+IfEntered result fact = IfOk result (λ made. IfSome made fact)
+
+abbrev pub IfParked : Result (Option Entry) Memory → Type 0 → Type 0
+IfParked result fact = IfOk result (λ made. IfNone made fact)
+
 -- nothing changed
 -- profile
 pub record AreKept (before after : Processes) : Type 0 where
@@ -99,4 +130,5 @@ pub record AreKept (before after : Processes) : Type 0 where
   pub registers : after.registers ≡ before.registers
   pub spaces : after.spaces ≡ before.spaces
   pub areas : after.areas ≡ before.areas
+  pub sleepers : after.sleepers ≡ before.sleepers
   pub console : after.console ≡ before.console

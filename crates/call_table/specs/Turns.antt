@@ -1,21 +1,26 @@
 -- Whose turn it is, and how a run of turns ended.
-use Rattle.std.specs.Prelude.{◌≡◌, ℕ, nat_lt, List, [], ◌∷◌, find, Option, Some, None, ⊤}
-use Rattle.task_table.specs.Table.{live_numbers}
+use Rattle.std.specs.Prelude.{◌≡◌, ℕ, nat_lt, List, [], ◌∷◌, find, Option, Some, None, ⊤, false}
 use Rattle.kernel_model.specs.declared.entry.Entry.{Entry}
 use Rattle.kernel_model.specs.declared.kernel.Kernel.{Kernel}
+use Rattle.kernel_model.specs.entries.Given.{has_any}
+use Rattle.kernel_model.specs.entries.Ready.{ready_numbers}
 use Rattle.kernel_model.specs.entries.Steps.{step, task_of}
+use Rattle.call_table.specs.declared.processes.Processes.{Processes}
 use Rattle.call_table.specs.Beside.{Beside}
+use Rattle.call_table.specs.Processes.{kernel_of}
 
--- the live task whose turn is next: the least above that of the last turn, or else the least
+-- the task whose turn is next, of those whose next step is ready: the least above that of the last turn, or else the
+-- least
 -- profile
 abbrev pub or_first : Option ℕ → List ℕ → Option ℕ
-or_first (Some task) live = Some task
-or_first None live = find (nat_lt 0) live
+or_first (Some task) ready = Some task
+or_first None ready = find (nat_lt 0) ready
 
-abbrev pub next_of : (last : ℕ) → (live : List ℕ) → Option ℕ
-next_of last live = or_first (find (nat_lt last) live) live
+abbrev pub next_of : (last : ℕ) → (ready : List ℕ) → Option ℕ
+next_of last ready = or_first (find (nat_lt last) ready) ready
 
--- each entry of a trace is of the task whose turn it is, by the tasks that live before it and the task of the last turn
+-- each entry of a trace is of the task whose turn it is, by the tasks whose step is ready before it and the task of the
+-- last turn
 -- profile
 abbrev pub turns_then : Option Kernel → (Kernel → Type 0) → Type 0
 turns_then None rest = ⊥
@@ -24,8 +29,13 @@ turns_then (Some after) rest = rest after
 abbrev pub AreInTurn : (last : ℕ) → Kernel → List Entry → Type 0
 AreInTurn last k [] = ⊤
 AreInTurn last k (entry ∷ entries) =
-    (next_of last (live_numbers k.tasks.tasks) ≡ Some (task_of entry))
+    (next_of last (ready_numbers k) ≡ Some (task_of entry))
     × turns_then (step k entry) (λ after. AreInTurn (task_of entry) after entries)
+
+-- no task's next step is ready, whatever stands beside the processes
+-- profile
+abbrev pub AreStill : Processes → Type 0
+AreStill p = (beside : Beside) (n : ℕ) → has_any (ready_numbers (kernel_of p beside n)) ≡ false
 
 -- the task of the last turn of a trace, or that one where it has none
 -- profile

@@ -11,14 +11,18 @@ ghost use Rattle.kernel_model.specs.entries.History.{is_whole};
 ghost use Rattle.kernel_model.specs.entries.Steps.{step, task_of};
 ghost use Rattle.kernel_model.specs.files.Numbers.{numbers_in};
 ghost use Rattle.call_table.specs.Beside.{Beside};
-ghost use Rattle.call_table.specs.Processes.{AreKept, HasRunPart, NextIn, RunsIn, StandsAs, is_touching, kernel_of};
+ghost use Rattle.kernel_model.specs.declared.kernel.Kernel.{Kernel as AKernel};
+ghost use Rattle.kernel_model.specs.entries.Waiting.{Woken, wait_of};
+ghost use Rattle.call_table.specs.Processes.{AreKept, HasRunPart, IfEntered, IfParked, IsAwake, IsOf, NextIn};
+ghost use Rattle.call_table.specs.Processes.{ReadyIs, RunsIn, StandsAs, is_touching, kernel_of};
 
 use crate::Processes;
 use crate::processes::Standing;
-use kernel_calls::{Context, Prepared, Ran, args_of, call, call_of, commit, reply, run, step};
-use kernel_model::{Entry, Given, GuestSpace, Named, Next};
+use crate::answers::call_entry;
+use kernel_calls::{Called, Context, Effect, Ran, args_of, call, call_of, commit, end_group, run, step};
+use kernel_model::{Entry, GuestSpace, Named, Next};
 use rv_table::Regs;
-use sn_base::{List, Memory};
+use sn_base::Memory;
 use std::alloc::Global;
 use task_table::{Made, Status};
 
@@ -50,58 +54,78 @@ fn run_in(
     }
 }
 
-/// That a call drew nothing and met nothing.
-fn nothing_given(alloc: Global) -> Given
-    ensures { result ≡ record { fresh = []; rises = [] } }
-{
-    Given {
-        fresh: List::new(alloc),
-        rises: List::new(alloc),
-    }
-}
-
 impl Processes {
-    /// Makes the next entry of a live task, of that place, by the mount file's seed, and does it. Want of memory leaves
-    /// what some whole instructions, fewer than 10,000, have left.
+    /// Makes the next entry of a live task, of that place, by the mount file's seed, and does it; or none, where the
+    /// task's next step is not ready, which changes nothing. Want of memory leaves what some whole instructions, fewer
+    /// than 10,000, have left.
     pub fn advance(
         &mut self,
         alloc: Global,
         task: u32,
         seed: &[u8],
         place: u64,
-    ) -> Result<Entry, Memory>
+    ) -> Result<Option<Entry>, Memory>
         requires { IsTrue (is_live self.old.tasks.tasks task) }
-        ensures step { IfOk result (λ entry. (beside : Beside) (n : ℕ) → beside.seed ≡ seed.now → n + 1 ≡ place →
+        ensures step { IfEntered result (λ entry. (beside : Beside) (n : ℕ) → beside.seed ≡ seed.now → n + 1 ≡ place →
             step (kernel_of self.old beside n) entry ≡ Some (kernel_of self.new beside (n + 1))) }
-        ensures whole { IfOk result (λ entry. (beside : Beside) (n m : ℕ) →
+        ensures whole { IfEntered result (λ entry. (beside : Beside) (n m : ℕ) →
             is_whole entry (kernel_of self.old beside n) (kernel_of self.new beside m) ≡ true) }
-        ensures task { IfOk result (λ entry. task_of entry ≡ task) }
-        ensures numbers { IfOk result (λ entry. numbers_in entry ≡ []) }
+        ensures task { IfEntered result (λ entry. task_of entry ≡ task) }
+        ensures numbers { IfEntered result (λ entry. numbers_in entry ≡ []) }
+        ensures ready { IfEntered result (λ _. ReadyIs self.old task true) }
+        ensures waits { IfParked result (ReadyIs self.old task false) }
+        ensures kept { IfParked result (AreKept self.old self.new) }
         ensures memory { OnErr result (HasRunPart task self.old self.new) }
     {
+        if self.sleepers.is_asleep(task) {
+            return Ok(None);
+        }
         let standing = self.standing(task);
+        if self.sleepers.is_woken(task) {
+            return Ok(Some(self.go_on_woken(alloc, task, standing)));
+        }
         let ran = self.run_standing(alloc, task, standing)?;
         if ran.count > 0 {
-            return Ok(Entry::Run { task, n: ran.count });
+            return Ok(Some(Entry::Run { task, n: ran.count }));
         }
         let context = Context {
             task,
             group: standing.group,
+            memory: standing.memory,
             place,
             seed,
         };
         match ran.next {
             Next::Goes => unreachable!(),
             Next::Calls => self.answer(alloc, &context, standing),
-            Next::Traps(signal) => self.end(alloc, task, standing, signal),
+            Next::Traps(signal) => self.end(alloc, &context, standing, signal),
             Next::Touches(_) => self.touch(alloc, &context, standing),
         }
+    }
+
+    /// Makes the entry of the call that a task slept in which was woken: it replies 0, and the task leaves the futex
+    /// list.
+    fn go_on_woken(&mut self, alloc: Global, task: u32, standing: Standing) -> Entry
+        requires stands { StandsAs self.old task standing }
+        requires woken { wait_of self.old.sleepers task ≡ Woken }
+        requires registers { IsTrue (map.contains_key self.old.registers task) }
+        ensures step { (beside : Beside) (n : ℕ) →
+            step (kernel_of self.old beside n) result ≡ Some (kernel_of self.new beside (n + 1)) }
+        ensures whole { (before after : AKernel) → is_whole result before after ≡ true }
+        ensures task { task_of result ≡ task }
+        ensures numbers { numbers_in result ≡ [] }
+    {
+        self.sleepers.leave(task);
+        self.go_on(task, standing.registers, 0);
+        call_entry(alloc, task, &standing.registers, 0)
     }
 
     /// Runs a live task's next instructions. Where none ran, nothing has changed.
     fn run_standing(&mut self, alloc: Global, task: u32, standing: Standing) -> Result<Ran, Memory>
         requires stands { StandsAs self.old task standing }
         requires lives { IsTrue (is_live self.old.tasks.tasks task) }
+        requires awake { IsAwake self.old task }
+        ensures ready { IfOk result (λ r. 0 < r.count → ReadyIs self.old task true) }
         ensures step { IfOk result (λ r. 0 < r.count → (beside : Beside) (n : ℕ) →
             step (kernel_of self.old beside n) (Entry.Run task r.count) ≡ Some (kernel_of self.new beside (n + 1))) }
         ensures whole { IfOk result (λ r. (beside : Beside) (n m : ℕ) →
@@ -131,26 +155,32 @@ impl Processes {
         alloc: Global,
         context: &Context<'_>,
         standing: Standing,
-    ) -> Result<Entry, Memory>
+    ) -> Result<Option<Entry>, Memory>
         requires stands { StandsAs self.old context.now.task standing }
+        requires known { IsOf context.now standing }
+        requires alive { IsTrue (is_live self.old.tasks.tasks context.now.task) }
+        requires awake { IsAwake self.old context.now.task }
         requires touches { IsTrue (is_touching self.old context.now.task) }
         requires there { IsTrue (map.contains_key self.old.tasks.groups standing.group) }
         requires lives { IsFalse (has_ended self.old.tasks.groups standing.group) }
         requires registers { IsTrue (map.contains_key self.old.registers context.now.task) }
-        ensures step { IfOk result (λ entry. (beside : Beside) (n : ℕ) → beside.seed ≡ context.now.seed.now →
+        ensures step { IfEntered result (λ entry. (beside : Beside) (n : ℕ) → beside.seed ≡ context.now.seed.now →
             n + 1 ≡ context.now.place →
             step (kernel_of self.old beside n) entry ≡ Some (kernel_of self.new beside (n + 1))) }
-        ensures whole { IfOk result (λ entry. (beside : Beside) (n m : ℕ) →
+        ensures whole { IfEntered result (λ entry. (beside : Beside) (n m : ℕ) →
             is_whole entry (kernel_of self.old beside n) (kernel_of self.new beside m) ≡ true) }
-        ensures task { IfOk result (λ entry. task_of entry ≡ context.now.task) }
-        ensures numbers { IfOk result (λ entry. numbers_in entry ≡ []) }
+        ensures task { IfEntered result (λ entry. task_of entry ≡ context.now.task) }
+        ensures numbers { IfEntered result (λ entry. numbers_in entry ≡ []) }
+        ensures ready { IfEntered result (λ _. ReadyIs self.old context.now.task true) }
+        ensures waits { IfParked result (ReadyIs self.old context.now.task false) }
+        ensures kept { IfParked result (AreKept self.old self.new) }
         ensures memory { OnErr result (HasRunPart context.now.task self.old self.new) }
     {
         let task = context.task;
         match self.step_standing(alloc, task, standing)? {
-            Next::Goes => Ok(Entry::Run { task, n: 1 }),
+            Next::Goes => Ok(Some(Entry::Run { task, n: 1 })),
             Next::Calls => self.answer(alloc, context, standing),
-            Next::Traps(signal) => self.end(alloc, task, standing, signal),
+            Next::Traps(signal) => self.end(alloc, context, standing, signal),
             Next::Touches(_) => unreachable!(),
         }
     }
@@ -164,8 +194,10 @@ impl Processes {
         standing: Standing,
     ) -> Result<Next, Memory>
         requires stands { StandsAs self.old task standing }
+        requires awake { IsAwake self.old task }
         requires touches { IsTrue (is_touching self.old task) }
         requires registers { IsTrue (map.contains_key self.old.registers task) }
+        ensures ready { IfOk result (λ next. next ≡ Next.Goes → ReadyIs self.old task true) }
         ensures step { IfOk result (λ next. next ≡ Next.Goes → (beside : Beside) (n : ℕ) →
             step (kernel_of self.old beside n) (Entry.Run task 1) ≡ Some (kernel_of self.new beside (n + 1))) }
         ensures next { IfOk result (λ next. NextIn self.old task next) }
@@ -185,29 +217,35 @@ impl Processes {
         Ok(next)
     }
 
-    /// Answers the call that a live task stands at. Want of memory leaves what was there.
+    /// Answers the call that a live task stands at, or puts the task to sleep, or leaves it waiting. Want of memory leaves
+    /// what was there.
     fn answer(
         &mut self,
         alloc: Global,
         context: &Context<'_>,
         standing: Standing,
-    ) -> Result<Entry, Memory>
+    ) -> Result<Option<Entry>, Memory>
         requires stands { StandsAs self.old context.now.task standing }
+        requires known { IsOf context.now standing }
+        requires alive { IsTrue (is_live self.old.tasks.tasks context.now.task) }
+        requires awake { IsAwake self.old context.now.task }
         requires calls { NextIn self.old context.now.task Next.Calls }
         requires there { IsTrue (map.contains_key self.old.tasks.groups standing.group) }
         requires lives { IsFalse (has_ended self.old.tasks.groups standing.group) }
         requires registers { IsTrue (map.contains_key self.old.registers context.now.task) }
-        ensures step { IfOk result (λ entry. (beside : Beside) (n : ℕ) → beside.seed ≡ context.now.seed.now →
+        ensures step { IfEntered result (λ entry. (beside : Beside) (n : ℕ) → beside.seed ≡ context.now.seed.now →
             n + 1 ≡ context.now.place →
             step (kernel_of self.old beside n) entry ≡ Some (kernel_of self.new beside (n + 1))) }
-        ensures whole { IfOk result (λ entry. (beside : Beside) (n m : ℕ) →
+        ensures whole { IfEntered result (λ entry. (beside : Beside) (n m : ℕ) →
             is_whole entry (kernel_of self.old beside n) (kernel_of self.new beside m) ≡ true) }
-        ensures task { IfOk result (λ entry. task_of entry ≡ context.now.task) }
-        ensures numbers { IfOk result (λ entry. numbers_in entry ≡ []) }
+        ensures task { IfEntered result (λ entry. task_of entry ≡ context.now.task) }
+        ensures numbers { IfEntered result (λ entry. numbers_in entry ≡ []) }
+        ensures ready { IfEntered result (λ _. ReadyIs self.old context.now.task true) }
+        ensures waits { IfParked result (ReadyIs self.old context.now.task false) }
+        ensures kept { IfParked result (AreKept self.old self.new) }
         ensures memory { OnErr result (HasRunPart context.now.task self.old self.new) }
     {
-        let no = call_of(&standing.registers);
-        let args = args_of(&standing.registers);
+        let registers = standing.registers;
         let console = self.console.len();
         let Some(space) = self
             .spaces
@@ -215,68 +253,73 @@ impl Processes {
         else {
             unreachable!()
         };
-        let calling = Context {
-            task: context.task,
-            group: standing.group,
-            place: context.place,
-            seed: context.seed,
-        };
-        let Prepared {
-            reply: value,
-            effect,
-        } = call(
+        let called = call(
             alloc,
-            &calling,
-            no,
-            &args,
+            context,
+            call_of(&registers),
+            &registers,
+            &args_of(&registers),
             space,
             &mut self.areas,
             &self.tasks,
+            &self.sleepers,
             console,
         )?;
-        commit(
-            alloc,
-            effect,
-            standing.group,
-            &mut self.tasks,
-            &mut self.console,
-        )?;
-        let mut registers = standing.registers;
-        reply(&mut registers, value);
-        let task = context.task;
-        self.registers.replace(u64::from(task), registers);
-        Ok(Entry::Call {
-            task,
-            no,
-            args,
-            given: nothing_given(alloc),
-            reply: value,
-        })
+        match called {
+            Called::Replies(prepared) => {
+                Ok(Some(self.finish(alloc, context, registers, prepared)?))
+            }
+            Called::Makes(child) => Ok(Some(self.make_child(alloc, context, registers, child)?)),
+            Called::Sleeps(key) => Ok(Some(self.put_to_sleep(context.task, key)?)),
+            Called::Waits => Ok(None),
+        }
     }
 
-    /// Ends the thread group of a live task by the signal of its next instruction's trap. Want of memory changes
-    /// nothing.
+    /// Ends the thread group of a live task by the signal of its next instruction's trap. Want of memory leaves what was
+    /// there.
     fn end(
         &mut self,
         alloc: Global,
-        task: u32,
+        context: &Context<'_>,
         standing: Standing,
         signal: u8,
-    ) -> Result<Entry, Memory>
-        requires stands { StandsAs self.old task standing }
-        requires traps { NextIn self.old task (Next.Traps signal) }
+    ) -> Result<Option<Entry>, Memory>
+        requires stands { StandsAs self.old context.now.task standing }
+        requires known { IsOf context.now standing }
+        requires awake { IsAwake self.old context.now.task }
+        requires traps { NextIn self.old context.now.task (Next.Traps signal) }
         requires there { IsTrue (map.contains_key self.old.tasks.groups standing.group) }
         requires lives { IsFalse (has_ended self.old.tasks.groups standing.group) }
-        ensures step { IfOk result (λ entry. (beside : Beside) (n : ℕ) →
+        ensures step { IfEntered result (λ entry. (beside : Beside) (n : ℕ) → beside.seed ≡ context.now.seed.now →
+            n + 1 ≡ context.now.place →
             step (kernel_of self.old beside n) entry ≡ Some (kernel_of self.new beside (n + 1))) }
-        ensures whole { IfOk result (λ entry. (beside : Beside) (n m : ℕ) →
+        ensures whole { IfEntered result (λ entry. (beside : Beside) (n m : ℕ) →
             is_whole entry (kernel_of self.old beside n) (kernel_of self.new beside m) ≡ true) }
-        ensures task { IfOk result (λ entry. task_of entry ≡ task) }
-        ensures numbers { IfOk result (λ entry. numbers_in entry ≡ []) }
-        ensures err { OnErr result (AreKept self.old self.new) }
+        ensures task { IfEntered result (λ entry. task_of entry ≡ context.now.task) }
+        ensures numbers { IfEntered result (λ entry. numbers_in entry ≡ []) }
+        ensures ready { IfEntered result (λ _. ReadyIs self.old context.now.task true) }
+        ensures enters { IfParked result ⊥ }
+        ensures memory { OnErr result (HasRunPart context.now.task self.old self.new) }
     {
-        self.tasks
-            .end_group(alloc, standing.group, Status::Killed(signal))?;
-        Ok(Entry::End { task, signal })
+        let Some(space) = self
+            .spaces
+            .get_mut(standing.memory.place, standing.memory.index)
+        else {
+            unreachable!()
+        };
+        let status = Status::Killed(signal);
+        let ending = end_group(alloc, context, status, space, &mut self.areas, &self.tasks)?;
+        commit(
+            alloc,
+            Effect::EndsGroup(ending),
+            context.group,
+            &mut self.tasks,
+            &mut self.sleepers,
+            &mut self.console,
+        )?;
+        Ok(Some(Entry::End {
+            task: context.task,
+            signal,
+        }))
     }
 }

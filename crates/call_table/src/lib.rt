@@ -19,6 +19,7 @@
 //! Standard: the entries are the profile's; Linux man-pages sections 2 and 7.
 #![tactic(auto)]
 
+mod answers;
 mod entries;
 mod processes;
 mod turns;

@@ -11,6 +11,7 @@ ghost use Rattle.task_table.specs.Table.{has_ended, is_live, live_numbers, no_ta
 ghost use Rattle.call_table.specs.Beside.{AreAtHome};
 
 use elf_image::Image;
+use futex_core::Waiters;
 use kernel_calls::{Beginning, open_task, opened};
 use kernel_model::{GuestArea, GuestSpace, Kernel, Named};
 use mount_file::Program;
@@ -19,13 +20,15 @@ use sn_base::{List, Map, Memory};
 use std::alloc::Global;
 use task_table::{Made, Tasks};
 
-/// The task list, registers by task, address spaces and shared areas by the entry that made them, and the console.
+/// The task list, registers by task, address spaces and shared areas by the entry that made them, the futex list, and
+/// the console.
 #[derive(Drop)]
 pub struct Processes {
     pub tasks: Tasks,
     pub registers: Map<Regs>,
     pub spaces: Named<GuestSpace>,
     pub areas: Named<GuestArea>,
+    pub sleepers: Waiters,
     pub console: List<u8>,
     ghost at_home: { AreAtHome tasks registers spaces },
 }
@@ -56,6 +59,7 @@ impl Processes {
             registers: Map::new(alloc),
             spaces: Named::new(alloc),
             areas: Named::new(alloc),
+            sleepers: Waiters::new(alloc),
             console: List::new(alloc),
         }
     }
@@ -108,6 +112,7 @@ impl Processes {
             registers: mut all_registers,
             mut spaces,
             areas,
+            sleepers,
             console,
         } = self;
         let Beginning { registers, space } = beginning;
@@ -119,6 +124,7 @@ impl Processes {
             registers: all_registers,
             spaces,
             areas,
+            sleepers,
             console,
         })
     }
@@ -165,6 +171,7 @@ impl Processes {
             registers,
             spaces,
             areas,
+            sleepers,
             console,
         } = self;
         Kernel {
@@ -173,6 +180,7 @@ impl Processes {
             spaces,
             areas,
             nodes: Map::new(alloc),
+            sleepers,
             console,
             failed: Map::new(alloc),
             mounts: List::new(alloc),

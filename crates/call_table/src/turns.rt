@@ -1,20 +1,20 @@
-//! Turns: the entries of processes, one after another, until no task lives or the trace is full.
+//! Turns: the entries of processes, one after another, until no task's step is ready or the trace is full.
 
-ghost use Rattle.std.specs.Prelude.{◌≡◌, ◌≤◌, ◌⊎◌, ℕ, true, false, length, Some, IfSome, IsTrue, []};
+ghost use Rattle.std.specs.Prelude.{◌≡◌, ◌≤◌, ◌+◌, ◌⊎◌, ℕ, true, false, length, nat_lt, find, Some, None, IfSome, OnErr, []};
 ghost use Rattle.std.specs.List.{flat_map};
-ghost use Rattle.task_table.specs.Table.{is_live, live_numbers};
 ghost use Rattle.kernel_model.specs.entries.Given.{has_any};
-ghost use Rattle.kernel_model.specs.entries.History.{replay, each_whole};
+ghost use Rattle.kernel_model.specs.entries.History.{each_whole, is_whole, replay};
+ghost use Rattle.kernel_model.specs.entries.Ready.{ready_numbers};
+ghost use Rattle.kernel_model.specs.entries.Steps.{step, task_of};
 ghost use Rattle.kernel_model.specs.files.Numbers.{numbers_in};
 ghost use Rattle.call_table.specs.Beside.{Beside};
-ghost use Rattle.call_table.specs.Processes.{kernel_of};
-ghost use Rattle.call_table.specs.Turns.{AreInTurn, Leaves, next_of};
+ghost use Rattle.call_table.specs.Processes.{AreKept, IfEntered, IfParked, kernel_of};
+ghost use Rattle.call_table.specs.Turns.{AreInTurn, AreStill, Leaves, next_of};
 
 use crate::Processes;
-use kernel_model::Trace;
-use sn_base::List;
+use kernel_model::{Entry, Trace};
+use sn_base::{List, Memory};
 use std::alloc::Global;
-use task_table::Tasks;
 
 /// A run of turns that has ended: its trace, and the processes that it left, or `None` where memory ran out.
 #[derive(Drop)]
@@ -23,23 +23,67 @@ pub struct Ran {
     pub trace: Trace,
 }
 
-/// The live task whose turn is next, behind that of the last turn: the least above it, or else the least.
-#[tactic(auto, using(crate::proofs::NextTurns::found_lives, crate::proofs::NextTurns::none_counted))]
-fn next_turn(tasks: &Tasks, last: u32) -> Option<u32>
-    ensures next { result ≡ next_of last (live_numbers tasks.now.tasks) }
-    ensures live { IfSome result (λ task. IsTrue (is_live tasks.now.tasks task)) }
-    ensures none { result ≡ None → has_any (live_numbers tasks.now.tasks) ≡ false }
-{
-    if tasks.live() == 0 {
-        return None;
+impl Processes {
+    /// Has the task of the least number above another make an entry, of those whose next step is ready; or none, where
+    /// there is no such task, which changes nothing.
+    fn enter_above(
+        &mut self,
+        alloc: Global,
+        after: u32,
+        seed: &[u8],
+        place: u64,
+    ) -> Result<Option<Entry>, Memory>
+        ensures step { IfEntered result (λ entry. (beside : Beside) (n : ℕ) → beside.seed ≡ seed.now → n + 1 ≡ place →
+            step (kernel_of self.old beside n) entry ≡ Some (kernel_of self.new beside (n + 1))) }
+        ensures whole { IfEntered result (λ entry. (beside : Beside) (n m : ℕ) →
+            is_whole entry (kernel_of self.old beside n) (kernel_of self.new beside m) ≡ true) }
+        ensures numbers { IfEntered result (λ entry. numbers_in entry ≡ []) }
+        ensures found { IfEntered result (λ entry. (beside : Beside) (n : ℕ) →
+            find (nat_lt after) (ready_numbers (kernel_of self.old beside n)) ≡ Some (task_of entry)) }
+        ensures none { IfParked result ((beside : Beside) (n : ℕ) →
+            find (nat_lt after) (ready_numbers (kernel_of self.old beside n)) ≡ None) }
+        ensures kept { IfParked result (AreKept self.old self.new) }
+    {
+        if self.tasks.live() == 0 {
+            return Ok(None);
+        }
+        let Some(task) = self.tasks.next_live(after) else {
+            return Ok(None);
+        };
+        if let Some(entry) = self.advance(alloc, task, seed, place)? {
+            return Ok(Some(entry));
+        }
+        self.enter_above(alloc, task, seed, place)
     }
-    match tasks.next_live(last) {
-        Some(task) => Some(task),
-        None => tasks.next_live(0),
+
+    /// Has the task whose turn is next, behind that of the last turn, make an entry; or none, where no task's next step
+    /// is ready, which changes nothing.
+    fn turn(
+        &mut self,
+        alloc: Global,
+        last: u32,
+        seed: &[u8],
+        place: u64,
+    ) -> Result<Option<Entry>, Memory>
+        ensures step { IfEntered result (λ entry. (beside : Beside) (n : ℕ) → beside.seed ≡ seed.now → n + 1 ≡ place →
+            step (kernel_of self.old beside n) entry ≡ Some (kernel_of self.new beside (n + 1))) }
+        ensures whole { IfEntered result (λ entry. (beside : Beside) (n m : ℕ) →
+            is_whole entry (kernel_of self.old beside n) (kernel_of self.new beside m) ≡ true) }
+        ensures numbers { IfEntered result (λ entry. numbers_in entry ≡ []) }
+        ensures turn { IfEntered result (λ entry. (beside : Beside) (n : ℕ) →
+            next_of last (ready_numbers (kernel_of self.old beside n)) ≡ Some (task_of entry)) }
+        ensures still { IfParked result (AreStill self.new) }
+        ensures kept { IfParked result (AreKept self.old self.new) }
+    {
+        if let Some(entry) = self.enter_above(alloc, last, seed, place)? {
+            return Ok(Some(entry));
+        }
+        self.enter_above(alloc, 0, seed, place)
     }
 }
 
-/// Has tasks make entries in turn, by the mount file's seed, until none lives or the trace has so many entries.
+/// Has tasks make entries in turn, by the mount file's seed, until no task's next step is ready or the trace has so many
+/// entries.
 pub fn run_turns(alloc: Global, processes: Processes, seed: &[u8], entries: u64) -> Ran
     // The trace is a history, whatever stands beside the processes and the seed.
     ensures history { (beside : Beside) → beside.seed ≡ seed.now →
@@ -52,23 +96,23 @@ pub fn run_turns(alloc: Global, processes: Processes, seed: &[u8], entries: u64)
         AreInTurn 0 (kernel_of processes beside 0) result.trace }
     ensures drawn { flat_map numbers_in result.trace ≡ [] }
     ensures bound { length result.trace ≤ entries }
-    ensures ended { IfSome result.processes (λ p.
-        (has_any (live_numbers p.tasks.tasks) ≡ false) ⊎ (length result.trace ≡ entries)) }
+    ensures ended { IfSome result.processes (λ p. AreStill p ⊎ (length result.trace ≡ entries)) }
 {
     let mut processes = processes;
     let mut trace = List::new(alloc);
     let mut last = 0;
     for place in 0..entries {
-        let Some(task) = next_turn(&processes.tasks, last) else {
-            break;
+        let entry = match processes.turn(alloc, last, seed, place + 1) {
+            Ok(Some(entry)) => entry,
+            Ok(None) => break,
+            Err(_) => {
+                return Ran {
+                    processes: None,
+                    trace,
+                };
+            }
         };
-        last = task;
-        let Ok(entry) = processes.advance(alloc, task, seed, place + 1) else {
-            return Ran {
-                processes: None,
-                trace,
-            };
-        };
+        last = entry.task();
         if trace.push(entry).is_err() {
             return Ran {
                 processes: None,

@@ -37,8 +37,5 @@ returns-in-Touches-clause-memory c =
 pub returns-in-Traps-clause-memory : goal.returns-in-Traps-clause-memory
 returns-in-Traps-clause-memory c =
     let none : c.in_ok-ran.ran.count ≡ 0 = omega arith in
-    on_err c.end.result (λ kept. part_behind c.args.self.now c.run_standing.new.self c.end.new.self c.args.task
-    (c.in_ok-ran.ensures.none none)
-    (part_kept c.run_standing.new.self c.end.new.self c.args.task c.standing-standing.result kept
-    (stands_kept c.args.self.now c.run_standing.new.self c.args.task c.standing-standing.result
-    (c.in_ok-ran.ensures.none none) c.standing-standing.ensures.stands))) c.end.ensures.err
+    on_err c.end.result (part_behind c.args.self.now c.run_standing.new.self c.end.new.self c.args.task
+    (c.in_ok-ran.ensures.none none)) c.end.ensures.memory

@@ -11,7 +11,7 @@ use Rattle.call_table.specs.Processes.{RunsIn, caller_with, held_by, kernel_of}
 use Rattle.call_table.proofs.Homes.{home_run}
 use Rattle.call_table.proofs.Results.{with_ok, on_err}
 use Rattle.call_table.proofs.Steps.{step_run, whole_run, registers_left, spaces_left, next_left, left_there}
-use Rattle.call_table.proofs.Steps.{stop_not_on, touching_left}
+use Rattle.call_table.proofs.Steps.{ready_run, stop_not_on, touching_left}
 use Rattle.call_table.proofs.processes.Processes.run_standing.Goals as goal
 
 -- one memory alone was written to
@@ -42,9 +42,16 @@ returns-clause-step c =
     step_run c.args.self.now c.args.task c.args.standing c.requires.stands r.count c.run_in-ran.new.registers
     c.run_in-ran.new.spaces runs
     (record (held_by c.args.self.now) { registers = c.replace.new.self; spaces = c.run_in-ran.new.spaces }) beside n
-    (omega arith) within
+    c.requires.awake (omega arith) within
     (ap (λ x. record (held_by c.args.self.now) { registers = x; spaces = c.run_in-ran.new.spaces })
     (c.replace.ensures ∙ ap (λ k. map.insert c.args.self.now.registers k c.run_in-ran.new.registers) c.from.ensures)))
+    c.run_in-ran.ensures.runs c.run_in-ran.ensures.within
+
+pub returns-clause-ready : goal.returns-clause-ready
+returns-clause-ready c =
+    with_ok _ _ _ c.run_in-ran.result (λ r runs within more.
+    ready_run c.args.self.now c.args.task c.args.standing c.requires.stands r.count c.run_in-ran.new.registers
+    c.run_in-ran.new.spaces runs c.requires.awake (omega arith) within)
     c.run_in-ran.ensures.runs c.run_in-ran.ensures.within
 
 pub returns-clause-whole : goal.returns-clause-whole
@@ -73,6 +80,7 @@ returns-clause-none c =
           spaces_left c.args.self.now c.args.task c.args.standing c.requires.stands r.count
           c.run_in-ran.new.registers c.run_in-ran.new.spaces runs none;
       areas = refl;
+      sleepers = refl;
       console = refl;
     }) c.run_in-ran.ensures.runs c.run_in-ran.ensures.within
 
@@ -115,5 +123,6 @@ returns-clause-memory c =
           ∙ ap (λ k. map.insert c.args.self.now.registers k c.run_in-ran.new.registers) c.from.ensures;
       kept_tasks = refl;
       kept_areas = λ place index. refl;
+      kept_sleepers = refl;
       kept_console = refl;
     }) c.run_in-ran.ensures.memory

@@ -4,11 +4,12 @@ use Rattle.std.specs.FinMap as map
 use Rattle.std.specs.Ordering.{nat_cmp}
 use Rattle.rv_table.specs.declared.regs.Regs.{Regs}
 use Rattle.kernel_model.specs.Names.{with_named}
+use Rattle.kernel_model.specs.declared.traps.Next.TheVariants.{Goes}
 use Rattle.call_table.specs.Beside.{Held}
 use Rattle.call_table.specs.Processes.{held_by, kernel_of, caller_with}
 use Rattle.call_table.proofs.Homes.{home_reached, home_run}
 use Rattle.call_table.proofs.Results.{err_by}
-use Rattle.call_table.proofs.Steps.{own_space, space_same, registers_same, next_told, step_touching}
+use Rattle.call_table.proofs.Steps.{own_space, space_same, ready_next, registers_same, next_told, step_touching}
 use Rattle.call_table.proofs.processes.Processes.step_standing.Goals as goal
 
 pub invariant_of-self : goal.invariant_of-self
@@ -30,7 +31,7 @@ invariant_of-self-2 c = record {
 pub returns-clause-step : goal.returns-clause-step
 returns-clause-step c = λ goes beside n.
     step_touching c.args.self.now c.args.task c.args.standing c.requires.stands c.requires.touches c.step.new.registers
-    c.step.new.space c.step.new.areas (left c.replace.new.self) beside n
+    c.step.new.space c.step.new.areas (left c.replace.new.self) beside n c.requires.awake
     (c.in_ok-next.ensures.goes goes (caller_with c.args.task c.args.standing c.requires.stands.space)
     (kernel_of c.args.self.now beside n) (record {
       task = refl;
@@ -63,6 +64,19 @@ returns-clause-next c =
       areas = areas;
     }))
 
+pub returns-clause-ready : goal.returns-clause-ready
+returns-clause-ready c = λ goes beside n.
+    ready_next c.args.self.now c.args.task c.args.standing c.requires.stands Goes c.requires.awake
+    (next_told c.args.self.now c.args.task c.args.standing c.requires.stands Goes
+    (λ k areas. c.in_ok-next.ensures.next (caller_with c.args.task c.args.standing c.requires.stands.space) k (record {
+      task = refl;
+      registers = refl;
+      space =
+          own_space c.args.self.now c.args.task c.args.standing c.requires.stands c.in-Some.space.now
+          (sym c.in-Some.ensures.value);
+      areas = areas;
+    }) ∙ goes)) beside n
+
 pub returns-clause-kept : goal.returns-clause-kept
 returns-clause-kept c = λ off.
     let kept = c.in_ok-next.ensures.kept off in
@@ -78,6 +92,7 @@ returns-clause-kept c = λ off.
           ∙ sym (own_space c.args.self.now c.args.task c.args.standing c.requires.stands c.in-Some.space.now
           (sym c.in-Some.ensures.value)));
       areas = kept.2;
+      sleepers = refl;
       console = refl;
     }
 
@@ -92,5 +107,6 @@ returns-in_err-next-clause-err c =
           ∙ sym (own_space c.args.self.now c.args.task c.args.standing c.requires.stands c.in-Some.space.now
           (sym c.in-Some.ensures.value)));
       areas = c.in_err-next.ensures.err.2;
+      sleepers = refl;
       console = refl;
     })

@@ -27,9 +27,5 @@ returns-in-Calls-clause-memory c =
 
 pub returns-in-Traps-clause-memory : goal.returns-in-Traps-clause-memory
 returns-in-Traps-clause-memory c =
-    let before = c.in_ok-step_standing.ensures.kept (ap goes_on c.in-Traps.is) in
-    on_err c.end.result (λ kept. part_behind c.args.self.now c.step_standing.new.self c.end.new.self
-    c.args.context.now.task before
-    (part_kept c.step_standing.new.self c.end.new.self c.args.context.now.task c.args.standing kept
-    (stands_kept c.args.self.now c.step_standing.new.self c.args.context.now.task c.args.standing before
-    c.requires.stands))) c.end.ensures.err
+    on_err c.end.result (part_behind c.args.self.now c.step_standing.new.self c.end.new.self
+    c.args.context.now.task (c.in_ok-step_standing.ensures.kept (ap goes_on c.in-Traps.is))) c.end.ensures.memory
