@@ -4,6 +4,7 @@ pub mod Found
 pub mod Histories
 pub mod Homes
 pub mod Kept
+pub mod NewHomes
 pub mod Openings
 pub mod Results
 pub mod Steps

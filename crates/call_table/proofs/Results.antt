@@ -1,5 +1,5 @@
 -- What holds of a result, by what else does.
-use Rattle.std.specs.Prelude.{Result, Ok, Err, IfOk, OnErr}
+use Rattle.std.specs.Prelude.{Result, Ok, Err, IfOk, OnOk, OnErr}
 
 -- on success
 pub on_ok : {A E : Type 0} (P Q : A → Type 0) (r : Result A E) → ((x : A) → P x → Q x) → IfOk r P → IfOk r Q
@@ -19,3 +19,12 @@ on_err (Err e) f p = f p
 pub err_by : {A E P : Type 0} (r : Result A E) → P → OnErr r P
 err_by (Ok x) p = tt
 err_by (Err e) p = p
+
+-- by what holds on success, or on an error
+pub by_result : {A E P Q S : Type 0} (r : Result A E) → OnOk r P → OnErr r Q → (P → S) → (Q → S) → S
+by_result (Ok x) p q f g = f p
+by_result (Err e) p q f g = g q
+
+pub both_err : {A E P Q : Type 0} (r : Result A E) → OnErr r P → OnErr r Q → OnErr r (P × Q)
+both_err (Ok x) p q = tt
+both_err (Err e) p q = (p, q)

@@ -110,8 +110,8 @@ impl Processes {
         ensures does { IfOk result (λ _. (between : map.FinMap nat_cmp ARegs)
             × (self.new.registers ≡ map.insert between context.now.task (replied registers (pos (self.old.tasks.last + 1))))
             × ((c : ACaller) (k : AKernel) → c.task ≡ context.now.task → c.memory ≡ context.now.memory →
-            k.entries + 1 ≡ context.now.place → k.tasks ≡ self.old.tasks → k.registers ≡ self.old.registers →
-            k.spaces ≡ self.old.spaces → k.areas ≡ self.old.areas → with_child child c k ≡ record k {
+            k.tasks ≡ self.old.tasks → k.registers ≡ self.old.registers → k.spaces ≡ self.old.spaces →
+            k.areas ≡ self.old.areas → with_child child context.now.place c k ≡ record k {
               tasks = self.new.tasks; registers = between; spaces = self.new.spaces; areas = self.new.areas; })) }
         ensures entry { IfOk result (λ entry. entry ≡ ACall context.now.task (call_of registers) (args_of registers)
             (record { fresh = []; rises = [] }) (pos (self.old.tasks.last + 1))) }

@@ -21,16 +21,16 @@ with_words (Some words) c k = with_memory c words.space words.areas k
 -- a kernel with a new task and its registers: a thread of the caller's group, or a process with a memory of its own, which
 -- is named by the place of the entry
 -- clone(2); fork(2)
-abbrev pub with_task : Option AddressSpace → (clear : ℕ) → Caller → Kernel → Kernel
-with_task None clear c k = record k { tasks = threaded k.tasks c.task clear }
-with_task (Some memory) clear c k = record k {
-  tasks = forked k.tasks c.task (made_for_child (k.entries + 1)) (made_for_child (k.entries + 1)) clear;
-  spaces = with_named k.spaces (k.entries + 1) 0 memory;
+abbrev pub with_task : (place : ℕ) → Option AddressSpace → (clear : ℕ) → Caller → Kernel → Kernel
+with_task place None clear c k = record k { tasks = threaded k.tasks c.task clear }
+with_task place (Some memory) clear c k = record k {
+  tasks = forked k.tasks c.task (made_for_child place) (made_for_child place) clear;
+  spaces = with_named k.spaces place 0 memory;
 }
 
 abbrev pub with_registers : Child → (number : ℕ) → Kernel → Kernel
 with_registers child number k = record k { registers = map.insert k.registers number child.registers }
 
-abbrev pub with_child : Child → Caller → Kernel → Kernel
-with_child child c k =
-    with_registers child (k.tasks.last + 1) (with_task child.memory child.clear c (with_words child.words c k))
+abbrev pub with_child : Child → (place : ℕ) → Caller → Kernel → Kernel
+with_child child place c k =
+    with_registers child (k.tasks.last + 1) (with_task place child.memory child.clear c (with_words child.words c k))

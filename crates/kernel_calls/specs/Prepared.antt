@@ -92,7 +92,7 @@ pub record Answers (row : Prog Answer) (p : Prepared) (c : Caller) (k : Kernel) 
 pub record MakesChild (row : Prog Answer) (child : Child) (c : Caller) (k : Kernel) : Type 0 where
   pub changes : List Change
   pub row_is : outcome_in (parts k) row ≡ replies (pos (k.tasks.last + 1)) changes
-  pub done_is : changed changes k ≡ with_child child c k
+  pub done_is : changed changes k ≡ with_child child (k.entries + 1) c k
 
 -- a row comes to what has become of a call: it replies, or makes a child, or puts its task to sleep, or waits
 -- syscall(2); futex(2), FUTEX_WAIT

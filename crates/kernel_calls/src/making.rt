@@ -1,6 +1,6 @@
 //! A task that a call made takes its place among the others.
 
-ghost use Rattle.std.specs.Prelude.{◌≡◌, ◌+◌, IsTrue, OnErr, OnOk};
+ghost use Rattle.std.specs.Prelude.{◌≡◌, IsTrue, OnErr, OnOk};
 ghost use Rattle.task_table.specs.Table.{is_live};
 ghost use Rattle.kernel_model.specs.Names.{has_named};
 ghost use Rattle.kernel_model.specs.declared.caller.Caller.{Caller as ACaller};
@@ -32,8 +32,8 @@ pub fn make(
     requires room { IsRoomFor tasks.old }
     requires memory { IsTrue (has_named spaces.old context.now.memory.place context.now.memory.index) }
     ensures ok { OnOk result ((c : ACaller) (k : AKernel) → c.task ≡ context.now.task → c.memory ≡ context.now.memory →
-        k.entries + 1 ≡ context.now.place → k.tasks ≡ tasks.old → k.registers ≡ registers.old →
-        k.spaces ≡ spaces.old → k.areas ≡ areas.old → with_child child c k
+        k.tasks ≡ tasks.old → k.registers ≡ registers.old → k.spaces ≡ spaces.old → k.areas ≡ areas.old →
+        with_child child context.now.place c k
         ≡ record k { tasks = tasks.new; registers = registers.new; spaces = spaces.new; areas = areas.new }) }
     ensures err { OnErr result (tasks.new ≡ tasks.old) }
     ensures err_registers { OnErr result (registers.new ≡ registers.old) }
