@@ -1,24 +1,27 @@
 //! exit and exit_group, the end of a thread group by a signal, set_tid_address and set_robust_list.
 
-ghost use Rattle.std.specs.Prelude.{◌≡◌, ℕ, IfOk, IsTrue, OnErr};
+ghost use Rattle.std.specs.Prelude.{◌≡◌, ◌%◌, ℕ, IfOk, IsTrue, OnErr};
 ghost use Rattle.futex_core.specs.FutexLists.{FutexList};
 ghost use Rattle.mm_space.specs.Spaces.{AddressSpace};
-ghost use Rattle.task_table.specs.Table.{is_live};
+ghost use Rattle.task_table.specs.declared.task.Status.TheVariants.{Exited};
+ghost use Rattle.task_table.specs.Table.{TaskTable, is_live};
 ghost use Rattle.kernel_model.specs.declared.caller.Caller.{Caller as ACaller};
 ghost use Rattle.kernel_model.specs.declared.kernel.Kernel.{Kernel as AKernel};
 ghost use Rattle.kernel_model.specs.calls.Ending.{exit_group_row, exit_row, set_robust_list_row, set_tid_address_row};
 ghost use Rattle.kernel_model.specs.entries.Parts.{Parts, outcome_in};
+ghost use Rattle.kernel_calls.specs.Ends.{Ends};
 ghost use Rattle.kernel_calls.specs.Lending.{AreAlike};
 ghost use Rattle.kernel_calls.specs.Prepared.{Answers, EndsGroupAs, EndsOnly, HasSpace, IsCalling, MayLack, TakesFew, answer_of};
 ghost use Rattle.kernel_calls.specs.declared.prepared.Effect.TheVariants.{Nothing};
 
+use crate::clear_words::clear_words;
 use crate::memory::replied;
 use crate::prepared::Ending;
 use crate::{Context, Effect, Prepared};
 use kernel_model::{GuestArea, GuestSpace, Named};
-use sn_base::Memory;
+use sn_base::{List, Memory};
 use std::alloc::Global;
-use task_table::{Status, Tasks};
+use task_table::{EndedTask, Status, Tasks};
 
 /// exit(status): the caller ends with the low 8 bits of the status, and with the last task of a thread group the group.
 /// Its clear word is cleared, where it has one that may be written.
@@ -40,11 +43,19 @@ pub(crate) fn exit(
     ensures err { OnErr result (space.new ≡ space.old) }
     ensures err_areas { OnErr result (AreAlike areas.new areas.old) }
 {
-    Err(Memory)
+    let ended = tasks.itself(alloc, context.task)?;
+    let ending = ending_of(alloc, context, exited(status), ended, space, areas)?;
+    Ok(Prepared {
+        reply: 0,
+        effect: Effect::EndsTask {
+            task: context.task,
+            ending,
+        },
+    })
 }
 
-/// exit_group(status): the caller's thread group ends with the low 8 bits of the status. The clear words of its tasks are
-/// cleared, where they may be written.
+/// exit_group(status): the caller's thread group ends with the low 8 bits of the status. The clear words of its tasks
+/// are cleared, where they may be written.
 pub(crate) fn exit_group(
     alloc: Global,
     context: &Context<'_>,
@@ -62,7 +73,18 @@ pub(crate) fn exit_group(
     ensures err { OnErr result (space.new ≡ space.old) }
     ensures err_areas { OnErr result (AreAlike areas.new areas.old) }
 {
-    Err(Memory)
+    let ending = end_group(alloc, context, exited(status), space, areas, tasks)?;
+    Ok(Prepared {
+        reply: 0,
+        effect: Effect::EndsGroup(ending),
+    })
+}
+
+/// How a task ends that says how: with the low 8 bits of a status.
+fn exited(status: u64) -> Status
+    ensures { result ≡ Exited (status % 256) }
+{
+    Status::Exited((status % 256) as u8)
 }
 
 /// How the thread group of a task ends with a status: what is to be done to the task list and the futex list, once the
@@ -81,7 +103,32 @@ pub fn end_group(
     ensures err { OnErr result (space.new ≡ space.old) }
     ensures err_areas { OnErr result (AreAlike areas.new areas.old) }
 {
-    Err(Memory)
+    let ended = tasks.members(alloc, context.group)?;
+    ending_of(alloc, context, status, ended, space, areas)
+}
+
+/// How tasks end with a status, once their clear words are cleared. An `Err` changes nothing.
+fn ending_of(
+    alloc: Global,
+    context: &Context<'_>,
+    status: Status,
+    ended: List<EndedTask>,
+    space: &mut GuestSpace,
+    areas: &mut Named<GuestArea>,
+) -> Result<Ending, Memory>
+    ensures status { IfOk result (λ e. e.status ≡ status) }
+    ensures ends { IfOk result (λ e.
+        (c : ACaller) (k : AKernel) (list : TaskTable) (waiting : FutexList) (console : ℕ) →
+        IsCalling c k context.now space.old areas.old list waiting console →
+        Ends ended e c k space.new areas.new) }
+    ensures err { OnErr result ((space.new ≡ space.old) × (areas.new ≡ areas.old)) }
+{
+    let cleared = clear_words(alloc, context, ended.as_slice(), space, areas)?;
+    Ok(Ending {
+        status,
+        ended,
+        cleared,
+    })
 }
 
 /// set_tid_address(address): the caller's clear word is there, or nowhere where that is 0. It replies the caller's task

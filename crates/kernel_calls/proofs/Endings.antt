@@ -1,0 +1,107 @@
+-- What the ends of tasks come to, as they were prepared.
+use Rattle.std.proofs.Common.{◌≡◌, ℕ, pos, List, [], ◌∷◌, ap, sym, ◌∙◌}
+use Rattle.futex_core.specs.FutexLists.{FutexList}
+use Rattle.mm_space.specs.Handing.{AreaState}
+use Rattle.mm_space.specs.Spaces.{AddressSpace}
+use Rattle.task_table.specs.declared.task.EndedTask.{EndedTask}
+use Rattle.task_table.specs.declared.task.Status.{Status}
+use Rattle.task_table.specs.Ends.{exited, group_ended, ended_tasks, is_itself, is_member}
+use Rattle.task_table.specs.Table.{TaskTable}
+use Rattle.kernel_model.specs.Names.{NamedMap}
+use Rattle.kernel_model.specs.declared.caller.Caller.{Caller}
+use Rattle.kernel_model.specs.declared.kernel.Kernel.{Kernel}
+use Rattle.kernel_model.specs.declared.kernel.Part.TheVariants.{OfTasks, OfSleepers}
+use Rattle.kernel_model.specs.calls.Answers.{replies}
+use Rattle.kernel_model.specs.calls.ClearWords.{Cleared, nothing_cleared, words_cleared}
+use Rattle.kernel_model.specs.calls.Ending.{end_changes, ends_as, ends_with, left_by, task_end, woken_on}
+use Rattle.kernel_model.specs.entries.Parts.{parts, Prog, done, look, outcome_in, Change, changed, ◌>>=◌}
+use Rattle.kernel_model.proofs.Trees.{outcome-bind}
+use Rattle.kernel_calls.specs.ClearWords.{IsCleared}
+use Rattle.kernel_calls.specs.Ends.{Ends}
+use Rattle.kernel_calls.specs.Lending.{with_hand}
+use Rattle.kernel_calls.specs.Memories.{with_memory}
+use Rattle.kernel_calls.specs.Prepared.{Answers, EndsGroupAs, IsCalling, changes_of, left_behind}
+use Rattle.kernel_calls.specs.declared.context.Context.{Context}
+use Rattle.kernel_calls.specs.declared.prepared.Effect.TheVariants.{EndsTask}
+use Rattle.kernel_calls.specs.declared.prepared.Ending.{Ending}
+use Rattle.kernel_calls.specs.declared.prepared.Prepared.{Prepared}
+use Rattle.kernel_calls.proofs.Answering.{areas_changed}
+
+-- a call that is nothing but an end
+pub answers_ended : (tree : Prog (List Change)) (p : Prepared) (c : Caller) (k : Kernel) (space : AddressSpace)
+    (areas : NamedMap AreaState) → p.reply ≡ pos 0
+    → changed (outcome_in (parts k) tree) k
+    ≡ changed (changes_of p.effect c.group (parts k)) (with_memory c space areas k)
+    → Answers (tree >>= ends_with) p c k space areas
+answers_ended tree p c k space areas reply does = record {
+  changes = outcome_in (parts k) tree;
+  row_is = outcome-bind (parts k) tree ends_with ∙ ap (λ v. replies v (outcome_in (parts k) tree)) (sym reply);
+  done_is = does;
+}
+
+module _ (c : Caller) (k : Kernel) (ended : List EndedTask) (e : Ending) (space : AddressSpace)
+    (areas : NamedMap AreaState) where
+  -- what is left of words that were cleared
+  abbrev x : Cleared
+  x = outcome_in (parts k) (words_cleared c ended (nothing_cleared c.space))
+
+  abbrev left : TaskTable → FutexList → AddressSpace → NamedMap AreaState → Kernel
+  left after waiting own shared = record (with_memory c own shared k) { tasks = after; sleepers = waiting }
+
+  pub ends_so : e.ended ≡ ended → IsCleared x k.areas space areas e.cleared → Ends ended e c k space areas
+  ends_so same is after =
+      ap (λ changes. changed changes k) (
+      outcome-bind (parts k) (words_cleared c ended (nothing_cleared c.space))
+      (λ x. look OfSleepers (λ waiting. done (end_changes c ended after x waiting))))
+      ∙ areas_changed x.reach.hand
+      (left after (woken_on x.keys (left_by ended k.sleepers)) x.reach.space k.areas)
+      ∙ ap (λ keys.
+      left after (woken_on keys (left_by ended k.sleepers)) x.reach.space (with_hand x.reach.hand k.areas))
+      (sym is.keys_are)
+      ∙ ap (λ l. left after (woken_on e.cleared (left_by l k.sleepers)) x.reach.space (with_hand x.reach.hand k.areas))
+      (sym same)
+      ∙ ap (λ own. left after (left_behind e k.sleepers) own (with_hand x.reach.hand k.areas)) (sym is.space_is)
+      ∙ ap (λ shared. left after (left_behind e k.sleepers) space shared) (sym is.areas_are)
+
+module _ (c : Caller) (k : Kernel) (context : Context) (own : AddressSpace) (shared : NamedMap AreaState)
+    (list : TaskTable) (waiting : FutexList) (console : ℕ)
+    (calling : IsCalling c k context own shared list waiting console) (ended : List EndedTask) (e : Ending)
+    (space : AddressSpace) (areas : NamedMap AreaState) where
+  -- once words were cleared from what the code had
+  pub ends_calling : e.ended ≡ ended
+      → IsCleared (outcome_in (parts k) (words_cleared c ended (nothing_cleared c.space))) shared space areas e.cleared
+      → Ends ended e c k space areas
+  ends_calling same is =
+      ends_so c k ended e space areas same (record {
+        space_is = is.space_is;
+        areas_are = is.areas_are ∙ ap (with_hand (x c k ended e space areas).reach.hand) (sym calling.areas);
+        keys_are = is.keys_are;
+      })
+
+  module _ (status : Status) (so : e.status ≡ status) (ends : Ends ended e c k space areas) where
+    -- a thread group,
+    pub group_ends : ended ≡ ended_tasks (is_member context.group) list.tasks → EndsGroupAs status e c k space areas
+    group_ends are = record {
+      is_so = so;
+      done_is =
+          ap (λ l. changed (outcome_in (parts k) (ends_as c l (group_ended k.tasks c.group status))) k)
+          (ap (λ g. ended_tasks (is_member g) k.tasks.tasks) calling.group
+          ∙ ap (λ (t : TaskTable). ended_tasks (is_member context.group) t.tasks) calling.tasks ∙ sym are)
+          ∙ ends (group_ended k.tasks c.group status)
+          ∙ ap (λ st. changed ((OfTasks, group_ended k.tasks c.group st) ∷ (OfSleepers, left_behind e k.sleepers) ∷ [])
+          (with_memory c space areas k)) (sym so);
+    }
+
+    -- and a task
+    pub task_ends : ended ≡ ended_tasks (is_itself context.task) list.tasks
+        → changed (outcome_in (parts k) (task_end c status)) k
+        ≡ changed (changes_of (EndsTask context.task e) c.group (parts k)) (with_memory c space areas k)
+    task_ends are =
+        ap (λ l. changed (outcome_in (parts k) (ends_as c l (exited k.tasks c.task status))) k)
+        (ap (λ n. ended_tasks (is_itself n) k.tasks.tasks) calling.task
+        ∙ ap (λ (t : TaskTable). ended_tasks (is_itself context.task) t.tasks) calling.tasks ∙ sym are)
+        ∙ ends (exited k.tasks c.task status)
+        ∙ ap (λ n. changed ((OfTasks, exited k.tasks n status) ∷ (OfSleepers, left_behind e k.sleepers) ∷ [])
+        (with_memory c space areas k)) calling.task
+        ∙ ap (λ st. changed ((OfTasks, exited k.tasks context.task st) ∷ (OfSleepers, left_behind e k.sleepers) ∷ [])
+        (with_memory c space areas k)) (sym so)
