@@ -1,9 +1,12 @@
 -- Lemmas of system calls and of what an execve reads, by subject.
 pub mod AccessLaws
 pub mod Answering
+pub mod ChildRows
+pub mod Coming
 pub mod Effects
 pub mod Executables
 pub mod Filling
+pub mod FutexRows
 pub mod Keys
 pub mod Lendings
 pub mod RandomRows
