@@ -2,10 +2,13 @@
 pub mod AccessLaws
 pub mod Answering
 pub mod ClearedWords
+pub mod ChildRows
+pub mod Coming
 pub mod Effects
 pub mod Endings
 pub mod Executables
 pub mod Filling
+pub mod FutexRows
 pub mod Keys
 pub mod Lendings
 pub mod Overlays

@@ -1,20 +1,25 @@
 //! futex.
 
-ghost use Rattle.std.specs.Prelude.{◌≡◌, ℕ, length, IfOk, IfSome, List as Items};
+ghost use Rattle.std.specs.Prelude.{◌≡◌, ◌==◌, ◌&&◌, ◌||◌, not, ℕ, option_map, if◌then◌else◌, IfOk};
 ghost use Rattle.std.specs.Int.{from_le_bytes, w32};
+ghost use Rattle.mm_space.specs.Handing.{AreaState};
 ghost use Rattle.mm_space.specs.Spaces.{AddressSpace};
 ghost use Rattle.task_table.specs.Table.{TaskTable};
+ghost use Rattle.kernel_model.specs.Names.{NamedMap};
 ghost use Rattle.kernel_model.specs.declared.caller.Caller.{Caller as ACaller};
 ghost use Rattle.kernel_model.specs.declared.kernel.Kernel.{Kernel as AKernel};
 ghost use Rattle.kernel_model.specs.machine.FutexWords.{key_at};
-ghost use Rattle.kernel_model.specs.calls.Futex.{by_word, futex_row, is_wait, is_wake, sleeps_on, wakes_on};
-ghost use Rattle.kernel_model.specs.entries.Parts.{outcome_in, parts};
-ghost use Rattle.kernel_calls.specs.Prepared.{Comes, EndsCaller, HasRoomFor, IsCalling, RepliesFew};
+ghost use Rattle.kernel_model.specs.calls.Futex.{futex_row, is_wait, is_wake, sleeps_on, wakes_on};
+ghost use Rattle.kernel_model.specs.entries.Areas.{bytes_read};
+ghost use Rattle.kernel_model.specs.entries.Parts.{Parts, outcome_in, parts};
+ghost use Rattle.kernel_calls.specs.Lending.{AreThose};
+ghost use Rattle.kernel_calls.specs.Prepared.{Comes, EndsCaller, HasRoomFor, HasSpace, IsCalling, RepliesFew, answer_of};
+ghost use Rattle.kernel_calls.specs.declared.prepared.Effect.TheVariants.{Wakes};
 
+use crate::Context;
 use crate::buffers::read;
 use crate::calls::refused;
 use crate::prepared::{Called, Effect, Prepared};
-use crate::Context;
 use futex_core::{FutexKey, Owner, Waiters};
 use kernel_model::{Args, GuestArea, GuestSpace, Named};
 use mm_space::AreaByte;
@@ -24,11 +29,11 @@ use std::alloc::Global;
 use task_table::Made;
 
 /// futex(address, operation, value, timeout): FUTEX_WAIT puts the caller to sleep on the word at an address, where that
-/// is what the caller expects, and FUTEX_WAKE wakes the first who sleep on it, and replies how many. Operation and value
-/// are the low 32 bits. Memory stays as it is.
+/// is what the caller expects, and FUTEX_WAKE wakes the first who sleep on it, and replies how many. Operation and
+/// value are the low 32 bits. Memory stays as it is.
 ///
-/// ENOSYS: another operation; EINVAL: an address that is no multiple of 4; ENOSYS: a timeout; EFAULT: a byte of the word
-/// that may not be read; EAGAIN: a word that is another value than a FUTEX_WAIT expects.
+/// ENOSYS: another operation; EINVAL: an address that is no multiple of 4; ENOSYS: a timeout of a FUTEX_WAIT; EFAULT: a
+/// byte of the word that may not be read; EAGAIN: a word that is another value than a FUTEX_WAIT expects.
 pub(crate) fn futex(
     alloc: Global,
     context: &Context<'_>,
@@ -45,7 +50,38 @@ pub(crate) fn futex(
     ensures room { IfOk result (λ d. (list : TaskTable) → HasRoomFor d list) }
     ensures kept { areas.new ≡ areas.old }
 {
-    Err(Memory)
+    let operation = (args.a1 % (1 << 32)) as u32;
+    let value = (args.a2 % (1 << 32)) as u32;
+    if !is_known(operation) {
+        return Ok(Called::Replies(refused(Errno::ENOSYS)));
+    }
+    if args.a0 % 4 != 0 {
+        return Ok(Called::Replies(refused(Errno::EINVAL)));
+    }
+    if has_timeout(operation, args.a3) {
+        return Ok(Called::Replies(refused(Errno::ENOSYS)));
+    }
+    match word_at(alloc, space, areas, args.a0)? {
+        Some(word) => {
+            let key = key_at(context.memory, space, args.a0);
+            Ok(by_word(key, operation, word, value, sleepers))
+        }
+        None => Ok(Called::Replies(refused(Errno::EFAULT))),
+    }
+}
+
+/// Whether the kernel has an operation.
+fn is_known(operation: u32) -> bool
+    ensures { result ≡ (is_wait operation || is_wake operation) }
+{
+    is_wait(operation) || is_wake(operation)
+}
+
+/// Whether a FUTEX_WAIT has a timeout. A FUTEX_WAKE may have anything there.
+fn has_timeout(operation: u32, timeout: u64) -> bool
+    ensures { result ≡ (is_wait operation && not (timeout == 0)) }
+{
+    is_wait(operation) && timeout != 0
 }
 
 /// FUTEX_WAIT, also with FUTEX_PRIVATE_FLAG.
@@ -81,5 +117,58 @@ pub(crate) fn key_at(memory: Made, space: &GuestSpace, address: u64) -> FutexKey
             },
             address,
         },
+    }
+}
+
+/// The word at an address, or `None` where one of its bytes may not be read. The areas stay as they are.
+fn word_at(
+    alloc: Global,
+    space: &GuestSpace,
+    areas: &mut Named<GuestArea>,
+    address: u64,
+) -> Result<Option<u32>, Memory>
+    ensures word { IfOk result (λ word. (s : Parts) → AreThose s areas.old →
+        option_map (from_le_bytes w32) (outcome_in s (bytes_read space.now address 4)) ≡ word) }
+    ensures kept { areas.new ≡ areas.old }
+{
+    let Some(bytes) = read(alloc, space, areas, address, 4)? else {
+        return Ok(None);
+    };
+    match bytes.as_slice() {
+        [a, b, c, d] => Ok(Some(u32::from_le_bytes([*a, *b, *c, *d]))),
+        _ => unreachable!(),
+    }
+}
+
+/// What is done by a word that holds this: its task sleeps, or is told that it differs, or those who sleep on it are
+/// woken.
+fn by_word(key: FutexKey, operation: u32, word: u32, value: u32, sleepers: &Waiters) -> Called
+    ensures row { (c : ACaller) (k : AKernel) (own : AddressSpace) (shared : NamedMap AreaState) →
+        HasSpace c k own → k.areas ≡ shared → k.sleepers ≡ sleepers.now →
+        Comes (if is_wait operation then sleeps_on c.task key word value else wakes_on key value) result c k own
+        shared }
+    ensures few { RepliesFew result }
+    ensures own { (task : ℕ) → EndsCaller result task }
+    ensures room { (list : TaskTable) → HasRoomFor result list }
+{
+    if !is_wait(operation) {
+        return Called::Replies(woken(key, value, sleepers));
+    }
+    if word != value {
+        return Called::Replies(refused(Errno::EAGAIN));
+    }
+    Called::Sleeps(key)
+}
+
+/// A FUTEX_WAKE of so many at most.
+fn woken(key: FutexKey, most: u32, sleepers: &Waiters) -> Prepared
+    ensures row { (c : ACaller) (k : AKernel) → k.sleepers ≡ sleepers.now →
+        outcome_in (parts k) (wakes_on key most) ≡ answer_of result c.group (parts k) }
+    ensures effect { result.effect ≡ Wakes key most }
+{
+    let count = u64::from(most).min(sleepers.count_on(key)) as u32;
+    Prepared {
+        reply: i64::from(count),
+        effect: Effect::Wakes { key, most },
     }
 }

@@ -1,31 +1,39 @@
 //! wait4.
 
-ghost use Rattle.std.specs.Prelude.{◌≡◌, ℕ, IfOk, OnErr};
-ghost use Rattle.std.specs.Int.{to_le_bytes, w32};
+ghost use Rattle.std.specs.Prelude.{◌≡◌, ◌==◌, ◌&&◌, ℕ, [], pos, if◌then◌else◌, IfOk, OnErr};
 ghost use Rattle.futex_core.specs.FutexLists.{FutexList};
+ghost use Rattle.mm_space.specs.Handing.{AreaState};
+ghost use Rattle.mm_space.specs.Spaces.{AddressSpace};
+ghost use Rattle.task_table.specs.Reaps.{reap_end};
+ghost use Rattle.task_table.specs.Table.{TaskTable};
+ghost use Rattle.task_table.specs.declared.task.ReapEnd.TheVariants.{Reaped};
+ghost use Rattle.kernel_model.specs.Names.{NamedMap};
 ghost use Rattle.kernel_model.specs.declared.caller.Caller.{Caller as ACaller};
 ghost use Rattle.kernel_model.specs.declared.kernel.Kernel.{Kernel as AKernel};
-ghost use Rattle.kernel_model.specs.calls.Wait.{asked_child, is_child_asked, is_option, wait4_row};
-ghost use Rattle.kernel_calls.specs.Lending.{AreAlike};
-ghost use Rattle.kernel_calls.specs.Prepared.{Comes, EndsCaller, HasRoomFor, IsApart, IsCalling, RepliesFew};
+ghost use Rattle.kernel_model.specs.calls.Answers.{not_ready, replies};
+ghost use Rattle.kernel_model.specs.calls.Wait.{asked_child, is_child_asked, is_option, reaps_at, wait4_row};
+ghost use Rattle.kernel_model.specs.entries.Parts.{done};
+ghost use Rattle.kernel_calls.specs.Prepared.{Answers, Comes, EndsCaller, EndsOnly, HasRoomFor, HasSpace, IsApart};
+ghost use Rattle.kernel_calls.specs.Prepared.{IsCalling, MayLack, RepliesFew, TakesFew};
+ghost use Rattle.kernel_calls.specs.declared.prepared.Effect.TheVariants.{Reaps};
 
+use crate::Context;
 use crate::buffers::write;
 use crate::calls::refused;
 use crate::memory::replied;
 use crate::prepared::{Called, Effect, Prepared};
-use crate::Context;
 use kernel_model::{Args, GuestArea, GuestSpace, Named};
 use sn_base::Memory;
 use sn_errno::Errno;
 use std::alloc::Global;
-use task_table::{ReapEnd, Tasks};
+use task_table::{ReapEnd, Status, Tasks};
 
 /// Any child.
 const ANY_CHILD: u32 = u32::MAX;
 
-/// wait4(child, address, options, usage): a child of the caller's thread group that has ended, of lowest number: the one
-/// of a number, or any. Its status is put at an address, or nowhere where that is 0; it is nobody's child from then on,
-/// and its number is the reply. Child and options are the low 32 bits.
+/// wait4(child, address, options, usage): a child of the caller's thread group that has ended, of lowest number: the
+/// one of a number, or any. Its status is put at an address, or nowhere where that is 0; it is nobody's child from then
+/// on, and its number is the reply. Child and options are the low 32 bits.
 ///
 /// EINVAL: a child that is neither -1 nor positive, an option that is neither 0 nor WNOHANG, a place for the usage;
 /// ECHILD: no such child; EFAULT: a byte of the status that may not be written. Where none has ended the call waits, or
@@ -47,7 +55,26 @@ pub(crate) fn wait4(
     ensures room { IfOk result (λ d. HasRoomFor d tasks.now) }
     ensures err { OnErr result ((space.new ≡ space.old) × (areas.new ≡ areas.old)) }
 {
-    Err(Memory)
+    let child = (args.a0 % (1 << 32)) as u32;
+    let options = (args.a2 % (1 << 32)) as u32;
+    if !is_asked(child, options, args.a3) {
+        return Ok(Called::Replies(refused(Errno::EINVAL)));
+    }
+    let which = asked_child(child);
+    match tasks.child_to_reap(context.group, which) {
+        ReapEnd::NoChild => Ok(Called::Replies(refused(Errno::ECHILD))),
+        ReapEnd::NotYet => Ok(not_yet(options)),
+        ReapEnd::Reaped { child, status } => Ok(Called::Replies(reap(
+            alloc, context, args.a1, child, status, which, space, areas,
+        )?)),
+    }
+}
+
+/// Whether the call may ask so.
+fn is_asked(child: u32, options: u32, usage: u64) -> bool
+    ensures { result ≡ (is_child_asked child && is_option options && (usage == 0)) }
+{
+    is_child_asked(child) && is_option(options) && usage == 0
 }
 
 /// Whether a child may be asked for so.
@@ -61,7 +88,11 @@ fn is_child_asked(child: u32) -> bool
 fn asked_child(child: u32) -> Option<u32>
     ensures { result ≡ asked_child child }
 {
-    if child == ANY_CHILD { None } else { Some(child) }
+    if child == ANY_CHILD {
+        None
+    } else {
+        Some(child)
+    }
 }
 
 /// No option, or WNOHANG.
@@ -69,4 +100,62 @@ fn is_option(options: u32) -> bool
     ensures { result ≡ is_option options }
 {
     options == 0 || options == 1
+}
+
+/// The caller has such children, and none of them has ended.
+fn not_yet(options: u32) -> Called
+    ensures row { (c : ACaller) (k : AKernel) (own : AddressSpace) (shared : NamedMap AreaState) →
+        HasSpace c k own → k.areas ≡ shared →
+        Comes (if options == 1 then done (replies (pos 0) []) else done not_ready) result c k own shared }
+    ensures few { RepliesFew result }
+    ensures own { (task : ℕ) → EndsCaller result task }
+    ensures room { (list : TaskTable) → HasRoomFor result list }
+{
+    if options == 1 {
+        Called::Replies(replied(0))
+    } else {
+        Called::Waits
+    }
+}
+
+/// A child has ended: its status is put at an address, or nowhere where that is 0.
+fn reap(
+    alloc: Global,
+    context: &Context<'_>,
+    address: u64,
+    child: u32,
+    status: Status,
+    which: Option<u32>,
+    space: &mut GuestSpace,
+    areas: &mut Named<GuestArea>,
+) -> Result<Prepared, Memory>
+    ensures row { IfOk result (λ p. (c : ACaller) (k : AKernel) (list : TaskTable) (waiting : FutexList) (console : ℕ) →
+        IsCalling c k context.now space.old areas.old list waiting console →
+        reap_end list.groups context.now.group which ≡ Reaped child status →
+        Answers (reaps_at c list address child status) p c k space.new areas.new) }
+    ensures sure { IfOk result (λ p. ¬ (MayLack p.effect)) }
+    ensures few { IfOk result (λ p. TakesFew p.effect) }
+    ensures own { IfOk result (λ p. (task : ℕ) → EndsOnly p.effect task) }
+    ensures err { OnErr result ((space.new ≡ space.old) × (areas.new ≡ areas.old)) }
+{
+    if address == 0 {
+        return Ok(reaped(child, which));
+    }
+    let number = status.number().to_le_bytes();
+    if write(alloc, context.task, space, areas, address, &number)? {
+        Ok(reaped(child, which))
+    } else {
+        Ok(refused(Errno::EFAULT))
+    }
+}
+
+/// A child is nobody's child any more, and its number is the reply.
+fn reaped(child: u32, which: Option<u32>) -> Prepared
+    ensures reply { result.reply ≡ pos child }
+    ensures effect { result.effect ≡ Reaps which }
+{
+    Prepared {
+        reply: i64::from(child),
+        effect: Effect::Reaps { which },
+    }
 }

@@ -1,0 +1,23 @@
+-- What becomes of a call, by what its row comes to.
+use Rattle.std.proofs.Common.{◌≡◌, ◌∙◌}
+use Rattle.mm_space.specs.Handing.{AreaState}
+use Rattle.mm_space.specs.Spaces.{AddressSpace}
+use Rattle.kernel_model.specs.Names.{NamedMap}
+use Rattle.kernel_model.specs.declared.caller.Caller.{Caller}
+use Rattle.kernel_model.specs.declared.kernel.Kernel.{Kernel}
+use Rattle.kernel_model.specs.calls.Answers.{Answer}
+use Rattle.kernel_model.specs.entries.Parts.{parts, Prog, outcome_in}
+use Rattle.kernel_calls.specs.Prepared.{Comes}
+use Rattle.kernel_calls.specs.declared.prepared.Called.{Called}
+use Rattle.kernel_calls.specs.declared.prepared.Called.TheVariants.{Replies, Makes, Sleeps, Waits}
+
+-- the same becomes of two rows that come to the same
+pub comes_alike : (d : Called) (row other : Prog Answer) (c : Caller) (k : Kernel) (space : AddressSpace)
+    (areas : NamedMap AreaState) → outcome_in (parts k) row ≡ outcome_in (parts k) other
+    → Comes other d c k space areas → Comes row d c k space areas
+comes_alike (Replies p) row other c k space areas is comes =
+    record { changes = comes.changes; row_is = is ∙ comes.row_is; done_is = comes.done_is }
+comes_alike (Makes child) row other c k space areas is comes =
+    record { changes = comes.changes; row_is = is ∙ comes.row_is; done_is = comes.done_is }
+comes_alike (Sleeps key) row other c k space areas is comes = is ∙ comes
+comes_alike Waits row other c k space areas is comes = is ∙ comes
