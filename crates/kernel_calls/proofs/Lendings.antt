@@ -197,7 +197,7 @@ there_same (h ∷ hand) (o ∷ other) m e there =
 -- ---- one more is lent
 
 -- a name that is not in hand has what it has in its place
-apart_by : (a b : Area) → is_area a b ≡ false → (a.place ≢ b.place) ⊎ (a.index ≢ b.index)
+pub apart_by : (a b : Area) → is_area a b ≡ false → (a.place ≢ b.place) ⊎ (a.index ≢ b.index)
 apart_by a b e = by (a.place == b.place) (a.index == b.index) refl refl e
   where
     by : (x y : Bool) → (a.place == b.place) ≡ x → (a.index == b.index) ≡ y → (x && y) ≡ false

@@ -1,5 +1,6 @@
 -- What contracts of this crate say, by subject.
 pub mod Children
+pub mod Cloning
 pub mod Lending
 pub mod Memories
 pub mod Prepared
