@@ -40,7 +40,7 @@ pub are_those : (k : Kernel) (areas : NamedMap AreaState) → k.areas ≡ areas 
 are_those k areas same name = ap (λ (m : NamedMap AreaState). get_named m name.place name.index) same
 
 -- a kernel with the memory that it has
-kept_memory : (c : Caller) (k : Kernel) (space : AddressSpace) (areas : NamedMap AreaState)
+pub kept_memory : (c : Caller) (k : Kernel) (space : AddressSpace) (areas : NamedMap AreaState)
     → get_named k.spaces c.memory.place c.memory.index ≡ Some c.space → space ≡ c.space → areas ≡ k.areas
     → with_memory c space areas k ≡ k
 kept_memory c k space areas there same shared =

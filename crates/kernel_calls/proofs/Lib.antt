@@ -1,8 +1,10 @@
 -- Lemmas of system calls and of what an execve reads, by subject.
 pub mod AccessLaws
 pub mod Answering
-pub mod ClearedWords
 pub mod ChildRows
+pub mod ClearedWords
+pub mod ClonedWords
+pub mod Clones
 pub mod Coming
 pub mod Effects
 pub mod Endings

@@ -1,6 +1,7 @@
 -- What contracts of this crate say, by subject.
 pub mod Children
 pub mod ClearWords
+pub mod Cloning
 pub mod Ends
 pub mod Lending
 pub mod Memories

@@ -1,0 +1,46 @@
+-- What a new thread begins with, by what was put into its words.
+use Rattle.std.proofs.Common.{None, refl, ap, ◌∙◌}
+use Rattle.kernel_model.specs.calls.Clone.{sets_child_word, sets_parent_word}
+use Rattle.kernel_calls.proofs.ClonedWords.{word_unasked}
+use Rattle.kernel_calls.proofs.Clones.{child_alone, child_with, thread_barred, thread_makes, thread_unset}
+use Rattle.kernel_calls.proofs.clone.thread.Goals as goal
+
+pub returns-then-not-sets_child_word-clause-made : goal.returns-then-not-sets_child_word-clause-made
+returns-then-not-sets_child_word-clause-made c caller k list waiting console calling registers next free =
+    let a = c.args in
+    thread_makes a.args.now a.number calling next free
+    (word_unasked a.context.now.task c.sets_parent_word.result a.space.now a.areas.now a.args.now.a2 a.number
+    c.if-not-sets_parent_word.true) (c.sets_parent_word.ensures ∙ ap sets_parent_word c.flags_of-flags.ensures) refl
+    refl refl
+    (word_unasked a.context.now.task c.sets_child_word.result a.space.now a.areas.now a.args.now.a4
+    a.number c.if-not-sets_child_word.true)
+    (c.sets_child_word.ensures ∙ ap sets_child_word c.flags_of-flags.ensures) c.new_child.result refl
+    (child_alone c.new_child.result a.args.now None a.registers.now calling registers
+    c.new_child.ensures.registers c.new_child.ensures.clear c.new_child.ensures.memory c.new_child.ensures.words)
+
+pub returns-then-not-branch-clause-made : goal.returns-then-not-branch-clause-made
+returns-then-not-branch-clause-made c caller k list waiting console calling registers next free =
+    let a = c.args in
+    thread_unset a.args.now a.number calling next free c.in_ok-set_word.ensures
+    (c.sets_parent_word-2.ensures ∙ ap sets_parent_word c.flags_of-flags.ensures) c.in_ok-words.ensures.space
+    c.in_ok-words.ensures.areas c.if-not-branch.true
+
+pub returns-then-not-branch-2-clause-made : goal.returns-then-not-branch-2-clause-made
+returns-then-not-branch-2-clause-made c caller k list waiting console calling registers next free =
+    let a = c.args in
+    thread_barred a.args.now a.number calling next free c.in_ok-set_word.ensures
+    (c.sets_parent_word-2.ensures ∙ ap sets_parent_word c.flags_of-flags.ensures) c.in_ok-words.ensures.space
+    c.in_ok-words.ensures.areas c.if-not-branch.false c.in_ok-set_word-2.ensures
+    (c.sets_child_word-2.ensures ∙ ap sets_child_word c.flags_of-flags.ensures) c.if-not-branch-2.true
+
+pub returns-clause-made : goal.returns-clause-made
+returns-clause-made c caller k list waiting console calling registers next free =
+    let a = c.args in
+    thread_makes a.args.now a.number calling next free c.in_ok-set_word.ensures
+    (c.sets_parent_word-2.ensures ∙ ap sets_parent_word c.flags_of-flags.ensures) c.in_ok-words.ensures.space
+    c.in_ok-words.ensures.areas c.if-not-branch.false c.in_ok-set_word-2.ensures
+    (c.sets_child_word-2.ensures ∙ ap sets_child_word c.flags_of-flags.ensures) c.new_child-2.result
+    c.if-not-branch-2.false
+    (child_with c.new_child-2.result a.args.now None a.registers.now calling registers
+    c.new_child-2.ensures.registers c.new_child-2.ensures.clear c.new_child-2.ensures.memory
+    (record { space = c.set_word-2.new.space; areas = c.set_word-2.new.areas }) c.new_child-2.ensures.words)
