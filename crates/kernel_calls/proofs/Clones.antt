@@ -49,12 +49,12 @@ pub record IsChild (child : Child) (c : Caller) (k : Kernel) (args : Args) (own 
 module _ (c : Caller) (k : Kernel) where
   abbrev made_so : Regs → (clear : ℕ) → Option AddressSpace → Kernel → Kernel
   made_so registers clear memory after =
-      let made = with_task memory clear c after in
+      let made = with_task (k.entries + 1) memory clear c after in
       record made { registers = map.insert made.registers (k.tasks.last + 1) registers }
 
   made_by : (child : Child) (args : Args) (memory : Option AddressSpace) (space : AddressSpace)
       (areas : NamedMap AreaState) → IsChild child c k args memory space areas
-      → with_child child c k
+      → with_child child (k.entries + 1) c k
       ≡ made_so (child_registers (cloning_of args).flags (cloning_of args).stack (cloning_of args).tls c.registers)
       (child_clear (cloning_of args).flags (cloning_of args).child_word) memory (with_memory c space areas k)
   made_by child args memory space areas is =
