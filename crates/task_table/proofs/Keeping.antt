@@ -43,6 +43,15 @@ sound_of t tasks groups live children a b live_is children_are kept =
     (live_is ∙ ap (numbers_where (λ c. c.live)) a) (children_are ∙ ap (numbers_where has_parent) b)
     (record { kept = kept; live_is = refl; children_are = refl })
 
+-- a table whose parts are those of one of which all holds, and the lists of it
+pub sound_of_parts : (t : TaskTable) (tasks : FinMap nat_cmp Task) (groups : FinMap nat_cmp Group) (last : ℕ)
+    (live children : List ℕ) → tasks ≡ t.tasks → groups ≡ t.groups → last ≡ t.last → live ≡ live_numbers t.tasks
+    → children ≡ numbers_where has_parent t.groups → IsKept t
+    → IsSound (record { tasks = tasks; groups = groups; last = last }) live children
+sound_of_parts t tasks groups last live children a b c live_is children_are kept =
+    sound_same t (live_numbers t.tasks) (numbers_where has_parent t.groups) tasks groups last live children a b c
+    live_is children_are (record { kept = kept; live_is = refl; children_are = refl })
+
 -- ---- changes that make no task and no group
 
 -- the same numbers and groups, no task that lives anew, and no group of a live task that has ended
@@ -257,8 +266,8 @@ insert_there : {V : Type 0} (m : FinMap nat_cmp V) (k : ℕ) (v : V) (q : ℕ) �
 insert_there m k v q apart = get_after m k v q ∙ ap (λ b. cond b (Some v) (get m q)) (ne_eqb q k apart)
 
 -- numbers that were used are below the next
-below_next : {V : Type 0} (m : FinMap nat_cmp V) (last : ℕ) → ((n : ℕ) → contains_key m n ≡ true → (0 < n) × (n ≤ last))
-    → (q : ℕ) → contains_key m q ≡ true → q < last + 1
+pub below_next : {V : Type 0} (m : FinMap nat_cmp V) (last : ℕ)
+    → ((n : ℕ) → contains_key m n ≡ true → (0 < n) × (n ≤ last)) → (q : ℕ) → contains_key m q ≡ true → q < last + 1
 below_next m last known q h = let b : q ≤ last = (known q h).1 in omega arith
 
 live_there : (tasks : FinMap nat_cmp Task) (n : ℕ) → is_live tasks n ≡ true → contains_key tasks n ≡ true

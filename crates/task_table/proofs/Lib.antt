@@ -5,5 +5,6 @@ pub mod Exiting
 pub mod Keeping
 pub mod Listing
 pub mod Numbers
+pub mod Unmaking
 pub mod Waiting
 pub mod Walking

@@ -1,9 +1,10 @@
--- What a new task leaves.
-use Rattle.std.specs.Prelude.{ℕ, ◌+◌, true, None}
+-- What a new task leaves, and tables that have one made last.
+use Rattle.std.specs.Prelude.{◌≡◌, ◌⊎◌, ℕ, ◌+◌, true, None, IsTrue}
 use Rattle.std.specs.FinMap.{insert}
 use Rattle.task_table.specs.declared.task.Made.{Made}
 use Rattle.task_table.specs.declared.task.Group.{Group}
-use Rattle.task_table.specs.Table.{TaskTable, group_of, cwd_of}
+use Rattle.task_table.specs.Kept.{IsKept}
+use Rattle.task_table.specs.Table.{TaskTable, group_of, cwd_of, is_live}
 
 -- a task with the next number, live, that begins a thread group of that number
 -- clone(2), without CLONE_THREAD
@@ -36,3 +37,19 @@ threaded t task clear = record {
   groups = t.groups;
   last = t.last + 1;
 }
+
+-- ---- a task that was made last
+
+-- whether one table comes to another by one new task: one that begins a thread group, or a live task's thread
+-- clone(2), CLONE_THREAD
+abbrev pub MadeFrom : TaskTable → TaskTable → Type 0
+MadeFrom before after =
+    ((group : Group) × (clear : ℕ) × (group.ended ≡ None) × (after ≡ with_group before group clear))
+    ⊎ ((task : ℕ) × (clear : ℕ) × IsTrue (is_live before.tasks task) × (after ≡ threaded before task clear))
+
+-- whether a table is what the making of one task left
+-- clone(2); profile: the table before is one that is kept
+pub record WasMade (after : TaskTable) : Type 0 where
+  pub before : TaskTable
+  pub kept : IsKept before
+  pub made : MadeFrom before after

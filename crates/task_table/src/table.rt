@@ -1,16 +1,17 @@
 //! The table of tasks and thread groups, and its calls.
 
-ghost use Rattle.std.specs.Prelude.{◌≡◌, ℕ, ◌+◌, ◌-◌, ◌^◌, ◌<◌, ◌≤◌, ◌↔◌, [], ◌∷◌, ◌++◌, find, nat_le, nat_lt, if◌then◌else◌, IsTrue, IsFalse, IfOk, OnOk, OnErr, None, option_copied, vec_len, vec_capacity};
+ghost use Rattle.std.specs.Prelude.{◌≡◌, ℕ, ◌+◌, ◌-◌, ◌^◌, ◌<◌, ◌≤◌, ◌↔◌, find, nat_le, nat_lt, IsTrue, IsFalse, IfOk, OnOk, OnErr, None, option_copied};
 ghost use Rattle.std.specs.FinMap as map;
-ghost use Rattle.task_table.specs.Clones.{forked, opened, threaded, with_group};
+ghost use Rattle.task_table.specs.Clones.{MadeFrom, WasMade, forked, opened, threaded, with_group};
 ghost use Rattle.task_table.specs.Ends.{ended_tasks, exited, group_ended, is_itself, is_last, is_member, is_other_member, others_ended};
 ghost use Rattle.task_table.specs.Entries.{changed_at};
 ghost use Rattle.task_table.specs.Kept.{IsKept};
 ghost use Rattle.task_table.specs.Reaps.{after_reap, reap_end};
-ghost use Rattle.task_table.specs.Table.{cwd_of, group_of, has_ended, has_parent, is_live, live_count, live_numbers, no_tasks};
+ghost use Rattle.task_table.specs.Table.{TaskTable, cwd_of, group_of, has_ended, is_live, live_count, live_numbers, no_tasks};
 
+use crate::clones::{note_child, put_both};
 use crate::ends::{Leaving, close_group, end_tasks, tasks_leaving};
-use crate::exits::{end_one, group_of, is_last_of_group, task_leaving};
+use crate::exits::{end_one, group_of, is_last_of_group, take_out, task_leaving};
 use crate::reaps::{end_of_wait, release};
 use crate::{CloneErr, Ended, EndedTask, Group, Made, ReapEnd, Status, Task};
 use sn_base::{List, Map, Memory};
@@ -78,6 +79,8 @@ impl Tasks {
         ensures ok { OnOk result (self.new ≡ opened self.old memory table cwd) }
         ensures full { (result ≡ Err CloneErr.Full) ↔ (live_count self.old ≡ 256) }
         ensures err { OnErr result (self.new ≡ self.old) }
+        ensures kept { IsKept self.old }
+        ensures made { OnOk result (MadeFrom self.old self.new) }
     {
         let group = Group {
             parent: 0,
@@ -103,6 +106,8 @@ impl Tasks {
         ensures ok { OnOk result (self.new ≡ forked self.old task memory table clear) }
         ensures full { (result ≡ Err CloneErr.Full) ↔ (live_count self.old ≡ 256) }
         ensures err { OnErr result (self.new ≡ self.old) }
+        ensures kept { IsKept self.old }
+        ensures made { OnOk result (MadeFrom self.old self.new) }
     {
         let parent = group_of(&self.tasks, task);
         let group = Group {
@@ -123,6 +128,8 @@ impl Tasks {
         ensures ok { OnOk result (self.new ≡ threaded self.old task clear) }
         ensures full { (result ≡ Err CloneErr.Full) ↔ (live_count self.old ≡ 256) }
         ensures err { OnErr result (self.new ≡ self.old) }
+        ensures kept { IsKept self.old }
+        ensures made { OnOk result (MadeFrom self.old self.new) }
     {
         if self.live.len() >= MOST_LIVE {
             return Err(CloneErr::Full);
@@ -138,6 +145,20 @@ impl Tasks {
         self.live.push_reserved(number);
         self.last = number;
         Ok(number)
+    }
+
+    /// Takes the task back that was made last, as if it hadn't been made, for a caller that lacks what goes with it. It
+    /// takes no memory.
+    pub fn unmake(&mut self)
+        requires { WasMade self.old }
+        ensures { (before : TaskTable) → IsKept before → MadeFrom before self.old → self.new ≡ before }
+    {
+        let number = self.last;
+        let _ = self.tasks.remove(u64::from(number));
+        let _ = self.groups.remove(u64::from(number));
+        take_out(&mut self.live, number);
+        take_out(&mut self.children, number);
+        self.last = number - 1;
     }
 
     /// The live tasks of a thread group, ascending, each with its clear word: those that the group's end ends. It goes
@@ -340,6 +361,8 @@ impl Tasks {
         ensures ok { OnOk result (self.new ≡ with_group self.old group clear) }
         ensures full { (result ≡ Err CloneErr.Full) ↔ (live_count self.old ≡ 256) }
         ensures err { OnErr result (self.new ≡ self.old) }
+        ensures kept { IsKept self.old }
+        ensures made { OnOk result (MadeFrom self.old self.new) }
     {
         if self.live.len() >= MOST_LIVE {
             return Err(CloneErr::Full);
@@ -394,39 +417,5 @@ fn put_memory(groups: &mut Map<Group>, number: u32, memory: Made)
 {
     if let Some(group) = groups.get(u64::from(number)).copied() {
         groups.replace(u64::from(number), Group { memory, ..group });
-    }
-}
-
-/// Puts a task and its group in. An `Err` leaves both maps as they were.
-#[tactic(auto, using(sn_base::proofs::Maps::map_laws))]
-fn put_both(
-    tasks: &mut Map<Task>,
-    groups: &mut Map<Group>,
-    number: u32,
-    task: Task,
-    group: Group,
-) -> Result<(), Memory>
-    requires { map.get groups.old number ≡ None }
-    ensures tasks { OnOk result (tasks.new ≡ map.insert tasks.old number task) }
-    ensures groups { OnOk result (groups.new ≡ map.insert groups.old number group) }
-    ensures same_tasks { OnErr result (tasks.new ≡ tasks.old) }
-    ensures same_groups { OnErr result (groups.new ≡ groups.old) }
-{
-    groups.insert(u64::from(number), group)?;
-    if let Err(e) = tasks.insert(u64::from(number), task) {
-        let _ = groups.remove(u64::from(number));
-        return Err(e);
-    }
-    Ok(())
-}
-
-/// Notes a group that has a parent, for which there is room.
-fn note_child(children: &mut Vec<u32>, number: u32, group: &Group)
-    requires { vec_len children.old < vec_capacity children.old }
-    ensures { children.new.items ≡
-        (if has_parent group.now then children.old.items ++ number ∷ [] else children.old.items) }
-{
-    if group.parent > 0 {
-        children.push_reserved(number);
     }
 }

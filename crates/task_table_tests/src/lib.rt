@@ -11,3 +11,5 @@ mod endings;
 mod limits;
 #[cfg(test)]
 mod rows;
+#[cfg(test)]
+mod unmaking;
