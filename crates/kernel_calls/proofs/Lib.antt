@@ -1,6 +1,7 @@
 -- Lemmas of system calls and of what an execve reads, by subject.
 pub mod AccessLaws
 pub mod Answering
+pub mod Children
 pub mod Effects
 pub mod Executables
 pub mod Filling
