@@ -2,6 +2,7 @@
 pub mod AccessLaws
 pub mod Answering
 pub mod ChildRows
+pub mod Children
 pub mod ClearedWords
 pub mod ClonedWords
 pub mod Clones
