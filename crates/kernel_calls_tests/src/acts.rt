@@ -2,6 +2,7 @@
 
 use crate::asked::{Asked, BRK, FIXED, GETRANDOM, MMAP, MPROTECT, MUNMAP, WRITE, ask};
 use crate::calling::{Guest, LOAD, STORE, STORE_RESERVED, new_guest};
+use crate::futex::{of_area, own};
 use kernel_calls::Ran;
 use kernel_model::Next;
 use std::alloc::Global;
@@ -51,6 +52,16 @@ pub enum Act {
     Again(u64, u64, u64),
     /// So many pages are mapped.
     Pages(u64),
+    /// futex, which puts it to sleep on the word of that address of its memory: its four arguments.
+    Sleeps([u64; 4]),
+    /// The same in the area that the call of a place made, on the word of that offset.
+    SleepsIn([u64; 4], u64, u64),
+    /// futex, which wakes so many.
+    Wakes([u64; 4], i64),
+    /// wait4, which waits: its four arguments.
+    Waits([u64; 4]),
+    /// wait4, which replies that child.
+    Reaps([u64; 4], i64),
     /// From here on it calls as that task, of that thread group.
     As(u32, u32),
     /// The next call's entry has that place.
@@ -214,6 +225,11 @@ impl Guest {
             Act::Steps(next) => self.expect_step(rt, 1, next),
             Act::Again(place, at, length) => self.expect_again(rt, place, at, length),
             Act::Pages(count) => self.expect_pages(rt, count),
+            Act::Sleeps(args) => self.expect_sleeps(rt, args, own(args[0])),
+            Act::SleepsIn(args, place, offset) => self.expect_sleeps(rt, args, of_area(place, offset)),
+            Act::Wakes(args, count) => self.expect_wakes(rt, args, count),
+            Act::Waits(args) => self.expect_waits(rt, args),
+            Act::Reaps(args, child) => self.expect_reaps(rt, args, child),
             Act::As(task, group) => {
                 self.task = task;
                 self.group = group;

@@ -2,10 +2,12 @@
 
 use kernel_model::Args;
 
-/// The numbers of write, set_tid_address, set_robust_list, clock_gettime, sched_yield and uname.
+/// The numbers of write, set_tid_address, futex, set_robust_list, clock_gettime, sched_yield and uname.
 pub const WRITE: u64 = 64;
 
 pub const SET_TID_ADDRESS: u64 = 96;
+
+pub const FUTEX: u64 = 98;
 
 pub const SET_ROBUST_LIST: u64 = 99;
 
@@ -30,7 +32,7 @@ pub const GETEGID: u64 = 177;
 
 pub const GETTID: u64 = 178;
 
-/// Of brk, munmap, mmap, mprotect and getrandom.
+/// Of brk, munmap, mmap, mprotect, wait4 and getrandom.
 pub const BRK: u64 = 214;
 
 pub const MUNMAP: u64 = 215;
@@ -38,6 +40,8 @@ pub const MUNMAP: u64 = 215;
 pub const MMAP: u64 = 222;
 
 pub const MPROTECT: u64 = 226;
+
+pub const WAIT4: u64 = 260;
 
 pub const GETRANDOM: u64 = 278;
 
@@ -50,8 +54,12 @@ pub const SHARED: u64 = 0x21;
 /// MAP_FIXED.
 pub const FIXED: u64 = 0x10;
 
-/// errno(3): EBADF, ENOMEM, EFAULT, ENODEV and EINVAL, as replies.
+/// errno(3): EBADF, ECHILD, EAGAIN, ENOMEM, EFAULT, ENODEV, EINVAL and ENOSYS, as replies.
 pub const EBADF: i64 = -9;
+
+pub const ECHILD: i64 = -10;
+
+pub const EAGAIN: i64 = -11;
 
 pub const ENOMEM: i64 = -12;
 
@@ -60,6 +68,8 @@ pub const EFAULT: i64 = -14;
 pub const ENODEV: i64 = -19;
 
 pub const EINVAL: i64 = -22;
+
+pub const ENOSYS: i64 = -38;
 
 /// A call: its number and its arguments.
 #[derive(Clone, Copy, Debug)]

@@ -1,8 +1,9 @@
 //! What a call takes from a guest's buffer, and what it comes to.
 
 use crate::asked::{Asked, ask};
-use crate::calling::{Guest, guest_in};
+use crate::calling::{Guest, guest_in, taken};
 use crate::guests::{expect_bytes, expect_unreadable, opened, read};
+use futex_core::Waiters;
 use kernel_calls::{Effect, Prepared, commit};
 use kernel_model::GuestSpace;
 use sn_base::{List, Memory};
@@ -60,12 +61,7 @@ fn a_buffer_is_read_whole_or_not_at_all(rt: HostRuntime) -> Result<(), Fail> {
 }
 
 /// What a call comes to, over a console of so many bytes.
-fn prepared(
-    guest: &mut Guest,
-    no: u64,
-    some: [u64; 3],
-    console: usize,
-) -> Result<Prepared, Memory> {
+fn prepared(guest: &mut Guest, no: u64, some: [u64; 3], console: usize) -> Result<Prepared, Fail> {
     guest.prepared(asked_of(no, some), console)
 }
 
@@ -102,21 +98,26 @@ fn calls_reply_as_their_manual_pages_say(rt: HostRuntime) -> Result<(), Fail> {
 fn expect_written(rt: &impl Abort, guest: &mut Guest, console: usize) -> Result<(), Fail> {
     let prepared = prepared(guest, 64, [1, 65_536, 4], console)?;
     assert_eq!(rt; prepared.reply, 4);
-    match prepared.effect {
-        Effect::TakesBytes(bytes) => assert_eq!(rt; bytes.as_slice(), LETTERS.as_slice()),
-        _ => panic!(rt; "nothing is written"),
-    }
+    let bytes = taken(prepared).ok_or("nothing is written")?;
+    assert_eq!(rt; bytes.as_slice(), LETTERS.as_slice());
     Ok(())
+}
+
+/// The status that a call ends its thread group with, or `None`.
+fn exited(prepared: Prepared) -> Option<Status> {
+    let Prepared { effect, .. } = prepared;
+    match effect {
+        Effect::EndsGroup(ending) => Some(ending.status),
+        _ => None,
+    }
 }
 
 /// That a group exits with that code.
 fn expect_exit(rt: &impl Abort, guest: &mut Guest, status: u64, wanted: u8) -> Result<(), Fail> {
     let prepared = prepared(guest, 94, [status, 0, 0], 0)?;
     assert_eq!(rt; prepared.reply, 0);
-    match prepared.effect {
-        Effect::EndsGroup(status) => assert_eq!(rt; status, Status::Exited(wanted)),
-        _ => panic!(rt; "the group does not exit"),
-    }
+    let status = exited(prepared).ok_or("the group does not exit")?;
+    assert_eq!(rt; status, Status::Exited(wanted));
     Ok(())
 }
 
@@ -138,7 +139,9 @@ fn what_is_written_is_the_buffers_bytes_where_the_console_has_room(
 /// Has a console take bytes, beside no tasks.
 fn take(alloc: Global, console: &mut List<u8>, bytes: &[u8]) -> Result<(), Memory> {
     let effect = Effect::TakesBytes(List::from_slice(alloc, bytes)?);
-    commit(alloc, effect, 1, &mut Tasks::new(alloc), console)
+    let mut tasks = Tasks::new(alloc);
+    let mut sleepers = Waiters::new(alloc);
+    commit(alloc, effect, 1, &mut tasks, &mut sleepers, console)
 }
 
 /// That a console has what it took, in order.

@@ -2,8 +2,10 @@
 //! how it came to be, so that no test's proof has its contract before it.
 
 use crate::asked::{Asked, WRITE, args_of, ask};
+use crate::families::lives;
 use crate::guests::opened;
-use kernel_calls::{Beginning, Context, Effect, Prepared, Ran, call, run, step};
+use futex_core::Waiters;
+use kernel_calls::{Beginning, Called, Context, Effect, Prepared, Ran, call, run, step};
 use kernel_model::{GuestArea, GuestSpace, Named, Next};
 use mm_areas::{AreaErr, Backing, Rights};
 use rv_table::{Area, Regs};
@@ -11,7 +13,7 @@ use sn_base::{List, Memory};
 use sn_vectors::image_of;
 use std::alloc::Global;
 use std::test::Fail;
-use task_table::Tasks;
+use task_table::{Made, Tasks};
 
 /// The break's start of a guest whose image has one page.
 pub const HEAP: u64 = 69_632;
@@ -55,9 +57,12 @@ pub const ADD_WORD: u64 = 65_684;
 
 pub const JUMP: u64 = 65_688;
 
-/// A guest: its registers, its memory, the shared areas and the tasks there are, the task and the thread group that it
-/// calls as, the place of its last call's entry, the seed of its calls, and the kind of mappings that it makes where a
-/// test tries both.
+/// The name of a guest's memory.
+pub const MEMORY: Made = Made { place: 0, index: 1 };
+
+/// A guest: its registers, its memory, the shared areas, the tasks and the sleepers there are, the task and the thread
+/// group that it calls as, the name of its memory, the place of its last call's entry, the seed of its calls, and the
+/// kind of mappings that it makes where a test tries both.
 #[derive(Drop)]
 pub struct Guest {
     pub alloc: Global,
@@ -65,34 +70,45 @@ pub struct Guest {
     pub space: GuestSpace,
     pub areas: Named<GuestArea>,
     pub tasks: Tasks,
+    pub sleepers: Waiters,
     pub task: u32,
     pub group: u32,
+    pub memory: Made,
     pub place: u64,
     pub seed: [u8; 32],
     pub kind: u64,
 }
 
+/// The first task alone.
+fn first_task(alloc: Global) -> Result<Tasks, Fail> {
+    let mut tasks = Tasks::new(alloc);
+    let _ = tasks.open(MEMORY, MEMORY, 1)?;
+    Ok(tasks)
+}
+
 /// One that was opened so, and has not called.
-fn guest_from(alloc: Global, beginning: Beginning) -> Guest {
+fn guest_from(alloc: Global, beginning: Beginning) -> Result<Guest, Fail> {
     let Beginning { registers, space } = beginning;
-    Guest {
+    Ok(Guest {
         alloc,
         registers,
         space,
         areas: Named::new(alloc),
-        tasks: Tasks::new(alloc),
+        tasks: first_task(alloc)?,
+        sleepers: Waiters::new(alloc),
         task: 1,
         group: 1,
+        memory: MEMORY,
         place: 0,
         seed: [0; 32],
         kind: 0,
-    }
+    })
 }
 
 /// A guest of a file.
 pub fn guest_in(alloc: Global, file: &[u8]) -> Result<Guest, Fail> {
     let beginning = opened(alloc, 1, file)?;
-    Ok(guest_from(alloc, beginning))
+    guest_from(alloc, beginning)
 }
 
 /// A guest with these words as its code, from 65,656 on.
@@ -114,7 +130,7 @@ pub fn guest_among(alloc: Global, tasks: Tasks) -> Result<Guest, Fail> {
 }
 
 /// The bytes that a call takes to the console, or `None`.
-fn taken(prepared: Prepared) -> Option<List<u8>> {
+pub fn taken(prepared: Prepared) -> Option<List<u8>> {
     let Prepared { effect, .. } = prepared;
     match effect {
         Effect::TakesBytes(bytes) => Some(bytes),
@@ -123,36 +139,51 @@ fn taken(prepared: Prepared) -> Option<List<u8>> {
 }
 
 impl Guest {
-    /// What its next call comes to, over a console of so many bytes.
-    pub fn prepared(&mut self, asked: Asked, console: usize) -> Result<Prepared, Memory> {
+    /// What becomes of its next call, over a console of so many bytes.
+    pub fn called(&mut self, asked: Asked, console: usize) -> Result<Called, Fail> {
+        if !lives(&self.tasks, self.task) {
+            return Err(Fail::new("no such task"));
+        }
         self.place = self.place.wrapping_add(1);
         let context = Context {
             task: self.task,
             group: self.group,
+            memory: self.memory,
             place: self.place,
             seed: &self.seed,
         };
         let args = args_of(&asked);
-        call(
+        let called = call(
             self.alloc,
             &context,
             asked.number,
+            &self.registers,
             &args,
             &mut self.space,
             &mut self.areas,
             &self.tasks,
+            &self.sleepers,
             console,
-        )
+        )?;
+        Ok(called)
+    }
+
+    /// What a call comes to that replies.
+    pub fn prepared(&mut self, asked: Asked, console: usize) -> Result<Prepared, Fail> {
+        match self.called(asked, console)? {
+            Called::Replies(prepared) => Ok(prepared),
+            _ => Err(Fail::new("no reply")),
+        }
     }
 
     /// The reply of its next call.
-    pub fn reply(&mut self, asked: Asked) -> Result<i64, Memory> {
+    pub fn reply(&mut self, asked: Asked) -> Result<i64, Fail> {
         let prepared = self.prepared(asked, 0)?;
         Ok(prepared.reply)
     }
 
     /// The bytes that a write to the console takes, or `None` where it is refused.
-    pub fn written(&mut self, at: u64, count: u64) -> Result<Option<List<u8>>, Memory> {
+    pub fn written(&mut self, at: u64, count: u64) -> Result<Option<List<u8>>, Fail> {
         let prepared = self.prepared(ask(WRITE, [1, at, count, 0, 0, 0]), 0)?;
         Ok(taken(prepared))
     }

@@ -31,6 +31,7 @@ fn expect_sets(rt: &impl Abort, guest: &mut Guest, address: u64) -> Result<(), F
         effect,
         guest.group,
         &mut guest.tasks,
+        &mut guest.sleepers,
         &mut console,
     )?;
     Ok(())

@@ -1,26 +1,30 @@
 //! Tasks among which a guest calls: a family of them, and thread groups that end.
 
-ghost use Rattle.std.specs.Prelude.{◌-◌, ◌<◌, ◌^◌, IsTrue, IsFalse};
+ghost use Rattle.std.specs.Prelude.{◌≡◌, ◌-◌, ◌<◌, ◌^◌, IsTrue, IsFalse};
 ghost use Rattle.std.specs.FinMap as map;
 ghost use Rattle.task_table.specs.Table.{has_ended, is_live};
 
+use crate::calling::MEMORY;
 use std::alloc::Global;
 use std::process::Abort;
 use std::test::Fail;
-use task_table::{Ended, Made, Status, Tasks};
+use task_table::{Ended, Status, Tasks};
 
-/// The memory that tasks are given; no call looks at it.
-const MEMORY: Made = Made { place: 0, index: 1 };
+/// Whether a task lives.
+pub fn lives(tasks: &Tasks, number: u32) -> bool
+    ensures { result ≡ is_live tasks.now.tasks number }
+{
+    match tasks.task(number) {
+        Some(task) => task.live,
+        None => false,
+    }
+}
 
 /// Aborts unless a task lives.
 fn expect_live(rt: &impl Abort, tasks: &Tasks, number: u32)
     ensures { IsTrue (is_live tasks.now.tasks number) }
 {
-    let live = match tasks.task(number) {
-        Some(task) => task.live,
-        None => false,
-    };
-    assert!(rt; live);
+    assert!(rt; lives(tasks, number));
 }
 
 /// Aborts unless there is a number left.
@@ -73,6 +77,12 @@ pub fn end(rt: &impl Abort, alloc: Global, tasks: &mut Tasks, group: u32) -> Res
     Ok(ended)
 }
 
+/// A thread group ends with a status.
+pub fn end_as(rt: &impl Abort, tasks: &mut Tasks, group: u32, status: Status) {
+    expect_group(rt, tasks, group);
+    tasks.close(group, status);
+}
+
 /// Task 1 has the child 2, and that the child 3 and the thread 4.
 pub fn family(rt: &impl Abort, alloc: Global) -> Result<Tasks, Fail> {
     let mut tasks = Tasks::new(alloc);
@@ -80,5 +90,17 @@ pub fn family(rt: &impl Abort, alloc: Global) -> Result<Tasks, Fail> {
     fork(rt, &mut tasks, 1)?;
     fork(rt, &mut tasks, 2)?;
     thread(rt, &mut tasks, 2)?;
+    Ok(tasks)
+}
+
+/// Task 1 has the children 2, 3 and 4 and the thread 5, and 2 the child 6.
+pub fn brood(rt: &impl Abort, alloc: Global) -> Result<Tasks, Fail> {
+    let mut tasks = Tasks::new(alloc);
+    open(rt, &mut tasks)?;
+    fork(rt, &mut tasks, 1)?;
+    fork(rt, &mut tasks, 1)?;
+    fork(rt, &mut tasks, 1)?;
+    thread(rt, &mut tasks, 1)?;
+    fork(rt, &mut tasks, 2)?;
     Ok(tasks)
 }

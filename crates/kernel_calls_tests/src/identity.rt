@@ -5,12 +5,11 @@ use crate::asked::{
     EFAULT, GETEGID, GETEUID, GETGID, GETPID, GETPPID, GETTID, GETUID, PRIVATE, SET_ROBUST_LIST,
     SHARED, UNAME,
 };
-use crate::calling::{HEAP, MAPPINGS_END, TOP, guest_among};
+use crate::calling::{HEAP, MAPPINGS_END, TOP, guest_among, new_guest};
 use crate::families::{end, family};
 use std::alloc::Global;
 use std::process::Abort;
 use std::test::Fail;
-use task_table::Tasks;
 
 /// What each of them is told: its group, its parent's and its own number.
 #[rattlefmt::skip]
@@ -102,7 +101,7 @@ const NAMES: [Act; 17] = [
 
 /// That a guest, which has words of ones where the names will be, is told them.
 fn expect_names(rt: &impl Abort, alloc: Global) -> Result<(), Fail> {
-    let mut guest = guest_among(alloc, Tasks::new(alloc))?;
+    let mut guest = new_guest(alloc)?;
     for word in 0..49u64 {
         let at = word.wrapping_mul(8).wrapping_add(AT);
         guest.expect_act(rt, Act::Stores(at, u64::MAX))?;

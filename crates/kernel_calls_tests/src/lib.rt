@@ -1,8 +1,8 @@
 //! Tests of the functions for system calls, over their public calls, with ample memory.
 //!
 //! The contracts of `kernel_calls` say what each of them does; here calls reply as their manual pages say, memory holds
-//! what was put there under the rights that it was given, tasks are told who they are and what time it is, and say
-//! where their clear words are, they begin with the pages, strings and random bytes of their images, runs of
+//! what was put there under the rights that it was given, tasks are told who they are and what time it is, say where
+//! their clear words are, sleep on words and wake one another, and wait for their children, they begin with the pages, strings and random bytes of their images, runs of
 //! instructions stop where they should, and instructions are done in shared areas. Guests are those of `sn_vectors`,
 //! and others of words that an assembler made.
 //!
@@ -29,6 +29,8 @@ mod ending;
 #[cfg(test)]
 mod families;
 #[cfg(test)]
+mod futex;
+#[cfg(test)]
 mod guests;
 #[cfg(test)]
 mod identity;
@@ -52,3 +54,5 @@ mod runs;
 mod shared;
 #[cfg(test)]
 mod time;
+#[cfg(test)]
+mod wait;

@@ -1,0 +1,420 @@
+//! Tasks that sleep on words, are told why they may not, and are woken.
+
+use crate::acts::{Act, expect_acts};
+use crate::asked::{
+    Asked, EAGAIN, EFAULT, EINVAL, ENOSYS, FIXED, FUTEX, GETTID, PRIVATE, SHARED, ask,
+};
+use crate::calling::{Guest, HEAP, MAPPINGS_END, MEMORY, TOP, guest_among, new_guest};
+use crate::families::family;
+use futex_core::{FutexKey, Owner, Waiters};
+use kernel_calls::{Called, Effect, commit, sleep};
+use sn_base::List;
+use std::alloc::Global;
+use std::process::Abort;
+use std::test::Fail;
+use task_table::Made;
+
+/// A call of futex.
+fn futex([address, operation, value, timeout]: [u64; 4]) -> Asked {
+    ask(FUTEX, [address, operation, value, timeout, u64::MAX, 7])
+}
+
+/// Puts a task to sleep.
+fn put_to_sleep(sleepers: &mut Waiters, task: u32, key: FutexKey) -> Result<(), Fail> {
+    if sleepers.is_asleep(task) || sleepers.is_woken(task) {
+        return Err(Fail::new("it sleeps already"));
+    }
+    Ok(sleep(sleepers, task, key)?)
+}
+
+impl Guest {
+    /// That a FUTEX_WAIT sleeps on the word of that name, and then it does.
+    pub fn expect_sleeps(
+        &mut self,
+        rt: &impl Abort,
+        args: [u64; 4],
+        key: FutexKey,
+    ) -> Result<(), Fail> {
+        match self.called(futex(args), 0)? {
+            Called::Sleeps(found) => assert_eq!(rt; found, key, "{args:?}"),
+            _ => panic!(rt; "it does not sleep: {args:?}"),
+        }
+        put_to_sleep(&mut self.sleepers, self.task, key)
+    }
+
+    /// That a FUTEX_WAKE replies how many it wakes, and then they are woken.
+    pub fn expect_wakes(
+        &mut self,
+        rt: &impl Abort,
+        args: [u64; 4],
+        count: i64,
+    ) -> Result<(), Fail> {
+        let prepared = self.prepared(futex(args), 0)?;
+        assert_eq!(rt; prepared.reply, count, "{args:?}");
+        match prepared.effect {
+            Effect::Wakes { key, most } => self.wake(key, most),
+            _ => Err(Fail::new("it wakes nobody")),
+        }
+    }
+
+    /// Wakes those who sleep on a word, so many at most.
+    fn wake(&mut self, key: FutexKey, most: u32) -> Result<(), Fail> {
+        let effect = Effect::Wakes { key, most };
+        let mut console = List::new(self.alloc);
+        commit(
+            self.alloc,
+            effect,
+            self.group,
+            &mut self.tasks,
+            &mut self.sleepers,
+            &mut console,
+        )?;
+        Ok(())
+    }
+
+    /// Which of the tasks 1 to 4 sleep.
+    fn asleep(&self) -> [bool; 4] {
+        let sleepers = &self.sleepers;
+        [
+            sleepers.is_asleep(1),
+            sleepers.is_asleep(2),
+            sleepers.is_asleep(3),
+            sleepers.is_asleep(4),
+        ]
+    }
+}
+
+/// The word of an address of the guest's own memory.
+pub fn own(address: u64) -> FutexKey {
+    FutexKey {
+        owner: Owner::Memory { place: 0, index: 1 },
+        address,
+    }
+}
+
+/// The word at an offset of the area that the call of a place made.
+pub fn of_area(place: u64, address: u64) -> FutexKey {
+    FutexKey {
+        owner: Owner::Area { place, index: 0 },
+        address,
+    }
+}
+
+/// Two words: 5, and 7 behind it.
+const AT: u64 = TOP - 64;
+
+const WORDS: u64 = 0x0000_0007_0000_0005;
+
+/// Pages that may not be accessed, only be written, and only be read.
+const NONE: u64 = MAPPINGS_END - 4096;
+
+const WRITE_ONLY: u64 = MAPPINGS_END - 8192;
+
+const READ_ONLY: u64 = MAPPINGS_END - 12_288;
+
+/// FUTEX_WAIT and FUTEX_WAKE, and both with FUTEX_PRIVATE_FLAG; and 2^32.
+const WAIT: u64 = 0;
+
+const WAKE: u64 = 1;
+
+const WAIT_PRIVATE: u64 = 128;
+
+const WAKE_PRIVATE: u64 = 129;
+
+const P32: u64 = 1 << 32;
+
+/// Each error alone: futex(2), ERRORS, with the order of docs/GUESTS.md. ENOSYS is that of other operations, as FUTEX_FD
+/// 2, FUTEX_REQUEUE 3, FUTEX_WAIT_BITSET 9 and FUTEX_CLOCK_REALTIME 256, and of a FUTEX_WAIT with a timeout.
+#[rattlefmt::skip]
+const ERRORS: [Act; 45] = [
+    Act::Stores(AT, WORDS),
+    Act::Map(0, 4096, 0, PRIVATE, NONE),
+    Act::Map(0, 4096, 2, PRIVATE, WRITE_ONLY),
+    Act::Calls(FUTEX, [AT, 2, 5, 0, 0, 0], ENOSYS),
+    Act::Calls(FUTEX, [AT, 3, 5, 0, 0, 0], ENOSYS),
+    Act::Calls(FUTEX, [AT, 9, 5, 0, 0, 0], ENOSYS),
+    Act::Calls(FUTEX, [AT, 127, 5, 0, 0, 0], ENOSYS),
+    Act::Calls(FUTEX, [AT, 130, 5, 0, 0, 0], ENOSYS),
+    Act::Calls(FUTEX, [AT, 256, 5, 0, 0, 0], ENOSYS),
+    Act::Calls(FUTEX, [AT, 257, 5, 0, 0, 0], ENOSYS),
+    Act::Calls(FUTEX, [AT, 1 << 31, 5, 0, 0, 0], ENOSYS),
+    Act::Calls(FUTEX, [AT, P32 + 2, 5, 0, 0, 0], ENOSYS),
+    Act::Calls(FUTEX, [AT, u64::MAX, 5, 0, 0, 0], ENOSYS),
+    Act::Calls(FUTEX, [AT + 1, WAIT, 5, 0, 0, 0], EINVAL),
+    Act::Calls(FUTEX, [AT + 2, WAIT, 5, 0, 0, 0], EINVAL),
+    Act::Calls(FUTEX, [AT + 3, WAIT_PRIVATE, 5, 0, 0, 0], EINVAL),
+    Act::Calls(FUTEX, [AT + 1, WAKE, 5, 0, 0, 0], EINVAL),
+    Act::Calls(FUTEX, [AT + 2, WAKE_PRIVATE, 5, 0, 0, 0], EINVAL),
+    Act::Calls(FUTEX, [AT + 3, WAKE, 0, 0, 0, 0], EINVAL),
+    Act::Calls(FUTEX, [AT, WAIT, 5, 1, 0, 0], ENOSYS),
+    Act::Calls(FUTEX, [AT, WAIT, 5, AT, 0, 0], ENOSYS),
+    Act::Calls(FUTEX, [AT, WAIT_PRIVATE, 5, P32, 0, 0], ENOSYS),
+    Act::Calls(FUTEX, [AT, WAIT, 5, u64::MAX, 0, 0], ENOSYS),
+    Act::Calls(FUTEX, [0, WAIT, 0, 0, 0, 0], EFAULT),
+    Act::Calls(FUTEX, [0, WAKE, 1, 0, 0, 0], EFAULT),
+    Act::Calls(FUTEX, [65_532, WAIT, 0, 0, 0, 0], EFAULT),
+    Act::Calls(FUTEX, [HEAP, WAIT, 0, 0, 0, 0], EFAULT),
+    Act::Calls(FUTEX, [HEAP, WAKE_PRIVATE, 1, 0, 0, 0], EFAULT),
+    Act::Calls(FUTEX, [TOP, WAIT, 0, 0, 0, 0], EFAULT),
+    Act::Calls(FUTEX, [P32 + 65_536, WAIT, 0, 0, 0, 0], EFAULT),
+    Act::Calls(FUTEX, [u64::MAX - 3, WAIT, 0, 0, 0, 0], EFAULT),
+    Act::Calls(FUTEX, [u64::MAX - 3, WAKE, 1, 0, 0, 0], EFAULT),
+    Act::Calls(FUTEX, [NONE, WAIT, 0, 0, 0, 0], EFAULT),
+    Act::Calls(FUTEX, [NONE, WAKE, 1, 0, 0, 0], EFAULT),
+    Act::Calls(FUTEX, [WRITE_ONLY, WAIT, 0, 0, 0, 0], EFAULT),
+    Act::Calls(FUTEX, [WRITE_ONLY + 4092, WAKE, 1, 0, 0, 0], EFAULT),
+    Act::Calls(FUTEX, [AT, WAIT, 4, 0, 0, 0], EAGAIN),
+    Act::Calls(FUTEX, [AT, WAIT, 6, 0, 0, 0], EAGAIN),
+    Act::Calls(FUTEX, [AT, WAIT, 7, 0, 0, 0], EAGAIN),
+    Act::Calls(FUTEX, [AT, WAIT_PRIVATE, 0, 0, 0, 0], EAGAIN),
+    Act::Calls(FUTEX, [AT, WAIT, P32 + 4, 0, 0, 0], EAGAIN),
+    Act::Calls(FUTEX, [AT, WAIT, WORDS - 1, 0, 0, 0], EAGAIN),
+    Act::Calls(FUTEX, [AT + 4, WAIT, 5, 0, 0, 0], EAGAIN),
+    Act::Calls(FUTEX, [65_536, WAIT, 0, 0, 0, 0], EAGAIN),
+    Act::Loads(AT, WORDS),
+];
+
+#[test]
+fn futex_is_refused_by_what_is_wrong(rt: HostRuntime) -> Result<(), Fail> {
+    expect_acts(&rt, rt.alloc(), &ERRORS)
+}
+
+/// Two causes at once, of which the earlier is told: an operation that there isn't before each other cause; an address
+/// that is no multiple of 4 before a timeout, a byte that may not be read and another word; a timeout before a byte and
+/// another word; and a byte that may not be read, whatever is expected there. A FUTEX_WAKE has no timeout.
+#[rattlefmt::skip]
+const PAIRS: [Act; 23] = [
+    Act::Stores(AT, WORDS),
+    Act::Calls(FUTEX, [AT + 1, 2, 5, 0, 0, 0], ENOSYS),
+    Act::Calls(FUTEX, [AT, 2, 5, 1, 0, 0], ENOSYS),
+    Act::Calls(FUTEX, [HEAP, 2, 0, 0, 0, 0], ENOSYS),
+    Act::Calls(FUTEX, [AT, 2, 6, 0, 0, 0], ENOSYS),
+    Act::Calls(FUTEX, [HEAP + 1, 130, 6, 1, 0, 0], ENOSYS),
+    Act::Calls(FUTEX, [AT + 1, WAIT, 5, 1, 0, 0], EINVAL),
+    Act::Calls(FUTEX, [HEAP + 2, WAIT, 0, 0, 0, 0], EINVAL),
+    Act::Calls(FUTEX, [HEAP + 2, WAKE, 1, 0, 0, 0], EINVAL),
+    Act::Calls(FUTEX, [TOP - 1, WAIT, 0, 0, 0, 0], EINVAL),
+    Act::Calls(FUTEX, [u64::MAX, WAKE, 1, 0, 0, 0], EINVAL),
+    Act::Calls(FUTEX, [AT + 3, WAIT_PRIVATE, 6, 0, 0, 0], EINVAL),
+    Act::Calls(FUTEX, [HEAP + 1, WAIT, 6, 1, 0, 0], EINVAL),
+    Act::Calls(FUTEX, [HEAP, WAIT, 0, 1, 0, 0], ENOSYS),
+    Act::Calls(FUTEX, [0, WAIT_PRIVATE, 0, u64::MAX, 0, 0], ENOSYS),
+    Act::Calls(FUTEX, [AT, WAIT, 6, 1, 0, 0], ENOSYS),
+    Act::Calls(FUTEX, [HEAP, WAIT, 6, 0, 0, 0], EFAULT),
+    Act::Calls(FUTEX, [HEAP, WAKE, 0, 0, 0, 0], EFAULT),
+    Act::Calls(FUTEX, [HEAP, WAKE, 1, 1, 0, 0], EFAULT),
+    Act::Wakes([AT, WAKE, 1, 0], 0),
+    Act::Wakes([AT, WAKE, 1, 1], 0),
+    Act::Wakes([AT, WAKE_PRIVATE, 6, u64::MAX], 0),
+    Act::Loads(AT, WORDS),
+];
+
+#[test]
+fn of_two_causes_futex_tells_the_first(rt: HostRuntime) -> Result<(), Fail> {
+    expect_acts(&rt, rt.alloc(), &PAIRS)
+}
+
+/// A word that is what the task expects, by the low 32 bits of the operation and of the value; it may lie in a page that
+/// may only be read, and in the code. FUTEX_PRIVATE_FLAG makes no difference.
+#[rattlefmt::skip]
+const ASLEEP: [Act; 21] = [
+    Act::Map(0, 4096, 0, PRIVATE, NONE),
+    Act::Map(0, 4096, 2, PRIVATE, WRITE_ONLY),
+    Act::Map(0, 4096, 1, PRIVATE, READ_ONLY),
+    Act::Stores(AT, WORDS),
+    Act::Stores(AT + 8, u64::MAX),
+    Act::Sleeps([AT, WAIT, 5, 0]),
+    Act::Wakes([AT, WAKE_PRIVATE, 1, 0], 1),
+    Act::As(2, 2),
+    Act::Sleeps([AT + 4, WAIT_PRIVATE, 7, 0]),
+    Act::As(3, 3),
+    Act::Sleeps([AT + 8, P32 + WAIT, P32 + 0xffff_ffff, 0]),
+    Act::Wakes([AT + 8, P32 + WAKE, P32 + 1, 0], 1),
+    Act::As(4, 2),
+    Act::Sleeps([READ_ONLY + 4092, WAIT, 0, 0]),
+    Act::Calls(FUTEX, [WRITE_ONLY - 4, WAIT, 1, 0, 0, 0], EAGAIN),
+    Act::Wakes([AT, WAKE, 1, 0], 0),
+    Act::Wakes([AT + 4, WAKE, 1, 0], 1),
+    Act::Wakes([READ_ONLY + 4092, WAKE, 1, 0], 1),
+    Act::Loads(AT, WORDS),
+    Act::Loads(AT + 8, u64::MAX),
+    Act::Pages(68),
+];
+
+#[test]
+fn a_task_sleeps_on_a_word_that_is_what_it_expects(rt: HostRuntime) -> Result<(), Fail> {
+    let tasks = family(&rt, rt.alloc())?;
+    let mut guest = guest_among(rt.alloc(), tasks)?;
+    guest.expect_acts(&rt, &ASLEEP)
+}
+
+/// The word at the beginning of the code's page, which begins an ELF file.
+#[rattlefmt::skip]
+const CODE: [Act; 2] = [
+    Act::Sleeps([65_536, WAIT, 0x464c_457f, 0]),
+    Act::Wakes([65_536, WAKE, 1, 0], 1),
+];
+
+#[test]
+fn a_word_may_lie_in_the_code(rt: HostRuntime) -> Result<(), Fail> {
+    expect_acts(&rt, rt.alloc(), &CODE)
+}
+
+/// Three tasks sleep on one word, and one on the next.
+#[rattlefmt::skip]
+const SLEEPERS: [Act; 9] = [
+    Act::Stores(AT, WORDS),
+    Act::As(3, 3),
+    Act::Sleeps([AT, WAIT, 5, 0]),
+    Act::As(1, 1),
+    Act::Sleeps([AT, WAIT, 5, 0]),
+    Act::As(4, 2),
+    Act::Sleeps([AT + 4, WAIT, 7, 0]),
+    Act::As(2, 2),
+    Act::Sleeps([AT, WAIT, 5, 0]),
+];
+
+/// What wakes at most so many of them replies, and which of the tasks 1 to 4 sleep on: those wake first who sleep
+/// longest, on that word alone.
+#[rattlefmt::skip]
+const WAKINGS: [([u64; 4], i64, [bool; 4]); 9] = [
+    ([AT, WAKE, 0, 0], 0, [true, true, true, true]),
+    ([AT, WAKE, P32, 0], 0, [true, true, true, true]),
+    ([AT + 8, WAKE, 5, 0], 0, [true, true, true, true]),
+    ([AT, WAKE, 1, 0], 1, [true, true, false, true]),
+    ([AT, WAKE, P32 + 1, 9], 1, [false, true, false, true]),
+    ([AT, WAKE_PRIVATE, 0xffff_ffff, 0], 1, [false, false, false, true]),
+    ([AT, WAKE, u64::MAX, 0], 0, [false, false, false, true]),
+    ([AT + 4, WAKE, 1 << 31, 0], 1, [false, false, false, false]),
+    ([AT + 4, WAKE, 1, 0], 0, [false, false, false, false]),
+];
+
+/// That they sleep, and these come of one another.
+fn expect_wakings(rt: &impl Abort, guest: &mut Guest) -> Result<(), Fail> {
+    guest.expect_acts(rt, &SLEEPERS)?;
+    for (args, count, asleep) in WAKINGS {
+        guest.expect_wakes(rt, args, count)?;
+        assert_eq!(rt; guest.asleep(), asleep, "{args:?}");
+    }
+    Ok(())
+}
+
+#[test]
+fn a_wake_replies_how_many_of_those_on_its_word_it_wakes(rt: HostRuntime) -> Result<(), Fail> {
+    let tasks = family(&rt, rt.alloc())?;
+    let mut guest = guest_among(rt.alloc(), tasks)?;
+    expect_wakings(&rt, &mut guest)
+}
+
+/// All who sleep on a word are woken at once, and what lies there then is no matter.
+#[rattlefmt::skip]
+const AT_ONCE: [Act; 4] = [
+    Act::Stores(AT, 0),
+    Act::Wakes([AT, WAKE, 2, 0], 2),
+    Act::Wakes([AT, WAKE, 2, 0], 1),
+    Act::Wakes([AT + 4, WAKE, 2, 0], 1),
+];
+
+#[test]
+fn a_wake_does_not_look_at_what_the_word_is(rt: HostRuntime) -> Result<(), Fail> {
+    let tasks = family(&rt, rt.alloc())?;
+    let mut guest = guest_among(rt.alloc(), tasks)?;
+    guest.expect_acts(&rt, &SLEEPERS)?;
+    guest.expect_acts(&rt, &AT_ONCE)
+}
+
+/// The same address of another memory is another word.
+fn expect_apart(rt: &impl Abort, alloc: Global) -> Result<(), Fail> {
+    let mut guest = new_guest(alloc)?;
+    guest.expect_act(rt, Act::Stores(AT, WORDS))?;
+    guest.expect_sleeps(rt, [AT, WAIT, 5, 0], own(AT))?;
+    for memory in [Made { place: 0, index: 2 }, Made { place: 1, index: 1 }] {
+        guest.memory = memory;
+        guest.expect_wakes(rt, [AT, WAKE, 9, 0], 0)?;
+        guest.expect_wakes(rt, [AT, WAKE_PRIVATE, 9, 0], 0)?;
+    }
+    guest.memory = MEMORY;
+    guest.expect_wakes(rt, [AT, WAKE, 9, 0], 1)
+}
+
+#[test]
+fn a_private_word_is_of_its_memory_alone(rt: HostRuntime) -> Result<(), Fail> {
+    expect_apart(&rt, rt.alloc())
+}
+
+/// An area of two pages at two addresses: where the first call puts it, and where its first page is mapped again; and
+/// the page of another area, which the second call makes.
+const HERE: u64 = MAPPINGS_END - 8192;
+
+const THERE: u64 = 1 << 37;
+
+const OTHER: u64 = (1 << 37) + 4096;
+
+/// A word in the area is one by either address, with or without FUTEX_PRIVATE_FLAG; that of another offset, of another
+/// area and of a private page in its place is another. A task may sleep on it by the one, and be woken by the other.
+#[rattlefmt::skip]
+const TWICE: [Act; 26] = [
+    Act::At(1),
+    Act::Map(0, 8192, 3, SHARED, HERE),
+    Act::Map(OTHER, 4096, 3, SHARED | FIXED, OTHER),
+    Act::Again(1, THERE, 4096),
+    Act::Stores(HERE + 8, WORDS),
+    Act::SleepsIn([HERE + 8, WAIT, 5, 0], 1, 8),
+    Act::As(2, 2),
+    Act::SleepsIn([THERE + 8, WAIT_PRIVATE, 5, 0], 1, 8),
+    Act::As(3, 3),
+    Act::SleepsIn([THERE + 12, WAIT, 7, 0], 1, 12),
+    Act::As(4, 2),
+    Act::SleepsIn([HERE + 4104, WAIT, 0, 0], 1, 4104),
+    Act::Calls(FUTEX, [THERE + 8, WAIT, 6, 0, 0, 0], EAGAIN),
+    Act::Wakes([OTHER + 8, WAKE, 9, 0], 0),
+    Act::Wakes([THERE + 8, WAKE, 1, 0], 1),
+    Act::Wakes([HERE + 8, WAKE, 9, 0], 1),
+    Act::Wakes([HERE + 12, WAKE_PRIVATE, 9, 0], 1),
+    Act::Map(THERE, 4096, 3, PRIVATE | FIXED, THERE),
+    Act::Wakes([THERE + 8, WAKE, 9, 0], 0),
+    Act::Wakes([HERE + 4104, WAKE, 9, 0], 1),
+    Act::Wakes([HERE + 4104, WAKE, 9, 0], 0),
+    Act::Stores(OTHER, 9),
+    Act::As(1, 1),
+    Act::Calls(GETTID, [0, 0, 0, 0, 0, 0], 1),
+    Act::Loads(HERE + 8, WORDS),
+    Act::Loads(THERE + 8, 0),
+];
+
+#[test]
+fn a_word_in_an_area_is_one_by_both_its_addresses(rt: HostRuntime) -> Result<(), Fail> {
+    let tasks = family(&rt, rt.alloc())?;
+    let mut guest = guest_among(rt.alloc(), tasks)?;
+    guest.expect_acts(&rt, &TWICE)
+}
+
+/// An area seen by another memory: the word is the same there.
+fn expect_shared(rt: &impl Abort, alloc: Global) -> Result<(), Fail> {
+    let mut guest = new_guest(alloc)?;
+    guest.expect_act(rt, Act::Map(0, 8192, 3, SHARED, HERE))?;
+    guest.expect_sleeps(rt, [HERE + 8, WAIT, 0, 0], of_area(1, 8))?;
+    guest.memory = Made { place: 0, index: 2 };
+    guest.expect_wakes(rt, [HERE + 8, WAKE, 9, 0], 1)
+}
+
+#[test]
+fn a_word_in_an_area_is_that_of_every_memory(rt: HostRuntime) -> Result<(), Fail> {
+    expect_shared(&rt, rt.alloc())
+}
+
+/// A word in an area that is not there, or that may not be read.
+#[rattlefmt::skip]
+const LACKING: [Act; 6] = [
+    Act::Again(99, THERE, 4096),
+    Act::Calls(FUTEX, [THERE, WAIT, 0, 0, 0, 0], EFAULT),
+    Act::Calls(FUTEX, [THERE, WAKE, 1, 0, 0, 0], EFAULT),
+    Act::Map(0, 8192, 2, SHARED, HERE),
+    Act::Calls(FUTEX, [HERE, WAIT, 0, 0, 0, 0], EFAULT),
+    Act::Calls(FUTEX, [HERE, WAKE, 1, 0, 0, 0], EFAULT),
+];
+
+#[test]
+fn a_word_that_no_area_has_is_efault(rt: HostRuntime) -> Result<(), Fail> {
+    expect_acts(&rt, rt.alloc(), &LACKING)
+}
