@@ -1,5 +1,6 @@
 -- Lemmas of the plain kernel, by subject.
 pub mod BeginLemmas
+pub mod CallLemmas
 pub mod CountLemmas
 pub mod FaultLemmas
 pub mod NodeLemmas
@@ -10,4 +11,5 @@ pub mod OptionLemmas
 pub mod RunLemmas
 pub mod SpaceLemmas
 pub mod StepLemmas
+pub mod WaitLemmas
 pub mod WalkLemmas

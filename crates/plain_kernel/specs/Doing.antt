@@ -2,7 +2,7 @@
 use Rattle.std.specs.Prelude.{◌≡◌, Bool, true, false, Option, Some, None, Result, Ok, Err, List, IsTrue, IsFalse}
 use Rattle.std.specs.FinMap as map
 use Rattle.sn_base.specs.declared.memory.Memory.{Memory}
-use Rattle.task_table.specs.Table.{has_ended}
+use Rattle.task_table.specs.Table.{has_ended, is_live}
 use Rattle.kernel_model.specs.declared.caller.Caller.{Caller}
 use Rattle.kernel_model.specs.declared.kernel.Kernel.{Kernel}
 use Rattle.kernel_model.specs.Names.{has_named}
@@ -16,9 +16,11 @@ Does changes before after (Ok true) = changed_by changes before ≡ Some after
 Does changes before after (Ok false) = (changes ≡ None) × (after ≡ before)
 Does changes before after (Err e) = after ≡ before
 
--- what a live task's entries change is there: its registers, its memory, and its thread group, which has not ended
+-- a task lives, and what its entries change is there: its registers, its memory, and its thread group, which has not
+-- ended
 -- credentials(7), Process ID (PID); clone(2), CLONE_VM
 pub record IsThere (c : Caller) (k : Kernel) : Type 0 where
+  pub lives : IsTrue (is_live k.tasks.tasks c.task)
   pub registers : IsTrue (map.contains_key k.registers c.task)
   pub space : IsTrue (has_named k.spaces c.memory.place c.memory.index)
   pub group : IsTrue (map.contains_key k.tasks.groups c.group)

@@ -17,6 +17,7 @@ use crate::meeting::may_meet;
 use crate::nodes::root_node;
 use crate::walking::{Execved, execve, root_number};
 use elf_image::Image;
+use futex_core::Waiters;
 use host_node::Tree;
 use kernel_calls::{Beginning, open_task, opened};
 use kernel_model::{Given, Kernel, Named, Node, Opened};
@@ -51,6 +52,7 @@ pub(crate) fn bare(alloc: Global, mounts: &Mounts, trees: &[Tree]) -> Result<Ker
         spaces: Named::new(alloc),
         areas: Named::new(alloc),
         nodes,
+        sleepers: Waiters::new(alloc),
         console: List::new(alloc),
         failed: Map::new(alloc),
         mounts,

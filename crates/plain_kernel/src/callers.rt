@@ -1,4 +1,5 @@
-//! Who calls: the live task of a number, as an entry of it finds it; and copies of the shared areas, for it to work on.
+//! Who calls: the live task of a number, as an entry of it finds it; what its call may read beside; and copies of the
+//! shared areas, for it to work on.
 
 ghost use Rattle.std.specs.Prelude.{◌≡◌, Some, IfOk, IfSome, OnSome};
 ghost use Rattle.kernel_model.specs.Names.{get_named};
@@ -6,6 +7,7 @@ ghost use Rattle.kernel_model.specs.calls.Callers.{caller_of};
 ghost use Rattle.kernel_model.specs.entries.Parts.{outcome_in, parts};
 ghost use Rattle.plain_kernel.specs.Doing.{IsThere};
 
+use kernel_calls::Context;
 use kernel_model::{Caller, GuestArea, GuestSpace, Kernel, Named};
 use sn_base::Memory;
 use std::alloc::Global;
@@ -68,4 +70,21 @@ pub(crate) fn copied_areas(alloc: Global, kernel: &mut Kernel) -> Result<Named<G
     ensures kept { kernel.new ≡ kernel.old }
 {
     kernel.areas.copy(alloc)
+}
+
+/// What a call or an end of a task may read beside its parts, by the place of its entry and the seed.
+pub(crate) fn context<'a>(caller: &Caller, place: u64, seed: &'a [u8]) -> Context<'a>
+    ensures task { result.task ≡ caller.now.task }
+    ensures group { result.group ≡ caller.now.group }
+    ensures memory { result.memory ≡ caller.now.memory }
+    ensures place { result.place ≡ place }
+    ensures seed { result.seed.now ≡ seed.now }
+{
+    Context {
+        task: caller.task,
+        group: caller.group,
+        memory: caller.memory,
+        place,
+        seed,
+    }
 }

@@ -1,18 +1,17 @@
-//! The entries that call nothing: runs, and ends by a signal; and a task that goes on behind its call.
+//! The entries that call nothing: runs, and ends by a signal.
 
-ghost use Rattle.std.specs.Prelude.{◌≡◌, None, Some, IsTrue};
+ghost use Rattle.std.specs.Prelude.{◌≡◌, ◌<◌, None, Some, IsTrue};
 ghost use Rattle.std.specs.FinMap as map;
-ghost use Rattle.kernel_model.specs.Names.{has_named};
+ghost use Rattle.kernel_model.specs.Names.{get_named, has_named};
 ghost use Rattle.kernel_model.specs.declared.kernel.Part.TheVariants.{OfSpace, OfTask};
 ghost use Rattle.kernel_model.specs.entries.Parts.{outcome_in, parts, put};
-ghost use Rattle.kernel_model.specs.entries.Steps.{end_row, run_alone, run_row, same_args, step_row};
-ghost use Rattle.kernel_model.specs.machine.Registers.{replied};
+ghost use Rattle.kernel_model.specs.entries.Steps.{end_row, killed, run_alone, run_row, step_row};
 ghost use Rattle.plain_kernel.specs.Doing.{Does, IsThere};
 
-use crate::callers::copied_areas;
-use kernel_calls::{reply, run, step};
-use kernel_model::{Args, Caller, Kernel, Next};
-use rv_table::Regs;
+use crate::callers::{context, copied_areas};
+use crate::effects::settle;
+use kernel_calls::{Effect, end_group, run, step};
+use kernel_model::{Caller, GuestArea, Kernel, Named, Next};
 use sn_base::Memory;
 use std::alloc::Global;
 use task_table::Status;
@@ -101,7 +100,9 @@ pub(crate) fn end_task(
     mut caller: Caller,
     signal: u8,
 ) -> Result<bool, Memory>
-    requires { IsThere caller kernel.old }
+    requires few { kernel.old.entries < 1048576 }
+    requires there { IsThere caller kernel.old }
+    requires space { get_named kernel.old.spaces caller.memory.place caller.memory.index ≡ Some caller.space }
     ensures { Does (outcome_in (parts kernel.old) (end_row signal caller)) kernel.old kernel.new result }
 {
     let mut areas = copied_areas(alloc, kernel)?;
@@ -116,10 +117,7 @@ pub(crate) fn end_task(
             if trap != signal {
                 return Ok(false);
             }
-            kernel
-                .tasks
-                .end_group(alloc, caller.group, Status::Killed(signal))?;
-            Ok(true)
+            kill(alloc, kernel, caller, areas, signal)
         }
         Next::Goes => Ok(false),
         Next::Calls => Ok(false),
@@ -127,19 +125,30 @@ pub(crate) fn end_task(
     }
 }
 
-/// Lets a task go on behind its call, with a reply.
-pub(crate) fn go_on(kernel: &mut Kernel, task: u32, registers: Regs, value: i64)
-    requires { IsTrue (map.contains_key kernel.old.registers task) }
-    ensures { kernel.new ≡ put (OfTask task) (Some (replied registers value)) kernel.old }
+/// Ends the thread group of a task by a signal: the clear words of its tasks are cleared in its memory and in these
+/// shared areas.
+fn kill(
+    alloc: Global,
+    kernel: &mut Kernel,
+    mut caller: Caller,
+    mut areas: Named<GuestArea>,
+    signal: u8,
+) -> Result<bool, Memory>
+    requires few { kernel.old.entries < 1048576 }
+    requires there { IsThere caller kernel.old }
+    requires space { get_named kernel.old.spaces caller.memory.place caller.memory.index ≡ Some caller.space }
+    requires areas { kernel.old.areas ≡ areas }
+    ensures { Does (outcome_in (parts kernel.old) (killed signal caller)) kernel.old kernel.new result }
 {
-    let mut after = registers;
-    reply(&mut after, value);
-    kernel.registers.replace(u64::from(task), after);
-}
-
-/// Whether two calls have the same arguments.
-pub(crate) fn same_args(a: &Args, b: &Args) -> bool
-    ensures { result ≡ same_args a.now b.now }
-{
-    a.a0 == b.a0 && a.a1 == b.a1 && a.a2 == b.a2 && a.a3 == b.a3 && a.a4 == b.a4 && a.a5 == b.a5
+    let context = context(&caller, kernel.entries + 1, kernel.seed.as_slice());
+    let ending = end_group(
+        alloc,
+        &context,
+        Status::Killed(signal),
+        &mut caller.space,
+        &mut areas,
+        &kernel.tasks,
+    )?;
+    settle(alloc, kernel, caller, areas, Effect::EndsGroup(ending))?;
+    Ok(true)
 }

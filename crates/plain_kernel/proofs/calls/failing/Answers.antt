@@ -12,9 +12,9 @@ use Rattle.kernel_model.specs.entries.Given.{faulted}
 use Rattle.kernel_model.specs.entries.Parts.{outcome_in, parts, put}
 use Rattle.kernel_model.specs.laws.InPlace.{changed_by}
 use Rattle.kernel_model.specs.machine.Registers.{replied}
-use Rattle.plain_kernel.proofs.StepLemmas.{failing_other, failing_none, failing_some, faulted_registers, done_all}
-use Rattle.plain_kernel.proofs.StepLemmas.{done_nothing}
-use Rattle.plain_kernel.proofs.step.failing.Goals as goal
+use Rattle.plain_kernel.proofs.CallLemmas.{failing_other, failing_none, failing_some, faulted_registers, done_all}
+use Rattle.plain_kernel.proofs.CallLemmas.{done_nothing}
+use Rattle.plain_kernel.proofs.calls.failing.Goals as goal
 
 pub returns-then-not-is_failure : goal.returns-then-not-is_failure
 returns-then-not-is_failure c = (

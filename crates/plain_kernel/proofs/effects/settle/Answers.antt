@@ -1,0 +1,20 @@
+-- An effect is that of a state whose memory is as it was left.
+use Rattle.std.proofs.Common.{refl, ap, sym, ◌∙◌}
+use Rattle.kernel_calls.specs.Memories.{with_memory}
+use Rattle.kernel_model.specs.declared.kernel.Kernel.{Kernel}
+use Rattle.kernel_model.specs.entries.Parts.{changed}
+use Rattle.plain_kernel.proofs.CallLemmas.{effect_apart}
+use Rattle.plain_kernel.proofs.effects.settle.Goals as goal
+
+pub returns-clause-ok : goal.returns-clause-ok
+returns-clause-ok c =
+    let memory : Kernel = with_memory c.args.caller c.args.caller.space c.args.areas c.args.kernel.now in
+    let after : Kernel = record memory {
+      tasks = c.commit.new.tasks;
+      sleepers = c.commit.new.sleepers;
+      console = c.commit.new.console;
+    } in
+    ap (λ s. record after { spaces = s }) c.replace.ensures
+    ∙ sym (ap (λ cs. changed cs memory)
+    (effect_apart c.args.effect c.args.caller.group c.args.kernel.now c.args.caller c.args.caller.space c.args.areas)
+    ∙ c.in_ok-commit.ensures.ok memory refl refl refl)

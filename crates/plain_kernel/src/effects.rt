@@ -1,0 +1,56 @@
+//! What a call or an end leaves: its effect, with its task's memory and the shared areas, and its task behind it.
+
+ghost use Rattle.std.specs.Prelude.{◌≡◌, Some, IsTrue, OnErr, OnOk};
+ghost use Rattle.std.specs.FinMap as map;
+ghost use Rattle.kernel_calls.specs.Memories.{with_memory};
+ghost use Rattle.kernel_calls.specs.Prepared.{EndsOnly, changes_of};
+ghost use Rattle.kernel_model.specs.declared.kernel.Part.TheVariants.{OfTask};
+ghost use Rattle.kernel_model.specs.entries.Parts.{changed, parts, put};
+ghost use Rattle.kernel_model.specs.machine.Registers.{replied};
+ghost use Rattle.plain_kernel.specs.Doing.{IsThere};
+
+use kernel_calls::{Effect, commit, reply};
+use kernel_model::{Caller, GuestArea, Kernel, Named};
+use rv_table::Regs;
+use sn_base::Memory;
+use std::alloc::Global;
+
+/// Does the effect of a call or an end. The task's memory and the shared areas take their places as they were left.
+pub(crate) fn settle(
+    alloc: Global,
+    kernel: &mut Kernel,
+    caller: Caller,
+    areas: Named<GuestArea>,
+    effect: Effect,
+) -> Result<(), Memory>
+    requires there { IsThere caller kernel.old }
+    requires own { EndsOnly effect caller.task }
+    ensures ok { OnOk result (kernel.new ≡ changed (changes_of effect caller.group (parts kernel.old))
+        (with_memory caller caller.space areas kernel.old)) }
+    ensures registers { kernel.new.registers ≡ kernel.old.registers }
+    ensures err { OnErr result (kernel.new ≡ kernel.old) }
+{
+    commit(
+        alloc,
+        effect,
+        caller.group,
+        &mut kernel.tasks,
+        &mut kernel.sleepers,
+        &mut kernel.console,
+    )?;
+    kernel
+        .spaces
+        .replace(caller.memory.place, caller.memory.index, caller.space);
+    kernel.areas = areas;
+    Ok(())
+}
+
+/// Lets a task go on behind its call, with a reply.
+pub(crate) fn go_on(kernel: &mut Kernel, task: u32, registers: Regs, value: i64)
+    requires { IsTrue (map.contains_key kernel.old.registers task) }
+    ensures { kernel.new ≡ put (OfTask task) (Some (replied registers value)) kernel.old }
+{
+    let mut after = registers;
+    reply(&mut after, value);
+    kernel.registers.replace(u64::from(task), after);
+}
