@@ -6,6 +6,8 @@ use Rattle.std.proofs.lemmas.Option.{same_Some}
 use Rattle.host_node.specs.Tree.{Shape}
 use Rattle.sn_base.specs.Faults.{HasCause}
 use Rattle.sn_edge.specs.Shelf.{Shelf, content_at}
+use Rattle.mount_file.specs.declared.mounts.Mounts.{Mounts}
+use Rattle.kernel_model.specs.declared.entry.Entry.{Entry}
 use Rattle.kernel_model.specs.declared.kernel.Kernel.{Kernel}
 use Rattle.kernel_model.specs.opening.Opening.{Begun, Refuses, Misfits}
 use Rattle.kernel_model.specs.entries.History.{any_live, replay}
@@ -23,7 +25,7 @@ use Rattle.sentry_run.specs.Outcome.{started_kernel, state_after, text_of, asks_
 use Rattle.sentry_run.specs.Sides.{Side, Sides}
 use Rattle.sentry_run.proofs.Courses.{Session, Output, text_with, state_left, Began, state_of}
 use Rattle.sentry_run.proofs.RunFacts.{ToldFacts}
-use Rattle.sentry_run.proofs.Ways.{Call, session, output, Way, Misused, Unread, Over_file}
+use Rattle.sentry_run.proofs.Ways.{Call, session, output, Over, Way, Misused, Unread, Over_file}
 use Rattle.sentry_run.proofs.Clauses.{told_as, where_read}
 use Rattle.sentry_run.proofs.ExactClauses.{told_file, unopened}
 
@@ -144,54 +146,93 @@ stateless x begins k b none e =
     ∙ ap (option_and_then (λ (j : Kernel). replay j x.outcome.trace)) none) ∙ e in
     cc
 
--- what a run comes to that is over, by whether a task lives
-abbrev over_as : Bool → Fault
-over_as true = faults.Full
-over_as false = faults.Done
+-- the state in which a run is over with that answer: no task lives; or one does, and the trace is full, or it is not
+abbrev EndsIn : Mounts → List Entry → Kernel → Fault → Type 0
+EndsIn m trace k faults.Done = any_live k ≡ false
+EndsIn m trace k faults.Full = (any_live k ≡ true) × (length trace ≡ m.entries)
+EndsIn m trace k faults.Stuck = (any_live k ≡ true) × (length trace < m.entries)
+EndsIn m trace k _ = ⊥
+
+-- there is one such answer
+one_end : (m : Mounts) (trace : List Entry) (k : Kernel) (f g : Fault) → EndsIn m trace k f → EndsIn m trace k g
+    → f ≡ g
+one_end m trace k faults.Done faults.Done a b = refl
+one_end m trace k faults.Done faults.Full a b = absurd (cc (a, b.0))
+one_end m trace k faults.Done faults.Stuck a b = absurd (cc (a, b.0))
+one_end m trace k faults.Done _ a b = absurd b
+one_end m trace k faults.Full faults.Done a b = absurd (cc (a.0, b))
+one_end m trace k faults.Full faults.Full a b = refl
+one_end m trace k faults.Full faults.Stuck a b = absurd (omega (arith, a.1, b.1))
+one_end m trace k faults.Full _ a b = absurd b
+one_end m trace k faults.Stuck faults.Done a b = absurd (cc (a.0, b))
+one_end m trace k faults.Stuck faults.Full a b = absurd (omega (arith, a.1, b.1))
+one_end m trace k faults.Stuck faults.Stuck a b = refl
+one_end m trace k faults.Stuck _ a b = absurd b
+one_end m trace k _ g a b = absurd a
 
 -- the state that began is the one that the trace leaves
 same_state : (x : Session) (state k : Kernel) → Began x state → state_left x ≡ Some k → state ≡ k
 same_state x state k b e = same_Some _ _ (sym (state_of x state b) ∙ e)
 
--- so a task lives in both or in neither
-same_live : (x : Session) (state k : Kernel) (live here : Bool) → Began x state → state_left x ≡ Some k
-    → any_live state ≡ live → any_live k ≡ here → over_as live ≡ over_as here
-same_live x state k live here b e l h = ap over_as (sym l ∙ ap any_live (same_state x state k b e) ∙ h)
+-- so a run that is over in the one is over in the other
+same_end : (x : Session) (state k : Kernel) (f whole : Fault) → Began x state → state_left x ≡ Some k
+    → EndsIn x.mounts x.outcome.trace state f → EndsIn x.mounts x.outcome.trace k whole → f ≡ whole
+same_end x state k f whole b e is h =
+    one_end x.mounts x.outcome.trace k f whole
+    (subst (λ (y : Kernel). EndsIn x.mounts x.outcome.trace y f) (same_state x state k b e) is) h
 
-over_by : (x : Session) (p : Output) (live : Bool) (f : Fault) → length x.mounts.mounts ≡ 1 → ToldFacts x p f
-    → (k : Kernel) → state_left x ≡ Some k → any_live k ≡ live
-    → ComesTo (over_as live) p.before.told p.after.told (text_with x p k) f
-over_by x p live faults.Done one t k e h = same_live x t.0 k false live t.1 e t.2 h
-over_by x p live faults.Full one t k e h = same_live x t.0 k true live t.1 e t.2 h
-over_by x p live faults.SinkFault one t k e h =
+over_by : (x : Session) (p : Output) (whole f : Fault) → length x.mounts.mounts ≡ 1 → ToldFacts x p f
+    → (k : Kernel) → state_left x ≡ Some k → EndsIn x.mounts x.outcome.trace k whole
+    → ComesTo whole p.before.told p.after.told (text_with x p k) f
+over_by x p whole faults.Done one t k e h = same_end x t.0 k faults.Done whole t.1 e t.2 h
+over_by x p whole faults.Full one t k e h = same_end x t.0 k faults.Full whole t.1 e t.2 h
+over_by x p whole faults.Stuck one t k e h =
+    same_end x t.0 k faults.Stuck whole t.1 e (t.2.lives, t.2.short) h
+over_by x p whole faults.SinkFault one t k e h =
     subst (λ (state : Kernel). StopsShort p.before.told p.after.told (text_with x p state))
     (same_state x t.0 k t.1 e) t.3
-over_by x p live faults.Memory one t k e h = tt
-over_by x p live (faults.Image task errno) one t k e h =
+over_by x p whole faults.Memory one t k e h = tt
+over_by x p whole (faults.Image task errno) one t k e h =
     stateless x (Refuses t.left task errno) k t.refuses refl e
-over_by x p live faults.HostFault one t k e h = stateless x (Misfits 0) k (unopened x one t.opened) refl e
-over_by x p live (faults.Grant n) one t k e h = stateless x (Misfits 0) k (unopened x one t.1.opened) refl e
-over_by x p live _ one t k e h = absurd t
+over_by x p whole faults.HostFault one t k e h = stateless x (Misfits 0) k (unopened x one t.opened) refl e
+over_by x p whole (faults.Grant n) one t k e h = stateless x (Misfits 0) k (unopened x one t.1.opened) refl e
+over_by x p whole _ one t k e h = absurd t
 
--- what a call comes to, by the state that its trace leaves
-abbrev OverAs : Call → Outcome → Bool → Kernel → Type 0
-OverAs s r live k =
-    any_live k ≡ live
-    → ComesTo (over_as live) s.before.sink.told s.after.sink.told (printed k r.trace (asks_trace s.words)) r.fault
+-- what a call comes to that is over with that answer, by the state that its trace leaves
+abbrev OverAs : Call → Outcome → Fault → Kernel → Type 0
+OverAs s r whole k =
+    ComesTo whole s.before.sink.told s.after.sink.told (printed k r.trace (asks_trace s.words)) r.fault
 
-over_exact : (s : Call) (r : Outcome) (live : Bool) → Way s r
-    → WhereState r.mounts s.before.host.told r.opening r.trace (λ m w k. OverAs s r live k)
-over_exact s r live way =
-    where_read s r (λ m w. IfSome (state_after m w r.opening r.trace) (OverAs s r live)) way
-    (λ m o w told. if_some (state_after m w r.opening r.trace) (OverAs s r live)
-    (over_by (session s m r w) (output s) live r.fault o.one_mount (o.told w told)))
+over_as : (s : Call) (m : Mounts) (r : Outcome) (whole : Fault) → Over s m r → (w : Shape)
+    → s.before.host.told ≡ Some w → (k : Kernel) → state_left (session s m r w) ≡ Some k
+    → EndsIn m r.trace k whole → OverAs s r whole k
+over_as s m r whole o w told = over_by (session s m r w) (output s) whole r.fault o.one_mount (o.told w told)
+
+where_left : (s : Call) (r : Outcome) (F : Mounts → Kernel → Type 0) → Way s r
+    → ((m : Mounts) → Over s m r → (w : Shape) → s.before.host.told ≡ Some w → (k : Kernel)
+    → state_left (session s m r w) ≡ Some k → F m k)
+    → WhereState r.mounts s.before.host.told r.opening r.trace (λ m w k. F m k)
+where_left s r F way f =
+    where_read s r (λ m w. IfSome (state_after m w r.opening r.trace) (F m)) way
+    (λ m o w told. if_some (state_after m w r.opening r.trace) (F m) (f m o w told))
 
 pub done_exact : (s : Call) (r : Outcome) → Way s r
     → WhereState r.mounts s.before.host.told r.opening r.trace (λ m w k. any_live k ≡ false
-    → ComesTo faults.Done s.before.sink.told s.after.sink.told (printed k r.trace (asks_trace s.words)) r.fault)
-done_exact s r way = over_exact s r false way
+    → OverAs s r faults.Done k)
+done_exact s r way =
+    where_left s r (λ m k. any_live k ≡ false → OverAs s r faults.Done k) way
+    (λ m o w told k e dead. over_as s m r faults.Done o w told k e dead)
 
 pub full_exact : (s : Call) (r : Outcome) → Way s r
     → WhereState r.mounts s.before.host.told r.opening r.trace (λ m w k. any_live k ≡ true
-    → ComesTo faults.Full s.before.sink.told s.after.sink.told (printed k r.trace (asks_trace s.words)) r.fault)
-full_exact s r way = over_exact s r true way
+    → length r.trace ≡ m.entries → OverAs s r faults.Full k)
+full_exact s r way =
+    where_left s r (λ m k. any_live k ≡ true → length r.trace ≡ m.entries → OverAs s r faults.Full k) way
+    (λ m o w told k e live full. over_as s m r faults.Full o w told k e (live, full))
+
+pub stuck_exact : (s : Call) (r : Outcome) → Way s r
+    → WhereState r.mounts s.before.host.told r.opening r.trace (λ m w k. any_live k ≡ true
+    → length r.trace < m.entries → OverAs s r faults.Stuck k)
+stuck_exact s r way =
+    where_left s r (λ m k. any_live k ≡ true → length r.trace < m.entries → OverAs s r faults.Stuck k) way
+    (λ m o w told k e live short. over_as s m r faults.Stuck o w told k e (live, short))

@@ -83,11 +83,6 @@ status s r (Misused e n) = n.refused.status
 status s r (Unread command e w u) = u.refused.status
 status s r (Over_file command e w m d o) = o.status
 
-pub never_stuck : (s : Call) (r : Outcome) → Way s r → r.fault ≢ faults.Stuck
-never_stuck s r (Misused e n) = λ h. let f = usage_is faults.Stuck r n.refused.fault h in cc
-never_stuck s r (Unread command e w u) = λ h. absurd (fails_as s command r faults.Stuck u.fails h)
-never_stuck s r (Over_file command e w m d o) = λ h. absurd (any_as s m r faults.Stuck o h)
-
 pub usage : (s : Call) (r : Outcome) → Way s r → r.fault ≡ faults.Usage → s.words ≡ None
 usage s r (Misused e n) h = e
 usage s r (Unread command e w u) h = absurd (fails_as s command r faults.Usage u.fails h)

@@ -26,7 +26,7 @@ use Rattle.sentry_run.specs.declared.outcome.Fault.TheVariants as faults
 use Rattle.sentry_run.specs.declared.outcome.Outcome.{Outcome}
 use Rattle.sentry_run.specs.declared.play.End.{End}
 use Rattle.sentry_run.specs.declared.play.End.TheVariants as ends
-use Rattle.sentry_run.specs.Played.{SameText, Runs, Failed, nothing_opened}
+use Rattle.sentry_run.specs.Played.{SameText, Runs, Failed, IsStuck, nothing_opened}
 use Rattle.image_walk.specs.Standing.{no_left}
 use Rattle.sentry_run.specs.Granted.{Plays, first_names}
 use Rattle.sentry_run.specs.Concluded.{Writes, Concludes}
@@ -209,6 +209,8 @@ pub data Course (x : Session) (p : Output) (fault : Fault) : Type 0 where
       → Writes (text_with x p state) faults.Done p.before p.after fault → Course x p fault
   Filled : (state : Kernel) → Began x state → any_live state ≡ true → length x.outcome.trace ≡ x.mounts.entries
       → Writes (text_with x p state) faults.Full p.before p.after fault → Course x p fault
+  Halted : (state : Kernel) → Began x state → IsStuck x.mounts x.outcome.trace state
+      → Writes (text_with x p state) faults.Stuck p.before p.after fault → Course x p fault
   Stopped : (task : ℕ) (errno : Errno) → Refused x task errno → x.outcome.trace ≡ []
       → fault ≡ faults.Image task errno → p.after.told ≡ p.before.told → Course x p fault
   Starved : (state : Kernel) → Began x state → fault ≡ faults.Memory → p.after.told ≡ p.before.told
@@ -232,6 +234,9 @@ course x p fault (ends.Done kernel) e q c =
 course x p fault (ends.Full kernel) e q c =
     Filled q.4.0 (began x q.0 q.2 q.4.0 e q.1 q.3 q.4.1) q.4.3 q.4.4
     (writes_same x p q.4.0 kernel faults.Full fault q.4.2 c)
+course x p fault (ends.Stuck kernel) e q c =
+    Halted q.4.0 (began x q.0 q.2 q.4.0 e q.1 q.3 q.4.1) q.4.3
+    (writes_same x p q.4.0 kernel faults.Stuck fault q.4.2 c)
 course x p fault (ends.Image task errno) e q c =
     Stopped task errno (refused x q.0 q.2 task errno e q.1 q.3 q.4.0) q.4.1 c.0 c.1
 course x p fault ends.HostFault e q c = Failing q.0 q.1 q.2 c.0 c.1

@@ -1,5 +1,5 @@
 -- How the opening and the run of the tasks end, from what the opening came to.
-use Rattle.std.proofs.Common.{◌≡◌, inl, inr, ℕ, ◌+◌, true, List, [], ◌∷◌, length, drop, refl, ap, sym, ◌∙◌, subst}
+use Rattle.std.proofs.Common.{◌≡◌, inl, inr, ℕ, ◌+◌, true, List, [], ◌∷◌, length, refl, ap, sym, ◌∙◌, subst}
 use Rattle.std.proofs.Common.{arith}
 use Rattle.std.specs.Prelude.{Option, Some, None, IsSome, is_some}
 use Rattle.std.specs.FinMap as map
@@ -7,7 +7,6 @@ use Rattle.std.proofs.lemmas.List.{append-nil, drop_all}
 use Rattle.std.proofs.lemmas.Option.{same_Some}
 use Rattle.host_node.specs.Tree.{Shape}
 use Rattle.mount_file.specs.declared.mounts.Mounts.{Mounts}
-use Rattle.mount_file.specs.declared.mounts.Program.{Program}
 use Rattle.mount_file.specs.Form.{HasForm}
 use Rattle.kernel_model.specs.declared.entry.Entry.{Entry}
 use Rattle.kernel_model.specs.declared.kernel.Kernel.{Kernel}
@@ -20,7 +19,7 @@ use Rattle.kernel_model.specs.entries.History.{replay, each_whole}
 use Rattle.image_walk.specs.declared.granted.Numbering.{Numbering}
 use Rattle.image_walk.specs.Counts.{HasRisen}
 use Rattle.image_walk.specs.Granted.{Child, CanGiveBack, GivesBack, put_all}
-use Rattle.image_walk.specs.Standing.{AreNodes, Stands, no_left}
+use Rattle.image_walk.specs.Standing.{AreNodes, no_left}
 use Rattle.image_walk.proofs.OutAgain.{can_give_back}
 use Rattle.image_walk.proofs.Risen.{risen}
 use Rattle.image_walk.proofs.Settling.{settles}
@@ -34,8 +33,7 @@ use Rattle.run_opening.specs.Records.{IsRecorded}
 use Rattle.run_opening.proofs.Beginning.{root_one}
 use Rattle.sentry_run.specs.declared.play.End.{End}
 use Rattle.sentry_run.specs.declared.play.End.TheVariants as ends
-use Rattle.sentry_run.specs.declared.play.Played.{Played}
-use Rattle.sentry_run.specs.Played.{Ended, EndsOver, Failed, RanFrom, Runs, end_of, over}
+use Rattle.sentry_run.specs.Played.{Ended, RanFrom, Runs, end_of, over}
 use Rattle.sentry_run.proofs.Records.{opened_by, record_with}
 
 pub one_mount : (m : Mounts) → HasForm m → length m.mounts ≡ 1
@@ -141,6 +139,12 @@ module _ (m : Mounts) (t : Shape) (tasks : List Opened) (p : Processes) (root : 
     record { tasks = refl; console = refl },
     ran.2,
     ran.3,
+  )
+  ended_begun trace (ends.Stuck k) ran after gives = (
+    over m h.nodes k,
+    runs (over m h.nodes k) trace after ran.0 ran.1 refl refl gives,
+    record { tasks = refl; console = refl },
+    ran.2,
   )
   ended_begun trace ends.Memory ran after gives =
       inr (left (replay start trace) trace after refl ran.0 ran.1 gives)

@@ -88,6 +88,7 @@ grant_by : (x : Session) (p : Output) (f : Fault) → ToldFacts x p f → grante
     → MayFailToGrant f
 grant_by x p faults.Done t e = absurd (starts_not_granted x t.1.start e t.1.opens)
 grant_by x p faults.Full t e = absurd (starts_not_granted x t.1.start e t.1.opens)
+grant_by x p faults.Stuck t e = absurd (starts_not_granted x t.1.start e t.1.opens)
 grant_by x p faults.SinkFault t e = absurd (starts_not_granted x t.1.start e t.1.opens)
 grant_by x p (faults.Image task errno) t e = absurd (refuses_not_granted x t.left task errno e t.refuses)
 grant_by x p faults.Memory t e = inr (inr refl)
@@ -106,6 +107,7 @@ image_by : (x : Session) (p : Output) (f : Fault) → length x.mounts.mounts ≡
     → MayFailToStart task errno f
 image_by x p faults.Done e t k task errno b = absurd (starts_not_refused x t.1.start k task errno t.1.opens b)
 image_by x p faults.Full e t k task errno b = absurd (starts_not_refused x t.1.start k task errno t.1.opens b)
+image_by x p faults.Stuck e t k task errno b = absurd (starts_not_refused x t.1.start k task errno t.1.opens b)
 image_by x p faults.SinkFault e t k task errno b = absurd (starts_not_refused x t.1.start k task errno t.1.opens b)
 image_by x p (faults.Image n err) e t k task errno b =
     let f : Refuses t.left n err ≡ Refuses k task errno = sym t.refuses ∙ b in
@@ -207,7 +209,7 @@ unread_end s command o (faults.Mounts f) e a no_rise h =
     absurd (never_both command a.files a.mounts f
     (subst (λ (c : Command). NamesMountFile c a.files a.mounts) same a.file)
     (told_file s.before.source.told a.files (λ x. NamesFaulty command x f) a.files_are h))
-unread_end s command o faults.Memory e a no_rise h = inr (inr refl)
+unread_end s command o faults.Memory e a no_rise h = inr (inr (inr refl))
 unread_end s command o _ e a no_rise h = absurd h
 
 not_none : {A : Type 0} (o : Option A) → IsSome o → o ≡ None → ⊥
@@ -231,7 +233,8 @@ over_end : (s : Call) (command : Command) (m : Mounts) (r : Outcome) (f : Fault)
     → HasEnded f
 over_end s command m r faults.Done e d o h a no_host no_sink = inl refl
 over_end s command m r faults.Full e d o h a no_host no_sink = inr (inl refl)
-over_end s command m r faults.Memory e d o h a no_host no_sink = inr (inr refl)
+over_end s command m r faults.Stuck e d o h a no_host no_sink = inr (inr (inl refl))
+over_end s command m r faults.Memory e d o h a no_host no_sink = inr (inr (inr refl))
 over_end s command m r faults.SinkFault e d o h a no_host no_sink =
     absurd (no_sink (any_as s m r faults.SinkFault o h))
 over_end s command m r faults.HostFault e d o h a no_host no_sink =
@@ -246,7 +249,6 @@ over_end s command m r (faults.Grant n) e d o h a no_host no_sink =
 over_end s command m r faults.Usage e d o h a no_host no_sink = absurd (any_as s m r faults.Usage o h)
 over_end s command m r (faults.Mounts f) e d o h a no_host no_sink = absurd (any_as s m r (faults.Mounts f) o h)
 over_end s command m r faults.SourceFault e d o h a no_host no_sink = absurd (any_as s m r faults.SourceFault o h)
-over_end s command m r faults.Stuck e d o h a no_host no_sink = absurd (any_as s m r faults.Stuck o h)
 
 pub complete : (s : Call) (r : Outcome) → Way s r
     → IsAccepted s.words s.before.source.told s.before.host.told r.opening

@@ -1,5 +1,5 @@
 -- A folder that was granted, and the world once it is settled.
-use Rattle.std.proofs.Common.{◌≡◌, inl, inr, ℕ, Bool, true, false, List, [], ◌∷◌, refl, ap, sym, ◌∙◌, subst}
+use Rattle.std.proofs.Common.{◌≡◌, inr, ℕ, Bool, false, List, [], ◌∷◌, refl, ap, sym, ◌∙◌, subst}
 use Rattle.std.specs.Prelude.{Option, Some, None, IsSome, option_map, slice_get}
 use Rattle.host_node.specs.declared.kind.Kind.{Kind}
 use Rattle.host_node.specs.declared.kind.Kind.TheVariants.{Dir}
@@ -15,7 +15,7 @@ use Rattle.image_walk.specs.Walking.{IsRoot}
 use Rattle.sentry_run.specs.declared.play.Played.{Played}
 use Rattle.sentry_run.specs.declared.play.End.{End}
 use Rattle.sentry_run.specs.declared.play.End.TheVariants as ends
-use Rattle.sentry_run.specs.Played.{Ended, EndsOver}
+use Rattle.sentry_run.specs.Played.{EndsOver}
 use Rattle.sentry_run.specs.Stopped.{IsInner}
 use Rattle.sn_base.specs.Faults.{HasCause}
 use Rattle.sentry_run.specs.Causes.{is_grant_failed}
@@ -80,6 +80,7 @@ first_names_of (x ∷ xs) m e = let same : x ≡ m = cc in ap (λ (y : Mount). y
 inner_plays : (end : End) (untouched missing over : Type 0) → IsInner end → over → PlaysAs end untouched missing over
 inner_plays (ends.Done k) untouched missing over i p = p
 inner_plays (ends.Full k) untouched missing over i p = p
+inner_plays (ends.Stuck k) untouched missing over i p = p
 inner_plays (ends.Image task errno) untouched missing over i p = p
 inner_plays ends.Memory untouched missing over i p = inr p
 inner_plays ends.HostFault untouched missing over i p = absurd i
@@ -139,6 +140,7 @@ inner_cause end before granted after i h e =
     not_failed : (end : End) → IsInner end → false ≡ is_grant_failed end
     not_failed (ends.Done k) i = refl
     not_failed (ends.Full k) i = refl
+    not_failed (ends.Stuck k) i = refl
     not_failed (ends.Image task errno) i = refl
     not_failed ends.Memory i = refl
     not_failed ends.HostFault i = absurd i

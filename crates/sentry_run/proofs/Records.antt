@@ -1,9 +1,8 @@
 -- The record of an opening is of its mount file, and its numbers have no gap.
-use Rattle.std.proofs.Common.{◌≡◌, ℕ, zero, suc, ◌+◌, Bool, true, false, List, [], ◌∷◌, ◌++◌, length, take, refl, ap}
+use Rattle.std.proofs.Common.{◌≡◌, ℕ, zero, suc, ◌+◌, Bool, true, false, List, [], ◌∷◌, length, take, refl, ap}
 use Rattle.std.proofs.Common.{sym}
 use Rattle.std.proofs.Common.{◌∙◌, subst}
 use Rattle.std.specs.Prelude.{Option, Some, None, if◌then◌else◌, ◌&&◌, map, nat_eq}
-use Rattle.std.specs.List.{flat_map}
 use Rattle.std.specs.Str.{bytes_eq}
 use Rattle.std.proofs.lemmas.Slice.Eq.{bytes_eq-Decides}
 use Rattle.host_node.specs.Tree.{Shape}
@@ -13,14 +12,13 @@ use Rattle.mount_file.specs.declared.mounts.Mount.{Mount}
 use Rattle.mount_file.specs.declared.mounts.Program.{Program}
 use Rattle.kernel_model.specs.declared.opening.Opening.{Opening}
 use Rattle.kernel_model.specs.declared.opening.Opened.{Opened}
-use Rattle.kernel_model.specs.entries.Given.{numbers_of}
 use Rattle.kernel_model.specs.files.Numbers.{IsGapless, numbers_opened, count_up}
 use Rattle.kernel_model.specs.opening.Opening.{Misfits, bare, opening_of}
 use Rattle.kernel_model.specs.opening.Records.{begins, is_of, same_flag, same_folder}
 use Rattle.kernel_model.specs.opening.Records.{same_list}
 use Rattle.kernel_model.specs.opening.Opening.{tasks_begun}
 use Rattle.kernel_model.specs.opening.Records.{same_mount, same_place}
-use Rattle.run_opening.specs.Records.{IsRecord, IsRecorded}
+use Rattle.run_opening.specs.Records.{IsRecorded}
 use Rattle.sentry_run.specs.Played.{first_of, nothing_opened}
 
 -- ---- what is the same as itself

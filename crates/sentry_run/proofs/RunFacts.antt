@@ -1,5 +1,5 @@
 -- What each answer of a run says, fault by fault.
-use Rattle.std.proofs.Common.{◌≡◌, ◌⊎◌, inl, inr, ℕ, true, false, List, [], length, refl, ap, sym, ◌∙◌, subst}
+use Rattle.std.proofs.Common.{◌≡◌, ◌⊎◌, inl, inr, ℕ, ◌<◌, true, false, List, [], length, refl, ap, sym, ◌∙◌, subst}
 use Rattle.std.proofs.lemmas.List.{append-nil}
 use Rattle.std.specs.Prelude.{Option, Some, None, IsSome, ⊤}
 use Rattle.host_node.specs.Tree.{Shape}
@@ -12,7 +12,7 @@ use Rattle.sentry_run.specs.declared.outcome.Fault.{Fault}
 use Rattle.sentry_run.specs.declared.outcome.Fault.TheVariants as faults
 use Rattle.sentry_run.specs.declared.play.End.{End}
 use Rattle.sentry_run.specs.declared.play.End.TheVariants as ends
-use Rattle.sentry_run.specs.Played.{nothing_opened, TraceOf}
+use Rattle.sentry_run.specs.Played.{IsStuck, nothing_opened, TraceOf}
 use Rattle.image_walk.specs.Standing.{no_left}
 use Rattle.image_walk.proofs.Counts.{risen_same}
 use Rattle.sentry_run.specs.Causes.{is_host_fault, is_grant_failed}
@@ -20,7 +20,7 @@ use Rattle.sentry_run.specs.Concluded.{Writes, Fronts, StopsShort, Concludes}
 use Rattle.sentry_run.specs.Outcome.{granted, IsHistory, IsOver, text_of, KeepsOutside, LeavesInside}
 use Rattle.sentry_run.specs.Sides.{Side, Sides}
 use Rattle.sentry_run.proofs.Courses.{Session, Output, text_with, state_left, world_with, Began, Refused, Course}
-use Rattle.sentry_run.proofs.Courses.{Finished, Filled, Stopped, Starved, Emptied, Untaken, Failing, Missing}
+use Rattle.sentry_run.proofs.Courses.{Finished, Filled, Halted, Stopped, Starved, Emptied, Untaken, Failing, Missing}
 use Rattle.sentry_run.proofs.Courses.{state_of, outside_one}
 
 -- ---- whatever the host tells
@@ -32,6 +32,7 @@ pub record Silent (trace : List Entry) (before after : Side (List ℕ)) : Type 0
 abbrev pub AnyFacts : (entries : ℕ) → List Entry → (before after : Sides) → Fault → Type 0
 AnyFacts entries trace before after faults.Done = ⊤
 AnyFacts entries trace before after faults.Full = length trace ≡ entries
+AnyFacts entries trace before after faults.Stuck = length trace < entries
 AnyFacts entries trace before after faults.SinkFault = Rose before.sink.count after.sink.count
 AnyFacts entries trace before after faults.Memory = ⊤
 AnyFacts entries trace before after (faults.Image task errno) = Silent trace before.sink after.sink
@@ -57,6 +58,8 @@ any_facts entries trace text before after fault (ends.Done kernel) t h c =
     any_written (text kernel) entries trace before after faults.Done fault tt c
 any_facts entries trace text before after fault (ends.Full kernel) t h c =
     any_written (text kernel) entries trace before after faults.Full fault t c
+any_facts entries trace text before after fault (ends.Stuck kernel) t h c =
+    any_written (text kernel) entries trace before after faults.Stuck fault t c
 any_facts entries trace text before after fault (ends.Image task errno) t h c =
     subst (AnyFacts entries trace before after) (sym c.0) (record { empty = t; same_sink = c.1 })
 any_facts entries trace text before after fault ends.HostFault t h c =
@@ -79,6 +82,8 @@ grant_told text before after fault (ends.Done kernel) c =
     written_host (text kernel) faults.Done before after fault refl c
 grant_told text before after fault (ends.Full kernel) c =
     written_host (text kernel) faults.Full before after fault refl c
+grant_told text before after fault (ends.Stuck kernel) c =
+    written_host (text kernel) faults.Stuck before after fault refl c
 grant_told text before after fault (ends.Image task errno) c = sym (ap is_host_fault c.0)
 grant_told text before after fault ends.HostFault c = sym (ap is_host_fault c.0)
 grant_told text before after fault ends.Grant c = sym (ap is_host_fault c.0)
@@ -106,7 +111,10 @@ ToldFacts x p faults.Done =
     (state : Kernel) × Began x state × (any_live state ≡ false)
     × (p.after.told ≡ with_taken p.before.told (text_with x p state))
 ToldFacts x p faults.Full =
-    (state : Kernel) × Began x state × (any_live state ≡ true)
+    (state : Kernel) × Began x state × ((any_live state ≡ true) × (length x.outcome.trace ≡ x.mounts.entries))
+    × (p.after.told ≡ with_taken p.before.told (text_with x p state))
+ToldFacts x p faults.Stuck =
+    (state : Kernel) × Began x state × IsStuck x.mounts x.outcome.trace state
     × (p.after.told ≡ with_taken p.before.told (text_with x p state))
 ToldFacts x p faults.SinkFault =
     (state : Kernel) × Began x state × IsOver x.mounts x.outcome.trace state
@@ -168,7 +176,9 @@ pub told_facts : (x : Session) (p : Output) (fault : Fault) → length x.mounts.
 told_facts x p fault e (Finished state b dead w) =
     told_written x p faults.Done fault state e b (inl dead) (λ taken. (state, b, dead, taken)) w
 told_facts x p fault e (Filled state b live full w) =
-    told_written x p faults.Full fault state e b (inr (live, full)) (λ taken. (state, b, live, taken)) w
+    told_written x p faults.Full fault state e b (inr (inl (live, full))) (λ taken. (state, b, (live, full), taken)) w
+told_facts x p fault e (Halted state b stuck w) =
+    told_written x p faults.Stuck fault state e b (inr (inr stuck)) (λ taken. (state, b, stuck, taken)) w
 told_facts x p fault e (Stopped task errno r empty f same) = subst (ToldFacts x p) (sym f) r
 told_facts x p fault e (Starved state b f same) =
     subst (ToldFacts x p) (sym f) (short_began x p state e b (no_front p.before.told p.after.told _ same))

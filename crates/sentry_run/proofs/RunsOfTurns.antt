@@ -1,16 +1,16 @@
 -- What a run of turns is to a kernel's history.
-use Rattle.std.proofs.Common.{◌≡◌, ◌⊎◌, inl, inr, true, false, List, length, ap, sym, ◌∙◌, subst}
+use Rattle.std.proofs.Common.{◌≡◌, ◌⊎◌, inl, inr, ◌≤◌, true, List, length, ap, sym, ◌∙◌, subst, arith}
 use Rattle.std.specs.Prelude.{Option, Some, None, IfSome}
 use Rattle.mount_file.specs.declared.mounts.Mounts.{Mounts}
-use Rattle.task_table.specs.Table.{live_numbers}
 use Rattle.kernel_model.specs.declared.entry.Entry.{Entry}
 use Rattle.kernel_model.specs.declared.kernel.Kernel.{Kernel}
 use Rattle.kernel_model.specs.files.FileTree.{Nodes}
 use Rattle.kernel_model.specs.entries.Given.{has_any}
 use Rattle.kernel_model.specs.entries.History.{any_live, replay, each_whole}
+use Rattle.kernel_model.specs.entries.Ready.{ready_numbers}
 use Rattle.call_table.specs.declared.processes.Processes.{Processes}
 use Rattle.call_table.specs.Processes.{kernel_of}
-use Rattle.call_table.specs.Turns.{Leaves}
+use Rattle.call_table.specs.Turns.{AreStill, Leaves}
 use Rattle.sentry_run.specs.declared.play.End.{End}
 use Rattle.sentry_run.specs.declared.play.End.TheVariants as ends
 use Rattle.run_opening.specs.Openings.{beside_of}
@@ -21,29 +21,38 @@ pub ran_from : (m : Mounts) (o : Option Processes) (trace : List Entry) (end : E
     → Leaves (beside_of m nodes) (replay start trace)
     → IfSome o (λ p. replay start trace ≡ Some (kernel_of p (beside_of m nodes) (length trace)))
     → each_whole start trace ≡ true
-    → IfSome o (λ p. (has_any (live_numbers p.tasks.tasks) ≡ false) ⊎ (length trace ≡ m.entries))
-    → FinishesAs o (length trace) end → RanFrom m nodes start end trace
-ran_from m None trace end nodes start leaves state whole stop fin =
+    → length trace ≤ m.entries → IfSome o (λ p. AreStill p ⊎ (length trace ≡ m.entries))
+    → FinishesAs o (length trace) m.entries end → RanFrom m nodes start end trace
+ran_from m None trace end nodes start leaves state whole bound stop fin =
     subst (λ (x : End). RanFrom m nodes start x trace) (sym fin) (leaves, whole)
-ran_from m (Some p) trace (ends.Done k) nodes start leaves state whole stop fin =
+ran_from m (Some p) trace (ends.Done k) nodes start leaves state whole bound stop fin =
     let same : over m nodes k ≡ kernel_of p (beside_of m nodes) (length trace) = ap (over m nodes) fin.1 in
     (state ∙ ap Some (sym same), whole, ap any_live same ∙ fin.0)
-ran_from m (Some p) trace (ends.Full k) nodes start leaves state whole stop fin =
-    let same : over m nodes k ≡ kernel_of p (beside_of m nodes) (length trace) = ap (over m nodes) fin.1 in (
+ran_from m (Some p) trace (ends.Full k) nodes start leaves state whole bound stop fin =
+    let same : over m nodes k ≡ kernel_of p (beside_of m nodes) (length trace) = ap (over m nodes) fin.2 in
+    (state ∙ ap Some (sym same), whole, ap any_live same ∙ fin.0, fin.1)
+ran_from m (Some p) trace (ends.Stuck k) nodes start leaves state whole bound stop fin =
+    let same : over m nodes k ≡ kernel_of p (beside_of m nodes) (length trace) = ap (over m nodes) fin.2 in (
       state ∙ ap Some (sym same),
       whole,
-      ap any_live same ∙ fin.0,
-      elim stop [ inl h ↦ absurd (cc (h, fin.0)) | inr h ↦ h ],
+      record {
+        lives = ap any_live same ∙ fin.0;
+        short = omega (arith, bound, fin.1);
+        still =
+            ap (λ x. has_any (ready_numbers x)) same
+            ∙ elim stop [ inl h ↦ h (beside_of m nodes) (length trace) | inr h ↦ absurd (fin.1 h) ];
+      },
     )
-ran_from m (Some p) trace ends.Memory nodes start leaves state whole stop fin = absurd fin
-ran_from m (Some p) trace (ends.Image task errno) nodes start leaves state whole stop fin = absurd fin
-ran_from m (Some p) trace ends.HostFault nodes start leaves state whole stop fin = absurd fin
-ran_from m (Some p) trace ends.Grant nodes start leaves state whole stop fin = absurd fin
+ran_from m (Some p) trace ends.Memory nodes start leaves state whole bound stop fin = absurd fin
+ran_from m (Some p) trace (ends.Image task errno) nodes start leaves state whole bound stop fin = absurd fin
+ran_from m (Some p) trace ends.HostFault nodes start leaves state whole bound stop fin = absurd fin
+ran_from m (Some p) trace ends.Grant nodes start leaves state whole bound stop fin = absurd fin
 
 pub ran_trace : (m : Mounts) (nodes : Nodes) (start : Kernel) (end : End) (trace : List Entry)
     → RanFrom m nodes start end trace → TraceOf m.entries end trace
 ran_trace m nodes start (ends.Done kernel) trace h = tt
 ran_trace m nodes start (ends.Full kernel) trace h = h.3
+ran_trace m nodes start (ends.Stuck kernel) trace h = h.2.short
 ran_trace m nodes start (ends.Image task errno) trace h = absurd h
 ran_trace m nodes start ends.HostFault trace h = absurd h
 ran_trace m nodes start ends.Grant trace h = absurd h

@@ -20,7 +20,7 @@ use Rattle.kernel_model.specs.printed.Printed.{printed}
 use Rattle.sentry_run.specs.declared.outcome.Fault.{Fault}
 use Rattle.sentry_run.specs.declared.outcome.Fault.TheVariants as faults
 use Rattle.sentry_run.specs.declared.outcome.Outcome.{Outcome}
-use Rattle.sentry_run.specs.Played.{nothing_opened}
+use Rattle.sentry_run.specs.Played.{IsStuck, nothing_opened}
 use Rattle.image_walk.specs.Standing.{no_left}
 use Rattle.sentry_run.specs.Causes.{HasRun, HasNotBegun, HasNoTrace, HasText, HasFront}
 use Rattle.sentry_run.specs.Outcome.{state_after, world_after, WhereRead, WhereState, IsHistory, IsOver, asks_trace}
@@ -38,6 +38,7 @@ use Rattle.sentry_run.proofs.Clauses.{any_as, told_as, where_read, where_state}
 began_of : (x : Session) (p : Output) (f : Fault) → HasRun f → ToldFacts x p f → (state : Kernel) × Began x state
 began_of x p faults.Done h t = (t.0, t.1)
 began_of x p faults.Full h t = (t.0, t.1)
+began_of x p faults.Stuck h t = (t.0, t.1)
 began_of x p faults.SinkFault h t = (t.0, t.1)
 began_of x p _ h t = cc
 
@@ -98,12 +99,23 @@ pub full : (s : Call) (r : Outcome) → Way s r → r.fault ≡ faults.Full
     → WhereState r.mounts s.before.host.told r.opening r.trace (λ m w k. any_live k ≡ true)
 full s r way h =
     where_state s r (λ m w k. any_live k ≡ true) way
-    (λ m o w told. let t = told_as s m r faults.Full o h w told in (t.0, t.1, t.2))
+    (λ m o w told. let t = told_as s m r faults.Full o h w told in (t.0, t.1, t.2.0))
 
 pub full_length : (s : Call) (r : Outcome) → Way s r → r.fault ≡ faults.Full
     → IfSome r.mounts (λ m. length r.trace ≡ m.entries)
 full_length s r way h =
     if_read s r (λ m. length r.trace ≡ m.entries) way (λ m o. any_as s m r faults.Full o h)
+
+pub stuck : (s : Call) (r : Outcome) → Way s r → r.fault ≡ faults.Stuck
+    → WhereState r.mounts s.before.host.told r.opening r.trace (λ m w k. IsStuck m r.trace k)
+stuck s r way h =
+    where_state s r (λ m w k. IsStuck m r.trace k) way
+    (λ m o w told. let t = told_as s m r faults.Stuck o h w told in (t.0, t.1, t.2))
+
+pub stuck_length : (s : Call) (r : Outcome) → Way s r → r.fault ≡ faults.Stuck
+    → IfSome r.mounts (λ m. length r.trace < m.entries)
+stuck_length s r way h =
+    if_read s r (λ m. length r.trace < m.entries) way (λ m o. any_as s m r faults.Stuck o h)
 
 pub sink_over : (s : Call) (r : Outcome) → Way s r → r.fault ≡ faults.SinkFault
     → WhereState r.mounts s.before.host.told r.opening r.trace (λ m w k. IsOver m r.trace k)
@@ -121,6 +133,7 @@ text_by : (x : Session) (p : Output) (f : Fault) → HasText f → ToldFacts x p
     → (state : Kernel) × Began x state × (p.after.told ≡ with_taken p.before.told (text_with x p state))
 text_by x p faults.Done h t = (t.0, t.1, t.3)
 text_by x p faults.Full h t = (t.0, t.1, t.3)
+text_by x p faults.Stuck h t = (t.0, t.1, t.3)
 text_by x p _ h t = cc
 
 pub text : (s : Call) (r : Outcome) → Way s r → HasText r.fault

@@ -17,13 +17,12 @@ pub data Says : Type 0 where
   No : Says
   Perhaps : Says
 
--- how much of the text the sink took: all, a front, nothing, or the cause does not say
+-- how much of the text the sink took: all, a front, or nothing
 -- write(2): a write may take a part
 pub data Extent : Type 0 where
   Whole : Extent
   Front : Extent
   Nothing : Extent
-  Unsaid : Extent
 
 -- a row: the exit status; whether the mount file was accepted, the world opened and a trace left; the text
 -- profile
@@ -34,7 +33,7 @@ pub record Cause : Type 0 where
   pub trace : Says
   pub text : Extent
 
--- the row of each cause: memory may run out at any step, and no run is stuck so far
+-- the row of each cause: memory may run out at any step
 -- profile
 abbrev pub cause_of : Fault → Cause
 cause_of Done = record { status = 0; read = Yes; begun = Yes; trace = Yes; text = Whole }
@@ -43,7 +42,7 @@ cause_of (Mounts fault) = record { status = 3; read = No; begun = No; trace = No
 cause_of (Image task errno) = record { status = 4; read = Yes; begun = Yes; trace = No; text = Nothing }
 cause_of SourceFault = record { status = 5; read = No; begun = No; trace = No; text = Nothing }
 cause_of SinkFault = record { status = 6; read = Yes; begun = Yes; trace = Yes; text = Front }
-cause_of Stuck = record { status = 7; read = Yes; begun = Yes; trace = Perhaps; text = Unsaid }
+cause_of Stuck = record { status = 7; read = Yes; begun = Yes; trace = Yes; text = Whole }
 cause_of Full = record { status = 8; read = Yes; begun = Yes; trace = Yes; text = Whole }
 cause_of Memory = record { status = 9; read = Perhaps; begun = Perhaps; trace = Perhaps; text = Front }
 cause_of HostFault = record { status = 10; read = Yes; begun = No; trace = No; text = Nothing }
@@ -91,7 +90,7 @@ HasFront fault = (cause_of fault).text ≡ Front
 -- the answers of a run that came to its end
 -- profile
 abbrev pub HasEnded : Fault → Type 0
-HasEnded fault = (fault ≡ Done) ⊎ (fault ≡ Full) ⊎ (fault ≡ Memory)
+HasEnded fault = (fault ≡ Done) ⊎ (fault ≡ Full) ⊎ (fault ≡ Stuck) ⊎ (fault ≡ Memory)
 
 -- the answers of a run whose mount file isn't there
 -- open(2), ENOENT

@@ -32,6 +32,7 @@ Writes text whole before after fault =
 abbrev pub Concludes : End → (text_of : Kernel → List ℕ) → (before after : Side (List ℕ)) → Fault → Type 0
 Concludes (ends.Done kernel) text_of before after fault = Writes (text_of kernel) faults.Done before after fault
 Concludes (ends.Full kernel) text_of before after fault = Writes (text_of kernel) faults.Full before after fault
+Concludes (ends.Stuck kernel) text_of before after fault = Writes (text_of kernel) faults.Stuck before after fault
 Concludes (ends.Image task errno) text_of before after fault =
     (fault ≡ faults.Image task errno) × (after.told ≡ before.told)
 Concludes ends.HostFault text_of before after fault = (fault ≡ faults.HostFault) × (after.told ≡ before.told)

@@ -25,7 +25,7 @@ word_of mounts.Memory = codes "Memory"
 abbrev pub image_line : ℕ → ℕ → List ℕ
 image_line task errno = (codes "sentry: image " ++ decimal task) ++ (codes " " ++ decimal errno ++ codes "\n")
 
--- the line of a cause, or nothing of a run that has its text or waits
+-- the line of a cause, or nothing of a run that has its text
 -- profile
 abbrev pub line_of : Fault → List ℕ
 line_of faults.Done = []

@@ -50,6 +50,7 @@ PlaysAs ends.Grant untouched missing over = untouched × missing
 PlaysAs ends.Memory untouched missing over = untouched ⊎ over
 PlaysAs (ends.Done kernel) untouched missing over = over
 PlaysAs (ends.Full kernel) untouched missing over = over
+PlaysAs (ends.Stuck kernel) untouched missing over = over
 PlaysAs (ends.Image task errno) untouched missing over = over
 
 -- what the opening and the run leave of the world, where it tells

@@ -26,6 +26,7 @@ use Rattle.kernel_model.specs.files.Settled.{tree_now, settled, outside}
 use Rattle.sentry_run.specs.Concluded.{StopsShort}
 use Rattle.image_walk.specs.Counts.{HasRisen}
 use Rattle.sentry_run.specs.LeftTasks.{MayBeLeft}
+use Rattle.sentry_run.specs.Played.{IsStuck}
 use Rattle.sentry_run.specs.declared.outcome.Fault.{Fault}
 use Rattle.sentry_run.specs.declared.outcome.Outcome.{Outcome}
 use Rattle.sentry_run.specs.declared.outcome.Fault.TheVariants.{SinkFault, Memory}
@@ -142,10 +143,11 @@ refused_kernel (Misfits task) = None
 
 -- ---- how a run came out
 
--- no task lives, or the trace is full
+-- no task lives, or the trace is full, or none of the tasks that live has a ready step
 -- profile
 abbrev pub IsOver : Mounts → List Entry → Kernel → Type 0
-IsOver mounts trace k = (any_live k ≡ false) ⊎ ((any_live k ≡ true) × (length trace ≡ mounts.entries))
+IsOver mounts trace k =
+    (any_live k ≡ false) ⊎ ((any_live k ≡ true) × (length trace ≡ mounts.entries)) ⊎ IsStuck mounts trace k
 
 -- ---- the text
 

@@ -1,5 +1,5 @@
 -- What the opening and the run of the tasks of a mount file come to.
-use Rattle.std.specs.Prelude.{◌≡◌, ◌⊎◌, ℕ, List, [], ◌∷◌, length, true, false, Option, Some}
+use Rattle.std.specs.Prelude.{◌≡◌, ◌⊎◌, ℕ, ◌<◌, List, [], ◌∷◌, length, true, false, Option, Some}
 use Rattle.std.specs.FinMap as map
 use Rattle.host_node.specs.Tree.{Shape}
 use Rattle.sn_errno.specs.declared.errno.Errno.{Errno}
@@ -10,7 +10,9 @@ use Rattle.kernel_model.specs.declared.opening.Opening.{Opening}
 use Rattle.kernel_model.specs.files.FileTree.{Nodes}
 use Rattle.kernel_model.specs.files.Settled.{tree_now}
 use Rattle.kernel_model.specs.opening.Opening.{opening_of, Opens, Refuses}
+use Rattle.kernel_model.specs.entries.Given.{has_any}
 use Rattle.kernel_model.specs.entries.History.{replay, each_whole, any_live}
+use Rattle.kernel_model.specs.entries.Ready.{ready_numbers}
 use Rattle.image_walk.specs.Counts.{HasRisen}
 use Rattle.image_walk.specs.Granted.{Child, GivesBack}
 use Rattle.image_walk.specs.Standing.{no_left}
@@ -49,6 +51,13 @@ pub record SameText (state kernel : Kernel) : Type 0 where
   pub tasks : state.tasks ≡ kernel.tasks
   pub console : state.console ≡ kernel.console
 
+-- a task lives, the trace is not full, and no task's next step is ready
+-- profile
+pub record IsStuck (mounts : Mounts) (trace : List Entry) (state : Kernel) : Type 0 where
+  pub lives : any_live state ≡ true
+  pub short : length trace < mounts.entries
+  pub still : has_any (ready_numbers state) ≡ false
+
 -- an execve that failed, and the tree of the root then
 -- profile
 pub record Failed (mounts : Mounts) (tree after : Shape) (opening : Opening) (task : ℕ) (errno : Errno) : Type 0 where
@@ -64,6 +73,9 @@ Ended mounts tree after opening trace (ends.Done kernel) =
 Ended mounts tree after opening trace (ends.Full kernel) =
     (state : Kernel) × Runs mounts tree after opening trace state × SameText state kernel × (any_live state ≡ true)
     × (length trace ≡ mounts.entries)
+Ended mounts tree after opening trace (ends.Stuck kernel) =
+    (state : Kernel) × Runs mounts tree after opening trace state × SameText state kernel
+    × IsStuck mounts trace state
 Ended mounts tree after opening trace (ends.Image task errno) =
     Failed mounts tree after opening task errno × (trace ≡ [])
 Ended mounts tree after opening trace ends.Memory =
@@ -88,6 +100,7 @@ end_of openings.Memory = ends.Memory
 -- profile
 abbrev pub TraceOf : ℕ → End → List Entry → Type 0
 TraceOf entries (ends.Full kernel) trace = length trace ≡ entries
+TraceOf entries (ends.Stuck kernel) trace = length trace < entries
 TraceOf entries (ends.Done kernel) trace = Unit {0}
 TraceOf entries ends.Memory trace = Unit {0}
 TraceOf entries _ trace = trace ≡ []
@@ -106,6 +119,9 @@ RanFrom m nodes start (ends.Done kernel) trace =
 RanFrom m nodes start (ends.Full kernel) trace =
     (replay start trace ≡ Some (over m nodes kernel)) × (each_whole start trace ≡ true)
     × (any_live (over m nodes kernel) ≡ true) × (length trace ≡ m.entries)
+RanFrom m nodes start (ends.Stuck kernel) trace =
+    (replay start trace ≡ Some (over m nodes kernel)) × (each_whole start trace ≡ true)
+    × IsStuck m trace (over m nodes kernel)
 RanFrom m nodes start ends.Memory trace =
     Leaves (beside_of m nodes) (replay start trace) × (each_whole start trace ≡ true)
 RanFrom m nodes start _ trace = ⊥

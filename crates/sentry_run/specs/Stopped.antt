@@ -1,5 +1,5 @@
 -- How processes that stopped have ended.
-use Rattle.std.specs.Prelude.{◌≡◌, ℕ, true, false, Option, Some, None}
+use Rattle.std.specs.Prelude.{◌≡◌, ◌≢◌, ℕ, true, false, Option, Some, None}
 use Rattle.task_table.specs.Table.{live_numbers}
 use Rattle.kernel_model.specs.entries.Given.{has_any}
 use Rattle.call_table.specs.declared.processes.Processes.{Processes}
@@ -8,20 +8,22 @@ use Rattle.call_table.specs.Processes.{kernel_of}
 use Rattle.sentry_run.specs.declared.play.End.{End}
 use Rattle.sentry_run.specs.declared.play.End.TheVariants as ends
 
--- processes end as their tasks stand
+-- processes end as their tasks stand after so many entries of those allowed
 -- profile
-abbrev pub EndsAs : Processes → ℕ → End → Type 0
-EndsAs p entries (ends.Done kernel) =
-    (has_any (live_numbers p.tasks.tasks) ≡ false) × (kernel ≡ kernel_of p nothing_beside entries)
-EndsAs p entries (ends.Full kernel) =
-    (has_any (live_numbers p.tasks.tasks) ≡ true) × (kernel ≡ kernel_of p nothing_beside entries)
-EndsAs p entries _ = ⊥
+abbrev pub EndsAs : Processes → (made entries : ℕ) → End → Type 0
+EndsAs p made entries (ends.Done kernel) =
+    (has_any (live_numbers p.tasks.tasks) ≡ false) × (kernel ≡ kernel_of p nothing_beside made)
+EndsAs p made entries (ends.Full kernel) =
+    (has_any (live_numbers p.tasks.tasks) ≡ true) × (made ≡ entries) × (kernel ≡ kernel_of p nothing_beside made)
+EndsAs p made entries (ends.Stuck kernel) =
+    (has_any (live_numbers p.tasks.tasks) ≡ true) × (made ≢ entries) × (kernel ≡ kernel_of p nothing_beside made)
+EndsAs p made entries _ = ⊥
 
 -- a run ends as its processes do, or for want of memory
 -- profile
-abbrev pub FinishesAs : Option Processes → ℕ → End → Type 0
-FinishesAs None entries end = end ≡ ends.Memory
-FinishesAs (Some p) entries end = EndsAs p entries end
+abbrev pub FinishesAs : Option Processes → (made entries : ℕ) → End → Type 0
+FinishesAs None made entries end = end ≡ ends.Memory
+FinishesAs (Some p) made entries end = EndsAs p made entries end
 
 -- an end after a grant
 -- profile

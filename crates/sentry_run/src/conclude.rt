@@ -61,6 +61,7 @@ fn concluded<K: Sink>(alloc: Global, end: End, trace: &Trace, flag: bool, out: &
     match end {
         End::Done(kernel) => written(alloc, &kernel, trace, flag, out, Fault::Done),
         End::Full(kernel) => written(alloc, &kernel, trace, flag, out, Fault::Full),
+        End::Stuck(kernel) => written(alloc, &kernel, trace, flag, out, Fault::Stuck),
         End::Image { task, errno } => Fault::Image { task, errno },
         End::HostFault => Fault::HostFault,
         End::Grant => Fault::Grant { mount: 1 },

@@ -7,12 +7,12 @@
 //! `printed_text` makes the text of a state and a trace.
 //!
 //! Proved of `run_sentry`: each answer has its cause (`usage`, `mounts`, `source_fault`, `grant`, `image`,
-//! `host_fault`, `sink_fault`, `done`, `full`), and each cause its answer (the clauses that end in `exact`); what is
-//! accepted comes to its end (`complete`), the trace is a history of the one-thread kernel from the opening with each
-//! Run whole (`history`, `bound`, `empty`), inode numbers run up without a gap (`gapless`, `below`), what no entry has
-//! is of few tasks (`left_tasks`), the text is that of the state which the trace leaves (`text`, `text_front`,
-//! `text_none`), and the world is the one before with that state's tree in place of the granted folder (`world`,
-//! `image_world`, `world_same`, `outside`, `inside`). What names a tree holds where the host tells its tree.
+//! `host_fault`, `sink_fault`, `done`, `full`, `stuck`), and each cause its answer (the clauses that end in `exact`);
+//! what is accepted comes to its end (`complete`), the trace is a history of the one-thread kernel from the opening
+//! with each Run whole (`history`, `bound`, `empty`), inode numbers run up without a gap (`gapless`, `below`), what no
+//! entry has is of few tasks (`left_tasks`), the text is that of the state which the trace leaves (`text`,
+//! `text_front`, `text_none`), and the world is the one before with that state's tree in place of the granted folder
+//! (`world`, `image_world`, `world_same`, `outside`, `inside`). What names a tree holds where the host tells its tree.
 //!
 //! Not said: what the system's files hold, when memory runs out, and that the line on standard error comes out.
 //!

@@ -15,7 +15,7 @@ use sn_errno::Errno;
 /// - `Image`: the opening execve of that task answers that error.
 /// - `SourceFault`: the source failed.
 /// - `SinkFault`: the sink failed.
-/// - `Stuck`: a task is live, and none has a step that is ready.
+/// - `Stuck`: a task is live, the trace is not full, and no task's next step is ready.
 /// - `Full`: the trace has as many entries as the mount file allows, and a task is live.
 /// - `Memory`: memory ran out.
 /// - `HostFault`: the host failed in a grant.

@@ -27,12 +27,13 @@ use std::alloc::Global;
 /// The inode number of the root of the one mount.
 const ROOT: u64 = 1;
 
-/// How the opening and the run ended: no task lives, the trace is full, the opening execve of a task answers an error,
-/// the host failed in a grant, there is no such folder, or memory ran out.
+/// How the opening and the run ended: no task lives, the trace is full, no live task's next step is ready, the opening
+/// execve of a task answers an error, the host failed in a grant, there is no such folder, or memory ran out.
 #[derive(Drop)]
 pub enum End {
     Done(Kernel),
     Full(Kernel),
+    Stuck(Kernel),
     Image { task: u32, errno: Errno },
     HostFault,
     Grant,
@@ -97,19 +98,19 @@ fn run_processes(alloc: Global, mounts: &Mounts, processes: Processes, opening: 
     ensures bound { length result.trace ≤ mounts.now.entries }
 {
     let ran = run_turns(alloc, processes, mounts.seed.as_slice(), mounts.entries);
-    finished(alloc, ran, opening)
+    finished(alloc, ran, opening, mounts.entries)
 }
 
-/// How a run has ended.
-fn finished(alloc: Global, ran: Ran, opening: Opening) -> Played
-    ensures end { FinishesAs ran.processes (length ran.trace) result.end }
+/// How a run that may make so many entries has ended.
+fn finished(alloc: Global, ran: Ran, opening: Opening, entries: u64) -> Played
+    ensures end { FinishesAs ran.processes (length ran.trace) entries result.end }
     ensures inner { IsInner result.end }
     ensures trace { result.trace ≡ ran.trace }
     ensures opening { result.opening ≡ opening }
 {
     let Ran { processes, trace } = ran;
     let end = match processes {
-        Some(processes) => ended(alloc, processes, trace.len() as u64),
+        Some(processes) => ended(alloc, processes, trace.len() as u64, entries),
         None => End::Memory,
     };
     Played {
@@ -119,17 +120,20 @@ fn finished(alloc: Global, ran: Ran, opening: Opening) -> Played
     }
 }
 
-/// How processes that stopped there have ended.
-fn ended(alloc: Global, processes: Processes, entries: u64) -> End
-    ensures as_stands { EndsAs processes entries result }
+/// How processes that stopped after so many entries of those allowed have ended. A full trace goes before tasks none
+/// of which is ready.
+fn ended(alloc: Global, processes: Processes, made: u64, entries: u64) -> End
+    ensures as_stands { EndsAs processes made entries result }
     ensures inner { IsInner result }
 {
     let live = processes.any_live();
-    let kernel = processes.into_kernel(alloc, entries);
-    if live {
+    let kernel = processes.into_kernel(alloc, made);
+    if !live {
+        End::Done(kernel)
+    } else if made == entries {
         End::Full(kernel)
     } else {
-        End::Done(kernel)
+        End::Stuck(kernel)
     }
 }
 

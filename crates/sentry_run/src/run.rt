@@ -21,6 +21,7 @@ ghost use Rattle.sentry_run.specs.Outcome.{ReadsMounts, HasMountFault, MeetsFaul
 ghost use Rattle.sentry_run.specs.Outcome.{WhereRead, WhereState, IsHistory, RefusesAs, refused_kernel, IsOver};
 ghost use Rattle.sentry_run.specs.Outcome.{asks_trace, text_of, LacksFile, ComesTo, AreLeft, LeavesInside};
 ghost use Rattle.sentry_run.specs.Outcome.{IsLeftOver, IsAccepted, world_after, KeepsOutside};
+ghost use Rattle.sentry_run.specs.Played.{IsStuck};
 ghost use Rattle.image_walk.specs.Standing.{no_left};
 ghost use Rattle.sentry_run.specs.Ran.{IsRefused, ReadsAs, FailsToRead, RanBy, RanWords};
 ghost use Rattle.sentry_run.specs.Sides.{side, sides};
@@ -135,8 +136,6 @@ pub fn run_sentry<S: Source, W: HostWorld, K: Sink>(
     requires ungranted { IsUngranted (W.told host.old) }
     // ---- the answers and their causes
     ensures status { result.status ≡ status_of result.fault }
-    // So far no call waits.
-    ensures never_stuck { result.fault ≢ Fault.Stuck }
     ensures usage { result.fault ≡ Fault.Usage → accepted (map string_bytes words.now) ≡ None }
     ensures usage_exact { accepted (map string_bytes words.now) ≡ None → result.fault ≡ Fault.Usage }
     ensures source_fault { result.fault ≡ Fault.SourceFault → Rose (S.count files.old) (S.count files.new) }
@@ -183,8 +182,18 @@ pub fn run_sentry<S: Source, W: HostWorld, K: Sink>(
     ensures full { result.fault ≡ Fault.Full →
         WhereState result.mounts (W.told host.old) result.opening result.trace (λ m w k. any_live k ≡ true) }
     ensures full_length { result.fault ≡ Fault.Full → IfSome result.mounts (λ m. length result.trace ≡ m.entries) }
+    // A full trace goes before tasks none of which is ready.
     ensures full_exact { WhereState result.mounts (W.told host.old) result.opening result.trace (λ m w k.
-        any_live k ≡ true → ComesTo Fault.Full (K.told out.old) (K.told out.new)
+        any_live k ≡ true → length result.trace ≡ m.entries →
+        ComesTo Fault.Full (K.told out.old) (K.told out.new)
+        (printed k result.trace (asks_trace (accepted (map string_bytes words.now)))) result.fault) }
+    ensures stuck { result.fault ≡ Fault.Stuck →
+        WhereState result.mounts (W.told host.old) result.opening result.trace (λ m w k. IsStuck m result.trace k) }
+    ensures stuck_length { result.fault ≡ Fault.Stuck → IfSome result.mounts (λ m. length result.trace < m.entries) }
+    // With a live task and a trace that is not full a run ends nowhere but where no step is ready.
+    ensures stuck_exact { WhereState result.mounts (W.told host.old) result.opening result.trace (λ m w k.
+        any_live k ≡ true → length result.trace < m.entries →
+        ComesTo Fault.Stuck (K.told out.old) (K.told out.new)
         (printed k result.trace (asks_trace (accepted (map string_bytes words.now)))) result.fault) }
     // ---- the trace
     ensures history { HasRun result.fault →

@@ -1,5 +1,5 @@
 -- The nodes are back, and the root then tells what the run left.
-use Rattle.std.proofs.Common.{◌∙◌, ap, sym, subst}
+use Rattle.std.proofs.Common.{subst}
 use Rattle.std.specs.Prelude.{Option}
 use Rattle.host_node.specs.Tree.{Shape}
 use Rattle.image_walk.specs.Granted.{told_of}

@@ -1,19 +1,16 @@
 -- The opening and the run end as the tasks' opening came out, and the folder can be put together again.
-use Rattle.std.proofs.Common.{◌≡◌, [], ◌∷◌, ap, sym, ◌∙◌, subst, List, length}
-use Rattle.host_node.specs.Tree.{Shape}
+use Rattle.std.proofs.Common.{[], ap, sym, ◌∙◌, subst}
 use Rattle.kernel_model.specs.declared.opening.Opening.{Opening}
-use Rattle.kernel_model.specs.declared.entry.Entry.{Entry}
 use Rattle.image_walk.specs.declared.granted.Numbering.{Numbering}
 use Rattle.image_walk.specs.Granted.{told_of}
 use Rattle.image_walk.specs.Standing.{Stands}
 use Rattle.image_walk.proofs.OutAgain.{can_give_back}
 use Rattle.run_opening.specs.Openings.{numbering_of}
-use Rattle.run_opening.proofs.Recording.{recorded}
 use Rattle.sentry_run.specs.declared.play.End.{End}
 use Rattle.sentry_run.specs.Played.{Ended}
 use Rattle.sentry_run.proofs.Endings.{one_mount, ended_lacking, ended_stopped, can_stopped, ended_begun, can_where}
 use Rattle.sentry_run.proofs.Endings.{some_stopped, some_told, tells_where}
-use Rattle.sentry_run.proofs.Records.{gapless, gapless_nothing}
+use Rattle.sentry_run.proofs.Records.{gapless}
 use Rattle.sentry_run.proofs.play.play_granted.Goals as goal
 
 pub returns-in-Err-clause-ended : goal.returns-in-Err-clause-ended

@@ -1,5 +1,5 @@
 -- Processes run from the kernel that they are at their opening.
-use Rattle.std.proofs.Common.{◌≡◌, ℕ, ◌+◌, List, length, ap, sym, ◌∙◌, subst}
+use Rattle.std.proofs.Common.{◌≡◌, ℕ, List, length, sym, subst}
 use Rattle.std.specs.Prelude.{Option, Some, None, IfSome}
 use Rattle.std.specs.FinMap as map
 use Rattle.mount_file.specs.declared.mounts.Mounts.{Mounts}
@@ -34,7 +34,7 @@ returns-clause-ran c = λ nodes.
     (kernel_of first (beside_of m nodes) 0) (e.history (beside_of m nodes) (sym c.as_slice.ensures))
     (state_with m c.run_turns-ran.result.processes first c.run_turns-ran.result.trace nodes c.as_slice.result.now
     (sym c.as_slice.ensures) e.state)
-    (e.whole (beside_of m nodes) (sym c.as_slice.ensures)) e.ended c.finished.ensures.end in
+    (e.whole (beside_of m nodes) (sym c.as_slice.ensures)) e.bound e.ended c.finished.ensures.end in
     subst (λ (es : List Entry). RanFrom m nodes (kernel_of first (beside_of m nodes) 0) c.finished.result.end es)
     (sym c.finished.ensures.trace) ran
 
@@ -49,6 +49,6 @@ returns-clause-trace c =
     (e.history (beside_of m map.empty) (sym c.as_slice.ensures))
     (state_with m c.run_turns-ran.result.processes first c.run_turns-ran.result.trace map.empty
     c.as_slice.result.now (sym c.as_slice.ensures) e.state)
-    (e.whole (beside_of m map.empty) (sym c.as_slice.ensures)) e.ended c.finished.ensures.end in
+    (e.whole (beside_of m map.empty) (sym c.as_slice.ensures)) e.bound e.ended c.finished.ensures.end in
     subst (λ (es : List Entry). TraceOf m.entries c.finished.result.end es) (sym c.finished.ensures.trace)
     (ran_trace m map.empty start c.finished.result.end c.run_turns-ran.result.trace ran)

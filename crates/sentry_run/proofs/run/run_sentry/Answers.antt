@@ -13,7 +13,6 @@ returns g c =
     let way = way_of s r c.run_words.ensures in
     record {
       status = clauses.status s r way;
-      never_stuck = clauses.never_stuck s r way;
       usage = clauses.usage s r way;
       usage_exact = clauses.usage_exact s r way;
       source_fault = clauses.source_fault s r way;
@@ -41,6 +40,9 @@ returns g c =
       full = traces.full s r way;
       full_length = traces.full_length s r way;
       full_exact = causes.full_exact s r way;
+      stuck = traces.stuck s r way;
+      stuck_length = traces.stuck_length s r way;
+      stuck_exact = causes.stuck_exact s r way;
       history = traces.history s r way;
       history_memory = traces.history_memory s r way;
       bound = traces.bound s r way;
