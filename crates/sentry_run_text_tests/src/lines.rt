@@ -70,5 +70,7 @@ fn each_cause_has_its_status_and_its_line(rt: HostRuntime) -> Result<(), Fail> {
 #[test]
 fn a_run_that_has_its_text_has_no_line(rt: HostRuntime) -> Result<(), Fail> {
     report(rt, Fault::Done)?;
+    report(rt, Fault::Full)?;
+    report(rt, Fault::Stuck)?;
     Ok(())
 }

@@ -1,5 +1,6 @@
 //! The text of a state: the console, the groups, and the lines of a trace.
 
+use futex_core::Waiters;
 use kernel_model::{Args, Entry, Given, Kernel, Named};
 use sentry_run::printed_text;
 use sn_base::{List, Map, Memory};
@@ -42,6 +43,7 @@ fn kernel(alloc: Global, console: &[u8], tasks: Tasks) -> Result<Kernel, Memory>
         spaces: Named::new(alloc),
         areas: Named::new(alloc),
         nodes: Map::new(alloc),
+        sleepers: Waiters::new(alloc),
         console: List::from_slice(alloc, console)?,
         failed: Map::new(alloc),
         mounts: List::new(alloc),
