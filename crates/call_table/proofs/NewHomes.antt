@@ -198,3 +198,26 @@ module _ (child : Child) (place : ℕ) (c : Caller) (k : Kernel) (home : AreAtHo
       by None (Some memory) = child_home None (Some memory)
       by (Some words) None = child_home (Some words) None
       by (Some words) (Some memory) = child_home (Some words) (Some memory)
+
+-- its registers are there beside all others
+pub child_registers : (child : Child) (place : ℕ) (c : Caller) (k : Kernel)
+    → (with_child child place c k).registers ≡ map.insert k.registers (k.tasks.last + 1) child.registers
+child_registers child place c k = by child.words child.memory
+  where
+    by : (words : Option Words) (memory : Option AddressSpace)
+        → map.insert (with_task place memory child.clear c (with_words words c k)).registers (k.tasks.last + 1)
+        child.registers ≡ map.insert k.registers (k.tasks.last + 1) child.registers
+    by None None = refl
+    by None (Some memory) = refl
+    by (Some words) None = refl
+    by (Some words) (Some memory) = refl
+
+-- and a key that is there stays
+pub key_stays : (registers : map.FinMap nat_cmp Regs) (number : ℕ) (r : Regs) (task : ℕ)
+    → is_some (map.get registers task) ≡ true → is_some (map.get (map.insert registers number r) task) ≡ true
+key_stays registers number r task there = by (map.get registers task) refl there
+  where
+    by : (o : Option Regs) → map.get registers task ≡ o → is_some o ≡ true
+        → is_some (map.get (map.insert registers number r) task) ≡ true
+    by None is e = absurd (cc e)
+    by (Some x) is e = ap is_some (registers_stay registers number r task x is).1

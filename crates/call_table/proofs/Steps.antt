@@ -1,5 +1,5 @@
 -- What an entry of a live task is to the kernel of its processes.
-use Rattle.std.proofs.Common.{◌≡◌, ℕ, ◌+◌, ◌≤◌, Bool, true, false, cond, List, [], ◌∷◌, ◌++◌, refl, ap, sym}
+use Rattle.std.proofs.Common.{◌≡◌, ℕ, ◌+◌, ◌-◌, ◌<◌, ◌≤◌, length, Bool, true, false, cond, List, [], ◌∷◌, ◌++◌, refl, ap, sym}
 use Rattle.std.proofs.Common.{◌∙◌, arith, ℤ, option_map, pos, subst}
 use Rattle.std.specs.Prelude.{Option, Some, None, if◌then◌else◌, ◌&&◌, ◌||◌, not, nat_eq}
 use Rattle.std.specs.Ordering.{int_eq, nat_cmp}
@@ -25,7 +25,9 @@ use Rattle.kernel_model.specs.declared.entry.Args.{Args}
 use Rattle.kernel_model.specs.declared.entry.Entry.{Entry}
 use Rattle.kernel_model.specs.declared.entry.Entry.TheVariants.{Run, Call, Sleep, End}
 use Rattle.kernel_model.specs.declared.kernel.Kernel.{Kernel}
-use Rattle.kernel_model.specs.declared.kernel.Part.TheVariants.{OfTasks, OfTask, OfSpace, OfSleepers, OfConsole}
+use Rattle.kernel_model.specs.declared.kernel.Part.{Part}
+use Rattle.kernel_model.specs.declared.kernel.Part.TheVariants.{OfTasks, OfTask, OfSpace, OfArea, OfNode, OfSleepers}
+use Rattle.kernel_model.specs.declared.kernel.Part.TheVariants.{OfConsole, OfFaults}
 use Rattle.kernel_model.specs.declared.opening.Given.{Given}
 use Rattle.kernel_model.specs.declared.traps.Next.{Next}
 use Rattle.kernel_model.specs.declared.traps.Next.TheVariants.{Goes, Calls, Traps, Touches}
@@ -39,16 +41,20 @@ use Rattle.kernel_model.specs.calls.Table.{call_row}
 use Rattle.kernel_model.specs.entries.Areas.{Stands, next_row}
 use Rattle.kernel_model.specs.entries.Given.{is_quiet, may_meet}
 use Rattle.kernel_model.specs.entries.History.{is_whole, goes_next, has_next, has_touching, touches_next}
-use Rattle.kernel_model.specs.entries.Parts.{Parts, parts, done, look, outcome_in, Change, put, changed}
+use Rattle.kernel_model.specs.entries.Parts.{Parts, parts, Prog, done, look, outcome_in, Change, put, changed}
 use Rattle.kernel_model.specs.entries.Steps.{by_given, call_at, end_at, entry_row, going_on, if_live, next_in, row_of}
 use Rattle.kernel_model.specs.entries.Steps.{may_enter, run_alone, same_args, stands_at, step, stepped, task_change}
 use Rattle.kernel_model.specs.entries.Steps.{killed, sleep_at, slept_by, task_of, woken_at}
 use Rattle.kernel_model.specs.entries.Ready.{is_ready, ready_as, ready_by, ready_if_live}
 use Rattle.kernel_model.specs.entries.Waiting.{Wait, Awake, Asleep, Woken, wait_of}
 use Rattle.kernel_model.proofs.CallLemmas.{call_quiet}
+use Rattle.kernel_model.proofs.LocalityLaws.{ready_alike}
 use Rattle.kernel_model.proofs.NamedMaps.{get-with_same, with_same}
 use Rattle.kernel_model.proofs.Trees.{outcome-bind}
-use Rattle.kernel_calls.specs.Prepared.{Steps, changes_of, left_behind}
+use Rattle.kernel_calls.specs.Prepared.{Comes, IsCalling, Steps, changes_of, left_behind}
+use Rattle.kernel_calls.specs.declared.context.Context.{Context}
+use Rattle.kernel_calls.specs.declared.prepared.Called.{Called}
+use Rattle.kernel_calls.specs.declared.prepared.Called.TheVariants.{Replies, Makes, Sleeps, Waits}
 use Rattle.kernel_calls.specs.declared.prepared.Effect.{Effect}
 use Rattle.kernel_calls.specs.declared.prepared.Effect.TheVariants.{Nothing, TakesBytes, EndsGroup, EndsTask, SetsClear}
 use Rattle.kernel_calls.specs.declared.prepared.Effect.TheVariants.{Wakes, Reaps}
@@ -58,7 +64,7 @@ use Rattle.call_table.specs.declared.processes.Processes.{Processes}
 use Rattle.call_table.specs.declared.processes.Standing.{Standing}
 use Rattle.call_table.specs.Beside.{Beside, Held, nothing_beside, nothing_held, kernel_with, found_in}
 use Rattle.call_table.specs.Processes.{held_by, kernel_of, caller_with, StandsAs, RunsIn, NextIn, IsNextOf}
-use Rattle.call_table.specs.Processes.{IsAwake, ReadyIs, is_touching}
+use Rattle.call_table.specs.Processes.{IsAwake, IsOf, ReadyIs, is_touching}
 use Rattle.call_table.proofs.Found.{Parted, found_by, parted}
 
 -- ---- numbers and arguments are themselves
@@ -187,6 +193,51 @@ effect_alike (Wakes key most) group k m e w f =
 effect_alike (Reaps which) group k m e w f =
     ap (λ (list : TaskTable). (OfTasks, after_reap list (reap_end list.groups group which)) ∷ []) e
 
+-- the parts of a kernel have no mounts, no key and no number of entries
+same_parts : (p : Processes) (beside : Beside) (seed : List ℕ) (m n : ℕ) (part : Part)
+    → parts (kernel_of p (record beside { seed = seed }) m) part ≡ parts (kernel_of p beside n) part
+same_parts p beside seed m n OfTasks = refl
+same_parts p beside seed m n (OfTask q) = refl
+same_parts p beside seed m n (OfSpace q) = refl
+same_parts p beside seed m n (OfArea q) = refl
+same_parts p beside seed m n (OfNode q) = refl
+same_parts p beside seed m n OfSleepers = refl
+same_parts p beside seed m n OfConsole = refl
+same_parts p beside seed m n OfFaults = refl
+
+-- so that what is ready at one place is so at each
+pub ready_anywhere : (p : Processes) (task : ℕ) (b : Bool) (seed : List ℕ) (place : ℕ) → 0 < place
+    → ((beside : Beside) (n : ℕ) → beside.seed ≡ seed → n + 1 ≡ place → is_ready (kernel_of p beside n) task ≡ b)
+    → ReadyIs p task b
+ready_anywhere p task b seed place later ready = λ beside n.
+    ready_alike (kernel_of p (record beside { seed = seed }) (place - 1)) (kernel_of p beside n) task
+    (λ part is. same_parts p beside seed (place - 1) n part)
+    ∙ ready (record beside { seed = seed }) (place - 1) refl (omega (arith, later))
+
+-- what has become of a call has an entry, or waits
+abbrev pub has_entry : Called → Bool
+has_entry (Replies p) = true
+has_entry (Makes child) = true
+has_entry (Sleeps key) = true
+has_entry Waits = false
+
+pub entry_of : (row : Prog Answer) (d : Called) (c : Caller) (k : Kernel) (space : AddressSpace)
+    (areas : NamedMap AreaState) → Comes row d c k space areas
+    → makes_entry (outcome_in (parts k) row).reply ≡ has_entry d
+entry_of row (Replies p) c k space areas comes = ap (λ (a : Answer). makes_entry a.reply) comes.row_is
+entry_of row (Makes child) c k space areas comes = ap (λ (a : Answer). makes_entry a.reply) comes.row_is
+entry_of row (Sleeps key) c k space areas comes = ap (λ (a : Answer). makes_entry a.reply) comes
+entry_of row Waits c k space areas comes = ap (λ (a : Answer). makes_entry a.reply) comes
+
+-- what has become of a call of these registers
+pub at_registers : (number : ℕ) (args : Args) (r : Regs) (d : Called) (x : Caller) (k : Kernel) (space : AddressSpace)
+    (areas : NamedMap AreaState) → number ≡ call_of r → args ≡ args_of r
+    → Comes (call_row (context_of k) x number args) d x k space areas
+    → Comes (call_row (context_of k) x (call_of r) (args_of r)) d x k space areas
+at_registers number args r d x k space areas e f comes =
+    subst (λ n. Comes (call_row (context_of k) x n (args_of r)) d x k space areas) e
+    (subst (λ a. Comes (call_row (context_of k) x number a) d x k space areas) f comes)
+
 module _ (p : Processes) (task : ℕ) (standing : Standing) (stands : StandsAs p task standing) where
   abbrev c : Caller
   c = caller_with task standing stands.space
@@ -241,6 +292,44 @@ module _ (p : Processes) (task : ℕ) (standing : Standing) (stands : StandsAs p
       (call_row (context_of (kernel_of p beside n)) c (call_of standing.registers) (args_of standing.registers))
       (λ answer. done (makes_entry answer.reply))
       ∙ ap (λ (x : Answer). makes_entry x.reply) is
+
+  -- a call of this task, in the kernel of the processes
+  pub calling_here : (context : Context) (own : AddressSpace) (taken : ℕ) (beside : Beside) (n : ℕ)
+      → context.task ≡ task → IsOf context standing
+      → get_named p.spaces standing.memory.place standing.memory.index ≡ Some own → taken ≡ length p.console
+      → beside.seed ≡ context.seed.now → n + 1 ≡ context.place
+      → IsCalling c (kernel_of p beside n) context own p.areas p.tasks p.sleepers taken
+  calling_here context own taken beside n is known there count seed place = record {
+    task = sym is;
+    group = sym known.group;
+    memory = sym known.memory;
+    place = place;
+    seed = seed;
+    space = own_space own there;
+    there = stands.in_memory;
+    areas = refl;
+    tasks = refl;
+    sleepers = refl;
+    console = sym count;
+  }
+
+  -- so that its step is ready where the call has an entry
+  pub ready_called : (context : Context) (own : AddressSpace) (taken : ℕ) (d : Called) (space : AddressSpace)
+      (areas : NamedMap AreaState) → context.task ≡ task → IsOf context standing
+      → get_named p.spaces standing.memory.place standing.memory.index ≡ Some own → taken ≡ length p.console
+      → 0 < context.place → IsAwake p task → NextIn p task Calls
+      → ((x : Caller) (k : Kernel) → IsCalling x k context own p.areas p.tasks p.sleepers taken
+      → x.registers ≡ standing.registers
+      → Comes (call_row (context_of k) x (call_of standing.registers) (args_of standing.registers)) d x k space areas)
+      → ReadyIs p task (has_entry d)
+  ready_called context own taken d space areas is known there count later awake calls row =
+      ready_anywhere p task (has_entry d) context.seed.now context.place later (λ beside n seed place.
+      ready_call awake calls beside n
+      (outcome_in (parts (kernel_of p beside n)) (call_row (context_of (kernel_of p beside n)) c
+      (call_of standing.registers) (args_of standing.registers))) refl
+      ∙ entry_of (call_row (context_of (kernel_of p beside n)) c (call_of standing.registers)
+      (args_of standing.registers)) d c (kernel_of p beside n) space areas
+      (row c (kernel_of p beside n) (calling_here context own taken beside n is known there count seed place) refl))
 
   -- ---- runs
 

@@ -119,7 +119,7 @@ impl Processes {
         ensures console { self.new.console ≡ self.old.console }
         ensures err { OnErr result (AreKept self.old self.new) }
     {
-        let value = i64::from(self.tasks.last()) + 1;
+        let value = i64::from(self.tasks.last() + 1);
         make(
             alloc,
             context,

@@ -65,7 +65,8 @@ impl Processes {
         seed: &[u8],
         place: u64,
     ) -> Result<Option<Entry>, Memory>
-        requires { IsTrue (is_live self.old.tasks.tasks task) }
+        requires lives { IsTrue (is_live self.old.tasks.tasks task) }
+        requires later { 0 < place }
         ensures step { IfEntered result (λ entry. (beside : Beside) (n : ℕ) → beside.seed ≡ seed.now → n + 1 ≡ place →
             step (kernel_of self.old beside n) entry ≡ Some (kernel_of self.new beside (n + 1))) }
         ensures whole { IfEntered result (λ entry. (beside : Beside) (n m : ℕ) →
@@ -158,6 +159,7 @@ impl Processes {
     ) -> Result<Option<Entry>, Memory>
         requires stands { StandsAs self.old context.now.task standing }
         requires known { IsOf context.now standing }
+        requires place { 0 < context.now.place }
         requires alive { IsTrue (is_live self.old.tasks.tasks context.now.task) }
         requires awake { IsAwake self.old context.now.task }
         requires touches { IsTrue (is_touching self.old context.now.task) }
@@ -227,6 +229,7 @@ impl Processes {
     ) -> Result<Option<Entry>, Memory>
         requires stands { StandsAs self.old context.now.task standing }
         requires known { IsOf context.now standing }
+        requires place { 0 < context.now.place }
         requires alive { IsTrue (is_live self.old.tasks.tasks context.now.task) }
         requires awake { IsAwake self.old context.now.task }
         requires calls { NextIn self.old context.now.task Next.Calls }
@@ -312,7 +315,7 @@ impl Processes {
         commit(
             alloc,
             Effect::EndsGroup(ending),
-            context.group,
+            standing.group,
             &mut self.tasks,
             &mut self.sleepers,
             &mut self.console,

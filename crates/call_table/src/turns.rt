@@ -1,12 +1,13 @@
 //! Turns: the entries of processes, one after another, until no task's step is ready or the trace is full.
 
-ghost use Rattle.std.specs.Prelude.{◌≡◌, ◌≤◌, ◌+◌, ◌⊎◌, ℕ, true, false, length, nat_lt, find, Some, None, IfSome, OnErr, []};
+ghost use Rattle.std.specs.Prelude.{◌≡◌, ◌<◌, ◌≤◌, ◌+◌, ◌⊎◌, ℕ, true, false, length, nat_lt, find, Some, None, IfSome, OnErr, []};
 ghost use Rattle.std.specs.List.{flat_map};
 ghost use Rattle.kernel_model.specs.entries.Given.{has_any};
 ghost use Rattle.kernel_model.specs.entries.History.{each_whole, is_whole, replay};
 ghost use Rattle.kernel_model.specs.entries.Ready.{ready_numbers};
 ghost use Rattle.kernel_model.specs.entries.Steps.{step, task_of};
 ghost use Rattle.kernel_model.specs.files.Numbers.{numbers_in};
+ghost use Rattle.task_table.specs.Kept.{IsKept};
 ghost use Rattle.call_table.specs.Beside.{Beside};
 ghost use Rattle.call_table.specs.Processes.{AreKept, IfEntered, IfParked, kernel_of};
 ghost use Rattle.call_table.specs.Turns.{AreInTurn, AreStill, Leaves, next_of};
@@ -33,6 +34,7 @@ impl Processes {
         seed: &[u8],
         place: u64,
     ) -> Result<Option<Entry>, Memory>
+        requires { 0 < place }
         ensures step { IfEntered result (λ entry. (beside : Beside) (n : ℕ) → beside.seed ≡ seed.now → n + 1 ≡ place →
             step (kernel_of self.old beside n) entry ≡ Some (kernel_of self.new beside (n + 1))) }
         ensures whole { IfEntered result (λ entry. (beside : Beside) (n m : ℕ) →
@@ -43,17 +45,19 @@ impl Processes {
         ensures none { IfParked result ((beside : Beside) (n : ℕ) →
             find (nat_lt after) (ready_numbers (kernel_of self.old beside n)) ≡ None) }
         ensures kept { IfParked result (AreKept self.old self.new) }
+        ensures sound { IsKept self.old.tasks }
     {
         if self.tasks.live() == 0 {
             return Ok(None);
         }
-        let Some(task) = self.tasks.next_live(after) else {
-            return Ok(None);
+        let task = match self.tasks.next_live(after) {
+            Some(task) => task,
+            None => return Ok(None),
         };
-        if let Some(entry) = self.advance(alloc, task, seed, place)? {
-            return Ok(Some(entry));
+        match self.advance(alloc, task, seed, place)? {
+            Some(entry) => Ok(Some(entry)),
+            None => self.enter_above(alloc, task, seed, place),
         }
-        self.enter_above(alloc, task, seed, place)
     }
 
     /// Has the task whose turn is next, behind that of the last turn, make an entry; or none, where no task's next step
@@ -65,6 +69,7 @@ impl Processes {
         seed: &[u8],
         place: u64,
     ) -> Result<Option<Entry>, Memory>
+        requires { 0 < place }
         ensures step { IfEntered result (λ entry. (beside : Beside) (n : ℕ) → beside.seed ≡ seed.now → n + 1 ≡ place →
             step (kernel_of self.old beside n) entry ≡ Some (kernel_of self.new beside (n + 1))) }
         ensures whole { IfEntered result (λ entry. (beside : Beside) (n m : ℕ) →
@@ -75,10 +80,10 @@ impl Processes {
         ensures still { IfParked result (AreStill self.new) }
         ensures kept { IfParked result (AreKept self.old self.new) }
     {
-        if let Some(entry) = self.enter_above(alloc, last, seed, place)? {
-            return Ok(Some(entry));
+        match self.enter_above(alloc, last, seed, place)? {
+            Some(entry) => Ok(Some(entry)),
+            None => self.enter_above(alloc, 0, seed, place),
         }
-        self.enter_above(alloc, 0, seed, place)
     }
 }
 
@@ -102,12 +107,17 @@ pub fn run_turns(alloc: Global, processes: Processes, seed: &[u8], entries: u64)
     let mut trace = List::new(alloc);
     let mut last = 0;
     for place in 0..entries {
-        let entry = match processes.turn(alloc, last, seed, place + 1) {
-            Ok(Some(entry)) => entry,
-            Ok(None) => break,
-            Err(_) => {
+        let Ok(made) = processes.turn(alloc, last, seed, place + 1) else {
+            return Ran {
+                processes: None,
+                trace,
+            };
+        };
+        let entry = match made {
+            Some(entry) => entry,
+            None => {
                 return Ran {
-                    processes: None,
+                    processes: Some(processes),
                     trace,
                 };
             }

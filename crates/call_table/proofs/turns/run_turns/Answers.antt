@@ -1,15 +1,18 @@
 -- Each round adds an entry at the end of a history, or memory runs out.
-use Rattle.std.proofs.Common.{◌≡◌, ℕ, ◌+◌, false, List, [], ◌∷◌, ◌++◌, length, ap, sym, subst, ◌∙◌, length-append}
+use Rattle.std.proofs.Common.{◌≡◌, ℕ, ◌+◌, true, false, List, [], ◌∷◌, ◌++◌, length, ap, sym, subst, ◌∙◌, length-append}
 use Rattle.std.specs.Prelude.{Result, Ok, Err, OnOk, is_err, Some}
 use Rattle.std.specs.List.{flat_map}
 use Rattle.std.proofs.lemmas.Grind.{flat_map-append}
-use Rattle.kernel_model.specs.files.Numbers.{numbers_in}
-use Rattle.kernel_model.specs.entries.History.{replay, each_whole}
-use Rattle.task_table.specs.Table.{live_numbers}
 use Rattle.kernel_model.specs.declared.entry.Entry.{Entry}
+use Rattle.kernel_model.specs.files.Numbers.{numbers_in}
+use Rattle.kernel_model.specs.entries.History.{replay, each_whole, is_whole}
+use Rattle.kernel_model.specs.entries.Ready.{ready_numbers}
+use Rattle.kernel_model.specs.entries.Steps.{step, task_of}
+use Rattle.call_table.specs.Beside.{Beside}
 use Rattle.call_table.specs.Processes.{kernel_of}
 use Rattle.call_table.specs.Turns.{AreInTurn, last_turn, next_of}
 use Rattle.call_table.proofs.Histories.{last_more, replay_more, turns_more, whole_more}
+use Rattle.call_table.proofs.Results.{is_some_of}
 use Rattle.call_table.proofs.turns.run_turns.Goals as goal
 
 -- a result that is no error has what holds on success
@@ -22,43 +25,49 @@ none_more xs ys e h = ap (λ zs. zs ++ (ys ++ [])) e ∙ ap (λ zs. zs ++ []) h
 
 pub loop-place-preserved : goal.loop-place-preserved
 loop-place-preserved c =
+    let before = c.loop-place.processes in
+    let after = c.turn.new.self in
+    let entry = c.in-Some.entry in
     let grown = on_success c.push.result _ (sym c.is_err.ensures.value ∙ c.if-is_err.false) c.push.ensures.ok in
     let longer : length c.push.new.self ≡ length c.loop-place.trace + 1 =
-    ap length grown ∙ length-append c.loop-place.trace (c.in-Ok.entry ∷ []) in
-    let turn : next_of c.loop-place.last (live_numbers c.loop-place.processes.tasks.tasks)
-    ≡ Some c.in-Some.task = sym c.next_turn.ensures.next ∙ c.in-Some.is in
+    ap length grown ∙ length-append c.loop-place.trace (entry ∷ []) in
+    let place : length c.loop-place.trace + 1 ≡ c.loop-place.place + 1 =
+    ap (λ (n : ℕ). n + 1) c.loop-place.invariant.count in
+    let steps = is_some_of c.in-Ok.made (λ e. (beside : Beside) (n : ℕ) → beside.seed ≡ c.args.seed.now →
+    n + 1 ≡ c.loop-place.place + 1 → step (kernel_of before beside n) e ≡ Some (kernel_of after beside (n + 1))) entry
+    c.in-Some.is c.in-Ok.ensures.step in
+    let wholly = is_some_of c.in-Ok.made (λ e. (beside : Beside) (n m : ℕ) →
+    is_whole e (kernel_of before beside n) (kernel_of after beside m) ≡ true) entry c.in-Some.is c.in-Ok.ensures.whole in
+    let numbers = is_some_of c.in-Ok.made (λ e. numbers_in e ≡ []) entry c.in-Some.is c.in-Ok.ensures.numbers in
+    let turned = is_some_of c.in-Ok.made (λ e. (beside : Beside) (n : ℕ) →
+    next_of c.loop-place.last (ready_numbers (kernel_of before beside n)) ≡ Some (task_of e)) entry c.in-Some.is
+    c.in-Ok.ensures.turn in
     record {
-      count = longer ∙ ap (λ (n : ℕ). n + 1) c.loop-place.invariant.count;
+      count = longer ∙ place;
       state = λ beside seed.
           ap (replay (kernel_of c.args.processes beside 0)) grown
           ∙ replay_more (kernel_of c.args.processes beside 0)
-          (kernel_of c.loop-place.processes beside (length c.loop-place.trace)) _ c.loop-place.trace c.in-Ok.entry
-          (c.loop-place.invariant.state beside seed)
-          (c.in-Ok.ensures.step beside (length c.loop-place.trace) seed
-          (ap (λ (n : ℕ). n + 1) c.loop-place.invariant.count))
-          ∙ ap (λ (n : ℕ). Some (kernel_of c.advance.new.self beside n)) (sym longer);
+          (kernel_of before beside (length c.loop-place.trace)) _ c.loop-place.trace entry
+          (c.loop-place.invariant.state beside seed) (steps beside (length c.loop-place.trace) seed place)
+          ∙ ap (λ (n : ℕ). Some (kernel_of after beside n)) (sym longer);
       turns = λ beside seed.
           subst (λ (es : List Entry). AreInTurn 0 (kernel_of c.args.processes beside 0) es) (sym grown)
-          (turns_more 0 (kernel_of c.args.processes beside 0)
-          (kernel_of c.loop-place.processes beside (length c.loop-place.trace))
-          (kernel_of c.advance.new.self beside (length c.loop-place.trace + 1)) c.loop-place.trace c.in-Ok.entry
+          (turns_more 0 (kernel_of c.args.processes beside 0) (kernel_of before beside (length c.loop-place.trace))
+          (kernel_of after beside (length c.loop-place.trace + 1)) c.loop-place.trace entry
           (c.loop-place.invariant.turns beside seed) (c.loop-place.invariant.state beside seed)
-          (c.in-Ok.ensures.step beside (length c.loop-place.trace) seed
-          (ap (λ (n : ℕ). n + 1) c.loop-place.invariant.count))
-          (ap (λ n. next_of n (live_numbers c.loop-place.processes.tasks.tasks)) (sym c.loop-place.invariant.last)
-          ∙ turn ∙ ap Some (sym c.in-Ok.ensures.task)));
-      last =
-          sym (ap (last_turn 0) grown ∙ last_more 0 c.loop-place.trace c.in-Ok.entry ∙ c.in-Ok.ensures.task);
+          (steps beside (length c.loop-place.trace) seed place)
+          (ap (λ m. next_of m (ready_numbers (kernel_of before beside (length c.loop-place.trace))))
+          (sym c.loop-place.invariant.last)
+          ∙ turned beside (length c.loop-place.trace)));
+      last = sym (ap (last_turn 0) grown ∙ last_more 0 c.loop-place.trace entry ∙ sym c.task-last.ensures);
       drawn =
-          ap (flat_map numbers_in) grown ∙ flat_map-append numbers_in c.loop-place.trace (c.in-Ok.entry ∷ [])
-          ∙ none_more _ _ c.loop-place.invariant.drawn c.in-Ok.ensures.numbers;
+          ap (flat_map numbers_in) grown ∙ flat_map-append numbers_in c.loop-place.trace (entry ∷ [])
+          ∙ none_more _ _ c.loop-place.invariant.drawn numbers;
       whole = λ beside seed.
           ap (λ es. each_whole (kernel_of c.args.processes beside 0) es) grown
-          ∙ whole_more (kernel_of c.args.processes beside 0)
-          (kernel_of c.loop-place.processes beside (length c.loop-place.trace))
-          (kernel_of c.advance.new.self beside (length c.loop-place.trace + 1)) c.loop-place.trace c.in-Ok.entry
+          ∙ whole_more (kernel_of c.args.processes beside 0) (kernel_of before beside (length c.loop-place.trace))
+          (kernel_of after beside (length c.loop-place.trace + 1)) c.loop-place.trace entry
           (c.loop-place.invariant.state beside seed) (c.loop-place.invariant.whole beside seed)
-          (c.in-Ok.ensures.step beside (length c.loop-place.trace) seed
-          (ap (λ (n : ℕ). n + 1) c.loop-place.invariant.count))
-          (c.in-Ok.ensures.whole beside (length c.loop-place.trace) (length c.loop-place.trace + 1));
+          (steps beside (length c.loop-place.trace) seed place)
+          (wholly beside (length c.loop-place.trace) (length c.loop-place.trace + 1));
     }

@@ -1,8 +1,9 @@
 -- An instruction that touches a shared area is an entry of its own, or the task calls or traps by it.
-use Rattle.std.proofs.Common.{ap}
+use Rattle.std.proofs.Common.{ap, true, false}
 use Rattle.kernel_model.specs.machine.Instructions.{goes_on}
-use Rattle.call_table.proofs.Kept.{stands_kept, part_kept, part_behind}
-use Rattle.call_table.proofs.Results.{on_err, err_by}
+use Rattle.call_table.specs.Processes.{ReadyIs}
+use Rattle.call_table.proofs.Kept.{stands_kept, part_kept, part_behind, ready_kept}
+use Rattle.call_table.proofs.Results.{entered_behind, parked_behind, on_err, err_by}
 use Rattle.call_table.proofs.processes.Processes.touch.Goals as goal
 
 pub answer-requires-clause-stands : goal.answer-requires-clause-stands
@@ -29,3 +30,28 @@ pub returns-in-Traps-clause-memory : goal.returns-in-Traps-clause-memory
 returns-in-Traps-clause-memory c =
     on_err c.end.result (part_behind c.args.self.now c.step_standing.new.self c.end.new.self
     c.args.context.now.task (c.in_ok-step_standing.ensures.kept (ap goes_on c.in-Traps.is))) c.end.ensures.memory
+
+-- ---- whether the step was ready
+
+pub returns-in-Goes-clause-ready : goal.returns-in-Goes-clause-ready
+returns-in-Goes-clause-ready c = c.in_ok-step_standing.ensures.ready c.in-Goes.is
+
+pub returns-in-Calls-clause-ready : goal.returns-in-Calls-clause-ready
+returns-in-Calls-clause-ready c =
+    entered_behind c.answer.result (λ entry. ReadyIs c.step_standing.new.self c.args.context.now.task true)
+    (λ entry. ReadyIs c.args.self.now c.args.context.now.task true)
+    (λ entry. ready_kept c.args.self.now c.step_standing.new.self c.args.context.now.task true
+    (c.in_ok-step_standing.ensures.kept (ap goes_on c.in-Calls.is))) c.answer.ensures.ready
+
+pub returns-in-Calls-clause-waits : goal.returns-in-Calls-clause-waits
+returns-in-Calls-clause-waits c =
+    parked_behind c.answer.result
+    (ready_kept c.args.self.now c.step_standing.new.self c.args.context.now.task false
+    (c.in_ok-step_standing.ensures.kept (ap goes_on c.in-Calls.is))) c.answer.ensures.waits
+
+pub returns-in-Traps-clause-ready : goal.returns-in-Traps-clause-ready
+returns-in-Traps-clause-ready c =
+    entered_behind c.end.result (λ entry. ReadyIs c.step_standing.new.self c.args.context.now.task true)
+    (λ entry. ReadyIs c.args.self.now c.args.context.now.task true)
+    (λ entry. ready_kept c.args.self.now c.step_standing.new.self c.args.context.now.task true
+    (c.in_ok-step_standing.ensures.kept (ap goes_on c.in-Traps.is))) c.end.ensures.ready
