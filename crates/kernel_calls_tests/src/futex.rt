@@ -123,8 +123,8 @@ const WAKE_PRIVATE: u64 = 129;
 
 const P32: u64 = 1 << 32;
 
-/// Each error alone: futex(2), ERRORS, with the order of docs/GUESTS.md. ENOSYS is that of other operations, as FUTEX_FD
-/// 2, FUTEX_REQUEUE 3, FUTEX_WAIT_BITSET 9 and FUTEX_CLOCK_REALTIME 256, and of a FUTEX_WAIT with a timeout.
+/// Each error alone: futex(2), ERRORS, with the order of docs/GUESTS.md. ENOSYS is that of other operations, as
+/// FUTEX_FD 2, FUTEX_REQUEUE 3, FUTEX_WAIT_BITSET 9 and FUTEX_CLOCK_REALTIME 256, and of a FUTEX_WAIT with a timeout.
 #[rattlefmt::skip]
 const ERRORS: [Act; 45] = [
     Act::Stores(AT, WORDS),
@@ -214,8 +214,8 @@ fn of_two_causes_futex_tells_the_first(rt: HostRuntime) -> Result<(), Fail> {
     expect_acts(&rt, rt.alloc(), &PAIRS)
 }
 
-/// A word that is what the task expects, by the low 32 bits of the operation and of the value; it may lie in a page that
-/// may only be read, and in the code. FUTEX_PRIVATE_FLAG makes no difference.
+/// A word that is what the task expects, by the low 32 bits of the operation and of the value; it may lie in a page
+/// that may only be read. FUTEX_PRIVATE_FLAG makes no difference.
 #[rattlefmt::skip]
 const ASLEEP: [Act; 21] = [
     Act::Map(0, 4096, 0, PRIVATE, NONE),

@@ -153,8 +153,8 @@ fn of_two_causes_wait4_tells_the_first(rt: HostRuntime) -> Result<(), Fail> {
     guest.expect_acts(&rt, &PAIRS)
 }
 
-/// No child has ended: the caller waits, or with WNOHANG is told 0. Nothing is put, so the address is no matter. A thread
-/// waits for the children of its group.
+/// No child has ended: the caller waits, or with WNOHANG is told 0. Nothing is put, so the address is no matter. A
+/// thread waits for the children of its group.
 #[rattlefmt::skip]
 const ALIVE: [Act; 17] = [
     Act::Stores(AT, u64::MAX),
@@ -183,8 +183,8 @@ fn a_parent_of_living_children_waits_or_is_told_none(rt: HostRuntime) -> Result<
     guest.expect_acts(&rt, &ALIVE)
 }
 
-/// The children 4 and then 3 have ended, by exit with 7 and by signal 9: the one of lower number is told first, with the
-/// signal in the low byte; then the other, with its code in the second. Four bytes are put, and none beside them.
+/// The children 4 and then 3 have ended, by exit with 7 and by signal 9: the one of lower number is told first, with
+/// the signal in the low byte; then the other, with its code in the second. Four bytes are put, and none beside them.
 #[rattlefmt::skip]
 const ENDED: [Act; 15] = [
     Act::Stores(AT - 8, u64::MAX), Act::Stores(AT, u64::MAX), Act::Stores(AT + 8, u64::MAX),
