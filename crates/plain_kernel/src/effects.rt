@@ -1,4 +1,4 @@
-//! What a call or an end leaves: its effect, with its task's memory and the shared areas, and its task behind it.
+//! What a call or an end leaves: its effect beside its task's memory and the shared areas, and its task behind it.
 
 ghost use Rattle.std.specs.Prelude.{◌≡◌, Some, IsTrue, OnErr, OnOk};
 ghost use Rattle.std.specs.FinMap as map;
