@@ -367,8 +367,11 @@ module _ (p : Processes) (task : ℕ) (standing : Standing) (stands : StandsAs p
 
         short : (told : Next) → StopsAt count 0 told (next_in c) → ⊥
         short told stop =
-            absurd (cc (ran_alone, alone_short count c stands.space standing.registers 0 told
-            (ran_none (going_in task stands.space standing.registers)) stop (λ e. omega arith)))
+            absurd (cc (
+              ran_alone,
+              alone_short count c stands.space standing.registers 0 told
+                  (ran_none (going_in task stands.space standing.registers)) stop (λ e. omega arith),
+            ))
 
         by : (next : Next) → next_in c ≡ next → goes_on next ≡ false → ⊥
         by Goes is off = absurd (cc off)

@@ -112,7 +112,11 @@ impl Processes {
             × ((c : ACaller) (k : AKernel) → c.task ≡ context.now.task → c.memory ≡ context.now.memory →
             k.tasks ≡ self.old.tasks → k.registers ≡ self.old.registers → k.spaces ≡ self.old.spaces →
             k.areas ≡ self.old.areas → with_child child context.now.place c k ≡ record k {
-              tasks = self.new.tasks; registers = between; spaces = self.new.spaces; areas = self.new.areas; })) }
+              tasks = self.new.tasks;
+              registers = between;
+              spaces = self.new.spaces;
+              areas = self.new.areas;
+            })) }
         ensures entry { IfOk result (λ entry. entry ≡ ACall context.now.task (call_of registers) (args_of registers)
             (record { fresh = []; rises = [] }) (pos (self.old.tasks.last + 1))) }
         ensures sleepers { self.new.sleepers ≡ self.old.sleepers }

@@ -17,9 +17,11 @@ ghost use Rattle.call_table.specs.Processes.{AreKept, HasRunPart, IfEntered, IfP
 ghost use Rattle.call_table.specs.Processes.{ReadyIs, RunsIn, StandsAs, is_touching, kernel_of};
 
 use crate::Processes;
-use crate::processes::Standing;
 use crate::answers::call_entry;
-use kernel_calls::{Called, Context, Effect, Ran, args_of, call, call_of, commit, end_group, run, step};
+use crate::processes::Standing;
+use kernel_calls::{
+    Called, Context, Effect, Ran, args_of, call, call_of, commit, end_group, run, step,
+};
 use kernel_model::{Entry, GuestSpace, Named, Next};
 use rv_table::Regs;
 use sn_base::Memory;

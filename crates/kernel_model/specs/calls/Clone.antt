@@ -149,8 +149,11 @@ abbrev pub process_made : Context → Caller → Cloning → TaskTable → Addre
 process_made context c x list space None = refuses EFAULT
 process_made context c x list space (Some reach) =
     replies (pos (list.last + 1))
-    ((OfTasks, forked list c.task (made_for_child context.place) (made_for_child context.place)
-    (child_clear x.flags x.child_word))
+    ((
+      OfTasks,
+      forked list c.task (made_for_child context.place) (made_for_child context.place)
+          (child_clear x.flags x.child_word),
+    )
     ∷ (OfTask (list.last + 1), Some (child_registers x.flags x.stack x.tls c.registers))
     ∷ (OfSpace c.memory, Some space)
     ∷ reach_changes (made_for_child context.place) reach)

@@ -62,28 +62,28 @@ go_on-requires c =
 pub returns-clause-does : goal.returns-clause-does
 returns-clause-does c =
     let fits : SFits w64 c.from-value.result = search rules in (
-  c.make.new.registers,
-  c.go_on.ensures.registers
-      ∙ ap (λ v. map.insert c.make.new.registers c.args.context.now.task (replied c.args.registers v))
-      (to_z-of_z fits ∙ c.from-value.ensures ∙ ap (λ n. pos (n + 1)) c.last.ensures),
-  λ x k task memory tasks registers spaces areas.
-      c.in_ok-make.ensures.ok x k task memory tasks registers spaces areas
-      ∙ ap (λ t. record k {
-        tasks = t;
-        registers = c.make.new.registers;
-        spaces = c.make.new.spaces;
-        areas = c.make.new.areas;
-      }) (sym c.go_on.ensures.tasks)
-      ∙ ap (λ s. record k {
-        tasks = c.go_on.new.self.tasks;
-        registers = c.make.new.registers;
-        spaces = s;
-        areas = c.make.new.areas;
-      }) (sym c.go_on.ensures.spaces)
-      ∙ ap (λ a. record k {
-        tasks = c.go_on.new.self.tasks;
-        registers = c.make.new.registers;
-        spaces = c.go_on.new.self.spaces;
-        areas = a;
-      }) (sym c.go_on.ensures.areas),
-)
+      c.make.new.registers,
+      c.go_on.ensures.registers
+          ∙ ap (λ v. map.insert c.make.new.registers c.args.context.now.task (replied c.args.registers v))
+          (to_z-of_z fits ∙ c.from-value.ensures ∙ ap (λ n. pos (n + 1)) c.last.ensures),
+      λ x k task memory tasks registers spaces areas.
+          c.in_ok-make.ensures.ok x k task memory tasks registers spaces areas
+          ∙ ap (λ t. record k {
+            tasks = t;
+            registers = c.make.new.registers;
+            spaces = c.make.new.spaces;
+            areas = c.make.new.areas;
+          }) (sym c.go_on.ensures.tasks)
+          ∙ ap (λ s. record k {
+            tasks = c.go_on.new.self.tasks;
+            registers = c.make.new.registers;
+            spaces = s;
+            areas = c.make.new.areas;
+          }) (sym c.go_on.ensures.spaces)
+          ∙ ap (λ a. record k {
+            tasks = c.go_on.new.self.tasks;
+            registers = c.make.new.registers;
+            spaces = c.go_on.new.self.spaces;
+            areas = a;
+          }) (sym c.go_on.ensures.areas),
+    )
