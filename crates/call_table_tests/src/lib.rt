@@ -6,7 +6,7 @@
 //! guest's end; a guest that traps; random bytes by two seeds; the time of a call's place; loads, stores and a call in
 //! a shared page; the kernel that is left; and the numbers and turns of up to 64 opening tasks.
 //!
-//! Not tried: tasks that a call makes, since none does so far.
+//! Not tried: tasks that a call makes, and tasks that sleep or wait.
 //!
 //! The expected entries follow from the guests' words, which an assembler made, and from the Linux man-pages write(2),
 //! exit_group(2), mmap(2), getrandom(2) and clock_gettime(2); random bytes from another implementation of ChaCha20;

@@ -1,22 +1,23 @@
 //! The system calls of the Sentry, as functions over the parts that their rows use.
 //!
-//! A caller sees `call`, which does what a call of a live task comes to in its memory and tells what is left to do to
-//! the console or the task list, `end_group`, the end of a thread group by a signal, prepared in the same way, and
-//! `commit`, which does that; `args_of`, `call_of` and `reply`, the registers at a call; `run`, a task's instructions
-//! up to one that calls, traps or touches a shared area, and `step`, one instruction with the shared areas that it
-//! touches; and of execve `is_too_long`, `read_executable`, `opened`, `opening_random`, `open_task` and `root_of`. They
-//! know no tasks' registers, no host and no trace. What each of them means is said by `kernel_model`.
+//! A caller sees `call`, which tells what becomes of a call of a live task (`Called`): it replies, makes a child, puts
+//! its task to sleep on a futex word, or waits. What it does to memory is done then. What is left of it to do to the
+//! console, the task list or the futex list `commit` does, `make` gives a child its place, and `sleep` puts a task to
+//! sleep. `end_group` prepares the end of a thread group by a signal. `args_of`, `call_of` and `reply` are of the
+//! registers at a call; `run` does a task's instructions up to one that calls, traps or touches a shared area, and
+//! `step` one with the shared areas that it touches; and of execve there are `is_too_long`, `read_executable`,
+//! `opened`, `opening_random`, `open_task` and `root_of`. They know no host and no trace; of other tasks' registers
+//! `make` alone knows, which puts a child's among them.
 //!
-//! Proved: `call` comes to what its row says, in every state that has the address space, the shared areas, the task
-//! list, the key and the place that were handed in (`row`). What it leaves to do is told where memory is as it was
-//! (`apart`), and is no more than one write may (`few`); want of memory changes nothing, and no area under its name
-//! (`err`, `err_areas`). So it is with `end_group` (`ends`). `commit` leaves of each kernel what the row's changes do
-//! (`ok`). `run` is so many instructions one after another (`steps`), up to its limit or to one that stops it
-//! (`within`, `stopped`), and want of memory leaves what fewer of them leave (`memory`). `step` tells what the next
-//! instruction does (`next`), and where it goes on leaves what its row leaves (`goes`); otherwise nothing has changed
-//! (`kept`, `err`). `read_executable` is the image as execve takes it (`image`, `pages`), `opened` the definition of
-//! what an opening task begins with (`registers`, `space`), `opening_random` of its random bytes, `open_task` of its
-//! place in the task list, and `root_of` of the number of its working directory.
+//! Proved, by the definitions of `kernel_model`: `call` comes to what its row says, in every state that has what was
+//! handed in (`row`). Where what is left may lack memory, and where the call waits, memory is as it was (`apart`); no
+//! more bytes are left than one write may take (`few`), and for a child there is room (`room`). Want of memory changes
+//! nothing, and no area under its name (`err`, `err_areas`). So it is with `end_group` (`ends`). `commit`, `make` and
+//! `sleep` leave what the row changes, or nothing (`ok`, `err`). `run` is so many instructions one after another
+//! (`steps`), up to its limit or to one that stops it (`within`, `stopped`), or fewer (`memory`). `step` tells what the
+//! next instruction does (`next`), leaves what its row leaves where it goes on (`goes`), and else what was there
+//! (`kept`, `err`). `read_executable` is the image as execve takes it (`image`, `pages`), `opened` what an opening task
+//! begins with (`registers`, `space`), and the last three are of its random bytes, its place and its directory.
 //!
 //! Not said: which tasks there are, what a host is, and what an entry changes.
 //!

@@ -1,31 +1,28 @@
 //! A guest's address space: what is mapped there and how that changes, loads, stores and fetches, runs of bytes for
-//! system calls, reservations, and its child at a fork.
+//! system calls, reservations, its child at a fork, and its copy.
 //!
 //! A caller sees a `Space` through `space_of`: what is mapped, with the break, and what its tasks have reserved. With
 //! an access it hands in shared areas (`Handed`), under their names, and contracts see what both reach as a `Reach`.
-//! What each byte is to an access by a right, `byte_at` says: it has a value, it may not be accessed so, or it lies in
-//! a shared area that isn't handed in.
+//! What each byte is to an access by a right, `byte_at` says: a value, not allowed, or in an area not handed in.
 //!
 //! Proved: `load` and `fetch` answer what the access comes to (`number`, `word`): the number of the bytes, the lowest
-//! first; the first byte that lacks the right, before any shared area is asked for; else the area of the first byte
-//! that lies in one which isn't handed in. `allowed`, `read`, `writable`, `store` and `write` are refused by the same
-//! rule (`room`), and a refusal changes nothing (`err`). `read` takes the bytes of a run, and `store` and `write` leave
-//! bytes in their places, a run's one after another, and end other tasks' reservations of the granules that they meet,
-//! in the address space and in the area (`ok`). Only `writable`, `store`, `write` and `reserve` may want memory; where
-//! pages have their bytes for themselves, as after `writable`, no store or run does (`ready`, `lean`). `take` answers
-//! whether the task has the reservation of just that address and width, and in a shared area still has it there
-//! (`held`). What is done by a hint is what the exact call does, whichever areas are handed in, or nothing (`near`,
-//! `done`, `unchanged`). `area_byte` answers which byte of a shared area lies at an address (`area_byte_at`), by which
-//! a futex word is known. Decoded words are those of the page's bytes (`words`). `map`, `unmap`, `protect` and `brk`
-//! leave the mapping that mm_areas' definitions make of the old one, and the first three end the reservations over
-//! their range (`ok`); a fault is answered where it is and only there (`fault`, `faulty`). `fork` gives a space of the
-//! same mapping in which nothing is reserved (`child`), and leaves this one as it was (`kept`).
+//! first; the first that lacks the right, before any shared area is asked for; else the area of the first that lies in
+//! one which isn't handed in. `allowed`, `read`, `writable`, `store` and `write` are refused by the same rule (`room`),
+//! which changes nothing (`err`). `read` takes the bytes of a run; `store` and `write` leave bytes in their places, and
+//! end other tasks' reservations of their granules, in the address space and in the area (`ok`). Only `writable`,
+//! `store`, `write` and `reserve` may want memory, and no store after `writable` (`ready`, `lean`). `take` answers
+//! whether the task has the reservation of just that address and width, and in a shared area has it there too (`held`).
+//! What is done by a hint is what the exact call does, or nothing (`near`, `done`, `unchanged`). `area_byte` answers
+//! which byte of a shared area lies at an address: a futex word is known by it. Decoded words are those of the page's
+//! bytes (`words`). `map`, `unmap`, `protect` and `brk` leave the mapping that mm_areas' definitions make of the old
+//! one, and the first three end the reservations over their range (`ok`); a fault is answered just where it is
+//! (`fault`, `faulty`). `fork` gives the same mapping with nothing reserved (`child`), `copy` the same space
+//! (`copied`), and both leave this one as it was (`kept`).
 //!
 //! Not said: time, that memory suffices, and that at most 64 pages have their words decoded (tested).
 //!
-//! Standard: RISC-V Unprivileged ISA 20191213, 1.4, Memory, 2.6, Load and Store Instructions, and 8.2,
-//! Load-Reserved/Store-Conditional Instructions; mmap(2), munmap(2), mprotect(2), brk(2), fork(2), read(2) and
-//! write(2). No locks.
+//! Standard: RISC-V Unprivileged ISA 20191213, 1.4, 2.6 and 8.2; mmap(2), munmap(2), mprotect(2), brk(2), fork(2),
+//! read(2), write(2) and futex(2). No locks.
 #![tactic(auto)]
 
 mod access;
