@@ -186,7 +186,9 @@ fn expect_live(rt: &impl Abort, processes: &Processes, number: u32)
 fn a_live_task_advances_by_one_entry(rt: HostRuntime) -> Result<(), Fail> {
     let mut processes = processes_of(rt.alloc(), &[WRITES_NOTHING.words])?;
     expect_live(&rt, &processes, 1);
-    let entry = processes.advance(rt.alloc(), 1, &SEED, 1)?.ok_or("not ready")?;
+    let entry = processes
+        .advance(rt.alloc(), 1, &SEED, 1)?
+        .ok_or("not ready")?;
     assert!(rt; line_of(&entry) == run(4));
     Ok(())
 }

@@ -5,7 +5,9 @@ use crate::task_guests::{
     WAITS_FOR_A_SLEEPER, WAITS_FOR_A_THREAD, WAKES, WAKES_ACROSS,
 };
 use sentry_run::Fault;
-use sentry_run_cases::{Case, Expected, Host, QUIET, Several, Words, expect_cases};
+use sentry_run_cases::{
+    Case, Expected, Failing, Host, MountFile, QUIET, Several, Words, expect_cases,
+};
 use std::test::Fail;
 
 /// What three refused calls print: EINVAL, ECHILD and EAGAIN. The word lies 16 bytes below where the stack begins, which
@@ -174,6 +176,28 @@ const THREADS: [Case; 6] = [
     },
 ];
 
+#[rattlefmt::skip]
+const STUCK: [Case; 2] = [
+    // A trace that is full is told before a task that sleeps for ever.
+    Case {
+        mounts: MountFile::Room(2),
+        host: Host::Guest(SLEEPS),
+        expected: &[
+            Expected::Answer(Fault::Full), Expected::Status(8), Expected::Text(b"group 1 live\n"),
+            Expected::Entries(2), Expected::Replays,
+        ],
+        ..QUIET
+    },
+    // A sink that fails is told before both.
+    Case {
+        mounts: MountFile::Room(3),
+        host: Host::Guest(SLEEPS),
+        failing: Failing::Sink(1),
+        expected: &[Expected::Answer(Fault::SinkFault), Expected::Status(6), Expected::Entries(2)],
+        ..QUIET
+    },
+];
+
 /// The two of these runs whose trace isn't in their text: a plain kernel does it too, entry by entry.
 #[rattlefmt::skip]
 const REPLAYS: [Case; 2] = [
@@ -192,4 +216,11 @@ fn threads_share_memory_sleep_on_its_words_and_end_with_their_group(
 ) -> Result<(), Fail> {
     expect_cases(rt.alloc(), &THREADS)?;
     expect_cases(rt.alloc(), &REPLAYS)
+}
+
+#[test]
+fn a_run_that_nobody_goes_on_with_is_told_behind_a_full_trace_and_a_failing_sink(
+    rt: HostRuntime,
+) -> Result<(), Fail> {
+    expect_cases(rt.alloc(), &STUCK)
 }
