@@ -2,12 +2,14 @@
 
 use crate::asked::{Asked, BRK, FIXED, GETRANDOM, MMAP, MPROTECT, MUNMAP, WRITE, ask};
 use crate::calling::{Guest, LOAD, STORE, STORE_RESERVED, new_guest};
+use crate::ends::Ends;
 use crate::futex::{of_area, own};
 use kernel_calls::Ran;
 use kernel_model::Next;
 use std::alloc::Global;
 use std::process::Abort;
 use std::test::Fail;
+use task_table::Status;
 
 /// What a guest does, with what is expected of it last.
 #[derive(Clone, Copy)]
@@ -62,6 +64,14 @@ pub enum Act {
     Waits([u64; 4]),
     /// wait4, which replies that child.
     Reaps([u64; 4], i64),
+    /// set_tid_address: its clear word is there.
+    Clears(u64),
+    /// exit or exit_group, and who ends.
+    Exits(Ends),
+    /// Whether a task sleeps, and whether it was woken.
+    Waiting(u32, bool, bool),
+    /// How a thread group has ended, or that it lives.
+    Group(u32, Option<Status>),
     /// From here on it calls as that task, of that thread group.
     As(u32, u32),
     /// The next call's entry has that place.
@@ -230,6 +240,10 @@ impl Guest {
             Act::Wakes(args, count) => self.expect_wakes(rt, args, count),
             Act::Waits(args) => self.expect_waits(rt, args),
             Act::Reaps(args, child) => self.expect_reaps(rt, args, child),
+            Act::Clears(at) => self.expect_clears(rt, at),
+            Act::Exits(ends) => self.expect_ends(rt, ends),
+            Act::Waiting(task, asleep, woken) => self.expect_waiting(rt, task, (asleep, woken)),
+            Act::Group(group, ended) => self.expect_group(rt, group, ended),
             Act::As(task, group) => {
                 self.task = task;
                 self.group = group;

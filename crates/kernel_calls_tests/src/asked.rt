@@ -2,8 +2,13 @@
 
 use kernel_model::Args;
 
-/// The numbers of write, set_tid_address, futex, set_robust_list, clock_gettime, sched_yield and uname.
+/// The numbers of write, exit, exit_group, set_tid_address, futex, set_robust_list, clock_gettime, sched_yield and
+/// uname.
 pub const WRITE: u64 = 64;
+
+pub const EXIT: u64 = 93;
+
+pub const EXIT_GROUP: u64 = 94;
 
 pub const SET_TID_ADDRESS: u64 = 96;
 
@@ -32,10 +37,12 @@ pub const GETEGID: u64 = 177;
 
 pub const GETTID: u64 = 178;
 
-/// Of brk, munmap, mmap, mprotect, wait4 and getrandom.
+/// Of brk, munmap, clone, mmap, mprotect, wait4 and getrandom.
 pub const BRK: u64 = 214;
 
 pub const MUNMAP: u64 = 215;
+
+pub const CLONE: u64 = 220;
 
 pub const MMAP: u64 = 222;
 

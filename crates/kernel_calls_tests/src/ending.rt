@@ -1,41 +1,14 @@
-//! What tasks say of their end: where a word is to be cleared then.
+//! Tasks that end: their statuses, their clear words, and who is woken by these.
 
-use crate::asked::{SET_TID_ADDRESS, ask};
-use crate::calling::{Guest, guest_among};
+use crate::acts::Act;
+use crate::asked::{EXIT, EXIT_GROUP, PRIVATE, SHARED};
+use crate::calling::{Guest, HEAP, MAPPINGS_END, TOP, guest_among};
+use crate::ends::{Ends, Word};
 use crate::families::{end, family};
-use kernel_calls::{Effect, commit};
-use sn_base::List;
 use std::alloc::Global;
 use std::process::Abort;
 use std::test::Fail;
-use task_table::EndedTask;
-
-/// The task of the guest sets its clear word: it is told its number, and then that is done.
-fn expect_sets(rt: &impl Abort, guest: &mut Guest, address: u64) -> Result<(), Fail> {
-    let prepared = guest.prepared(ask(SET_TID_ADDRESS, [address, 7, 7, 7, 7, 7]), 0)?;
-    assert_eq!(rt; prepared.reply, i64::from(guest.task));
-    match prepared.effect {
-        Effect::SetsClear { task, address: at } => {
-            assert_eq!(rt; task, guest.task);
-            assert_eq!(rt; at, address);
-        }
-        _ => panic!(rt; "no clear word is set"),
-    }
-    let effect = Effect::SetsClear {
-        task: guest.task,
-        address,
-    };
-    let mut console = List::new(guest.alloc);
-    commit(
-        guest.alloc,
-        effect,
-        guest.group,
-        &mut guest.tasks,
-        &mut guest.sleepers,
-        &mut console,
-    )?;
-    Ok(())
-}
+use task_table::{EndedTask, Status};
 
 /// Where the clear words of the tasks 1 to 4 are.
 fn clear_words(guest: &Guest) -> Result<[u64; 4], Fail> {
@@ -65,7 +38,7 @@ fn expect_settings(rt: &impl Abort, alloc: Global) -> Result<(), Fail> {
     for (task, group, address, words) in SETTINGS {
         guest.task = task;
         guest.group = group;
-        expect_sets(rt, &mut guest, address)?;
+        guest.expect_clears(rt, address)?;
         assert_eq!(rt; clear_words(&guest)?, words, "task {task}");
     }
     let ended = end(rt, alloc, &mut guest.tasks, 2)?;
@@ -80,4 +53,213 @@ fn expect_settings(rt: &impl Abort, alloc: Global) -> Result<(), Fail> {
 #[test]
 fn a_task_has_its_clear_word_where_it_last_said(rt: HostRuntime) -> Result<(), Fail> {
     expect_settings(&rt, rt.alloc())
+}
+
+/// That the family of tasks 1 to 4 does these: 2 and 4 are of the group 2, and 1 and 3 of their own.
+fn expect_family(rt: &impl Abort, alloc: Global, acts: &[Act]) -> Result<(), Fail> {
+    let tasks = family(rt, alloc)?;
+    let mut guest = guest_among(alloc, tasks)?;
+    guest.expect_acts(rt, acts)
+}
+
+/// Where words lie; the operations of futex, and the value of a word of ones.
+const AT: u64 = TOP - 64;
+
+const WAIT: u64 = 0;
+
+const WAKE: u64 = 1;
+
+const ONES: u64 = 0xffff_ffff;
+
+/// A page that may only be read.
+const READ_ONLY: u64 = MAPPINGS_END - 4096;
+
+/// An exit with 0, of which nothing more is expected.
+const EXITS: Ends = Ends {
+    number: EXIT,
+    status: 0,
+    code: 0,
+    tasks: &[],
+    cleared: &[],
+};
+
+/// The thread 4 ends: its word is cleared, four bytes and none beside them, and of those who sleep there the first is
+/// woken; its group lives. Then the last of the group ends, and its status is the group's: the low 8 bits.
+#[rattlefmt::skip]
+const LAST: [Act; 27] = [
+    Act::Stores(AT - 8, u64::MAX), Act::Stores(AT, u64::MAX), Act::Stores(AT + 8, u64::MAX),
+    Act::As(4, 2),
+    Act::Clears(AT),
+    Act::As(3, 3),
+    Act::Sleeps([AT, WAIT, ONES, 0]),
+    Act::As(1, 1),
+    Act::Sleeps([AT, WAIT, ONES, 0]),
+    Act::As(4, 2),
+    Act::Exits(Ends { status: 9, code: 9, tasks: &[4], cleared: &[Word::Own(AT)], ..EXITS }),
+    Act::Loads(AT - 8, u64::MAX), Act::Loads(AT, ONES << 32), Act::Loads(AT + 8, u64::MAX),
+    Act::Waiting(3, false, true),
+    Act::Waiting(1, true, false),
+    Act::Waiting(4, false, false),
+    Act::Group(2, None),
+    Act::As(2, 2),
+    Act::Wakes([AT, WAKE, 9, 0], 1),
+    Act::Waiting(1, false, true),
+    Act::Exits(Ends { status: 0x1_0000_01ff, code: 255, tasks: &[2], ..EXITS }),
+    Act::Group(2, Some(Status::Exited(255))),
+    Act::Group(1, None),
+    Act::As(1, 1),
+    Act::Reaps([2, AT, 0, 0], 2),
+    Act::Bytes(AT - 1, &[255, 0, 255, 0, 0, 255]),
+];
+
+#[test]
+fn the_end_of_a_thread_clears_its_word_and_wakes_the_first_there(
+    rt: HostRuntime,
+) -> Result<(), Fail> {
+    expect_family(&rt, rt.alloc(), &LAST)
+}
+
+/// Words of which a byte may not be written: none is cleared, and who sleeps there sleeps on.
+#[rattlefmt::skip]
+const UNWRITTEN: [Act; 23] = [
+    Act::Map(0, 4096, 3, PRIVATE, READ_ONLY),
+    Act::Stores(READ_ONLY, u64::MAX),
+    Act::Protect(READ_ONLY, 4096, 1),
+    Act::As(3, 3),
+    Act::Sleeps([READ_ONLY, WAIT, ONES, 0]),
+    Act::As(4, 2),
+    Act::Clears(READ_ONLY),
+    Act::Exits(Ends { tasks: &[4], ..EXITS }),
+    Act::Waiting(3, true, false),
+    Act::Loads(READ_ONLY, u64::MAX),
+    Act::As(2, 2),
+    Act::Stores(TOP - 8, u64::MAX),
+    Act::Clears(TOP - 3),
+    Act::Exits(Ends { tasks: &[2], ..EXITS }),
+    Act::Loads(TOP - 8, u64::MAX),
+    Act::Group(2, Some(Status::Exited(0))),
+    Act::As(1, 1),
+    Act::Clears(HEAP),
+    Act::Clears(u64::MAX),
+    Act::Exits(Ends { number: EXIT_GROUP, status: 256, tasks: &[1], ..EXITS }),
+    Act::Group(1, Some(Status::Exited(0))),
+    Act::Waiting(3, true, false),
+    Act::Pages(66),
+];
+
+#[test]
+fn a_word_that_may_not_be_written_stays(rt: HostRuntime) -> Result<(), Fail> {
+    expect_family(&rt, rt.alloc(), &UNWRITTEN)
+}
+
+/// A page of an area at two addresses.
+const HERE: u64 = MAPPINGS_END - 8192;
+
+const THERE: u64 = 1 << 37;
+
+/// A word in a shared area is cleared by the one address, and who sleeps there by the other is woken.
+#[rattlefmt::skip]
+const IN_AN_AREA: [Act; 17] = [
+    Act::At(1),
+    Act::Map(0, 8192, 3, SHARED, HERE),
+    Act::Again(1, THERE, 4096),
+    Act::Stores(HERE + 8, u64::MAX),
+    Act::SleepsIn([THERE + 8, WAIT, ONES, 0], 1, 8),
+    Act::As(3, 3),
+    Act::SleepsIn([HERE + 12, WAIT, ONES, 0], 1, 12),
+    Act::As(4, 2),
+    Act::Clears(HERE + 8),
+    Act::Exits(Ends { tasks: &[4], cleared: &[Word::OfArea(1, 8)], ..EXITS }),
+    Act::Waiting(1, false, true),
+    Act::Waiting(3, true, false),
+    Act::Loads(HERE + 8, ONES << 32),
+    Act::Loads(THERE + 8, ONES << 32),
+    Act::As(1, 1),
+    Act::Wakes([THERE + 12, WAKE, 1, 0], 1),
+    Act::Waiting(3, false, true),
+];
+
+#[test]
+fn a_word_in_a_shared_area_is_cleared(rt: HostRuntime) -> Result<(), Fail> {
+    expect_family(&rt, rt.alloc(), &IN_AN_AREA)
+}
+
+/// Both tasks of the group 2 end at once, the one while it sleeps: it sleeps no more. Each has its word cleared, and
+/// one is woken by each.
+#[rattlefmt::skip]
+const BOTH: [Act; 18] = [
+    Act::Stores(AT, u64::MAX),
+    Act::As(2, 2),
+    Act::Clears(AT + 4),
+    Act::As(4, 2),
+    Act::Clears(AT),
+    Act::Sleeps([AT, WAIT, ONES, 0]),
+    Act::As(3, 3),
+    Act::Sleeps([AT, WAIT, ONES, 0]),
+    Act::As(1, 1),
+    Act::Sleeps([AT + 4, WAIT, ONES, 0]),
+    Act::As(2, 2),
+    Act::Exits(Ends {
+        number: EXIT_GROUP, status: 300, code: 44, tasks: &[2, 4], cleared: &[Word::Own(AT + 4), Word::Own(AT)],
+    }),
+    Act::Waiting(4, false, false),
+    Act::Waiting(3, false, true),
+    Act::Waiting(1, false, true),
+    Act::Loads(AT, 0),
+    Act::Group(2, Some(Status::Exited(44))),
+    Act::Group(3, None),
+];
+
+#[test]
+fn the_end_of_a_group_clears_the_word_of_each_task(rt: HostRuntime) -> Result<(), Fail> {
+    expect_family(&rt, rt.alloc(), &BOTH)
+}
+
+/// Both have one word, on which two sleep: both are woken.
+#[rattlefmt::skip]
+const ONE_WORD: [Act; 12] = [
+    Act::Stores(AT, u64::MAX),
+    Act::As(1, 1),
+    Act::Sleeps([AT, WAIT, ONES, 0]),
+    Act::As(3, 3),
+    Act::Sleeps([AT, WAIT, ONES, 0]),
+    Act::As(2, 2),
+    Act::Clears(AT),
+    Act::As(4, 2),
+    Act::Clears(AT),
+    Act::Exits(Ends {
+        number: EXIT_GROUP, tasks: &[2, 4], cleared: &[Word::Own(AT), Word::Own(AT)], ..EXITS
+    }),
+    Act::Waiting(1, false, true),
+    Act::Waiting(3, false, true),
+];
+
+/// Of a word that may not be written and one that may, the one is cleared, whichever it is.
+#[rattlefmt::skip]
+const ONE_OF_TWO: [Act; 7] = [
+    Act::Stores(AT, u64::MAX),
+    Act::As(2, 2),
+    Act::Clears(HEAP),
+    Act::As(4, 2),
+    Act::Clears(AT),
+    Act::Exits(Ends { number: EXIT_GROUP, tasks: &[2, 4], cleared: &[Word::Own(AT)], ..EXITS }),
+    Act::Loads(AT, ONES << 32),
+];
+
+#[rattlefmt::skip]
+const OTHER_OF_TWO: [Act; 7] = [
+    Act::Stores(AT, u64::MAX),
+    Act::As(2, 2),
+    Act::Clears(AT + 4),
+    Act::As(4, 2),
+    Act::Clears(65_536),
+    Act::Exits(Ends { number: EXIT_GROUP, tasks: &[2, 4], cleared: &[Word::Own(AT + 4)], ..EXITS }),
+    Act::Loads(AT, ONES),
+];
+
+#[test]
+fn of_two_words_each_is_cleared_that_may_be_written(rt: HostRuntime) -> Result<(), Fail> {
+    expect_family(&rt, rt.alloc(), &ONE_WORD)?;
+    expect_family(&rt, rt.alloc(), &ONE_OF_TWO)?;
+    expect_family(&rt, rt.alloc(), &OTHER_OF_TWO)
 }

@@ -21,7 +21,7 @@ pub fn lives(tasks: &Tasks, number: u32) -> bool
 }
 
 /// Aborts unless a task lives.
-fn expect_live(rt: &impl Abort, tasks: &Tasks, number: u32)
+pub fn expect_live(rt: &impl Abort, tasks: &Tasks, number: u32)
     ensures { IsTrue (is_live tasks.now.tasks number) }
 {
     assert!(rt; lives(tasks, number));
@@ -36,7 +36,7 @@ fn expect_next(rt: &impl Abort, tasks: &Tasks)
 }
 
 /// Aborts unless a thread group is there and lives.
-fn expect_group(rt: &impl Abort, tasks: &Tasks, number: u32)
+pub fn expect_group(rt: &impl Abort, tasks: &Tasks, number: u32)
     ensures there { IsTrue (map.contains_key tasks.now.groups number) }
     ensures lives { IsFalse (has_ended tasks.now.groups number) }
 {
@@ -102,5 +102,15 @@ pub fn brood(rt: &impl Abort, alloc: Global) -> Result<Tasks, Fail> {
     fork(rt, &mut tasks, 1)?;
     thread(rt, &mut tasks, 1)?;
     fork(rt, &mut tasks, 2)?;
+    Ok(tasks)
+}
+
+/// As many tasks live as may: task 1 and its threads.
+pub fn crowd(rt: &impl Abort, alloc: Global) -> Result<Tasks, Fail> {
+    let mut tasks = Tasks::new(alloc);
+    open(rt, &mut tasks)?;
+    for _ in 1..256 {
+        thread(rt, &mut tasks, 1)?;
+    }
     Ok(tasks)
 }

@@ -2,9 +2,9 @@
 //!
 //! The contracts of `kernel_calls` say what each of them does; here calls reply as their manual pages say, memory holds
 //! what was put there under the rights that it was given, tasks are told who they are and what time it is, say where
-//! their clear words are, sleep on words and wake one another, and wait for their children, they begin with the pages,
-//! strings and random bytes of their images, runs of instructions stop where they should, and instructions are done in
-//! shared areas. Guests are those of `sn_vectors`, and others of words that an assembler made.
+//! their clear words are, sleep on words and wake one another, make others, wait for their children and end, they begin
+//! with the pages, strings and random bytes of their images, runs of instructions stop where they should, and
+//! instructions are done in shared areas. Guests are those of `sn_vectors`, and others of words that an assembler made.
 //!
 //! Expected values are from outside: the RISC-V and ELF-64 manuals, the Linux manual pages by hand, and for random
 //! bytes another implementation of ChaCha20.
@@ -23,9 +23,13 @@ mod buffers;
 #[cfg(test)]
 mod calling;
 #[cfg(test)]
+mod clone;
+#[cfg(test)]
 mod contents;
 #[cfg(test)]
 mod ending;
+#[cfg(test)]
+mod ends;
 #[cfg(test)]
 mod families;
 #[cfg(test)]

@@ -10,8 +10,8 @@ use sentry_run_cases::{
 };
 use std::test::Fail;
 
-/// What three refused calls print: EINVAL, ECHILD and EAGAIN. The word lies 16 bytes below where the stack begins, which
-/// is by hand from the RISC-V ELF psABI.
+/// What three refused calls print: EINVAL, ECHILD and EAGAIN. The word lies 16 bytes below where the stack begins,
+/// which is by hand from the RISC-V ELF psABI.
 const REFUSED_TEXT: &[u8] = b"group 1 exit 0
 2 1 clone 256 0 0 0 0 0 = -22
 4 1 wait4 -1 0 0 0 0 0 = -10

@@ -4,9 +4,9 @@
 //! trace, and programs, mount files and folders that can't be run are refused with the status of their cause. Each call
 //! of the host, the source and the sink fails in turn, and a sink takes a piece at a time. Guests are those of
 //! `sn_vectors`, and some that use memory; a plain kernel does their traces too, entry by entry, and comes to the same
-//! text. Several tasks take turns, up to 64 of them, and the first that can't begin ends the run. Tasks make others, up to
-//! 256 that live, sleep on words, wake one another, wait for their children, and end with their threads. Words, texts
-//! and lines of causes stand in `sentry_run_text_tests`.
+//! text. Several tasks take turns, up to 64 of them, and the first that can't begin ends the run. Tasks make others,
+//! sleep on words, wake one another, wait for their children, and end with their threads. Words, texts and lines of
+//! causes stand in `sentry_run_text_tests`.
 //!
 //! Expected values are from outside: the RISC-V and ELF-64 manuals, the Linux manual pages by hand, an emulator of
 //! Linux's calls for RISC-V where a guest's comment says so, and for random bytes another implementation of ChaCha20.
