@@ -2,7 +2,8 @@
  * Makes a system call so many times, or touches so many pages, and ends with status 0, or with 1 where a reply is not
  * what it should be. It is built as a guest and for the machine itself, without a library, so that both do the same.
  *
- * Its arguments are what to do, of which the first letter counts, and how often.
+ * Its arguments are what to do, of which the first letter counts, how often, and for `fork` how many pages to touch
+ * before.
  */
 #include "calls.h"
 
@@ -73,6 +74,49 @@ static void touch(long pages)
         area[k * PAGE] = 1;
 }
 
+/* A child that ends at once, and is waited for. */
+static void fork_and_wait(void)
+{
+    long child = call(CALL_CLONE, 17, 0, 0, 0, 0, 0); /* SIGCHLD */
+    if (child == 0)
+        call(CALL_EXIT_GROUP, 0, 0, 0, 0, 0, 0);
+    check(child > 0 && call(CALL_WAIT4, child, 0, 0, 0, 0, 0) == child);
+}
+
+static volatile int whose; /* the thread that goes on, 0 or 1 */
+
+static void wait_until(int mine)
+{
+    while (whose != mine)
+        call(CALL_FUTEX, (long)&whose, 0, !mine, 0, 0, 0); /* FUTEX_WAIT */
+}
+
+static void hand_over(int mine, long times)
+{
+    for (long k = 0; k < times; k++) {
+        wait_until(mine);
+        whose = !mine;
+        check(call(CALL_FUTEX, (long)&whose, 1, 1, 0, 0, 0) >= 0); /* FUTEX_WAKE */
+    }
+}
+
+static long other_times;
+
+static void hand_back(void)
+{
+    hand_over(1, other_times);
+}
+
+/* Two threads that wait for each other: so often each goes on. */
+static void hand_over_and_back(long times)
+{
+    static _Alignas(16) char stack[4096];
+    other_times = times;
+    check(begin_thread(0x10f00, stack + sizeof stack, hand_back) > 0); /* CLONE_THREAD and what it needs */
+    hand_over(0, times);
+    wait_until(0);
+}
+
 static void repeat(void (*what)(void), long times)
 {
     for (long k = 0; k < times; k++)
@@ -91,6 +135,8 @@ _Noreturn void begin(char **stack)
     case 'w': repeat(write_a_byte, times); break;
     case 'y': repeat(yield, times); break;
     case 't': touch(times); break;
+    case 'f': touch(read_number(stack[4])); repeat(fork_and_wait, times); break;
+    case 'h': hand_over_and_back(times); break;
     default: check(0);
     }
     call(CALL_EXIT_GROUP, 0, 0, 0, 0, 0, 0);

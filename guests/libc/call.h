@@ -3,8 +3,10 @@
 #define CALL_H
 
 #define CALL_WRITE 64
+#define CALL_EXIT 93
 #define CALL_EXIT_GROUP 94
 #define CALL_SET_TID_ADDRESS 96
+#define CALL_FUTEX 98
 #define CALL_SET_ROBUST_LIST 99
 #define CALL_CLOCK_GETTIME 113
 #define CALL_SCHED_YIELD 124
@@ -18,8 +20,10 @@
 #define CALL_GETTID 178
 #define CALL_BRK 214
 #define CALL_MUNMAP 215
+#define CALL_CLONE 220
 #define CALL_MMAP 222
 #define CALL_MPROTECT 226
+#define CALL_WAIT4 260
 #define CALL_GETRANDOM 278
 
 static inline long call(long number, long a, long b, long c, long d, long e, long f)

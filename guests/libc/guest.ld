@@ -1,6 +1,7 @@
 /*
  * Where the parts of a guest lie: code from 0x10000 on, then constants, then variables, each on pages of its own, so
- * that none may be both written and executed. The variables of the one thread are used where they lie.
+ * that none may be both written and executed. What a thread's own variables begin with is among the constants; those of
+ * the first thread stand among the variables.
  */
 ENTRY(_start)
 
@@ -34,12 +35,18 @@ SECTIONS
         PROVIDE_HIDDEN(__fini_array_end = .);
     }
 
+    . = ALIGN(16);
+    .tdata : { *(.tdata .tdata.*) } :constants :thread
+    .tbss : { *(.tbss .tbss.*) } :constants :thread
+    __tdata_source = ADDR(.tdata);
+    __tdata_size = SIZEOF(.tdata);
+    __tbss_offset = ADDR(.tbss) - ADDR(.tdata);
+    __tbss_size = SIZEOF(.tbss);
+    __tls_size = __tbss_offset + __tbss_size;
+    __tls_align = MAX(ALIGNOF(.tdata), ALIGNOF(.tbss));
+
     . = ALIGN(4096);
-    __tls_base = .;
-    .tdata : { *(.tdata .tdata.*) } :variables :thread
-    .tbss : { *(.tbss .tbss.*) } :variables :thread
-    /* A thread's zeros take no addresses, as each thread has its own elsewhere. Here is room for those of the one. */
-    .thread_zeros ADDR(.tbss) : { . += SIZEOF(.tbss); } :variables
+    .first_thread : ALIGN(__tls_align) { __first_thread = .; . += __tls_size; } :variables
     .data : ALIGN(16) { *(.data .data.* .sdata .sdata.*) }
     .bss : ALIGN(16) { *(.bss .bss.* .sbss .sbss.* COMMON) }
 
