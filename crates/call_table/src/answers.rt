@@ -19,7 +19,7 @@ ghost use Rattle.call_table.specs.Processes.{AreKept, IsAwake};
 
 use crate::Processes;
 use futex_core::FutexKey;
-use kernel_calls::{Child, Context, Prepared, args_of, call_of, commit, make, reply, sleep};
+use kernel_calls::{Boxed, Child, Context, Prepared, args_of, call_of, commit, make, reply, sleep};
 use kernel_model::{Entry, Given};
 use rv_table::Regs;
 use sn_base::{List, Memory};
@@ -96,12 +96,13 @@ impl Processes {
     }
 
     /// Makes the child that a call makes, and lets its task go on with the child's number. An `Err` changes nothing.
+    #[inline(never)]
     pub(crate) fn make_child(
         &mut self,
         alloc: Global,
         context: &Context<'_>,
         registers: Regs,
-        child: Child,
+        child: Boxed<Child>,
     ) -> Result<Entry, Memory>
         requires lives { IsTrue (is_live self.old.tasks.tasks context.now.task) }
         requires room { IsRoomFor self.old.tasks }
@@ -127,7 +128,7 @@ impl Processes {
         make(
             alloc,
             context,
-            child,
+            child.into_inner(),
             &mut self.tasks,
             &mut self.registers,
             &mut self.spaces,

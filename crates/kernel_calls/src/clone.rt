@@ -14,6 +14,7 @@ ghost use Rattle.kernel_calls.specs.Cloning.{MakesIf, SetsWord, is_shape};
 ghost use Rattle.kernel_calls.specs.Prepared.{Comes, EndsCaller, HasRoomFor, IsCalling, RepliesFew};
 
 use crate::Context;
+use crate::boxed::Boxed;
 use crate::buffers::write;
 use crate::calls::refused;
 use crate::prepared::Called;
@@ -61,6 +62,7 @@ pub struct Words {
 /// 32 bits. Memory stays as it is, for others to see.
 ///
 /// EINVAL: flags of neither shape; EAGAIN: no task more may be made; EFAULT: a byte of a word that may not be written.
+#[inline(never)]
 pub(crate) fn clone(
     alloc: Global,
     context: &Context<'_>,
@@ -87,7 +89,7 @@ pub(crate) fn clone(
     }
     let number = tasks.last() + 1;
     match made(alloc, context, registers, args, number, space, areas)? {
-        Some(child) => Ok(Called::Makes(child)),
+        Some(child) => Ok(Called::Makes(Boxed::new(alloc, child)?)),
         None => Ok(Called::Replies(refused(Errno::EFAULT))),
     }
 }

@@ -25,6 +25,7 @@
 #![tactic(auto)]
 
 mod arguments;
+mod boxed;
 mod buffers;
 mod calls;
 mod clear_words;
@@ -49,6 +50,7 @@ mod time;
 mod wait;
 
 pub use arguments::is_too_long;
+pub use boxed::Boxed;
 pub use calls::call;
 pub use clone::{Child, Words};
 pub use context::Context;

@@ -7,6 +7,7 @@ ghost use Rattle.kernel_model.specs.calls.Ending.{clear_set, left_by, woken_on};
 ghost use Rattle.kernel_model.specs.entries.Parts.{changed, parts};
 ghost use Rattle.kernel_calls.specs.Prepared.{EndsLive, MayLack, changes_of};
 
+use crate::boxed::Boxed;
 use crate::clone::Child;
 use futex_core::{FutexKey, Waited, Waiters};
 use sn_base::{List, Memory};
@@ -47,7 +48,7 @@ pub struct Prepared {
 #[derive(Drop)]
 pub enum Called {
     Replies(Prepared),
-    Makes(Child),
+    Makes(Boxed<Child>),
     Sleeps(FutexKey),
     Waits,
 }

@@ -22,7 +22,7 @@ impl Guest {
     /// The child that a clone makes.
     fn child(&mut self, args: [u64; 5]) -> Result<Child, Fail> {
         match self.called(clone(args), 0)? {
-            Called::Makes(child) => Ok(child),
+            Called::Makes(child) => Ok(child.into_inner()),
             _ => Err(Fail::new("no child")),
         }
     }

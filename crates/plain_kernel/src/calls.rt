@@ -24,7 +24,7 @@ ghost use Rattle.plain_kernel.specs.Unused.{AreUnused};
 use crate::callers::{context, copied_areas};
 use crate::effects::{go_on, settle};
 use crate::faults::{faulted, is_in_order};
-use kernel_calls::{Called, Child, Prepared, args_of, call, call_of, make, step};
+use kernel_calls::{Boxed, Called, Child, Prepared, args_of, call, call_of, make, step};
 use kernel_model::{Args, Caller, Given, GuestArea, Kernel, Named, Next};
 use rv_table::Regs;
 use sn_base::Memory;
@@ -203,7 +203,7 @@ fn make_child(
     kernel: &mut Kernel,
     caller: Caller,
     reply: i64,
-    child: Child,
+    child: Boxed<Child>,
 ) -> Result<bool, Memory>
     requires few { kernel.old.entries < 1048576 }
     requires there { IsThere caller kernel.old }
@@ -220,7 +220,7 @@ fn make_child(
     make(
         alloc,
         &context,
-        child,
+        child.into_inner(),
         &mut kernel.tasks,
         &mut kernel.registers,
         &mut kernel.spaces,

@@ -1,5 +1,5 @@
 -- A call that is refused, or makes a process or a thread.
-use Rattle.std.proofs.Common.{◌≡◌, ◌+◌, refl, ap, sym, ◌∙◌, subst}
+use Rattle.std.proofs.Common.{◌≡◌, ◌+◌, Some, refl, ap, sym, ◌∙◌, subst}
 use Rattle.sn_errno.specs.declared.errno.Errno.TheVariants.{EAGAIN, EFAULT, EINVAL}
 use Rattle.task_table.specs.Table.{TaskTable}
 use Rattle.kernel_model.specs.calls.Callers.{context_of}
@@ -29,12 +29,13 @@ returns-then-is_full-clause-row c caller k waiting console calling registers =
     (ap is_full calling.tasks ∙ sym c.is_full.ensures ∙ c.if-is_full.true))
     c.refused-then-is_full.ensures.reply c.refused-then-is_full.ensures.effect refl (sym calling.areas)
 
-pub returns-in-Some-clause-row : goal.returns-in-Some-clause-row
-returns-in-Some-clause-row c caller k waiting console calling registers =
+pub returns-in_ok-new-in-Some-clause-row : goal.returns-in_ok-new-in-Some-clause-row
+returns-in_ok-new-in-Some-clause-row c caller k waiting console calling registers =
     let a = c.args in
     let next : c.last-number.result + 1 ≡ k.tasks.last + 1
     = ap (λ n. n + 1) (c.last-number.ensures ∙ sym (ap (λ (t : TaskTable). t.last) calling.tasks)) in
-    subst (λ o. MakesIf (clone_row (context_of k) a.args.now caller) o caller k) c.in-Some.is
+    subst (λ o. MakesIf (clone_row (context_of k) a.args.now caller) o caller k)
+    (c.in-Some.is ∙ ap Some (sym c.in_ok-new-in-Some.ensures))
     (c.in_ok-child.ensures.made caller k a.tasks.now waiting console calling registers next
     (ap is_full calling.tasks ∙ sym c.is_full.ensures ∙ c.if-is_full.false)
     (ap is_shape (sym c.flags_of.ensures) ∙ sym c.is_shape.ensures ∙ c.if-not-is_shape.false))

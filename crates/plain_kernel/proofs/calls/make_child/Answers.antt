@@ -4,6 +4,7 @@ use mir.Syntax.{w64}
 use Rattle.std.proofs.Common.{◌+◌, pos, Some, refl, ap, sym, ◌∙◌, rules}
 use Rattle.std.proofs.Math.Facts.{to_z-of_z}
 use Rattle.std.proofs.lemmas.Bool.Decides.{Decides-int_eq}
+use Rattle.kernel_calls.specs.Children.{with_child}
 use Rattle.kernel_model.specs.declared.kernel.Kernel.{Kernel}
 use Rattle.kernel_model.specs.declared.kernel.Part.TheVariants.{OfTask}
 use Rattle.kernel_model.specs.entries.Parts.{put}
@@ -13,7 +14,7 @@ use Rattle.plain_kernel.proofs.calls.make_child.Goals as goal
 
 pub go_on-requires : goal.go_on-requires
 go_on-requires c =
-    caller_stays c.args.child c.args.caller c.args.kernel.now _
+    caller_stays c.into_inner.result c.args.caller c.args.kernel.now _
     (c.in_ok-make.ensures.ok c.args.caller c.args.kernel.now (sym c.context-context.ensures.task)
     (sym c.context-context.ensures.memory) (sym c.context-context.ensures.place) refl refl refl refl)
     c.requires.there.registers
@@ -32,6 +33,7 @@ returns c = λ changes told.
     ((Decides-int_eq c.args.reply (pos (c.args.kernel.now.tasks.last + 1))).1 (sym (to_z-of_z c.ranges.reply)
     ∙ ap (to_z w64) c.if-reply-number.false ∙ to_z-of_z fits ∙ c.next_number-number.ensures))
     (told
+    ∙ ap (λ child. with_child child c.args.caller c.args.kernel.now) (sym c.into_inner.ensures)
     ∙ c.in_ok-make.ensures.ok c.args.caller c.args.kernel.now (sym c.context-context.ensures.task)
     (sym c.context-context.ensures.memory) (sym c.context-context.ensures.place) refl refl refl refl)
     (c.go_on.ensures

@@ -31,7 +31,7 @@ invariant_of-self c =
           (both_err _ _ c.make.result c.make.ensures.err
           (both_err _ _ c.make.result c.make.ensures.err_registers c.make.ensures.err_spaces))
           (λ does.
-          let is : with_child c.args.child c.args.context.now.place x k
+          let is : with_child c.into_inner.result c.args.context.now.place x k
           ≡ record k {
             tasks = c.make.new.tasks;
             registers = c.make.new.registers;
@@ -39,7 +39,7 @@ invariant_of-self c =
             areas = c.make.new.areas;
           } = does x k refl refl refl refl refl refl in
           subst (λ (m : Kernel). AreAtHome m.tasks m.registers m.spaces) is
-          (home_made c.args.child c.args.context.now.place x k p.at_home c.requires.lives))
+          (home_made c.into_inner.result c.args.context.now.place x k p.at_home c.requires.lives))
           (λ same.
           subst (λ (t : TaskTable). AreAtHome t c.make.new.registers c.make.new.spaces) (sym same.0)
           (subst (λ r. AreAtHome p.tasks r c.make.new.spaces) (sym same.1.0)
@@ -56,8 +56,8 @@ go_on-requires c =
     } in
     let is = c.in_ok-make.ensures.ok x k refl refl refl refl refl refl in
     subst (λ r. IsTrue (map.contains_key r c.args.context.now.task))
-    (sym (child_registers c.args.child c.args.context.now.place x k) ∙ ap (λ (m : Kernel). m.registers) is)
-    (key_stays p.registers (p.tasks.last + 1) c.args.child.registers c.args.context.now.task c.requires.registered)
+    (sym (child_registers c.into_inner.result c.args.context.now.place x k) ∙ ap (λ (m : Kernel). m.registers) is)
+    (key_stays p.registers (p.tasks.last + 1) c.into_inner.result.registers c.args.context.now.task c.requires.registered)
 
 pub returns-clause-does : goal.returns-clause-does
 returns-clause-does c =
@@ -67,7 +67,8 @@ returns-clause-does c =
           ∙ ap (λ v. map.insert c.make.new.registers c.args.context.now.task (replied c.args.registers v))
           (to_z-of_z fits ∙ c.from-value.ensures ∙ ap (λ n. pos (n + 1)) c.last.ensures),
       λ x k task memory tasks registers spaces areas.
-          c.in_ok-make.ensures.ok x k task memory tasks registers spaces areas
+          ap (λ child. with_child child c.args.context.now.place x k) (sym c.into_inner.ensures)
+          ∙ c.in_ok-make.ensures.ok x k task memory tasks registers spaces areas
           ∙ ap (λ t. record k {
             tasks = t;
             registers = c.make.new.registers;
