@@ -193,17 +193,17 @@ words_alike : (words : Option Words) (c : Caller) (own : AddressSpace) (k : Kern
 words_alike None c own k = refl
 words_alike (Some words) c own k = refl
 
-task_alike : (memory : Option AddressSpace) (clear : ℕ) (c : Caller) (own : AddressSpace) (k : Kernel)
-    → with_task memory clear (record c { space = own }) k ≡ with_task memory clear c k
-task_alike None clear c own k = refl
-task_alike (Some memory) clear c own k = refl
+task_alike : (place : ℕ) (memory : Option AddressSpace) (clear : ℕ) (c : Caller) (own : AddressSpace) (k : Kernel)
+    → with_task place memory clear (record c { space = own }) k ≡ with_task place memory clear c k
+task_alike place None clear c own k = refl
+task_alike place (Some memory) clear c own k = refl
 
-child_alike : (child : Child) (c : Caller) (own : AddressSpace) (k : Kernel)
-    → with_child child (record c { space = own }) k ≡ with_child child c k
-child_alike child c own k =
+child_alike : (child : Child) (place : ℕ) (c : Caller) (own : AddressSpace) (k : Kernel)
+    → with_child child place (record c { space = own }) k ≡ with_child child place c k
+child_alike child place c own k =
     ap (with_registers child (k.tasks.last + 1))
-    (task_alike child.memory child.clear c own (with_words child.words (record c { space = own }) k)
-    ∙ ap (with_task child.memory child.clear c) (words_alike child.words c own k))
+    (task_alike place child.memory child.clear c own (with_words child.words (record c { space = own }) k)
+    ∙ ap (with_task place child.memory child.clear c) (words_alike child.words c own k))
 
 comes_alike : (row : Prog Answer) (d : Called) (c : Caller) (own : AddressSpace) (k : Kernel) (space : AddressSpace)
     (areas : NamedMap AreaState) → Comes row d c k space areas → Comes row d (record c { space = own }) k space areas
@@ -212,7 +212,7 @@ comes_alike row (called.Replies p) c own k space areas comes =
 comes_alike row (called.Makes child) c own k space areas comes = record {
   changes = comes.changes;
   row_is = comes.row_is;
-  done_is = comes.done_is ∙ sym (child_alike child c own k);
+  done_is = comes.done_is ∙ sym (child_alike child (k.entries + 1) c own k);
 }
 comes_alike row (called.Sleeps key) c own k space areas comes = comes
 comes_alike row called.Waits c own k space areas comes = comes
@@ -338,21 +338,21 @@ drawn_unused k kept given same may order =
 
 -- ---- a child that is made
 
-task_registers : (memory : Option AddressSpace) (clear : ℕ) (c : Caller) (k : Kernel)
-    → (with_task memory clear c k).registers ≡ k.registers
-task_registers None clear c k = refl
-task_registers (Some memory) clear c k = refl
+task_registers : (place : ℕ) (memory : Option AddressSpace) (clear : ℕ) (c : Caller) (k : Kernel)
+    → (with_task place memory clear c k).registers ≡ k.registers
+task_registers place None clear c k = refl
+task_registers place (Some memory) clear c k = refl
 
 words_registers : (words : Option Words) (c : Caller) (k : Kernel) → (with_words words c k).registers ≡ k.registers
 words_registers None c k = refl
 words_registers (Some words) c k = refl
 
 -- it has registers beside those that there are
-child_registers : (child : Child) (c : Caller) (k : Kernel)
-    → (with_child child c k).registers ≡ map.insert k.registers (k.tasks.last + 1) child.registers
-child_registers child c k =
+child_registers : (child : Child) (place : ℕ) (c : Caller) (k : Kernel)
+    → (with_child child place c k).registers ≡ map.insert k.registers (k.tasks.last + 1) child.registers
+child_registers child place c k =
     ap (λ m. map.insert m (k.tasks.last + 1) child.registers)
-    (task_registers child.memory child.clear c (with_words child.words c k) ∙ words_registers child.words c k)
+    (task_registers place child.memory child.clear c (with_words child.words c k) ∙ words_registers child.words c k)
 
 has_beside : {V : Type 0} (m : map.FinMap nat_cmp V) (key other : ℕ) (v : V) → map.contains_key m key ≡ true
     → map.contains_key (map.insert m other v) key ≡ true
@@ -363,9 +363,9 @@ has_beside m key other v has =
       | inr apart ↦ ap is_some (get-insert_other m other key v apart) ∙ has
     ]
 
-pub caller_stays : (child : Child) (c : Caller) (k after : Kernel) → with_child child c k ≡ after
+pub caller_stays : (child : Child) (place : ℕ) (c : Caller) (k after : Kernel) → with_child child place c k ≡ after
     → map.contains_key k.registers c.task ≡ true → map.contains_key after.registers c.task ≡ true
-caller_stays child c k after is has =
+caller_stays child place c k after is has =
     ap (λ (m : Kernel). map.contains_key m.registers c.task) (sym is)
-    ∙ ap (λ m. map.contains_key m c.task) (child_registers child c k)
+    ∙ ap (λ m. map.contains_key m c.task) (child_registers child place c k)
     ∙ has_beside k.registers c.task (k.tasks.last + 1) child.registers has

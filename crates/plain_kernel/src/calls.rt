@@ -208,7 +208,8 @@ fn make_child(
     requires few { kernel.old.entries < 1048576 }
     requires there { IsThere caller kernel.old }
     requires room { IsRoomFor kernel.old.tasks }
-    ensures { (changes : Items Change) → changed changes kernel.old ≡ with_child child caller kernel.old →
+    ensures { (changes : Items Change) →
+        changed changes kernel.old ≡ with_child child (kernel.old.entries + 1) caller kernel.old →
         Does (replied_by caller reply changes (Replies (pos (kernel.old.tasks.last + 1))))
         kernel.old kernel.new result }
 {

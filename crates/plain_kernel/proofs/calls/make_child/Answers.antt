@@ -8,14 +8,15 @@ use Rattle.kernel_model.specs.declared.kernel.Kernel.{Kernel}
 use Rattle.kernel_model.specs.declared.kernel.Part.TheVariants.{OfTask}
 use Rattle.kernel_model.specs.entries.Parts.{put}
 use Rattle.kernel_model.specs.machine.Registers.{replied}
+use Rattle.kernel_calls.specs.Children.{with_child}
 use Rattle.plain_kernel.proofs.CallLemmas.{call_done, caller_stays}
 use Rattle.plain_kernel.proofs.calls.make_child.Goals as goal
 
 pub go_on-requires : goal.go_on-requires
 go_on-requires c =
-    caller_stays c.args.child c.args.caller c.args.kernel.now _
+    caller_stays c.args.child c.context-context.result.place c.args.caller c.args.kernel.now _
     (c.in_ok-make.ensures.ok c.args.caller c.args.kernel.now (sym c.context-context.ensures.task)
-    (sym c.context-context.ensures.memory) (sym c.context-context.ensures.place) refl refl refl refl)
+    (sym c.context-context.ensures.memory) refl refl refl refl)
     c.requires.there.registers
 
 pub returns : goal.returns
@@ -32,8 +33,9 @@ returns c = λ changes told.
     ((Decides-int_eq c.args.reply (pos (c.args.kernel.now.tasks.last + 1))).1 (sym (to_z-of_z c.ranges.reply)
     ∙ ap (to_z w64) c.if-reply-number.false ∙ to_z-of_z fits ∙ c.next_number-number.ensures))
     (told
+    ∙ ap (λ place. with_child c.args.child place c.args.caller c.args.kernel.now) (sym c.context-context.ensures.place)
     ∙ c.in_ok-make.ensures.ok c.args.caller c.args.kernel.now (sym c.context-context.ensures.task)
-    (sym c.context-context.ensures.memory) (sym c.context-context.ensures.place) refl refl refl refl)
+    (sym c.context-context.ensures.memory) refl refl refl refl)
     (c.go_on.ensures
     ∙ ap (λ v. put (OfTask c.args.caller.task) (Some (replied c.args.caller.registers v)) after)
     (to_z-of_z fits ∙ c.next_number-number.ensures))
