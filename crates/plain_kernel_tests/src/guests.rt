@@ -22,6 +22,12 @@ pub enum Move {
     Meets(u64, [u64; 6], i64, u64, bool),
     /// The end of task 1 by a signal.
     End(u8, bool),
+    /// A call of a task.
+    CallOf(u32, u64, [u64; 6], i64, bool),
+    /// The end of a task by a signal.
+    EndOf(u32, u8, bool),
+    /// A task's going to sleep.
+    SleepOf(u32, bool),
 }
 
 /// What the state has then.
@@ -61,9 +67,9 @@ fn args_of([a0, a1, a2, a3, a4, a5]: [u64; 6]) -> Args {
     }
 }
 
-fn call(no: u64, args: [u64; 6], reply: i64, given: Given) -> Entry {
+fn call(task: u32, no: u64, args: [u64; 6], reply: i64, given: Given) -> Entry {
     Entry::Call {
-        task: 1,
+        task,
         no,
         args: args_of(args),
         given,
@@ -76,10 +82,17 @@ fn entry_of(alloc: Global, step: Move) -> Result<(Entry, bool), Fail> {
     match step {
         Move::Run(n, fits) => Ok((Entry::Run { task: 1, n }, fits)),
         Move::RunOf(task, n, fits) => Ok((Entry::Run { task, n }, fits)),
-        Move::Call(no, args, reply, fits) => Ok((call(no, args, reply, risen(alloc, 0)?), fits)),
-        Move::Meets(no, args, reply, rise, fits) => {
-            Ok((call(no, args, reply, risen(alloc, rise)?), fits))
+        Move::Call(no, args, reply, fits) => {
+            Ok((call(1, no, args, reply, risen(alloc, 0)?), fits))
         }
+        Move::Meets(no, args, reply, rise, fits) => {
+            Ok((call(1, no, args, reply, risen(alloc, rise)?), fits))
+        }
+        Move::CallOf(task, no, args, reply, fits) => {
+            Ok((call(task, no, args, reply, risen(alloc, 0)?), fits))
+        }
+        Move::EndOf(task, signal, fits) => Ok((Entry::End { task, signal }, fits)),
+        Move::SleepOf(task, fits) => Ok((Entry::Sleep { task }, fits)),
         Move::End(signal, fits) => Ok((Entry::End { task: 1, signal }, fits)),
     }
 }
