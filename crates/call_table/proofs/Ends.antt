@@ -1,5 +1,5 @@
--- What ends of tasks and thread groups, a clear word that is set, a child that is waited for, and new tasks leave: tasks
--- in their groups, and groups with their memories.
+-- What ends of tasks and thread groups, a clear word that is set, a child that is waited for, and new tasks leave:
+-- tasks in their groups, and groups with their memories.
 use Rattle.std.proofs.Common.{◌≡◌, ℕ, Bool, true, false, cond, eqb, refl, ap, ◌∙◌}
 use Rattle.std.specs.Prelude.{Option, Some, None, ◌==◌}
 use Rattle.std.specs.Option.{option_map, option_map_or}

@@ -87,7 +87,8 @@ module _ (list : TaskTable) (registers : map.FinMap nat_cmp Regs) (spaces : Name
   -- where a child is nobody's child any more
   pub home_released : (end : ReapEnd) → AreAtHome (after_reap list end) registers spaces
   home_released end = λ task live.
-      let c = at_home list registers spaces task home (ap (λ t. is_live t task) (sym (tasks_released list end)) ∙ live) in
+      let c = at_home list registers spaces task home
+      (ap (λ t. is_live t task) (sym (tasks_released list end)) ∙ live) in
       let g = memory_released list end (group_of list.tasks task) c.1.group c.1.grouped in
       let memory : c.0.memory ≡ g.0.memory = ap (λ (x : Caller). x.memory) c.1.is ∙ sym g.2 in
       ap is_some (found_by (after_reap list end) registers spaces task g.0 c.0.registers c.0.space live

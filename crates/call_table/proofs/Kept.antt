@@ -33,7 +33,8 @@ stands_kept p q task standing kept stands = record {
 
 -- no instruction has run
 pub part_none : (p q : Processes) (task : ℕ) (standing : Standing) → StandsAs p task standing → q.tasks ≡ p.tasks
-    → q.registers ≡ p.registers → q.spaces ≡ p.spaces → AreAlike q.areas p.areas → q.sleepers ≡ p.sleepers → q.console ≡ p.console
+    → q.registers ≡ p.registers → q.spaces ≡ p.spaces → AreAlike q.areas p.areas → q.sleepers ≡ p.sleepers
+    → q.console ≡ p.console
     → HasRunPart task p q
 part_none p q task standing stands e f g areas w i = record {
   caller = caller_with task standing stands.space;

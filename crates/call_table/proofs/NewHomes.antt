@@ -27,7 +27,8 @@ use Rattle.call_table.proofs.Homes.{at_home, home_reached, memories_stay, regist
 
 -- where a task more begins, with these registers and this memory in a thread group of its own
 module _ (list : TaskTable) (registers : map.FinMap nat_cmp Regs) (spaces : NamedMap AddressSpace)
-    (home : AreAtHome list registers spaces) (group_begun : Group) (clear : ℕ) (begun : Regs) (space : AddressSpace) where
+    (home : AreAtHome list registers spaces) (group_begun : Group) (clear : ℕ) (begun : Regs)
+    (space : AddressSpace) where
   abbrev next : ℕ
   next = list.last + 1
 
@@ -50,7 +51,8 @@ module _ (list : TaskTable) (registers : map.FinMap nat_cmp Regs) (spaces : Name
       (ap (λ o. option_map_or (λ (c : Task). c.live) o false) there_now)
       (ap (map.get list_after.groups) (ap (λ o. option_map_or (λ (c : Task). c.group) o 0) there_now)
       ∙ get-insert_same list.groups next group_begun)
-      (get-insert_same registers next begun) (get-with_same spaces group_begun.memory.place group_begun.memory.index space))
+      (get-insert_same registers next begun)
+      (get-with_same spaces group_begun.memory.place group_begun.memory.index space))
     where
       there_now : map.get list_after.tasks next ≡ Some task_begun
       there_now = get-insert_same list.tasks next task_begun
@@ -71,7 +73,8 @@ module _ (list : TaskTable) (registers : map.FinMap nat_cmp Regs) (spaces : Name
           get-with_same spaces group_begun.memory.place group_begun.memory.index space,
         )
         | inr apart ↦ let stays =
-            memories_stay spaces group_begun.memory.place group_begun.memory.index space g.memory.place g.memory.index a remembered in
+            memories_stay spaces group_begun.memory.place group_begun.memory.index space g.memory.place g.memory.index a
+            remembered in
             (g, stays.0, get-insert_other list.groups next group group_begun apart ∙ grouped, stays.1)
       ]
 
@@ -93,7 +96,8 @@ module _ (list : TaskTable) (registers : map.FinMap nat_cmp Regs) (spaces : Name
 
   pub home_begun : (list' : TaskTable) (registers' : map.FinMap nat_cmp Regs) (spaces' : NamedMap AddressSpace)
       → list' ≡ with_group list group_begun clear → registers' ≡ map.insert registers (list.last + 1) begun
-      → spaces' ≡ with_named spaces group_begun.memory.place group_begun.memory.index space → AreAtHome list' registers' spaces'
+      → spaces' ≡ with_named spaces group_begun.memory.place group_begun.memory.index space
+      → AreAtHome list' registers' spaces'
   home_begun list' registers' spaces' e f g =
       subst (λ (x : TaskTable). AreAtHome x registers' spaces') (sym e)
       (subst (λ x. AreAtHome list_after x spaces') (sym f)
@@ -109,7 +113,8 @@ module _ (list : TaskTable) (registers : map.FinMap nat_cmp Regs) (spaces : Name
 
 -- where a thread more begins in a live task's group
 module _ (list : TaskTable) (registers : map.FinMap nat_cmp Regs) (spaces : NamedMap AddressSpace)
-    (home : AreAtHome list registers spaces) (task clear : ℕ) (begun : Regs) (live : is_live list.tasks task ≡ true) where
+    (home : AreAtHome list registers spaces) (task clear : ℕ) (begun : Regs)
+    (live : is_live list.tasks task ≡ true) where
   abbrev thread_begun : Task
   thread_begun = record { group = group_of list.tasks task; clear = clear; live = true }
 
@@ -186,7 +191,8 @@ module _ (child : Child) (place : ℕ) (c : Caller) (k : Kernel) (home : AreAtHo
   child_home (Some words) (Some memory) =
       tasked (Some memory) (with_words (Some words) c k).spaces (worded (Some words))
 
-  pub home_made : AreAtHome (with_child child place c k).tasks (with_child child place c k).registers (with_child child place c k).spaces
+  pub home_made : AreAtHome (with_child child place c k).tasks (with_child child place c k).registers
+      (with_child child place c k).spaces
   home_made = by child.words child.memory
     where
       by : (words : Option Words) (memory : Option AddressSpace)

@@ -164,7 +164,8 @@ none_above : (p q : ℕ → Bool) (xs : List ℕ) → ((n : ℕ) → p n ≡ tru
 none_above p q [] above e = refl
 none_above p q (x ∷ xs) above e = by (p x) refl e (λ f. none_above p q xs above f)
   where
-    passing : (d : Bool) → p x ≡ true → find (nat_lt 0) (cond d (x ∷ filter q (filter p xs)) (filter q (filter p xs))) ≡ None
+    passing : (d : Bool) → p x ≡ true
+        → find (nat_lt 0) (cond d (x ∷ filter q (filter p xs)) (filter q (filter p xs))) ≡ None
         → (find (nat_lt 0) (filter q (filter p xs)) ≡ None → has_any (filter q (filter p xs)) ≡ false)
         → has_any (cond d (x ∷ filter q (filter p xs)) (filter q (filter p xs))) ≡ false
     passing true px e rest =

@@ -27,7 +27,8 @@ use std::alloc::Global;
 
 /// The entry of a call that drew nothing and met nothing.
 pub(crate) fn call_entry(alloc: Global, task: u32, registers: &Regs, value: i64) -> Entry
-    ensures { result ≡ ACall task (call_of registers.now) (args_of registers.now) (record { fresh = []; rises = [] }) value }
+    ensures { result
+        ≡ ACall task (call_of registers.now) (args_of registers.now) (record { fresh = []; rises = [] }) value }
 {
     Entry::Call {
         task,
@@ -109,7 +110,8 @@ impl Processes {
         requires memory { IsTrue (has_named self.old.spaces context.now.memory.place context.now.memory.index) }
         requires registered { IsTrue (map.contains_key self.old.registers context.now.task) }
         ensures does { IfOk result (λ _. (between : map.FinMap nat_cmp ARegs)
-            × (self.new.registers ≡ map.insert between context.now.task (replied registers (pos (self.old.tasks.last + 1))))
+            × (self.new.registers
+            ≡ map.insert between context.now.task (replied registers (pos (self.old.tasks.last + 1))))
             × ((c : ACaller) (k : AKernel) → c.task ≡ context.now.task → c.memory ≡ context.now.memory →
             k.tasks ≡ self.old.tasks → k.registers ≡ self.old.registers → k.spaces ≡ self.old.spaces →
             k.areas ≡ self.old.areas → with_child child context.now.place c k ≡ record k {

@@ -221,8 +221,8 @@ impl Processes {
         Ok(next)
     }
 
-    /// Answers the call that a live task stands at, or puts the task to sleep, or leaves it waiting. Want of memory leaves
-    /// what was there.
+    /// Answers the call that a live task stands at, or puts the task to sleep, or leaves it waiting. Want of memory
+    /// leaves what was there.
     fn answer(
         &mut self,
         alloc: Global,
@@ -280,8 +280,8 @@ impl Processes {
         }
     }
 
-    /// Ends the thread group of a live task by the signal of its next instruction's trap. Want of memory leaves what was
-    /// there.
+    /// Ends the thread group of a live task by the signal of its next instruction's trap. Want of memory leaves what
+    /// was there.
     fn end(
         &mut self,
         alloc: Global,

@@ -1,6 +1,7 @@
 //! Turns: the entries of processes, one after another, until no task's step is ready or the trace is full.
 
-ghost use Rattle.std.specs.Prelude.{◌≡◌, ◌<◌, ◌≤◌, ◌+◌, ◌⊎◌, ℕ, true, false, length, nat_lt, find, Some, None, IfSome, OnErr, []};
+ghost use Rattle.std.specs.Prelude.{◌≡◌, ◌<◌, ◌≤◌, ◌+◌, ◌⊎◌, ℕ, true, false, length};
+ghost use Rattle.std.specs.Prelude.{nat_lt, find, Some, None, IfSome, OnErr, []};
 ghost use Rattle.std.specs.List.{flat_map};
 ghost use Rattle.kernel_model.specs.entries.Given.{has_any};
 ghost use Rattle.kernel_model.specs.entries.History.{each_whole, is_whole, replay};
@@ -87,8 +88,8 @@ impl Processes {
     }
 }
 
-/// Has tasks make entries in turn, by the mount file's seed, until no task's next step is ready or the trace has so many
-/// entries.
+/// Has tasks make entries in turn, by the mount file's seed, until no task's next step is ready or the trace has so
+/// many entries.
 pub fn run_turns(alloc: Global, processes: Processes, seed: &[u8], entries: u64) -> Ran
     // The trace is a history, whatever stands beside the processes and the seed.
     ensures history { (beside : Beside) → beside.seed ≡ seed.now →

@@ -1,7 +1,9 @@
 //! The futex list, and the calls on it.
 
-ghost use Rattle.std.specs.Prelude.{◌≡◌, ◌≢◌, ◌+◌, ◌≤◌, ◌↔◌, [], ◌++◌, length, min, take, IsFalse, OnErr, vec_len, vec_capacity};
-ghost use Rattle.futex_core.specs.FutexLists.{EachOnce, after_leave, after_sleep, after_wake, first_waiters, is_asleep, is_woken, sleepers_without, waiters_on};
+ghost use Rattle.std.specs.Prelude.{◌≡◌, ◌≢◌, ◌+◌, ◌≤◌, ◌↔◌, [], ◌++◌, length, min};
+ghost use Rattle.std.specs.Prelude.{take, IsFalse, OnErr, vec_len, vec_capacity};
+ghost use Rattle.futex_core.specs.FutexLists.{EachOnce, after_leave, after_sleep, after_wake, first_waiters};
+ghost use Rattle.futex_core.specs.FutexLists.{is_asleep, is_woken, sleepers_without, waiters_on};
 
 use crate::FutexKey;
 use sn_base::Memory;

@@ -32,7 +32,8 @@ use Rattle.kernel_calls.specs.declared.prepared.Prepared.{Prepared}
 
 -- a task that calls has its address space in the kernel
 pub has_space : (c : Caller) (k : Kernel) (context : Context) (space : AddressSpace) (areas : NamedMap AreaState)
-    (list : TaskTable) (waiting : FutexList) (console : ℕ) → IsCalling c k context space areas list waiting console → HasSpace c k space
+    (list : TaskTable) (waiting : FutexList) (console : ℕ) → IsCalling c k context space areas list waiting console
+    → HasSpace c k space
 has_space c k context space areas list waiting console calling = record { space = calling.space; there = calling.there }
 
 -- the areas of a kernel, as a state

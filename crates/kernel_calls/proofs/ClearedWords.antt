@@ -1,5 +1,6 @@
 -- Clear words of tasks that end, as they are cleared one after another.
-use Rattle.std.proofs.Common.{◌≡◌, ◌==◌, ℕ, Bool, true, false, cond, List, [], ◌∷◌, ◌++◌, Option, Some, None, refl, ap, sym}
+use Rattle.std.proofs.Common.{◌≡◌, ◌==◌, ℕ, Bool, true, false, cond, List, [], ◌∷◌}
+use Rattle.std.proofs.Common.{◌++◌, Option, Some, None, refl, ap, sym}
 use Rattle.std.proofs.Common.{◌∙◌, ◌-◌, ◌≤◌, arith, drop, get_or, length, option_map, subst, take}
 use Rattle.std.proofs.Math.Seq.{take-length}
 use Rattle.futex_core.specs.declared.keys.FutexKey.{FutexKey}
@@ -109,7 +110,8 @@ module _ (c : Caller) (e : EndedTask) (x : Cleared) (s : Parts) where
           cleared_one so memory own keys' more =
               subst (λ ks. IsCleared (outcome_in s (word_cleared c e x)) all space' areas' ks)
               (ap (λ m. keys ++ key_at m space e.clear ∷ []) own ∙ sym more)
-              (subst (λ y. IsCleared y all space' areas' (keys ++ key_at c.memory space e.clear ∷ [])) (sym (a_word some))
+              (subst (λ y. IsCleared y all space' areas' (keys ++ key_at c.memory space e.clear ∷ []))
+              (sym (a_word some))
               (adds reached wrote told so))
 
 -- the word of the first, and then those of the rest

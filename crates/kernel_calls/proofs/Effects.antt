@@ -17,11 +17,13 @@ module _ (k : Kernel) (list : TaskTable) (waiting : FutexList) (console : List �
   -- is one with those that it has, where they are these
   pub same_kernel : k ≡ kept k list waiting console
   same_kernel =
-      ap (λ t. kept k t k.sleepers k.console) e ∙ ap (λ w. kept k list w k.console) f ∙ ap (λ c. kept k list waiting c) g
+      ap (λ t. kept k t k.sleepers k.console) e ∙ ap (λ w. kept k list w k.console) f
+      ∙ ap (λ c. kept k list waiting c) g
 
   -- and so where an effect changes some of them
   module _ (effect : Effect) (group : ℕ) (list' : TaskTable) (waiting' : FutexList) (console' : List ℕ) where
-    pub has_changed : changed (changes_of effect group (parts (kept k list waiting console))) (kept k list waiting console)
+    pub has_changed : changed (changes_of effect group (parts (kept k list waiting console)))
+        (kept k list waiting console)
         ≡ kept (kept k list waiting console) list' waiting' console'
         → changed (changes_of effect group (parts k)) k ≡ kept k list' waiting' console'
     has_changed h = ap (λ m. changed (changes_of effect group (parts m)) m) same_kernel ∙ h

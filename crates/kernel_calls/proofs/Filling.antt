@@ -24,7 +24,8 @@ use Rattle.kernel_calls.specs.declared.prepared.Prepared.{Prepared}
 use Rattle.kernel_calls.proofs.Answering.{has_space, answers_refused, answers_remapped, areas_changed}
 
 module _ (p : Prepared) (c : Caller) (k : Kernel) (context : Context) (own space : AddressSpace)
-    (shared areas : NamedMap AreaState) (list : TaskTable) (waiting : FutexList) (console at : ℕ) (bytes : List ℕ) (reply : ℕ)
+    (shared areas : NamedMap AreaState) (list : TaskTable) (waiting : FutexList) (console at : ℕ) (bytes : List ℕ)
+    (reply : ℕ)
     (calling : IsCalling c k context own shared list waiting console) (none : p.effect ≡ Nothing) where
   -- what the code reaches
   abbrev reached : Option Reach

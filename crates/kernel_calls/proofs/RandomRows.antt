@@ -39,8 +39,8 @@ pub random_filled : (p : Prepared) (c : Caller) (k : Kernel) (context : Context)
     → n ≡ min count most_random → reply ≡ n → bytes ≡ random_at context.seed.now context.place n
     → Answers (fills c buffer bytes reply) p c k space areas
     → Answers (getrandom_row (context_of k) buffer count flags c) p c k space areas
-random_filled p c k context own space shared areas list waiting console buffer count flags calling few n reply bytes least
-    same are answers =
+random_filled p c k context own space shared areas list waiting console buffer count flags calling few n reply bytes
+    least same are answers =
     subst (λ row. Answers row p c k space areas) (sym (
     row_taken (context_of k) buffer count flags c few
     ∙ ap (λ m. fills c buffer (random_at k.seed (k.entries + 1) m) m) (sym least)

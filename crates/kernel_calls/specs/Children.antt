@@ -18,8 +18,8 @@ abbrev pub with_words : Option Words → Caller → Kernel → Kernel
 with_words None c k = k
 with_words (Some words) c k = with_memory c words.space words.areas k
 
--- a kernel with a new task and its registers: a thread of the caller's group, or a process with a memory of its own, which
--- is named by the place of the entry
+-- a kernel with a new task: a thread of the caller's group, or a process with a memory of its own, which is named by
+-- the place of the entry
 -- clone(2); fork(2)
 abbrev pub with_task : (place : ℕ) → Option AddressSpace → (clear : ℕ) → Caller → Kernel → Kernel
 with_task place None clear c k = record k { tasks = threaded k.tasks c.task clear }
@@ -28,9 +28,13 @@ with_task place (Some memory) clear c k = record k {
   spaces = with_named k.spaces place 0 memory;
 }
 
+-- a kernel in which a child's registers stand under a number
+-- clone(2)
 abbrev pub with_registers : Child → (number : ℕ) → Kernel → Kernel
 with_registers child number k = record k { registers = map.insert k.registers number child.registers }
 
+-- a kernel with a child: the words that got its number, its task with its memory, and its registers
+-- clone(2); fork(2)
 abbrev pub with_child : Child → (place : ℕ) → Caller → Kernel → Kernel
 with_child child place c k =
     with_registers child (k.tasks.last + 1) (with_task place child.memory child.clear c (with_words child.words c k))

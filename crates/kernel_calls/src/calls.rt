@@ -36,8 +36,8 @@ use task_table::Tasks;
 /// The call of a number, of a live task with that memory, with the shared areas there are, with that task list and that
 /// futex list, as far as the kernel has it: the table below has a row a call. Any other answers ENOSYS. What is mapped
 /// and what lies in memory is changed at once; what is to be done to the console, the task list or the futex list is
-/// told, and where that may lack memory nothing has changed so far. Of the console it reads only how many bytes that has.
-/// An `Err` changes nothing.
+/// told, and where that may lack memory nothing has changed so far. Of the console it reads only how many bytes that
+/// has. An `Err` changes nothing.
 #[tactic(auto, using(crate::proofs::Answering::answers_lacking))]
 pub fn call(
     alloc: Global,

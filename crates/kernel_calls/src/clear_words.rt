@@ -4,7 +4,8 @@ ghost use Rattle.std.specs.Prelude.{◌≡◌, ◌==◌, false, true, IfOk, OnOk
 ghost use Rattle.mm_space.specs.Handing.{AreaState};
 ghost use Rattle.kernel_model.specs.Names.{NamedMap};
 ghost use Rattle.kernel_model.specs.declared.caller.Caller.{Caller as ACaller};
-ghost use Rattle.kernel_model.specs.calls.ClearWords.{Cleared as ACleared, nothing_cleared, word_cleared, words_cleared};
+ghost use Rattle.kernel_model.specs.calls.ClearWords.{Cleared as ACleared, nothing_cleared};
+ghost use Rattle.kernel_model.specs.calls.ClearWords.{word_cleared, words_cleared};
 ghost use Rattle.kernel_model.specs.entries.Parts.{Parts, outcome_in};
 ghost use Rattle.kernel_calls.specs.ClearWords.{IsCleared, has_few, has_word};
 ghost use Rattle.kernel_calls.specs.Lending.{AreThose};

@@ -11,7 +11,8 @@ ghost use Rattle.kernel_model.specs.calls.Ending.{exit_group_row, exit_row, set_
 ghost use Rattle.kernel_model.specs.entries.Parts.{Parts, outcome_in};
 ghost use Rattle.kernel_calls.specs.Ends.{Ends};
 ghost use Rattle.kernel_calls.specs.Lending.{AreAlike};
-ghost use Rattle.kernel_calls.specs.Prepared.{Answers, EndsGroupAs, EndsOnly, HasSpace, IsCalling, MayLack, TakesFew, answer_of};
+ghost use Rattle.kernel_calls.specs.Prepared.{Answers, EndsGroupAs, EndsOnly, HasSpace};
+ghost use Rattle.kernel_calls.specs.Prepared.{IsCalling, MayLack, TakesFew, answer_of};
 ghost use Rattle.kernel_calls.specs.declared.prepared.Effect.TheVariants.{Nothing};
 
 use crate::clear_words::clear_words;

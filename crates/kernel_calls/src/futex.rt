@@ -13,7 +13,8 @@ ghost use Rattle.kernel_model.specs.calls.Futex.{futex_row, is_wait, is_wake, sl
 ghost use Rattle.kernel_model.specs.entries.Areas.{bytes_read};
 ghost use Rattle.kernel_model.specs.entries.Parts.{Parts, outcome_in, parts};
 ghost use Rattle.kernel_calls.specs.Lending.{AreThose};
-ghost use Rattle.kernel_calls.specs.Prepared.{Comes, EndsCaller, HasRoomFor, HasSpace, IsCalling, RepliesFew, answer_of};
+ghost use Rattle.kernel_calls.specs.Prepared.{Comes, EndsCaller, HasRoomFor, HasSpace};
+ghost use Rattle.kernel_calls.specs.Prepared.{IsCalling, RepliesFew, answer_of};
 ghost use Rattle.kernel_calls.specs.declared.prepared.Effect.TheVariants.{Wakes};
 
 use crate::Context;

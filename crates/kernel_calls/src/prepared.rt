@@ -53,8 +53,8 @@ pub enum Called {
     Waits,
 }
 
-/// Does what a call of a thread group comes to, to the parts that it changes. Want of memory leaves them, and comes only
-/// where the console takes bytes.
+/// Does what a call of a thread group comes to, to the parts that it changes. Want of memory leaves them, and comes
+/// only where the console takes bytes.
 #[tactic(auto, using(crate::proofs::Effects::has_changed))]
 pub fn commit(
     alloc: Global,

@@ -206,7 +206,8 @@ module _ (s : Parts) where
       (sleep_leaves c.task (key_at c.memory c.space address) (from_le_bytes w32 bytes) value)
       (wake_leaves (key_at c.memory c.space address) value)
 
-  futex_leaves : (address operation value timeout : ℕ) (c : Caller) → Leaves (futex_of address operation value timeout c)
+  futex_leaves : (address operation value timeout : ℕ) (c : Caller)
+      → Leaves (futex_of address operation value timeout c)
   futex_leaves address operation value timeout c =
       either_leaves (not (is_wait operation || is_wake operation)) _ _ (refused_leaves ENOSYS)
       (either_leaves (not (address % 4 == 0)) _ _ (refused_leaves EINVAL)
@@ -483,7 +484,8 @@ module _ (k : Kernel) (dir : ℕ) (name : List ℕ) (shape : Shape) where
     woken_fits : (c : Caller) (call : ℕ) (args : Args) (reply : ℤ) (given : Given)
         → Fits (woken_entry c call args reply given)
     woken_fits c call args reply given =
-        either_fits (woken_at c call args reply given) _ _ (untouched ((OfSleepers, after_leave k.sleepers c.task) ∷ going_on c (pos 0)) none) tt
+        either_fits (woken_at c call args reply given) _ _
+        (untouched ((OfSleepers, after_leave k.sleepers c.task) ∷ going_on c (pos 0)) none) tt
       where
         none : LeavesNodes ((OfSleepers, after_leave k.sleepers c.task) ∷ going_on c (pos 0))
         none ino (inl e) = absurd (cc e)

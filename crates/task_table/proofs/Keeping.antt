@@ -1,5 +1,7 @@
 -- What holds of the table at all times holds after each change.
-use Rattle.std.proofs.Common.{◌≡◌, ℕ, ◌+◌, ◌-◌, ◌<◌, ◌≤◌, ◌^◌, map, lit<, lit≤, Bool, true, false, cond, not, eqb, ◌&&◌, List, [], ◌∷◌, ◌++◌, length, refl, ap, sym, ◌∙◌, subst, arith, length-append}
+use Rattle.std.proofs.Common.{◌≡◌, ℕ, ◌+◌, ◌-◌, ◌<◌, ◌≤◌, ◌^◌, map, lit<, lit≤, Bool, true}
+use Rattle.std.proofs.Common.{false, cond, not, eqb, ◌&&◌, List, [], ◌∷◌, ◌++◌, length}
+use Rattle.std.proofs.Common.{refl, ap, sym, ◌∙◌, subst, arith, length-append}
 use Rattle.std.specs.Prelude.{Option, Some, None, is_some, filter}
 use Rattle.std.specs.Option.{option_map, option_map_or}
 use Rattle.std.specs.Ordering.{nat_cmp}
@@ -11,7 +13,8 @@ use Rattle.task_table.specs.declared.task.Task.{Task}
 use Rattle.task_table.specs.declared.task.Group.{Group}
 use Rattle.task_table.specs.declared.task.Status.{Status}
 use Rattle.task_table.specs.Clones.{with_group, threaded}
-use Rattle.task_table.specs.Ends.{ended_if, ended_where, group_ended, groups_closed, is_itself, is_last, is_member, others_ended}
+use Rattle.task_table.specs.Ends.{ended_if, ended_where, group_ended, groups_closed}
+use Rattle.task_table.specs.Ends.{is_itself, is_last, is_member, others_ended}
 use Rattle.task_table.specs.Entries.{changed_at, each_changed, numbers_where, passes}
 use Rattle.task_table.specs.Kept.{IsKept, IsSound}
 use Rattle.task_table.specs.Reaps.{orphaned}

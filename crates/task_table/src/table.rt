@@ -1,13 +1,16 @@
 //! The table of tasks and thread groups, and its calls.
 
-ghost use Rattle.std.specs.Prelude.{◌≡◌, ℕ, ◌+◌, ◌-◌, ◌^◌, ◌<◌, ◌≤◌, ◌↔◌, find, nat_le, nat_lt, IsTrue, IsFalse, IfOk, OnOk, OnErr, None, option_copied};
+ghost use Rattle.std.specs.Prelude.{◌≡◌, ℕ, ◌+◌, ◌-◌, ◌^◌, ◌<◌, ◌≤◌, ◌↔◌, find, nat_le, nat_lt};
+ghost use Rattle.std.specs.Prelude.{IsTrue, IsFalse, IfOk, OnOk, OnErr, None, option_copied};
 ghost use Rattle.std.specs.FinMap as map;
 ghost use Rattle.task_table.specs.Clones.{MadeFrom, WasMade, forked, opened, threaded, with_group};
-ghost use Rattle.task_table.specs.Ends.{ended_tasks, exited, group_ended, is_itself, is_last, is_member, is_other_member, others_ended};
+ghost use Rattle.task_table.specs.Ends.{ended_tasks, exited, group_ended, is_itself, is_last};
+ghost use Rattle.task_table.specs.Ends.{is_member, is_other_member, others_ended};
 ghost use Rattle.task_table.specs.Entries.{changed_at};
 ghost use Rattle.task_table.specs.Kept.{IsKept};
 ghost use Rattle.task_table.specs.Reaps.{after_reap, reap_end};
-ghost use Rattle.task_table.specs.Table.{TaskTable, cwd_of, group_of, has_ended, is_live, live_count, live_numbers, no_tasks};
+ghost use Rattle.task_table.specs.Table.{TaskTable, cwd_of, group_of, has_ended, is_live};
+ghost use Rattle.task_table.specs.Table.{live_count, live_numbers, no_tasks};
 
 use crate::clones::{note_child, put_both};
 use crate::ends::{Leaving, close_group, end_tasks, tasks_leaving};

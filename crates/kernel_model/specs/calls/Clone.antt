@@ -44,7 +44,8 @@ clears_child_word flags = is_set 21 flags
 abbrev pub sets_child_word : (flags : ℕ) → Bool
 sets_child_word flags = is_set 24 flags
 
--- those of the flags that either shape may have: CLONE_SYSVSEM and CLONE_DETACHED, which are not looked at, and the four
+-- those of the flags that either shape may have: CLONE_SYSVSEM and CLONE_DETACHED, which are not looked at, and the
+-- four that say what becomes of the thread pointer, of the words that get the child's number and of its clear word
 -- clone(2), The flags mask; which they are: profile
 abbrev pub free_flags : (flags : ℕ) → ℕ
 free_flags flags =

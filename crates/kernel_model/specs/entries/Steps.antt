@@ -1,5 +1,6 @@
 -- What an entry does: it is defined exactly where the entry fits the state.
-use Rattle.std.specs.Prelude.{ℕ, ◌+◌, ◌==◌, nat_le, ℤ, pos, List, length, [], ◌∷◌, ◌++◌, Bool, true, false, ◌&&◌, Option, Some}
+use Rattle.std.specs.Prelude.{ℕ, ◌+◌, ◌==◌, nat_le, ℤ, pos, List, length, [], ◌∷◌}
+use Rattle.std.specs.Prelude.{◌++◌, Bool, true, false, ◌&&◌, Option, Some}
 use Rattle.std.specs.Prelude.{None}
 use Rattle.std.specs.Prelude.{if◌then◌else◌, option_map}
 use Rattle.std.specs.List.{list_all, list_any}
@@ -188,8 +189,8 @@ abbrev pub call_entry : Context → Caller → (call : ℕ) → Args → ℤ →
 call_entry context c call args reply given =
     next_row c >>= λ (s : Stands). call_at context c call args reply given s.next
 
--- Call, of a task that was woken: the call that it slept in replies 0, whatever its code has become, and the task leaves
--- the futex list
+-- Call, of a task that was woken: the call that it slept in replies 0, whatever its code has become, and the task
+-- leaves the futex list
 -- futex(2), RETURN VALUE, FUTEX_WAIT; that such a call draws and meets nothing: profile
 abbrev pub woken_at : Caller → (call : ℕ) → Args → ℤ → Given → Bool
 woken_at c call args reply given = stands_at call args c.registers Calls && is_quiet given && int_eq reply (pos 0)

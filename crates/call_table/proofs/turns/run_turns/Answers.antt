@@ -37,7 +37,8 @@ loop-place-preserved c =
     n + 1 ≡ c.loop-place.place + 1 → step (kernel_of before beside n) e ≡ Some (kernel_of after beside (n + 1))) entry
     c.in-Some.is c.in-Ok.ensures.step in
     let wholly = is_some_of c.in-Ok.made (λ e. (beside : Beside) (n m : ℕ) →
-    is_whole e (kernel_of before beside n) (kernel_of after beside m) ≡ true) entry c.in-Some.is c.in-Ok.ensures.whole in
+    is_whole e (kernel_of before beside n) (kernel_of after beside m) ≡ true) entry c.in-Some.is
+    c.in-Ok.ensures.whole in
     let numbers = is_some_of c.in-Ok.made (λ e. numbers_in e ≡ []) entry c.in-Some.is c.in-Ok.ensures.numbers in
     let turned = is_some_of c.in-Ok.made (λ e. (beside : Beside) (n : ℕ) →
     next_of c.loop-place.last (ready_numbers (kernel_of before beside n)) ≡ Some (task_of e)) entry c.in-Some.is

@@ -9,7 +9,8 @@ use Rattle.kernel_model.specs.entries.Areas.{bytes_read}
 use Rattle.kernel_model.specs.entries.Parts.{parts, outcome_in}
 use Rattle.kernel_calls.proofs.Answering.{answers_refused, are_those, has_space}
 use Rattle.kernel_calls.proofs.Coming.{comes_alike}
-use Rattle.kernel_calls.proofs.FutexRows.{address_odd, operation_unknown, timeout_there, word_looked_at, word_read, word_unread}
+use Rattle.kernel_calls.proofs.FutexRows.{address_odd, operation_unknown, timeout_there}
+use Rattle.kernel_calls.proofs.FutexRows.{word_looked_at, word_read, word_unread}
 use Rattle.kernel_calls.proofs.futex.futex.Goals as goal
 
 pub returns-then-not-is_known-clause-row : goal.returns-then-not-is_known-clause-row

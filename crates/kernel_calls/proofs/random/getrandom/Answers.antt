@@ -13,7 +13,8 @@ pub returns-then-flags-gt7-clause-row : goal.returns-then-flags-gt7-clause-row
 returns-then-flags-gt7-clause-row c caller k list waiting console calling =
     let a = c.args in
     answers_refused (getrandom_row (context_of k) a.buffer a.count a.flags caller) c.refused.result caller k a.space.now
-    a.space.now a.areas.now (has_space caller k a.context.now a.space.now a.areas.now list waiting console calling) EINVAL
+    a.space.now a.areas.now (has_space caller k a.context.now a.space.now a.areas.now list waiting console calling)
+    EINVAL
     (ap (outcome_in (parts k)) (row_refused (context_of k) a.buffer a.count a.flags caller c.if-flags-gt7.true))
     c.refused.ensures.reply c.refused.ensures.effect refl (sym calling.areas)
 
@@ -21,6 +22,7 @@ pub returns-clause-row : goal.returns-clause-row
 returns-clause-row c =
     let a = c.args in
     IfOk-weaker c.fill.result _ _ (λ p row caller k list waiting console calling.
-    random_filled p caller k a.context.now a.space.now _ a.areas.now _ list waiting console a.buffer a.count a.flags calling
+    random_filled p caller k a.context.now a.space.now _ a.areas.now _ list waiting console a.buffer a.count a.flags
+    calling
     c.if-flags-gt7.false c.min-count.result _ c.as_slice.result.now c.min-count.ensures refl
     (c.as_slice.ensures ∙ c.in_ok-bytes.ensures) (row caller k list waiting console calling)) c.fill.ensures.row

@@ -13,7 +13,8 @@ pub returns-then-id-gt-LAST_CLOCK-clause-row : goal.returns-then-id-gt-LAST_CLOC
 returns-then-id-gt-LAST_CLOCK-clause-row c caller k list waiting console calling =
     let a = c.args in
     answers_refused (clock_gettime_row (context_of k) a.id a.buffer caller) c.refused.result caller k a.space.now
-    a.space.now a.areas.now (has_space caller k a.context.now a.space.now a.areas.now list waiting console calling) EINVAL
+    a.space.now a.areas.now (has_space caller k a.context.now a.space.now a.areas.now list waiting console calling)
+    EINVAL
     (ap (outcome_in (parts k)) (clock_refused (context_of k) a.id a.buffer caller c.if-id-gt-LAST_CLOCK.true))
     c.refused.ensures.reply c.refused.ensures.effect refl (sym calling.areas)
 

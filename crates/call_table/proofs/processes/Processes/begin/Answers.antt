@@ -23,7 +23,8 @@ invariant_of-result c =
             table = made_by c.args.number;
             cwd = c.args.root;
             ended = None;
-          }) 0 c.args.beginning.registers c.args.beginning.space c.open_task.new.tasks c.insert.new.self c.insert-2.new.self c.in_ok-open_task.ensures
+          }) 0 c.args.beginning.registers c.args.beginning.space c.open_task.new.tasks c.insert.new.self
+          c.insert-2.new.self c.in_ok-open_task.ensures
           registers c.in_ok-insert-2.ensures.ok;
     }
 

@@ -21,7 +21,8 @@ pub invariant_of-self : goal.invariant_of-self
 invariant_of-self c =
     let p = c.args.self.now in
     let k : Kernel = kernel_of p nothing_beside 0 in
-    let x : Caller = record (at_home p.tasks p.registers p.spaces c.args.context.now.task p.at_home c.requires.lives).0 {
+    let x : Caller =
+    record (at_home p.tasks p.registers p.spaces c.args.context.now.task p.at_home c.requires.lives).0 {
       task = c.args.context.now.task;
       memory = c.args.context.now.memory;
     } in
@@ -50,14 +51,16 @@ pub go_on-requires : goal.go_on-requires
 go_on-requires c =
     let p = c.args.self.now in
     let k : Kernel = kernel_of p nothing_beside 0 in
-    let x : Caller = record (at_home p.tasks p.registers p.spaces c.args.context.now.task p.at_home c.requires.lives).0 {
+    let x : Caller =
+    record (at_home p.tasks p.registers p.spaces c.args.context.now.task p.at_home c.requires.lives).0 {
       task = c.args.context.now.task;
       memory = c.args.context.now.memory;
     } in
     let is = c.in_ok-make.ensures.ok x k refl refl refl refl refl refl in
     subst (λ r. IsTrue (map.contains_key r c.args.context.now.task))
     (sym (child_registers c.into_inner.result c.args.context.now.place x k) ∙ ap (λ (m : Kernel). m.registers) is)
-    (key_stays p.registers (p.tasks.last + 1) c.into_inner.result.registers c.args.context.now.task c.requires.registered)
+    (key_stays p.registers (p.tasks.last + 1) c.into_inner.result.registers c.args.context.now.task
+    c.requires.registered)
 
 pub returns-clause-does : goal.returns-clause-does
 returns-clause-does c =

@@ -1,4 +1,5 @@
-use Rattle.std.proofs.Common.{refl, ap, sym, subst, ◌∙◌, ◌≡◌, ◌<◌, ◌+◌, ◌-◌, ◌^◌, ◌++◌, ◌∷◌, [], true, length, inr, arith}
+use Rattle.std.proofs.Common.{refl, ap, sym, subst, ◌∙◌, ◌≡◌, ◌<◌, ◌+◌, ◌-◌, ◌^◌}
+use Rattle.std.proofs.Common.{◌++◌, ◌∷◌, [], true, length, inr, arith}
 use Rattle.std.specs.FinMap.{insert}
 use Rattle.task_table.specs.Clones.{threaded}
 use Rattle.task_table.specs.Table.{is_live}
