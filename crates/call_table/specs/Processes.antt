@@ -1,5 +1,5 @@
 -- Processes as a kernel, with what stands beside them.
-use Rattle.std.specs.Prelude.{◌≡◌, ℕ, ◌<◌, Bool, Option, Some, None, Result, IfOk, IfSome, IfNone}
+use Rattle.std.specs.Prelude.{◌≡◌, ℕ, ◌+◌, ◌<◌, Bool, true, List, Option, Some, None, Result, IfOk, IfSome, IfNone}
 use Rattle.sn_base.specs.declared.memory.Memory.{Memory}
 use Rattle.rv_table.specs.declared.regs.Regs.{Regs}
 use Rattle.mm_space.specs.Handing.{AreaState}
@@ -12,10 +12,11 @@ use Rattle.kernel_model.specs.declared.kernel.Kernel.{Kernel}
 use Rattle.kernel_model.specs.machine.Spaces.{going_in}
 use Rattle.kernel_model.specs.declared.traps.Next.{Next}
 use Rattle.kernel_model.specs.entries.Areas.{next_row}
-use Rattle.kernel_model.specs.entries.History.{touches_next}
+use Rattle.kernel_model.specs.entries.History.{is_whole, touches_next}
 use Rattle.kernel_model.specs.declared.entry.Entry.{Entry}
 use Rattle.kernel_model.specs.entries.Parts.{parts, outcome_in, set_at}
 use Rattle.kernel_model.specs.entries.Ready.{is_ready}
+use Rattle.kernel_model.specs.entries.Steps.{step}
 use Rattle.kernel_model.specs.entries.Waiting.{Awake, wait_of}
 use Rattle.kernel_calls.specs.Lending.{AreAlike}
 use Rattle.kernel_calls.specs.declared.context.Context.{Context}
@@ -122,6 +123,18 @@ IfEntered result fact = IfOk result (λ made. IfSome made fact)
 
 abbrev pub IfParked : Result (Option Entry) Memory → Type 0 → Type 0
 IfParked result fact = IfOk result (λ made. IfNone made fact)
+
+-- an entry is the step from processes to those that it left, at a place and by a seed, whatever else stands beside them
+-- profile
+abbrev pub StepsTo : (before after : Processes) → (seed : List ℕ) → (place : ℕ) → Entry → Type 0
+StepsTo before after seed place entry = (beside : Beside) (n : ℕ) → beside.seed ≡ seed → n + 1 ≡ place →
+    step (kernel_of before beside n) entry ≡ Some (kernel_of after beside (n + 1))
+
+-- an entry tells all that was done between processes: a run is whole
+-- profile
+abbrev pub IsWholeTo : (before after : Processes) → Entry → Type 0
+IsWholeTo before after entry = (beside : Beside) (n m : ℕ) →
+    is_whole entry (kernel_of before beside n) (kernel_of after beside m) ≡ true
 
 -- nothing changed
 -- profile

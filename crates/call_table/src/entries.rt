@@ -13,8 +13,8 @@ ghost use Rattle.kernel_model.specs.files.Numbers.{numbers_in};
 ghost use Rattle.call_table.specs.Beside.{Beside};
 ghost use Rattle.kernel_model.specs.declared.kernel.Kernel.{Kernel as AKernel};
 ghost use Rattle.kernel_model.specs.entries.Waiting.{Woken, wait_of};
-ghost use Rattle.call_table.specs.Processes.{AreKept, HasRunPart, IfEntered, IfParked, IsAwake, IsOf, NextIn};
-ghost use Rattle.call_table.specs.Processes.{ReadyIs, RunsIn, StandsAs, is_touching, kernel_of};
+ghost use Rattle.call_table.specs.Processes.{AreKept, HasRunPart, IfEntered, IfParked, IsAwake, IsOf, IsWholeTo};
+ghost use Rattle.call_table.specs.Processes.{NextIn, ReadyIs, RunsIn, StandsAs, StepsTo, is_touching, kernel_of};
 
 use crate::Processes;
 use crate::answers::call_entry;
@@ -69,10 +69,8 @@ impl Processes {
     ) -> Result<Option<Entry>, Memory>
         requires lives { IsTrue (is_live self.old.tasks.tasks task) }
         requires later { 0 < place }
-        ensures step { IfEntered result (λ entry. (beside : Beside) (n : ℕ) → beside.seed ≡ seed.now → n + 1 ≡ place →
-            step (kernel_of self.old beside n) entry ≡ Some (kernel_of self.new beside (n + 1))) }
-        ensures whole { IfEntered result (λ entry. (beside : Beside) (n m : ℕ) →
-            is_whole entry (kernel_of self.old beside n) (kernel_of self.new beside m) ≡ true) }
+        ensures step { IfEntered result (StepsTo self.old self.new seed.now place) }
+        ensures whole { IfEntered result (IsWholeTo self.old self.new) }
         ensures task { IfEntered result (λ entry. task_of entry ≡ task) }
         ensures numbers { IfEntered result (λ entry. numbers_in entry ≡ []) }
         ensures ready { IfEntered result (λ _. ReadyIs self.old task true) }
@@ -168,11 +166,8 @@ impl Processes {
         requires there { IsTrue (map.contains_key self.old.tasks.groups standing.group) }
         requires lives { IsFalse (has_ended self.old.tasks.groups standing.group) }
         requires registers { IsTrue (map.contains_key self.old.registers context.now.task) }
-        ensures step { IfEntered result (λ entry. (beside : Beside) (n : ℕ) → beside.seed ≡ context.now.seed.now →
-            n + 1 ≡ context.now.place →
-            step (kernel_of self.old beside n) entry ≡ Some (kernel_of self.new beside (n + 1))) }
-        ensures whole { IfEntered result (λ entry. (beside : Beside) (n m : ℕ) →
-            is_whole entry (kernel_of self.old beside n) (kernel_of self.new beside m) ≡ true) }
+        ensures step { IfEntered result (StepsTo self.old self.new context.now.seed.now context.now.place) }
+        ensures whole { IfEntered result (IsWholeTo self.old self.new) }
         ensures task { IfEntered result (λ entry. task_of entry ≡ context.now.task) }
         ensures numbers { IfEntered result (λ entry. numbers_in entry ≡ []) }
         ensures ready { IfEntered result (λ _. ReadyIs self.old context.now.task true) }
@@ -238,11 +233,8 @@ impl Processes {
         requires there { IsTrue (map.contains_key self.old.tasks.groups standing.group) }
         requires lives { IsFalse (has_ended self.old.tasks.groups standing.group) }
         requires registers { IsTrue (map.contains_key self.old.registers context.now.task) }
-        ensures step { IfEntered result (λ entry. (beside : Beside) (n : ℕ) → beside.seed ≡ context.now.seed.now →
-            n + 1 ≡ context.now.place →
-            step (kernel_of self.old beside n) entry ≡ Some (kernel_of self.new beside (n + 1))) }
-        ensures whole { IfEntered result (λ entry. (beside : Beside) (n m : ℕ) →
-            is_whole entry (kernel_of self.old beside n) (kernel_of self.new beside m) ≡ true) }
+        ensures step { IfEntered result (StepsTo self.old self.new context.now.seed.now context.now.place) }
+        ensures whole { IfEntered result (IsWholeTo self.old self.new) }
         ensures task { IfEntered result (λ entry. task_of entry ≡ context.now.task) }
         ensures numbers { IfEntered result (λ entry. numbers_in entry ≡ []) }
         ensures ready { IfEntered result (λ _. ReadyIs self.old context.now.task true) }
@@ -295,11 +287,8 @@ impl Processes {
         requires traps { NextIn self.old context.now.task (Next.Traps signal) }
         requires there { IsTrue (map.contains_key self.old.tasks.groups standing.group) }
         requires lives { IsFalse (has_ended self.old.tasks.groups standing.group) }
-        ensures step { IfEntered result (λ entry. (beside : Beside) (n : ℕ) → beside.seed ≡ context.now.seed.now →
-            n + 1 ≡ context.now.place →
-            step (kernel_of self.old beside n) entry ≡ Some (kernel_of self.new beside (n + 1))) }
-        ensures whole { IfEntered result (λ entry. (beside : Beside) (n m : ℕ) →
-            is_whole entry (kernel_of self.old beside n) (kernel_of self.new beside m) ≡ true) }
+        ensures step { IfEntered result (StepsTo self.old self.new context.now.seed.now context.now.place) }
+        ensures whole { IfEntered result (IsWholeTo self.old self.new) }
         ensures task { IfEntered result (λ entry. task_of entry ≡ context.now.task) }
         ensures numbers { IfEntered result (λ entry. numbers_in entry ≡ []) }
         ensures ready { IfEntered result (λ _. ReadyIs self.old context.now.task true) }

@@ -1,16 +1,15 @@
 //! Turns: the entries of processes, one after another, until no task's step is ready or the trace is full.
 
-ghost use Rattle.std.specs.Prelude.{◌≡◌, ◌<◌, ◌≤◌, ◌+◌, ◌⊎◌, ℕ, true, false, length};
-ghost use Rattle.std.specs.Prelude.{nat_lt, find, Some, None, IfSome, OnErr, []};
+ghost use Rattle.std.specs.Prelude.{◌≡◌, ◌<◌, ◌≤◌, ◌+◌, ◌⊎◌, ℕ, true, length};
+ghost use Rattle.std.specs.Prelude.{nat_lt, find, Some, None, IfSome, []};
 ghost use Rattle.std.specs.List.{flat_map};
-ghost use Rattle.kernel_model.specs.entries.Given.{has_any};
-ghost use Rattle.kernel_model.specs.entries.History.{each_whole, is_whole, replay};
+ghost use Rattle.kernel_model.specs.entries.History.{each_whole, replay};
 ghost use Rattle.kernel_model.specs.entries.Ready.{ready_numbers};
-ghost use Rattle.kernel_model.specs.entries.Steps.{step, task_of};
+ghost use Rattle.kernel_model.specs.entries.Steps.{task_of};
 ghost use Rattle.kernel_model.specs.files.Numbers.{numbers_in};
 ghost use Rattle.task_table.specs.Kept.{IsKept};
 ghost use Rattle.call_table.specs.Beside.{Beside};
-ghost use Rattle.call_table.specs.Processes.{AreKept, IfEntered, IfParked, kernel_of};
+ghost use Rattle.call_table.specs.Processes.{AreKept, IfEntered, IfParked, IsWholeTo, StepsTo, kernel_of};
 ghost use Rattle.call_table.specs.Turns.{AreInTurn, AreStill, Leaves, next_of};
 
 use crate::Processes;
@@ -36,10 +35,8 @@ impl Processes {
         place: u64,
     ) -> Result<Option<Entry>, Memory>
         requires { 0 < place }
-        ensures step { IfEntered result (λ entry. (beside : Beside) (n : ℕ) → beside.seed ≡ seed.now → n + 1 ≡ place →
-            step (kernel_of self.old beside n) entry ≡ Some (kernel_of self.new beside (n + 1))) }
-        ensures whole { IfEntered result (λ entry. (beside : Beside) (n m : ℕ) →
-            is_whole entry (kernel_of self.old beside n) (kernel_of self.new beside m) ≡ true) }
+        ensures step { IfEntered result (StepsTo self.old self.new seed.now place) }
+        ensures whole { IfEntered result (IsWholeTo self.old self.new) }
         ensures numbers { IfEntered result (λ entry. numbers_in entry ≡ []) }
         ensures found { IfEntered result (λ entry. (beside : Beside) (n : ℕ) →
             find (nat_lt after) (ready_numbers (kernel_of self.old beside n)) ≡ Some (task_of entry)) }
@@ -71,10 +68,8 @@ impl Processes {
         place: u64,
     ) -> Result<Option<Entry>, Memory>
         requires { 0 < place }
-        ensures step { IfEntered result (λ entry. (beside : Beside) (n : ℕ) → beside.seed ≡ seed.now → n + 1 ≡ place →
-            step (kernel_of self.old beside n) entry ≡ Some (kernel_of self.new beside (n + 1))) }
-        ensures whole { IfEntered result (λ entry. (beside : Beside) (n m : ℕ) →
-            is_whole entry (kernel_of self.old beside n) (kernel_of self.new beside m) ≡ true) }
+        ensures step { IfEntered result (StepsTo self.old self.new seed.now place) }
+        ensures whole { IfEntered result (IsWholeTo self.old self.new) }
         ensures numbers { IfEntered result (λ entry. numbers_in entry ≡ []) }
         ensures turn { IfEntered result (λ entry. (beside : Beside) (n : ℕ) →
             next_of last (ready_numbers (kernel_of self.old beside n)) ≡ Some (task_of entry)) }

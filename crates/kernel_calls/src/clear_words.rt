@@ -1,13 +1,10 @@
 //! The clear words of tasks that end.
 
 ghost use Rattle.std.specs.Prelude.{◌≡◌, ◌==◌, false, true, IfOk, OnOk, OnErr};
-ghost use Rattle.mm_space.specs.Handing.{AreaState};
-ghost use Rattle.kernel_model.specs.Names.{NamedMap};
 ghost use Rattle.kernel_model.specs.declared.caller.Caller.{Caller as ACaller};
-ghost use Rattle.kernel_model.specs.calls.ClearWords.{Cleared as ACleared, nothing_cleared};
-ghost use Rattle.kernel_model.specs.calls.ClearWords.{word_cleared, words_cleared};
+ghost use Rattle.kernel_model.specs.calls.ClearWords.{nothing_cleared, word_cleared, words_cleared};
 ghost use Rattle.kernel_model.specs.entries.Parts.{Parts, outcome_in};
-ghost use Rattle.kernel_calls.specs.ClearWords.{IsCleared, has_few, has_word};
+ghost use Rattle.kernel_calls.specs.ClearWords.{Clears, IsCleared, has_few, has_word};
 ghost use Rattle.kernel_calls.specs.Lending.{AreThose};
 
 use crate::Context;
@@ -81,10 +78,8 @@ fn clear_copies(
     areas: &mut Named<GuestArea>,
     keys: &mut List<FutexKey>,
 ) -> Result<(), Memory>
-    ensures cleared { OnOk result ((c : ACaller) (x : ACleared) (all : NamedMap AreaState) (s : Parts) →
-        c.task ≡ context.now.task → c.memory ≡ context.now.memory → AreThose s all →
-        IsCleared x all space.old areas.old keys.old →
-        IsCleared (outcome_in s (words_cleared c ended.now x)) all space.new areas.new keys.new) }
+    ensures cleared { OnOk result (Clears context.now (λ c x. words_cleared c ended.now x)
+        space.old areas.old keys.old space.new areas.new keys.new) }
     ensures err { OnErr result ((space.new ≡ space.old) × (areas.new ≡ areas.old)) }
 {
     let mut own = space.copy(alloc)?;
@@ -105,10 +100,8 @@ fn clear_each(
     areas: &mut Named<GuestArea>,
     keys: &mut List<FutexKey>,
 ) -> Result<(), Memory>
-    ensures cleared { OnOk result ((c : ACaller) (x : ACleared) (all : NamedMap AreaState) (s : Parts) →
-        c.task ≡ context.now.task → c.memory ≡ context.now.memory → AreThose s all →
-        IsCleared x all space.old areas.old keys.old →
-        IsCleared (outcome_in s (words_cleared c ended.now x)) all space.new areas.new keys.new) }
+    ensures cleared { OnOk result (Clears context.now (λ c x. words_cleared c ended.now x)
+        space.old areas.old keys.old space.new areas.new keys.new) }
     ensures some { OnErr result (has_word ended.now ≡ true) }
     ensures few { OnErr result (has_few ended.now ≡ true → (space.new ≡ space.old) × (areas.new ≡ areas.old)) }
 {
@@ -129,10 +122,8 @@ fn clear(
     areas: &mut Named<GuestArea>,
     keys: &mut List<FutexKey>,
 ) -> Result<(), Memory>
-    ensures cleared { OnOk result ((c : ACaller) (x : ACleared) (all : NamedMap AreaState) (s : Parts) →
-        c.task ≡ context.now.task → c.memory ≡ context.now.memory → AreThose s all →
-        IsCleared x all space.old areas.old keys.old →
-        IsCleared (outcome_in s (word_cleared c ended x)) all space.new areas.new keys.new) }
+    ensures cleared { OnOk result (Clears context.now (λ c x. word_cleared c ended x)
+        space.old areas.old keys.old space.new areas.new keys.new) }
     ensures some { OnErr result ((ended.clear == 0) ≡ false) }
     ensures none { (ended.clear == 0) ≡ true → (space.new ≡ space.old) × (areas.new ≡ areas.old) }
     ensures err { OnErr result ((space.new ≡ space.old) × (areas.new ≡ areas.old)) }
