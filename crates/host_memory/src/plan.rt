@@ -1,14 +1,12 @@
 //! The calls that are to fail, and how they are counted.
 
 ghost use Rattle.std.specs.Prelude.{◌≡◌, [], ◌∷◌, ◌++◌, ◌&&◌, ◌==◌, if◌then◌else◌, length, OnOk, OnErr};
-ghost use Rattle.std.specs.Str.{bytes_eq};
-ghost use lib.Pointwise.{pointwise};
 ghost use Rattle.host_memory.specs.Plans.{is_op, is_for, is_below, fails, one_less, after_call, lines_below};
 ghost use Rattle.host_memory.specs.Plans.{lines_beside};
 ghost use Rattle.host_memory.specs.declared.plan.PlanErr.TheVariants.{Memory as WantOfMemory};
 
 use sn_base::Memory;
-use sn_text::{Name, Route};
+use sn_text::{Name, Route, same_names};
 use std::alloc::Global;
 use std::marker::Model;
 use std::mem;
@@ -92,19 +90,6 @@ impl Op {
         ensures { result ≡ is_op self other }
     {
         self == other
-    }
-}
-
-/// Whether two routes have the same names.
-fn same_names(names: &[Name], others: &[Name]) -> bool
-    ensures { result ≡ pointwise bytes_eq names.now others.now }
-{
-    match names.split_first() {
-        None => others.is_empty(),
-        Some((name, rest)) => match others.split_first() {
-            None => false,
-            Some((other, more)) => name.as_bytes() == other.as_bytes() && same_names(rest, more),
-        },
     }
 }
 

@@ -1,9 +1,9 @@
-//! Lists, finite maps and capped sums: the containers that every crate above keeps its state in, and
-//! the error for want of memory.
+//! Lists, finite maps, values on the heap and capped sums: the containers that every crate above keeps its state in,
+//! and the error for want of memory.
 //!
 //! A caller sees a `List<T>` as the list of its items, in order, and a `Map<V>` as a finite map from
-//! unsigned numbers to values. So a type that has them as fields is plain data in every contract: no
-//! clause speaks of a capacity, a pointer or a tree.
+//! unsigned numbers to values, and a `Boxed<T>` as its value. So a type that has them as fields is plain data in every
+//! contract: no clause speaks of a capacity, a pointer or a tree.
 //!
 //! Proved: what a call leaves and answers is exactly what its clauses say of that list or map (`ok`,
 //! `items`, `value`, `after`, or its only clause). A call that is refused leaves the object as it was
@@ -19,11 +19,13 @@
 //! documents them.
 #![tactic(auto)]
 
+mod boxed;
 mod list;
 mod map;
 mod memory;
 mod sums;
 
+pub use boxed::Boxed;
 pub use list::List;
 pub use map::Map;
 pub use memory::Memory;

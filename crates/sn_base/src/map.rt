@@ -4,11 +4,13 @@ ghost use Rattle.std.specs.Prelude.{◌≡◌, ◌↔◌, IsTrue, OnOk, OnErr, I
 ghost use Rattle.std.specs.FinMap as map;
 ghost use Rattle.std.specs.BTreeMap as tree;
 ghost use Rattle.std.specs.Ordering.{nat_cmp};
+ghost use Rattle.sn_base.specs.MapKeys.{IsLeastAbove};
 
 use crate::{List, Memory};
 use std::alloc::{AllocError, Global};
 use std::collections::BTreeMap;
 use std::marker::Model;
+use std::ops::Bound;
 
 /// A map from unsigned numbers to values. Contracts see it as a finite map.
 #[derive(Debug, Drop)]
@@ -108,6 +110,17 @@ impl<V> Map<V> {
         self.entries.remove(&key)
     }
 
+    /// The least key above another that has a value.
+    pub fn first_above(&self, after: u64) -> Option<u64>
+        ensures { IsLeastAbove self.now after result }
+    {
+        let behind = (Bound::Excluded(after), Bound::Unbounded);
+        match self.entries.range(behind).next() {
+            Some((key, _)) => Some(*key),
+            None => None,
+        }
+    }
+
     /// The keys that have a value, ascending.
     pub fn keys(&self, alloc: Global) -> Result<List<u64>, Memory>
         ensures { IfOk result (λ ks. ks ≡ map.keys self.now) }
@@ -150,6 +163,11 @@ mod tests {
             *value = 8;
         }
         assert!(rt; map.get_mut(5).is_none());
+        assert_eq!(rt; map.first_above(0), Some(4));
+        assert_eq!(rt; map.first_above(4), Some(9));
+        assert_eq!(rt; map.first_above(8), Some(9));
+        assert_eq!(rt; map.first_above(9), Some(u64::MAX));
+        assert_eq!(rt; map.first_above(u64::MAX), None);
         assert_eq!(rt; map.remove(4), Some(8));
         assert_eq!(rt; map.remove(4), None);
         Ok(())

@@ -1,6 +1,8 @@
 //! Names: single components of a path.
 
 ghost use Rattle.std.specs.Prelude.{◌≡◌, ◌↔◌, IsTrue, IfOk, IfErr};
+ghost use Rattle.std.specs.Str.{bytes_eq};
+ghost use lib.Pointwise.{pointwise};
 ghost use Rattle.sn_text.specs.Names.{name_fault_of, IsName, IsFaultOf};
 ghost use Rattle.sn_text.specs.declared.fault.NameFault.{NameFault as Fault};
 
@@ -71,5 +73,18 @@ pub fn name_of(alloc: Global, bytes: &[u8]) -> Result<Name, NameFault>
         None => Ok(Name {
             bytes: Vec::from_slice(alloc, bytes)?,
         }),
+    }
+}
+
+/// Whether these are the same names, in the same order.
+pub fn same_names(names: &[Name], others: &[Name]) -> bool
+    ensures { result ≡ pointwise bytes_eq names.now others.now }
+{
+    match (names, others) {
+        ([], []) => true,
+        ([name, rest @ ..], [other, more @ ..]) => {
+            name.as_bytes() == other.as_bytes() && same_names(rest, more)
+        }
+        _ => false,
     }
 }

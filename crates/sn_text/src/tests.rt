@@ -72,3 +72,27 @@ fn a_text_grows_and_is_cleared(rt: HostRuntime) -> Result<(), Fail> {
     );
     Ok(())
 }
+
+#[test]
+fn the_same_names_are_as_many_with_the_same_bytes(rt: HostRuntime) -> Result<(), Fail> {
+    let mut route = Route::new(rt.alloc());
+    for part in parts(b"usr/lib") {
+        route.push(name_of(rt.alloc(), part)?)?;
+    }
+    for (path, same) in [
+        (b"/usr//lib/".as_slice(), true),
+        (b"usr".as_slice(), false),
+        (b"usr/lib/c".as_slice(), false),
+        (b"lib/usr".as_slice(), false),
+        (b"usr/lit".as_slice(), false),
+        (b"".as_slice(), false),
+    ] {
+        let mut other = Route::new(rt.alloc());
+        for part in parts(path) {
+            other.push(name_of(rt.alloc(), part)?)?;
+        }
+        assert_eq!(rt; same_names(route.names(), other.names()), same);
+        assert_eq!(rt; same_names(other.names(), route.names()), same);
+    }
+    Ok(())
+}
