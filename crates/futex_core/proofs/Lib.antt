@@ -1,3 +1,4 @@
 pub mod Counts
 pub mod Once
+pub mod OnList
 pub mod Picks

@@ -77,7 +77,7 @@ left_out q ts (s ∷ sleepers) h = by_test (list_any (λ t. t == s.task) ts) ref
         omega (arith, rest, apart e (s.task == q) refl, times-cons q s.task (tasks_of (sleepers_without sleepers ts)))
 
 -- whom a wake takes from the sleepers stands no more often among the woken than there
-moved : (q : ℕ) (sleepers : List Sleeper) (key : FutexKey) (n : ℕ)
+pub moved : (q : ℕ) (sleepers : List Sleeper) (key : FutexKey) (n : ℕ)
     → times q (tasks_of (sleepers_without sleepers (first_waiters sleepers key n)))
     + times q (first_waiters sleepers key n) ≤ times q (tasks_of sleepers)
 moved q sleepers key n = by_test (list_any (λ t. t == q) (first_waiters sleepers key n)) refl

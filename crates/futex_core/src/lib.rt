@@ -10,7 +10,8 @@
 //! nothing changes (`unchanged`). Want of memory changes nothing (`err`) and comes only where the task would have slept
 //! (`err_equal`). Proved of `wake`: the first `n` who sleep on that very word are woken, in order, and all others sleep
 //! on (`after`); the answer is how many they are (`count`). `is_woken` and `is_asleep` are exact (`woken`, `asleep`),
-//! and tell that no task is in the list twice, nor both asleep and woken (`once`). After `leave` the task is in neither
+//! and tell that no task is in the list twice, nor both asleep and woken (`once`). `woken_above` is the
+//! least woken task above a number. After `leave` the task is in neither
 //! list, and all others are as they were. Two names are of one word only where they are equal (`same`).
 //!
 //! Only `wait` takes memory: it takes the room for the sleeper's waking too.

@@ -175,3 +175,25 @@ fn many_sleepers_are_woken_in_order(rt: HostRuntime) -> Result<(), Fail> {
     }
     Ok(())
 }
+
+#[test]
+fn the_least_woken_task_above_another_is_told(rt: HostRuntime) -> Result<(), Fail> {
+    let mut list = Waiters::new(rt.alloc());
+    sleep(&mut list, &[7, 3, 9, 5], WORD)?;
+    assert_eq!(rt; list.woken_above(0), None);
+    assert_eq!(rt; list.wake(WORD, 3), 3);
+    let cases = [
+        (0, Some(3)),
+        (2, Some(3)),
+        (3, Some(7)),
+        (6, Some(7)),
+        (7, Some(9)),
+        (9, None),
+    ];
+    for (after, least) in cases {
+        assert_eq!(rt; list.woken_above(after), least);
+    }
+    list.leave(3);
+    assert_eq!(rt; list.woken_above(0), Some(7));
+    Ok(())
+}

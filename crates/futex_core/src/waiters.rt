@@ -4,6 +4,7 @@ ghost use Rattle.std.specs.Prelude.{◌≡◌, ◌≢◌, ◌+◌, ◌≤◌, �
 ghost use Rattle.std.specs.Prelude.{take, IsFalse, OnErr, vec_len, vec_capacity};
 ghost use Rattle.futex_core.specs.FutexLists.{EachOnce, after_leave, after_sleep, after_wake, first_waiters};
 ghost use Rattle.futex_core.specs.FutexLists.{is_asleep, is_woken, sleepers_without, waiters_on};
+ghost use Rattle.futex_core.specs.Least.{IsLeastAbove, is_below};
 
 use crate::FutexKey;
 use sn_base::Memory;
@@ -120,6 +121,14 @@ impl Waiters {
         self.sleepers.iter().any(|sleeper| sleeper.task == task)
     }
 
+    /// The least number above another of a task that was woken and whose call isn't entered yet.
+    pub fn woken_above(&self, after: u32) -> Option<u32>
+        ensures least { IsLeastAbove self.now.woken after result }
+        ensures once { EachOnce self.now }
+    {
+        least_above(self.woken.as_slice(), after)
+    }
+
     /// Takes a task out, whether it sleeps or was woken: it ended, or its call was entered. It takes no memory.
     pub fn leave(&mut self, task: u32)
         ensures { self.new ≡ after_leave self.old task }
@@ -137,6 +146,31 @@ fn count_on(sleepers: &[Sleeper], key: &FutexKey) -> usize
         .iter()
         .filter(|sleeper| sleeper.key.is_same_word(key))
         .count()
+}
+
+/// The least of some numbers that is above another.
+fn least_above(numbers: &[u32], after: u32) -> Option<u32>
+    ensures { IsLeastAbove numbers.now after result }
+{
+    let [first, rest @ ..] = numbers else {
+        return None;
+    };
+    let behind = least_above(rest, after);
+    if *first > after && is_below(*first, behind) {
+        Some(*first)
+    } else {
+        behind
+    }
+}
+
+/// Whether a number is below another, or there is no other.
+fn is_below(number: u32, other: Option<u32>) -> bool
+    ensures { result ≡ is_below number other }
+{
+    match other {
+        Some(other) => number < other,
+        None => true,
+    }
 }
 
 /// Adds the first `n` tasks that sleep on a word to those woken, moves all other sleepers to the front in their order,
