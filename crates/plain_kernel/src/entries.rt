@@ -12,12 +12,10 @@ use crate::callers::{context, copied_areas};
 use crate::effects::settle;
 use kernel_calls::{Effect, end_group, run, step};
 use kernel_model::{Caller, GuestArea, Kernel, Named, Next};
+use quantum::QUANTUM;
 use sn_base::Memory;
 use std::alloc::Global;
 use task_table::Status;
-
-/// The most instructions of one entry.
-const QUANTUM: u32 = 10_000;
 
 /// Runs a task's next instructions, if so many of them neither trap nor call nor touch a shared area, or if it is one
 /// that runs with the shared areas that it touches.

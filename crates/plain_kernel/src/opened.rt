@@ -5,12 +5,13 @@ ghost use Rattle.std.specs.Str.{bytes_eq};
 ghost use Rattle.mount_file.specs.declared.mounts.Program.{Program as AProgram};
 ghost use Rattle.kernel_model.specs.declared.opening.Opened.{Opened as AnOpened};
 ghost use Rattle.kernel_model.specs.files.Numbers.{count_up};
-ghost use Rattle.kernel_model.specs.opening.Records.{same_list, begins, same_flag, same_place, same_folder, same_mount};
+ghost use lib.Pointwise.{pointwise};
+ghost use Rattle.kernel_model.specs.opening.Records.{begins, same_flag, same_place, same_folder, same_mount};
 ghost use Rattle.kernel_model.specs.opening.Records.{is_of};
 
 use kernel_model::{Opened, Opening};
 use mount_file::{Mount, Mounts, Program};
-use sn_text::{Folder, Name, Text};
+use sn_text::{Folder, Name, Text, same_names};
 
 /// Whether the record is of these mounts and tasks, with the roots numbered 1 up.
 pub(crate) fn is_of(opening: &Opening, mounts: &Mounts) -> bool
@@ -23,7 +24,7 @@ pub(crate) fn is_of(opening: &Opening, mounts: &Mounts) -> bool
 }
 
 fn same_mounts(a: &[Mount], b: &[Mount]) -> bool
-    ensures { result ≡ same_list same_mount a.now b.now }
+    ensures { result ≡ pointwise same_mount a.now b.now }
 {
     match (a, b) {
         ([], []) => true,
@@ -60,18 +61,8 @@ fn same_flag(a: bool, b: bool) -> bool
     a == b
 }
 
-fn same_names(a: &[Name], b: &[Name]) -> bool
-    ensures { result ≡ same_list bytes_eq a.now b.now }
-{
-    match (a, b) {
-        ([], []) => true,
-        ([x, xs @ ..], [y, ys @ ..]) => x.as_bytes() == y.as_bytes() && same_names(xs, ys),
-        _ => false,
-    }
-}
-
 fn same_words(a: &[Text], b: &[Text]) -> bool
-    ensures { result ≡ same_list bytes_eq a.now b.now }
+    ensures { result ≡ pointwise bytes_eq a.now b.now }
 {
     match (a, b) {
         ([], []) => true,
@@ -83,7 +74,7 @@ fn same_words(a: &[Text], b: &[Text]) -> bool
 /// Whether these are so many numbers from the first on, ascending.
 fn are_numbers(numbers: &[u64], first: u64, count: u64) -> bool
     requires { first + count < 2 ^ 64 }
-    ensures { result ≡ same_list nat_eq numbers.now (count_up first count) }
+    ensures { result ≡ pointwise nat_eq numbers.now (count_up first count) }
 {
     match numbers {
         [] => count == 0,
@@ -101,7 +92,7 @@ fn are_numbers(numbers: &[u64], first: u64, count: u64) -> bool
 
 /// Whether the words of tasks are the arguments of the first of the programs.
 fn begin_words(tasks: &[Opened], programs: &[Program]) -> bool
-    ensures { result ≡ begins (same_list bytes_eq) (map (λ (o : AnOpened). o.words) tasks.now)
+    ensures { result ≡ begins (pointwise bytes_eq) (map (λ (o : AnOpened). o.words) tasks.now)
         (map (λ (p : AProgram). p.args) programs.now) }
 {
     let [first, others @ ..] = tasks else {

@@ -25,4 +25,4 @@ mod acting;
 mod run;
 mod turn;
 
-pub use run::{QuantumEnd, run_at_most, run_quantum};
+pub use run::{QUANTUM, QuantumEnd, run_at_most, run_quantum};

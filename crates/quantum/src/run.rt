@@ -14,8 +14,8 @@ use rv_table::{Area, Regs};
 use std::alloc::Global;
 use std::mem;
 
-/// The most instructions of a run.
-const QUANTUM: u32 = 10_000;
+/// The most instructions of a run of a task, before another task has its turn.
+pub const QUANTUM: u32 = 10_000;
 
 /// How a run of instructions ended, and how many there were.
 ///

@@ -1,6 +1,7 @@
 -- Whether the record of an opening is of a mount file.
 use Rattle.std.specs.Prelude.{ℕ, nat_eq, List, [], ◌∷◌, length, map, Bool, true, false, ◌&&◌, not, Option, Some, None}
 use Rattle.std.specs.Str.{bytes_eq}
+use lib.Pointwise.{pointwise}
 use Rattle.sn_text.specs.Folders.{FolderPath}
 use Rattle.mount_file.specs.declared.mounts.Mount.{Mount}
 use Rattle.mount_file.specs.declared.mounts.Mounts.{Mounts}
@@ -9,13 +10,8 @@ use Rattle.kernel_model.specs.declared.opening.Opened.{Opened}
 use Rattle.kernel_model.specs.declared.opening.Opening.{Opening}
 use Rattle.kernel_model.specs.files.Numbers.{count_up}
 
--- two lists have the same items, by a test of two items; and the first is a beginning of the second
+-- the first of two lists is a beginning of the second, by a test of two items
 -- profile
-abbrev pub same_list : {A : Type 0} → (A → A → Bool) → List A → List A → Bool
-same_list same [] [] = true
-same_list same (x ∷ xs) (y ∷ ys) = same x y && same_list same xs ys
-same_list same _ _ = false
-
 abbrev pub begins : {A : Type 0} → (A → A → Bool) → List A → List A → Bool
 begins same [] ys = true
 begins same (x ∷ xs) (y ∷ ys) = same x y && begins same xs ys
@@ -31,7 +27,7 @@ same_place (Some a) (Some b) = bytes_eq a b
 same_place _ _ = false
 
 abbrev pub same_folder : FolderPath → FolderPath → Bool
-same_folder a b = same_flag a.rooted b.rooted && same_list bytes_eq a.names b.names
+same_folder a b = same_flag a.rooted b.rooted && pointwise bytes_eq a.names b.names
 
 abbrev pub same_mount : Mount → Mount → Bool
 same_mount a b = same_place a.at b.at && same_folder a.folder b.folder && same_flag a.write b.write
@@ -40,7 +36,7 @@ same_mount a b = same_place a.at b.at && same_folder a.folder b.folder && same_f
 -- profile
 abbrev pub is_of : Mounts → Opening → Bool
 is_of mounts opening =
-    same_list same_mount opening.mounts mounts.mounts
-    && same_list nat_eq opening.roots (count_up 1 (length mounts.mounts))
-    && begins (same_list bytes_eq) (map (λ (o : Opened). o.words) opening.tasks)
+    pointwise same_mount opening.mounts mounts.mounts
+    && pointwise nat_eq opening.roots (count_up 1 (length mounts.mounts))
+    && begins (pointwise bytes_eq) (map (λ (o : Opened). o.words) opening.tasks)
     (map (λ (p : Program). p.args) mounts.tasks)

@@ -1,7 +1,7 @@
 -- Numbers count up from the first where each is one above the number before.
 use Rattle.std.proofs.Common.{◌+◌, ◌-◌, nat_eq, sym, ap, ◌∙◌, arith}
 use Rattle.kernel_model.specs.files.Numbers.{count_up}
-use Rattle.kernel_model.specs.opening.Records.{same_list}
+use lib.Pointwise.{pointwise}
 use Rattle.plain_kernel.proofs.CountLemmas.{no_numbers, some_for_none, other_first, then_others, rest_of}
 use Rattle.plain_kernel.proofs.opened.+are_numbers.Goals as goal
 
@@ -20,6 +20,6 @@ returns-then-number-first t c =
 pub returns-else-number-first : goal.returns-else-number-first
 returns-else-number-first t c =
     c.are_numbers.ensures
-    ∙ ap (λ xs. same_list nat_eq xs (count_up (c.args.first + 1) (c.args.count - 1))) (rest_of c.args.numbers.now)
+    ∙ ap (λ xs. pointwise nat_eq xs (count_up (c.args.first + 1) (c.args.count - 1))) (rest_of c.args.numbers.now)
     ∙ sym (then_others c.args.numbers.now c.args.first c.args.count c.in-len1-up.len_at_least
     (omega arith) c.if-number-first.false)
