@@ -6,7 +6,7 @@ use Rattle.mm_space.specs.Handing.{AreaState}
 use Rattle.mm_space.specs.Spaces.{AddressSpace}
 use Rattle.futex_core.specs.FutexLists.{FutexList, after_sleep, after_wake}
 use Rattle.task_table.specs.declared.task.Status.{Status}
-use Rattle.task_table.specs.Ends.{exited, group_ended}
+use Rattle.task_table.specs.Ends.{ended_tasks, exited, group_ended, is_itself, is_member}
 use Rattle.task_table.specs.Reaps.{after_reap, reap_end}
 use Rattle.task_table.specs.Table.{TaskTable, has_ended, is_live}
 use Rattle.kernel_model.specs.Names.{NamedMap, get_named}
@@ -14,6 +14,7 @@ use Rattle.kernel_model.specs.declared.caller.Caller.{Caller}
 use Rattle.kernel_model.specs.declared.kernel.Kernel.{Kernel}
 use Rattle.kernel_model.specs.declared.kernel.Part.TheVariants.{OfTasks, OfSleepers, OfConsole}
 use Rattle.kernel_model.specs.calls.Answers.{Answer, replies, sleeps, not_ready}
+use Rattle.kernel_model.specs.calls.Callers.{Context as RowContext}
 use Rattle.kernel_model.specs.calls.Ending.{clear_set, group_end, left_by, woken_on}
 use Rattle.kernel_model.specs.laws.Beginnings.{IsRoomFor}
 use Rattle.kernel_model.specs.entries.Parts.{Parts, parts, Prog, outcome_in, Change, changed}
@@ -164,6 +165,38 @@ EndsCaller (Replies p) task = EndsOnly p.effect task
 EndsCaller (Makes child) task = ⊤
 EndsCaller (Sleeps key) task = ⊤
 EndsCaller Waits task = ⊤
+
+-- the tasks that a call ends are the caller, or each live one of its thread group
+-- _exit(2); exit_group(2)
+abbrev pub EndsEach : Effect → (task group : ℕ) → TaskTable → Type 0
+EndsEach Nothing task group list = ⊤
+EndsEach (TakesBytes bytes) task group list = ⊤
+EndsEach (EndsGroup ending) task group list = ending.ended ≡ ended_tasks (is_member group) list.tasks
+EndsEach (EndsTask ended ending) task group list = ending.ended ≡ ended_tasks (is_itself task) list.tasks
+EndsEach (SetsClear setter address) task group list = ⊤
+EndsEach (Wakes key most) task group list = ⊤
+EndsEach (Reaps which) task group list = ⊤
+
+abbrev pub EndsTheirs : Called → (task group : ℕ) → TaskTable → Type 0
+EndsTheirs (Replies p) task group list = EndsEach p.effect task group list
+EndsTheirs (Makes child) task group list = ⊤
+EndsTheirs (Sleeps key) task group list = ⊤
+EndsTheirs Waits task group list = ⊤
+
+-- a fact of a call that waits
+-- profile
+abbrev pub IfWaits : Called → Type 0 → Type 0
+IfWaits (Replies p) fact = ⊤
+IfWaits (Makes child) fact = ⊤
+IfWaits (Sleeps key) fact = ⊤
+IfWaits Waits fact = fact
+
+-- a row of a task of this thread group waits wherever this is the task list, whatever the other parts are
+-- wait4(2)
+abbrev pub WaitsWith : (group : ℕ) → TaskTable → (RowContext → Caller → Prog Answer) → Type 0
+WaitsWith group list row =
+    (context : RowContext) (c : Caller) (s : Parts) → c.group ≡ group → s OfTasks ≡ list
+    → outcome_in s (row context c) ≡ not_ready
 
 -- where a call makes a child there is room for one
 -- clone(2), EAGAIN

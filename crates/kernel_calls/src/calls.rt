@@ -9,7 +9,8 @@ ghost use Rattle.kernel_model.specs.declared.kernel.Kernel.{Kernel as AKernel};
 ghost use Rattle.kernel_model.specs.calls.Callers.{context_of};
 ghost use Rattle.kernel_model.specs.calls.Table.{call_row, row_of_call};
 ghost use Rattle.kernel_calls.specs.Lending.{AreAlike};
-ghost use Rattle.kernel_calls.specs.Prepared.{Comes, EndsCaller, HasRoomFor, IsApart, IsCalling, RepliesFew};
+ghost use Rattle.kernel_calls.specs.Prepared.{Comes, EndsCaller, EndsTheirs, HasRoomFor, IfWaits, IsApart, IsCalling};
+ghost use Rattle.kernel_calls.specs.Prepared.{RepliesFew, WaitsWith};
 ghost use Rattle.kernel_calls.specs.declared.prepared.Effect.TheVariants.{Nothing};
 ghost use Rattle.kernel_calls.specs.declared.prepared.Prepared.{Prepared as APrepared};
 
@@ -59,6 +60,9 @@ pub fn call(
     ensures apart { IfOk result (λ d. IsApart d → (space.new ≡ space.old) × (areas.new ≡ areas.old)) }
     ensures few { IfOk result (λ d. RepliesFew d) }
     ensures own { IfOk result (λ d. EndsCaller d context.now.task) }
+    ensures ended { IfOk result (λ d. EndsTheirs d context.now.task context.now.group tasks.now) }
+    ensures waits { IfOk result (λ d. IfWaits d
+        (WaitsWith context.now.group tasks.now (λ context c. call_row context c number args.now))) }
     ensures room { IfOk result (λ d. HasRoomFor d tasks.now) }
     ensures err { OnErr result (space.new ≡ space.old) }
     ensures err_areas { OnErr result (AreAlike areas.new areas.old) }
@@ -94,6 +98,9 @@ fn known(
     ensures apart { IfOk result (λ d. IsApart d → (space.new ≡ space.old) × (areas.new ≡ areas.old)) }
     ensures few { IfOk result (λ d. RepliesFew d) }
     ensures own { IfOk result (λ d. EndsCaller d context.now.task) }
+    ensures ended { IfOk result (λ d. EndsTheirs d context.now.task context.now.group tasks.now) }
+    ensures waits { IfOk result (λ d. IfWaits d
+        (WaitsWith context.now.group tasks.now (λ context c. row_of_call context c args.now call))) }
     ensures room { IfOk result (λ d. HasRoomFor d tasks.now) }
     ensures err { OnErr result (space.new ≡ space.old) }
     ensures err_areas { OnErr result (AreAlike areas.new areas.old) }

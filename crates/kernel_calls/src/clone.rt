@@ -11,17 +11,17 @@ ghost use Rattle.kernel_model.specs.calls.Clone.{bit, child_clear, child_registe
 ghost use Rattle.kernel_model.specs.calls.Clone.{cloning_of, free_flags, is_full, is_process, is_set, is_thread};
 ghost use Rattle.kernel_model.specs.calls.Clone.{process_row, sets_child_word, sets_parent_word, sets_tls, thread_row};
 ghost use Rattle.kernel_calls.specs.Cloning.{MakesIf, SetsWord, is_shape};
-ghost use Rattle.kernel_calls.specs.Prepared.{Comes, EndsCaller, HasRoomFor, IsCalling, RepliesFew};
+ghost use Rattle.kernel_calls.specs.Prepared.{Comes, EndsCaller, EndsTheirs, HasRoomFor, IfWaits, IsCalling};
+ghost use Rattle.kernel_calls.specs.Prepared.{RepliesFew};
 
 use crate::Context;
-use crate::boxed::Boxed;
 use crate::buffers::write;
 use crate::calls::refused;
 use crate::prepared::Called;
 use crate::registers::reply;
 use kernel_model::{Args, GuestArea, GuestSpace, Named};
 use rv_table::{Reg, Regs};
-use sn_base::Memory;
+use sn_base::{Boxed, Memory};
 use sn_errno::Errno;
 use std::alloc::Global;
 use task_table::Tasks;
@@ -77,6 +77,8 @@ pub(crate) fn clone(
         Comes (clone_row (context_of k) args.now c) d c k space.new areas.new) }
     ensures few { IfOk result (λ d. RepliesFew d) }
     ensures own { IfOk result (λ d. EndsCaller d context.now.task) }
+    ensures ended { IfOk result (λ d. EndsTheirs d context.now.task context.now.group tasks.now) }
+    ensures goes { IfOk result (λ d. IfWaits d ⊥) }
     ensures room { IfOk result (λ d. HasRoomFor d tasks.now) }
     ensures kept { space.new ≡ space.old }
     ensures kept_areas { areas.new ≡ areas.old }

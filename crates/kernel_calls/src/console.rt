@@ -5,7 +5,8 @@ ghost use Rattle.kernel_model.specs.declared.kernel.Part.TheVariants.{OfConsole}
 ghost use Rattle.kernel_model.specs.calls.Console.{appended, is_written_to, write_row};
 ghost use Rattle.kernel_model.specs.entries.Parts.{Parts, outcome_in};
 ghost use Rattle.kernel_calls.specs.Lending.{AreThose};
-ghost use Rattle.kernel_calls.specs.Prepared.{EndsOnly, TakesFew, answer_of};
+ghost use Rattle.task_table.specs.Table.{TaskTable};
+ghost use Rattle.kernel_calls.specs.Prepared.{EndsEach, EndsOnly, TakesFew, answer_of};
 
 use crate::buffers::read;
 use crate::calls::refused;
@@ -36,6 +37,7 @@ pub(crate) fn write(
         outcome_in s (write_row fd buffer count space.now) ≡ answer_of p group s) }
     ensures few { IfOk result (λ p. TakesFew p.effect) }
     ensures own { IfOk result (λ p. (task : ℕ) → EndsOnly p.effect task) }
+    ensures ended { IfOk result (λ p. (task group : ℕ) (list : TaskTable) → EndsEach p.effect task group list) }
     ensures kept { areas.new ≡ areas.old }
 {
     if !is_written_to(fd % (1 << 32)) {
@@ -67,6 +69,7 @@ fn appended(bytes: List<u8>, console: usize) -> Prepared
         appended bytes (s OfConsole) ≡ answer_of result group s }
     ensures few { TakesFew result.effect }
     ensures own { (task : ℕ) → EndsOnly result.effect task }
+    ensures ended { (task group : ℕ) (list : TaskTable) → EndsEach result.effect task group list }
 {
     if console <= CONSOLE_ROOM && bytes.len() <= CONSOLE_ROOM - console {
         Prepared {

@@ -4,6 +4,7 @@ ghost use Rattle.std.specs.Prelude.{◌≡◌, ◌%◌, ℕ, IfOk, IsTrue, OnErr
 ghost use Rattle.futex_core.specs.FutexLists.{FutexList};
 ghost use Rattle.mm_space.specs.Spaces.{AddressSpace};
 ghost use Rattle.task_table.specs.declared.task.Status.TheVariants.{Exited};
+ghost use Rattle.task_table.specs.Ends.{ended_tasks, is_member};
 ghost use Rattle.task_table.specs.Table.{TaskTable, is_live};
 ghost use Rattle.kernel_model.specs.declared.caller.Caller.{Caller as ACaller};
 ghost use Rattle.kernel_model.specs.declared.kernel.Kernel.{Kernel as AKernel};
@@ -11,7 +12,7 @@ ghost use Rattle.kernel_model.specs.calls.Ending.{exit_group_row, exit_row, set_
 ghost use Rattle.kernel_model.specs.entries.Parts.{Parts, outcome_in};
 ghost use Rattle.kernel_calls.specs.Ends.{Ends};
 ghost use Rattle.kernel_calls.specs.Lending.{AreAlike};
-ghost use Rattle.kernel_calls.specs.Prepared.{Answers, EndsGroupAs, EndsOnly, HasSpace};
+ghost use Rattle.kernel_calls.specs.Prepared.{Answers, EndsEach, EndsGroupAs, EndsOnly, HasSpace};
 ghost use Rattle.kernel_calls.specs.Prepared.{IsCalling, MayLack, TakesFew, answer_of};
 ghost use Rattle.kernel_calls.specs.declared.prepared.Effect.TheVariants.{Nothing};
 
@@ -41,6 +42,7 @@ pub(crate) fn exit(
     ensures sure { IfOk result (λ p. ¬ (MayLack p.effect)) }
     ensures few { IfOk result (λ p. TakesFew p.effect) }
     ensures own { IfOk result (λ p. EndsOnly p.effect context.now.task) }
+    ensures ended { IfOk result (λ p. EndsEach p.effect context.now.task context.now.group tasks.now) }
     ensures err { OnErr result (space.new ≡ space.old) }
     ensures err_areas { OnErr result (AreAlike areas.new areas.old) }
 {
@@ -71,6 +73,7 @@ pub(crate) fn exit_group(
     ensures sure { IfOk result (λ p. ¬ (MayLack p.effect)) }
     ensures few { IfOk result (λ p. TakesFew p.effect) }
     ensures own { IfOk result (λ p. EndsOnly p.effect context.now.task) }
+    ensures ended { IfOk result (λ p. EndsEach p.effect context.now.task context.now.group tasks.now) }
     ensures err { OnErr result (space.new ≡ space.old) }
     ensures err_areas { OnErr result (AreAlike areas.new areas.old) }
 {
@@ -101,6 +104,7 @@ pub fn end_group(
     ensures ends { IfOk result (λ e. (c : ACaller) (k : AKernel) (waiting : FutexList) (console : ℕ) →
         IsCalling c k context.now space.old areas.old tasks.now waiting console →
         EndsGroupAs status e c k space.new areas.new) }
+    ensures ended { IfOk result (λ e. e.ended ≡ ended_tasks (is_member context.now.group) tasks.now.tasks) }
     ensures err { OnErr result (space.new ≡ space.old) }
     ensures err_areas { OnErr result (AreAlike areas.new areas.old) }
 {
@@ -118,6 +122,7 @@ fn ending_of(
     areas: &mut Named<GuestArea>,
 ) -> Result<Ending, Memory>
     ensures status { IfOk result (λ e. e.status ≡ status) }
+    ensures ended { IfOk result (λ e. e.ended ≡ ended) }
     ensures ends { IfOk result (λ e.
         (c : ACaller) (k : AKernel) (list : TaskTable) (waiting : FutexList) (console : ℕ) →
         IsCalling c k context.now space.old areas.old list waiting console →
@@ -139,6 +144,7 @@ pub(crate) fn set_tid_address(context: &Context<'_>, address: u64) -> Prepared
         outcome_in s (set_tid_address_row address c) ≡ answer_of result group s }
     ensures few { TakesFew result.effect }
     ensures own { (task : ℕ) → EndsOnly result.effect task }
+    ensures ended { (task group : ℕ) (list : TaskTable) → EndsEach result.effect task group list }
     ensures sure { ¬ (MayLack result.effect) }
 {
     Prepared {

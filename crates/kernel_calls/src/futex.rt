@@ -13,7 +13,7 @@ ghost use Rattle.kernel_model.specs.calls.Futex.{futex_row, is_wait, is_wake, sl
 ghost use Rattle.kernel_model.specs.entries.Areas.{bytes_read};
 ghost use Rattle.kernel_model.specs.entries.Parts.{Parts, outcome_in, parts};
 ghost use Rattle.kernel_calls.specs.Lending.{AreThose};
-ghost use Rattle.kernel_calls.specs.Prepared.{Comes, EndsCaller, HasRoomFor, HasSpace};
+ghost use Rattle.kernel_calls.specs.Prepared.{Comes, EndsCaller, EndsTheirs, HasRoomFor, HasSpace, IfWaits};
 ghost use Rattle.kernel_calls.specs.Prepared.{IsCalling, RepliesFew, answer_of};
 ghost use Rattle.kernel_calls.specs.declared.prepared.Effect.TheVariants.{Wakes};
 
@@ -48,6 +48,8 @@ pub(crate) fn futex(
         Comes (futex_row args.now.a0 args.now.a1 args.now.a2 args.now.a3 c) d c k space.now areas.old) }
     ensures few { IfOk result (λ d. RepliesFew d) }
     ensures own { IfOk result (λ d. EndsCaller d context.now.task) }
+    ensures ended { IfOk result (λ d. (task group : ℕ) (list : TaskTable) → EndsTheirs d task group list) }
+    ensures goes { IfOk result (λ d. IfWaits d ⊥) }
     ensures room { IfOk result (λ d. (list : TaskTable) → HasRoomFor d list) }
     ensures kept { areas.new ≡ areas.old }
 {
@@ -150,6 +152,8 @@ fn by_word(key: FutexKey, operation: u32, word: u32, value: u32, sleepers: &Wait
         shared }
     ensures few { RepliesFew result }
     ensures own { (task : ℕ) → EndsCaller result task }
+    ensures ended { (task group : ℕ) (list : TaskTable) → EndsTheirs result task group list }
+    ensures goes { IfWaits result ⊥ }
     ensures room { (list : TaskTable) → HasRoomFor result list }
 {
     if !is_wait(operation) {

@@ -25,7 +25,6 @@
 #![tactic(auto)]
 
 mod arguments;
-mod boxed;
 mod buffers;
 mod calls;
 mod clear_words;
@@ -50,7 +49,6 @@ mod time;
 mod wait;
 
 pub use arguments::is_too_long;
-pub use boxed::Boxed;
 pub use calls::call;
 pub use clone::{Child, Words};
 pub use context::Context;

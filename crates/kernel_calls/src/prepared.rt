@@ -7,10 +7,9 @@ ghost use Rattle.kernel_model.specs.calls.Ending.{clear_set, left_by, woken_on};
 ghost use Rattle.kernel_model.specs.entries.Parts.{changed, parts};
 ghost use Rattle.kernel_calls.specs.Prepared.{EndsLive, MayLack, changes_of};
 
-use crate::boxed::Boxed;
 use crate::clone::Child;
 use futex_core::{FutexKey, Waited, Waiters};
-use sn_base::{List, Memory};
+use sn_base::{Boxed, List, Memory};
 use std::alloc::Global;
 use task_table::{EndedTask, Status, Tasks};
 

@@ -1,6 +1,6 @@
 //! wait4.
 
-ghost use Rattle.std.specs.Prelude.{◌≡◌, ◌==◌, ◌&&◌, ℕ, [], pos, if◌then◌else◌, IfOk, OnErr};
+ghost use Rattle.std.specs.Prelude.{◌≡◌, ◌==◌, ◌&&◌, ℕ, [], pos, if◌then◌else◌, IfOk, IsFalse, OnErr};
 ghost use Rattle.futex_core.specs.FutexLists.{FutexList};
 ghost use Rattle.mm_space.specs.Handing.{AreaState};
 ghost use Rattle.mm_space.specs.Spaces.{AddressSpace};
@@ -13,8 +13,9 @@ ghost use Rattle.kernel_model.specs.declared.kernel.Kernel.{Kernel as AKernel};
 ghost use Rattle.kernel_model.specs.calls.Answers.{not_ready, replies};
 ghost use Rattle.kernel_model.specs.calls.Wait.{asked_child, is_child_asked, is_option, reaps_at, wait4_row};
 ghost use Rattle.kernel_model.specs.entries.Parts.{done};
-ghost use Rattle.kernel_calls.specs.Prepared.{Answers, Comes, EndsCaller, EndsOnly, HasRoomFor, HasSpace, IsApart};
-ghost use Rattle.kernel_calls.specs.Prepared.{IsCalling, MayLack, RepliesFew, TakesFew};
+ghost use Rattle.kernel_calls.specs.Prepared.{Answers, Comes, EndsCaller, EndsEach, EndsOnly, EndsTheirs, HasRoomFor};
+ghost use Rattle.kernel_calls.specs.Prepared.{HasSpace, IfWaits, IsApart, IsCalling, MayLack, RepliesFew, TakesFew};
+ghost use Rattle.kernel_calls.specs.Prepared.{WaitsWith};
 ghost use Rattle.kernel_calls.specs.declared.prepared.Effect.TheVariants.{Reaps};
 
 use crate::Context;
@@ -52,6 +53,10 @@ pub(crate) fn wait4(
     ensures apart { IfOk result (λ d. IsApart d → (space.new ≡ space.old) × (areas.new ≡ areas.old)) }
     ensures few { IfOk result (λ d. RepliesFew d) }
     ensures own { IfOk result (λ d. EndsCaller d context.now.task) }
+    ensures ended { IfOk result (λ d. EndsTheirs d context.now.task context.now.group tasks.now) }
+    ensures waits { IfOk result (λ d. IfWaits d
+        (WaitsWith context.now.group tasks.now
+        (λ context c. wait4_row args.now.a0 args.now.a1 args.now.a2 args.now.a3 c))) }
     ensures room { IfOk result (λ d. HasRoomFor d tasks.now) }
     ensures err { OnErr result ((space.new ≡ space.old) × (areas.new ≡ areas.old)) }
 {
@@ -109,6 +114,8 @@ fn not_yet(options: u32) -> Called
         Comes (if options == 1 then done (replies (pos 0) []) else done not_ready) result c k own shared }
     ensures few { RepliesFew result }
     ensures own { (task : ℕ) → EndsCaller result task }
+    ensures ended { (task group : ℕ) (list : TaskTable) → EndsTheirs result task group list }
+    ensures waits { IfWaits result (IsFalse (options == 1)) }
     ensures room { (list : TaskTable) → HasRoomFor result list }
 {
     if options == 1 {
@@ -136,6 +143,7 @@ fn reap(
     ensures sure { IfOk result (λ p. ¬ (MayLack p.effect)) }
     ensures few { IfOk result (λ p. TakesFew p.effect) }
     ensures own { IfOk result (λ p. (task : ℕ) → EndsOnly p.effect task) }
+    ensures ended { IfOk result (λ p. (task group : ℕ) (list : TaskTable) → EndsEach p.effect task group list) }
     ensures err { OnErr result ((space.new ≡ space.old) × (areas.new ≡ areas.old)) }
 {
     if address == 0 {

@@ -40,3 +40,7 @@ returns-in-Wait4-clause-row c =
     let a = c.args in
     IfOk-weaker c.wait4.result _ _ (λ d row caller k calling registers.
     rw c.in-Wait4.is (row caller k a.sleepers.now a.console calling)) c.wait4.ensures.row
+
+pub returns-in-Wait4-clause-waits : goal.returns-in-Wait4-clause-waits
+returns-in-Wait4-clause-waits c =
+    IfOk-weaker c.wait4.result _ _ (λ d waits. rw c.in-Wait4.is waits) c.wait4.ensures.waits
