@@ -1,28 +1,28 @@
--- Where processes are as they were, and where they lacked memory.
+-- Where cells are as they were, and where they lacked memory.
 use Rattle.std.proofs.Common.{◌≡◌, ℕ, Bool, refl, ap, sym, ◌∙◌, arith, subst}
 use Rattle.std.specs.FinMap as map
 use Rattle.kernel_model.specs.Names.{get_named}
 use Rattle.kernel_model.specs.machine.Spaces.{going_in}
 use Rattle.kernel_calls.specs.Lending.{AreAlike}
 use Rattle.kernel_calls.proofs.Runs.{ran_none}
-use Rattle.call_table.specs.declared.processes.Processes.{Processes}
-use Rattle.call_table.specs.declared.processes.Standing.{Standing}
-use Rattle.call_table.specs.Beside.{Beside, Held, found_in, kernel_with}
-use Rattle.call_table.specs.Processes.{AreKept, HasRunPart, RunsIn, StandsAs, caller_in, caller_with, held_by}
-use Rattle.call_table.specs.Processes.{ReadyIs, kernel_of}
+use Rattle.proc_cells.specs.declared.cells.Cells.{Cells}
+use Rattle.proc_cells.specs.declared.cells.Standing.{Standing}
+use Rattle.proc_cells.specs.Beside.{Beside, Held, found_in, kernel_with}
+use Rattle.proc_cells.specs.Cells.{AreKept, StandsAs, caller_in, caller_with, held_by, kernel_of}
+use Rattle.call_table.specs.Entries.{HasRunPart, RunsIn, ReadyIs}
 use Rattle.kernel_model.specs.declared.kernel.Kernel.{Kernel}
 use Rattle.kernel_model.specs.entries.Ready.{is_ready}
 use Rattle.call_table.proofs.Steps.{registers_same, space_same}
 
 -- a live task is who it was
-caller_kept : (p q : Processes) (task : ℕ) → AreKept p q → caller_in q task ≡ caller_in p task
+pub caller_kept : (p q : Cells) (task : ℕ) → AreKept p q → caller_in q task ≡ caller_in p task
 caller_kept p q task kept =
     ap (λ x. found_in x q.registers q.spaces task) kept.tasks
     ∙ ap (λ x. found_in p.tasks x q.spaces task) kept.registers
     ∙ ap (λ x. found_in p.tasks p.registers x task) kept.spaces
 
 -- a task stands as it did
-pub stands_kept : (p q : Processes) (task : ℕ) (standing : Standing) → AreKept p q → StandsAs p task standing
+pub stands_kept : (p q : Cells) (task : ℕ) (standing : Standing) → AreKept p q → StandsAs p task standing
     → StandsAs q task standing
 stands_kept p q task standing kept stands = record {
   space = stands.space;
@@ -32,7 +32,7 @@ stands_kept p q task standing kept stands = record {
 }
 
 -- no instruction has run
-pub part_none : (p q : Processes) (task : ℕ) (standing : Standing) → StandsAs p task standing → q.tasks ≡ p.tasks
+pub part_none : (p q : Cells) (task : ℕ) (standing : Standing) → StandsAs p task standing → q.tasks ≡ p.tasks
     → q.registers ≡ p.registers → q.spaces ≡ p.spaces → AreAlike q.areas p.areas → q.sleepers ≡ p.sleepers
     → q.console ≡ p.console
     → HasRunPart task p q
@@ -56,14 +56,14 @@ part_none p q task standing stands e f g areas w i = record {
   kept_console = i;
 }
 
-pub part_kept : (p q : Processes) (task : ℕ) (standing : Standing) → AreKept p q → StandsAs p task standing
+pub part_kept : (p q : Cells) (task : ℕ) (standing : Standing) → AreKept p q → StandsAs p task standing
     → HasRunPart task p q
 part_kept p q task standing kept stands =
     part_none p q task standing stands kept.tasks kept.registers kept.spaces
     (λ place index. ap (λ x. get_named x place index) kept.areas) kept.sleepers kept.console
 
 -- nor any before those that have
-pub part_behind : (p q r : Processes) (task : ℕ) → AreKept p q → HasRunPart task q r → HasRunPart task p r
+pub part_behind : (p q r : Cells) (task : ℕ) → AreKept p q → HasRunPart task q r → HasRunPart task p r
 part_behind p q r task kept part = record {
   caller = part.caller;
   found = sym (caller_kept p q task kept) ∙ part.found;
@@ -81,7 +81,7 @@ part_behind p q r task kept part = record {
 }
 
 -- and they are the same kernel
-pub kernel_kept : (p q : Processes) → AreKept p q → (beside : Beside) (n : ℕ)
+pub kernel_kept : (p q : Cells) → AreKept p q → (beside : Beside) (n : ℕ)
     → kernel_of q beside n ≡ kernel_of p beside n
 kernel_kept p q kept beside n =
     ap (λ (h : Held). kernel_with h beside n) (
@@ -93,6 +93,6 @@ kernel_kept p q kept beside n =
     ∙ ap (λ x. record (held_by p) { console = x }) kept.console)
 
 -- so that a step is ready as it was
-pub ready_kept : (p q : Processes) (task : ℕ) (b : Bool) → AreKept p q → ReadyIs q task b → ReadyIs p task b
+pub ready_kept : (p q : Cells) (task : ℕ) (b : Bool) → AreKept p q → ReadyIs q task b → ReadyIs p task b
 ready_kept p q task b kept ready = λ beside n.
     ap (λ (k : Kernel). is_ready k task) (sym (kernel_kept p q kept beside n)) ∙ ready beside n

@@ -1,11 +1,16 @@
 -- Lemmas of processes and their entries, by subject.
-pub mod Ends
-pub mod Found
 pub mod Histories
 pub mod Homes
 pub mod Kept
-pub mod NewHomes
-pub mod Openings
-pub mod Results
-pub mod Steps
+pub mod Moves
+pub mod Moving
 pub mod NextTurns
+pub mod OffList
+pub mod Openings
+pub mod Parked
+pub mod ParkingSteps
+pub mod Parkings
+pub mod Parks
+pub mod Results
+pub mod Settling
+pub mod Steps

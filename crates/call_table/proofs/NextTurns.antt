@@ -1,162 +1,134 @@
 -- Whose turn it is: of the live tasks, ascending, the first above another whose step is ready.
 use Rattle.std.proofs.Common.{◌≡◌, ℕ, ◌<◌, ◌≤◌, Bool, true, false, cond, List, [], ◌∷◌, length, refl, ap, sym, ◌∙◌}
-use Rattle.std.proofs.Common.{arith}
+use Rattle.std.proofs.Common.{◌≢◌, ◌⊎◌, inl, inr, ◌||◌, eqb, arith}
 use Rattle.std.specs.Prelude.{Option, Some, None, nat_lt, find, filter, is_some}
-use Rattle.std.specs.List.{AllByRecursion}
+use Rattle.std.specs.List.{AllByRecursion, list_any}
 use Rattle.std.specs.List.Sorted.{IsStrictlySortedBy}
 use Rattle.std.specs.Option.{option_map_or}
 use Rattle.std.specs.Cmp.{ranked}
 use Rattle.std.specs.declared.cmp.Ordering.TheVariants.{Less}
 use Rattle.std.specs.Ordering.{nat_cmp}
 use Rattle.std.specs.FinMap as map
-use Rattle.std.proofs.lemmas.Bool.{lt-ltb, le-ltb, ltb-true, ltb-false}
+use Rattle.std.proofs.lemmas.Bool.{eqb-true, lt-ltb, ltb-true, ltb-false, ne_eqb}
 use Rattle.std.proofs.lemmas.Map.Keys.{sorted_head, sorted_tail, sorted_from_strictly_increasing}
 use Rattle.task_table.specs.declared.task.Task.{Task}
 use Rattle.task_table.specs.Kept.{IsKept}
 use Rattle.task_table.specs.Table.{TaskTable, is_live, live_numbers}
 use Rattle.task_table.proofs.Ascending.{where_ascends}
+use Rattle.task_table.proofs.Numbers.{among_where}
 use Rattle.kernel_model.specs.declared.kernel.Kernel.{Kernel}
 use Rattle.kernel_model.specs.entries.Given.{has_any}
 use Rattle.kernel_model.specs.entries.Ready.{is_ready, ready_numbers}
+use Rattle.kernel_model.proofs.NamedMaps.{same_or_other}
 use Rattle.call_table.specs.Turns.{next_of, or_first}
 
--- ---- what is found in a list, and in those of it that pass a test
+-- ---- what is found in those of a list that pass a test
 
-find_passes : (p : ℕ → Bool) (xs : List ℕ) (n : ℕ) → find p xs ≡ Some n → p n ≡ true
-find_passes p [] n e = absurd (cc e)
-find_passes p (x ∷ xs) n e = by (p x) refl e (find_passes p xs n)
+-- where none above a number passes, none is found
+find_none : (q : ℕ → Bool) (a : ℕ) (xs : List ℕ) → ((n : ℕ) → a < n → q n ≡ false)
+    → find (nat_lt a) (filter q xs) ≡ None
+find_none q a [] fails = refl
+find_none q a (x ∷ xs) fails = by (q x) (nat_lt a x) refl refl (find_none q a xs fails)
   where
-    by : (b : Bool) → p x ≡ b → cond b (Some x) (find p xs) ≡ Some n → (find p xs ≡ Some n → p n ≡ true) → p n ≡ true
-    by true px e rest = let is : x ≡ n = cc e in ap p (sym is) ∙ px
-    by false px e rest = rest e
+    by : (b d : Bool) → q x ≡ b → nat_lt a x ≡ d → find (nat_lt a) (filter q xs) ≡ None
+        → find (nat_lt a) (cond b (x ∷ filter q xs) (filter q xs)) ≡ None
+    by false d qx above rest = rest
+    by true false qx above rest = ap (λ d. cond d (Some x) (find (nat_lt a) (filter q xs))) above ∙ rest
+    by true true qx above rest = absurd (cc (qx, fails x (ltb-true a x above)))
 
-find_none : (p q : ℕ → Bool) (xs : List ℕ) → find p xs ≡ None → find p (filter q xs) ≡ None
-find_none p q [] e = refl
-find_none p q (x ∷ xs) e = by (q x) (p x) refl e (find_none p q xs)
-  where
-    by : (b d : Bool) → p x ≡ d → cond d (Some x) (find p xs) ≡ None
-        → (find p xs ≡ None → find p (filter q xs) ≡ None) → find p (cond b (x ∷ filter q xs) (filter q xs)) ≡ None
-    by b true px e rest = absurd (cc e)
-    by true false px e rest = ap (λ d. cond d (Some x) (find p (filter q xs))) px ∙ rest e
-    by false false px e rest = rest e
-
-find_kept : (p q : ℕ → Bool) (xs : List ℕ) (n : ℕ) → find p xs ≡ Some n → q n ≡ true
-    → find p (filter q xs) ≡ Some n
-find_kept p q [] n e passes = absurd (cc e)
-find_kept p q (x ∷ xs) n e passes = by (q x) (p x) refl refl e (λ f. find_kept p q xs n f passes)
-  where
-    by : (b d : Bool) → q x ≡ b → p x ≡ d → cond d (Some x) (find p xs) ≡ Some n
-        → (find p xs ≡ Some n → find p (filter q xs) ≡ Some n)
-        → find p (cond b (x ∷ filter q xs) (filter q xs)) ≡ Some n
-    by true true qx px e rest = ap (λ d. cond d (Some x) (find p (filter q xs))) px ∙ e
-    by false true qx px e rest =
-        let is : x ≡ n = cc e in
-        absurd (cc (qx, ap q is ∙ passes))
-    by true false qx px e rest = ap (λ d. cond d (Some x) (find p (filter q xs))) px ∙ rest e
-    by false false qx px e rest = rest e
-
--- all above one number are above a lower one
-first_of : (q : ℕ → Bool) (a t : ℕ) (xs : List ℕ) → a < t → AllByRecursion (λ y. nat_cmp t y ≡ Less) xs
+-- where none of those above one number and up to another passes, the next that does is above the other
+find_behind : (q : ℕ → Bool) (a t : ℕ) (xs : List ℕ) → a < t → ((n : ℕ) → a < n → n ≤ t → q n ≡ false)
     → find (nat_lt a) (filter q xs) ≡ find (nat_lt t) (filter q xs)
-first_of q a t [] low above = refl
-first_of q a t (x ∷ xs) low above = by (q x) (first_of q a t xs low above.1)
+find_behind q a t [] low fails = refl
+find_behind q a t (x ∷ xs) low fails = by (q x) (nat_lt t x) refl refl (find_behind q a t xs low fails)
   where
-    high : t < x
-    high = ranked t x Less (sym above.0)
+    under : nat_lt t x ≡ false → (d : Bool) → q x ≡ true → nat_lt a x ≡ d → nat_lt a x ≡ false
+    under over false qx above = above
+    under over true qx above = absurd (cc (qx, fails x (ltb-true a x above) (ltb-false t x over)))
 
-    over : nat_lt t x ≡ true
-    over = lt-ltb t x high
-
-    over_low : nat_lt a x ≡ true
-    over_low = lt-ltb a x (omega (arith, low, high))
-
-    by : (b : Bool) → find (nat_lt a) (filter q xs) ≡ find (nat_lt t) (filter q xs)
+    by : (b d : Bool) → q x ≡ b → nat_lt t x ≡ d
+        → find (nat_lt a) (filter q xs) ≡ find (nat_lt t) (filter q xs)
         → find (nat_lt a) (cond b (x ∷ filter q xs) (filter q xs))
         ≡ find (nat_lt t) (cond b (x ∷ filter q xs) (filter q xs))
-    by true rest =
-        ap (λ d. cond d (Some x) (find (nat_lt a) (filter q xs))) over_low
+    by false d qx over rest = rest
+    by true true qx over rest =
+        let high : t < x = ltb-true t x over in
+        ap (λ d. cond d (Some x) (find (nat_lt a) (filter q xs))) (lt-ltb a x (omega (arith, low, high)))
         ∙ sym (ap (λ d. cond d (Some x) (find (nat_lt t) (filter q xs))) over)
-    by false rest = rest
+    by true false qx over rest =
+        ap (λ d. cond d (Some x) (find (nat_lt a) (filter q xs))) (under over (nat_lt a x) qx refl) ∙ rest
+        ∙ sym (ap (λ d. cond d (Some x) (find (nat_lt t) (filter q xs))) over)
 
--- what is found does not pass: the next that does is above it
-find_behind : (q : ℕ → Bool) (a t : ℕ) (xs : List ℕ) → IsStrictlySortedBy nat_cmp xs → find (nat_lt a) xs ≡ Some t
-    → q t ≡ false → find (nat_lt a) (filter q xs) ≡ find (nat_lt t) (filter q xs)
-find_behind q a t [] rise e fails = absurd (cc e)
-find_behind q a t (x ∷ xs) rise e fails =
-    by (nat_lt a x) (q x) refl refl e (λ f. find_behind q a t xs (sorted_tail nat_cmp x xs rise) f fails)
+-- one among those above a number is above it
+above_all : (x t : ℕ) (xs : List ℕ) → AllByRecursion (λ y. nat_cmp x y ≡ Less) xs → list_any (eqb t) xs ≡ true → x < t
+above_all x t [] above e = absurd (cc e)
+above_all x t (y ∷ ys) above e = by (eqb t y) refl e (above_all x t ys above.1)
   where
-    by : (d b : Bool) → nat_lt a x ≡ d → q x ≡ b → cond d (Some x) (find (nat_lt a) xs) ≡ Some t
-        → (find (nat_lt a) xs ≡ Some t → find (nat_lt a) (filter q xs) ≡ find (nat_lt t) (filter q xs))
-        → find (nat_lt a) (cond b (x ∷ filter q xs) (filter q xs))
-        ≡ find (nat_lt t) (cond b (x ∷ filter q xs) (filter q xs))
-    by true true above qx e rest = let is : x ≡ t = cc e in absurd (cc (qx, ap q is ∙ fails))
-    by true false above qx e rest =
-        let is : x ≡ t = cc e in
-        let low : a < x = ltb-true a x above in
-        first_of q a x xs low (sorted_head nat_cmp x xs rise) ∙ ap (λ y. find (nat_lt y) (filter q xs)) is
-    by false b above qx e rest = kept b
+    by : (b : Bool) → eqb t y ≡ b → (b || list_any (eqb t) ys) ≡ true → (list_any (eqb t) ys ≡ true → x < t) → x < t
+    by true same e rest =
+        let is : t ≡ y = eqb-true t y same in
+        let high : x < y = ranked x y Less (sym above.0) in
+        omega (arith, is, high)
+    by false other e rest = rest e
+
+-- and where the other passes and is there, it is that
+find_there : (q : ℕ → Bool) (a t : ℕ) (xs : List ℕ) → IsStrictlySortedBy nat_cmp xs
+    → list_any (eqb t) xs ≡ true → a < t → q t ≡ true → ((n : ℕ) → a < n → n < t → q n ≡ false)
+    → find (nat_lt a) (filter q xs) ≡ Some t
+find_there q a t [] rise there low passes fails = absurd (cc there)
+find_there q a t (x ∷ xs) rise there low passes fails =
+    by (same_or_other t x)
+    (λ among. find_there q a t xs (sorted_tail nat_cmp x xs rise) among low passes fails)
+  where
+    itself : t ≡ x → find (nat_lt a) (filter q (x ∷ xs)) ≡ Some t
+    itself same =
+        ap (λ b. find (nat_lt a) (cond b (x ∷ filter q xs) (filter q xs))) (ap q (sym same) ∙ passes)
+        ∙ ap (λ d. cond d (Some x) (find (nat_lt a) (filter q xs))) (ap (nat_lt a) (sym same) ∙ lt-ltb a t low)
+        ∙ ap Some (sym same)
+
+    among : t ≢ x → list_any (eqb t) xs ≡ true
+    among apart = ap (λ b. b || list_any (eqb t) xs) (sym (ne_eqb t x apart)) ∙ there
+
+    below : t ≢ x → x < t
+    below apart = above_all x t xs (sorted_head nat_cmp x xs rise) (among apart)
+
+    other : t ≢ x → (b : Bool) → q x ≡ b → find (nat_lt a) (filter q xs) ≡ Some t
+        → find (nat_lt a) (cond b (x ∷ filter q xs) (filter q xs)) ≡ Some t
+    other apart false qx rest = rest
+    other apart true qx rest = under (nat_lt a x) refl
       where
-        under : x ≤ a
-        under = ltb-false a x above
+        under : (d : Bool) → nat_lt a x ≡ d
+            → cond (nat_lt a x) (Some x) (find (nat_lt a) (filter q xs)) ≡ Some t
+        under true above = absurd (cc (qx, fails x (ltb-true a x above) (below apart)))
+        under false above = ap (λ d. cond d (Some x) (find (nat_lt a) (filter q xs))) above ∙ rest
 
-        low : a < t
-        low = ltb-true a t (find_passes (nat_lt a) xs t e)
+    by : (t ≡ x) ⊎ (t ≢ x)
+        → (list_any (eqb t) xs ≡ true → find (nat_lt a) (filter q xs) ≡ Some t)
+        → find (nat_lt a) (filter q (x ∷ xs)) ≡ Some t
+    by (inl same) rest = itself same
+    by (inr apart) rest = other apart (q x) refl (rest (among apart))
 
-        kept : (b : Bool) → find (nat_lt a) (cond b (x ∷ filter q xs) (filter q xs))
-            ≡ find (nat_lt t) (cond b (x ∷ filter q xs) (filter q xs))
-        kept true =
-            ap (λ d. cond d (Some x) (find (nat_lt a) (filter q xs))) above ∙ rest e
-            ∙ sym (ap (λ d. cond d (Some x) (find (nat_lt t) (filter q xs))) (le-ltb t x (omega (arith, under, low))))
-        kept false = rest e
-
--- ---- live tasks
-
-passes_live : (p : ℕ → Bool) (xs : List ℕ) (test : ℕ → Bool) (n : ℕ) → find test (filter p xs) ≡ Some n → p n ≡ true
-passes_live p [] test n e = absurd (cc e)
-passes_live p (x ∷ xs) test n e = by (p x) refl e (passes_live p xs test n)
-  where
-    head : (b : Bool) → p x ≡ true → cond b (Some x) (find test (filter p xs)) ≡ Some n
-        → (find test (filter p xs) ≡ Some n → p n ≡ true) → p n ≡ true
-    head true px e rest = let is : x ≡ n = cc e in ap p (sym is) ∙ px
-    head false px e rest = rest e
-
-    by : (b : Bool) → p x ≡ b → find test (cond b (x ∷ filter p xs) (filter p xs)) ≡ Some n
-        → (find test (filter p xs) ≡ Some n → p n ≡ true) → p n ≡ true
-    by true px e rest = head (test x) px e rest
-    by false px e rest = rest e
-
--- one that is found lives, and is above the other and at most the greatest
-pub found_lives : (t : TaskTable) (test : ℕ → Bool) (n : ℕ) → find test (live_numbers t.tasks) ≡ Some n
-    → is_live t.tasks n ≡ true
-found_lives t test n e = passes_live (is_live t.tasks) (map.keys t.tasks) test n e
+-- ---- live tasks whose step is ready
 
 there : (o : Option Task) → option_map_or (λ (c : Task). c.live) o false ≡ true → is_some o ≡ true
 there None e = e
 there (Some c) e = refl
 
-pub found_within : (t : TaskTable) → IsKept t → (after n : ℕ) → find (nat_lt after) (live_numbers t.tasks) ≡ Some n
-    → (after < n) × (n ≤ t.last)
-found_within t kept after n e = (
-  ltb-true after n (find_passes (nat_lt after) (live_numbers t.tasks) n e),
-  (kept.task_numbers n (there (map.get t.tasks n) (found_lives t (nat_lt after) n e))).1,
-)
-
--- ---- those of them whose step is ready
-
 module _ (k : Kernel) (after : ℕ) where
-  pub none_ready : find (nat_lt after) (live_numbers k.tasks.tasks) ≡ None
-      → find (nat_lt after) (ready_numbers k) ≡ None
-  none_ready e = find_none (nat_lt after) (is_ready k) (live_numbers k.tasks.tasks) e
+  pub none_ready : ((n : ℕ) → after < n → is_ready k n ≡ false) → find (nat_lt after) (ready_numbers k) ≡ None
+  none_ready waits = find_none (is_ready k) after (live_numbers k.tasks.tasks) waits
 
-  pub first_ready : (task : ℕ) → find (nat_lt after) (live_numbers k.tasks.tasks) ≡ Some task
-      → is_ready k task ≡ true → find (nat_lt after) (ready_numbers k) ≡ Some task
-  first_ready task e ready = find_kept (nat_lt after) (is_ready k) (live_numbers k.tasks.tasks) task e ready
+  pub ready_behind : (task : ℕ) → after < task → ((n : ℕ) → after < n → n ≤ task → is_ready k n ≡ false)
+      → find (nat_lt after) (ready_numbers k) ≡ find (nat_lt task) (ready_numbers k)
+  ready_behind task low waits = find_behind (is_ready k) after task (live_numbers k.tasks.tasks) low waits
 
-  pub ready_behind : (task : ℕ) → find (nat_lt after) (live_numbers k.tasks.tasks) ≡ Some task
-      → is_ready k task ≡ false → find (nat_lt after) (ready_numbers k) ≡ find (nat_lt task) (ready_numbers k)
-  ready_behind task e waits =
-      find_behind (is_ready k) after task (live_numbers k.tasks.tasks)
-      (sorted_from_strictly_increasing _ (where_ascends (λ (c : Task). c.live) k.tasks.tasks)) e waits
+  pub first_ready : (task : ℕ) → is_live k.tasks.tasks task ≡ true → after < task → is_ready k task ≡ true
+      → ((n : ℕ) → after < n → n < task → is_ready k n ≡ false)
+      → find (nat_lt after) (ready_numbers k) ≡ Some task
+  first_ready task live low ready waits =
+      find_there (is_ready k) after task (live_numbers k.tasks.tasks)
+      (sorted_from_strictly_increasing _ (where_ascends (λ (c : Task). c.live) k.tasks.tasks))
+      (among_where (λ (c : Task). c.live) k.tasks.tasks task ∙ live) low ready waits
 
 -- where none is found above 0, and each that passes is above 0, none passes
 none_above : (p q : ℕ → Bool) (xs : List ℕ) → ((n : ℕ) → p n ≡ true → nat_lt 0 n ≡ true)
@@ -187,9 +159,14 @@ none_still k kept e =
     none_above (is_live k.tasks.tasks) (is_ready k) (map.keys k.tasks.tasks) (live_above k.tasks kept) e
 
 -- where as many as none live none is ready
-pub none_counted : (xs : List ℕ) (n : ℕ) → n ≡ length xs → n ≡ 0 → xs ≡ []
+none_counted : (xs : List ℕ) (n : ℕ) → n ≡ length xs → n ≡ 0 → xs ≡ []
 none_counted [] n e z = refl
 none_counted (x ∷ xs) n e z = absurd (cc (e, z))
+
+pub none_lives : (k : Kernel) (n : ℕ) → n ≡ length (live_numbers k.tasks.tasks) → n ≡ 0
+    → has_any (ready_numbers k) ≡ false
+none_lives k n counted none =
+    ap (λ xs. has_any (filter (is_ready k) xs)) (none_counted (live_numbers k.tasks.tasks) n counted none)
 
 -- ---- whose turn it is
 

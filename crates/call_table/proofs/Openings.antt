@@ -1,4 +1,4 @@
--- Processes with an opening task more are the kernel with it.
+-- Cells with an opening task more are the kernel with it.
 use Rattle.std.proofs.Common.{◌≡◌, ℕ, ◌+◌, List, ap, sym, ◌∙◌}
 use Rattle.std.specs.FinMap as map
 use Rattle.elf_image.specs.declared.image.Image.{Image}
@@ -8,12 +8,12 @@ use Rattle.mm_space.specs.Spaces.{AddressSpace}
 use Rattle.task_table.specs.Clones.{opened}
 use Rattle.kernel_model.specs.Names.{with_named}
 use Rattle.kernel_model.specs.opening.Opening.{made_by, registers_opened, root_of, space_opened, with_task}
-use Rattle.call_table.specs.declared.processes.Processes.{Processes}
-use Rattle.call_table.specs.Beside.{Beside, Held, kernel_with}
-use Rattle.call_table.specs.Processes.{held_by, kernel_of}
+use Rattle.proc_cells.specs.declared.cells.Cells.{Cells}
+use Rattle.proc_cells.specs.Beside.{Beside, Held, kernel_with}
+use Rattle.proc_cells.specs.Cells.{held_by, kernel_of}
 
--- what processes hold with a task more, of that number, that begins in that directory with this
-abbrev held_with : Processes → (number root : ℕ) → Regs → AddressSpace → Held
+-- what cells hold with a task more, of that number, that begins in that directory with this
+abbrev held_with : Cells → (number root : ℕ) → Regs → AddressSpace → Held
 held_with p number root r space = record (held_by p) {
   tasks = opened p.tasks (made_by number) (made_by number) root;
   registers = map.insert p.registers number r;
@@ -21,7 +21,7 @@ held_with p number root r space = record (held_by p) {
 }
 
 -- with the registers and the memory that the task opens with
-with_these : (p : Processes) (number root : ℕ) (r : Regs) (space : AddressSpace) (program : Program) (image : Image)
+with_these : (p : Cells) (number root : ℕ) (r : Regs) (space : AddressSpace) (program : Program) (image : Image)
     (beside : Beside) (n : ℕ) → root_of beside.mounts ≡ root → r ≡ registers_opened beside.seed number program image
     → space ≡ space_opened beside.seed number program image
     → kernel_with (held_with p number root r space) beside n ≡ with_task number program image (kernel_of p beside n)
@@ -32,7 +32,7 @@ with_these p number root r space program image beside n at e f =
     (registers_opened beside.seed number program image) x) beside n) f
 
 -- whose number is the next
-pub with_next : (p : Processes) (number root : ℕ) (r : Regs) (space : AddressSpace) (program : Program) (image : Image)
+pub with_next : (p : Cells) (number root : ℕ) (r : Regs) (space : AddressSpace) (program : Program) (image : Image)
     (seed : List ℕ) (beside : Beside) (n : ℕ) → number ≡ p.tasks.last + 1
     → r ≡ registers_opened seed number program image → space ≡ space_opened seed number program image
     → beside.seed ≡ seed → root_of beside.mounts ≡ root

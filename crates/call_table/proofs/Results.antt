@@ -2,8 +2,7 @@
 use Rattle.std.proofs.Common.{◌≡◌, subst}
 use Rattle.std.specs.Prelude.{Result, Ok, Err, IfOk, OnOk, OnErr, Option, Some, None, IfSome, IfNone}
 use Rattle.sn_base.specs.declared.memory.Memory.{Memory}
-use Rattle.kernel_model.specs.declared.entry.Entry.{Entry}
-use Rattle.call_table.specs.Processes.{IfEntered, IfParked}
+use Rattle.call_table.specs.Entries.{IfEntered, IfParked}
 
 -- on success
 pub on_ok : {A E : Type 0} (P Q : A → Type 0) (r : Result A E) → ((x : A) → P x → Q x) → IfOk r P → IfOk r Q
@@ -33,28 +32,27 @@ pub both_err : {A E : Type 0} (P Q : Type 0) (r : Result A E) → OnErr r P → 
 both_err P Q (Ok x) p q = tt
 both_err P Q (Err e) p q = (p, q)
 
--- of an entry that was made, or of a step that was not ready
-pub entered_behind : (r : Result (Option Entry) Memory) (P Q : Entry → Type 0) → ((entry : Entry) → P entry → Q entry)
+-- of what was made, or of a step that was not ready
+pub entered_behind : {A : Type 0} (r : Result (Option A) Memory) (P Q : A → Type 0) → ((made : A) → P made → Q made)
     → IfEntered r P → IfEntered r Q
 entered_behind (Ok None) P Q f p = tt
-entered_behind (Ok (Some entry)) P Q f p = f entry p
+entered_behind (Ok (Some made)) P Q f p = f made p
 entered_behind (Err e) P Q f p = tt
 
-pub parked_behind : {P Q : Type 0} (r : Result (Option Entry) Memory) → (P → Q) → IfParked r P → IfParked r Q
+pub parked_behind : {A P Q : Type 0} (r : Result (Option A) Memory) → (P → Q) → IfParked r P → IfParked r Q
 parked_behind (Ok None) f p = f p
-parked_behind (Ok (Some entry)) f p = tt
+parked_behind (Ok (Some made)) f p = tt
 parked_behind (Err e) f p = tt
 
-pub parked_both : {P Q S : Type 0} (r : Result (Option Entry) Memory) → (P → Q → S) → IfParked r P → IfParked r Q
+pub parked_both : {A P Q S : Type 0} (r : Result (Option A) Memory) → (P → Q → S) → IfParked r P → IfParked r Q
     → IfParked r S
 parked_both (Ok None) f p q = f p q
-parked_both (Ok (Some entry)) f p q = tt
+parked_both (Ok (Some made)) f p q = tt
 parked_both (Err e) f p q = tt
 
--- of what was made, where it is known to be an entry, or none
-pub is_some_of : (made : Option Entry) (P : Entry → Type 0) (entry : Entry) → made ≡ Some entry → IfSome made P
-    → P entry
-is_some_of made P entry is p = subst (λ o. IfSome o P) is p
+-- of what was made, where it is known to be something, or nothing
+pub is_some_of : {A : Type 0} (made : Option A) (P : A → Type 0) (one : A) → made ≡ Some one → IfSome made P → P one
+is_some_of made P one is p = subst (λ o. IfSome o P) is p
 
-pub is_none : (made : Option Entry) (P : Type 0) → made ≡ None → IfNone made P → P
+pub is_none : {A : Type 0} (made : Option A) (P : Type 0) → made ≡ None → IfNone made P → P
 is_none made P is p = subst (λ o. IfNone o P) is p

@@ -1,4 +1,4 @@
--- What an entry of a live task is to the kernel of its processes.
+-- What an entry of a live task is to the kernel of its cells.
 use Rattle.std.proofs.Common.{◌≡◌, ℕ, ◌+◌, ◌-◌, ◌<◌, ◌≤◌, length, Bool, true, false}
 use Rattle.std.proofs.Common.{cond, List, [], ◌∷◌, ◌++◌, refl, ap, sym}
 use Rattle.std.proofs.Common.{◌∙◌, arith, ℤ, option_map, pos, subst}
@@ -61,12 +61,12 @@ use Rattle.kernel_calls.specs.declared.prepared.Effect.TheVariants.{Nothing, Tak
 use Rattle.kernel_calls.specs.declared.prepared.Effect.TheVariants.{Wakes, Reaps}
 use Rattle.kernel_calls.proofs.Runs.{alone_ran, alone_short, alone_touching, nothing_ran, ran_none, row_by_step}
 use Rattle.kernel_calls.proofs.Runs.{row_ran, stands_alone}
-use Rattle.call_table.specs.declared.processes.Processes.{Processes}
-use Rattle.call_table.specs.declared.processes.Standing.{Standing}
-use Rattle.call_table.specs.Beside.{Beside, Held, nothing_beside, nothing_held, kernel_with, found_in}
-use Rattle.call_table.specs.Processes.{held_by, kernel_of, caller_with, StandsAs, RunsIn, NextIn, IsNextOf}
-use Rattle.call_table.specs.Processes.{IsAwake, IsOf, ReadyIs, is_touching}
-use Rattle.call_table.proofs.Found.{Parted, found_by, parted}
+use Rattle.proc_cells.specs.declared.cells.Cells.{Cells}
+use Rattle.proc_cells.specs.declared.cells.Standing.{Standing}
+use Rattle.proc_cells.specs.Beside.{Beside, Held, nothing_beside, nothing_held, kernel_with, found_in}
+use Rattle.proc_cells.specs.Cells.{held_by, kernel_of, caller_with, StandsAs, IsAwake}
+use Rattle.proc_cells.proofs.Found.{Parted, found_by, parted}
+use Rattle.call_table.specs.Entries.{RunsIn, NextIn, IsNextOf, IsOf, ReadyIs, is_touching}
 
 -- ---- numbers and arguments are themselves
 
@@ -79,7 +79,7 @@ nat_same n = (Decides-eqb n n).1 refl
 args_same : (args : Args) → same_args args args ≡ true
 args_same args = simp nat_same
 
--- ---- a live task is found, whatever stands beside the processes
+-- ---- a live task is found, whatever stands beside the cells
 
 module _ (h : Held) (beside : Beside) (n task : ℕ) where
   s : Parts
@@ -136,7 +136,7 @@ step_found k e c wait changes may found is row =
     ∙ ap (option_map (stepped k)) (row_found k e c wait found is ∙ row)
 
 -- whether its next step is ready
-ready_found : (k : Kernel) (task : ℕ) (c : Caller) (wait : Wait) → outcome_in (parts k) (caller_of task) ≡ Some c
+pub ready_found : (k : Kernel) (task : ℕ) (c : Caller) (wait : Wait) → outcome_in (parts k) (caller_of task) ≡ Some c
     → wait_of k.sleepers c.task ≡ wait → is_ready k task ≡ outcome_in (parts k) (ready_as (context_of k) c wait)
 ready_found k task c wait found is =
     outcome-bind (parts k) (caller_of task) (ready_if_live (context_of k))
@@ -195,7 +195,7 @@ effect_alike (Reaps which) group k m e w f =
     ap (λ (list : TaskTable). (OfTasks, after_reap list (reap_end list.groups group which)) ∷ []) e
 
 -- the parts of a kernel have no mounts, no key and no number of entries
-same_parts : (p : Processes) (beside : Beside) (seed : List ℕ) (m n : ℕ) (part : Part)
+same_parts : (p : Cells) (beside : Beside) (seed : List ℕ) (m n : ℕ) (part : Part)
     → parts (kernel_of p (record beside { seed = seed }) m) part ≡ parts (kernel_of p beside n) part
 same_parts p beside seed m n OfTasks = refl
 same_parts p beside seed m n (OfTask q) = refl
@@ -207,7 +207,7 @@ same_parts p beside seed m n OfConsole = refl
 same_parts p beside seed m n OfFaults = refl
 
 -- so that what is ready at one place is so at each
-pub ready_anywhere : (p : Processes) (task : ℕ) (b : Bool) (seed : List ℕ) (place : ℕ) → 0 < place
+pub ready_anywhere : (p : Cells) (task : ℕ) (b : Bool) (seed : List ℕ) (place : ℕ) → 0 < place
     → ((beside : Beside) (n : ℕ) → beside.seed ≡ seed → n + 1 ≡ place → is_ready (kernel_of p beside n) task ≡ b)
     → ReadyIs p task b
 ready_anywhere p task b seed place later ready = λ beside n.
@@ -239,7 +239,7 @@ at_registers number args r d x k space areas e f comes =
     subst (λ n. Comes (call_row (context_of k) x n (args_of r)) d x k space areas) e
     (subst (λ a. Comes (call_row (context_of k) x number a) d x k space areas) f comes)
 
-module _ (p : Processes) (task : ℕ) (standing : Standing) (stands : StandsAs p task standing) where
+module _ (p : Cells) (task : ℕ) (standing : Standing) (stands : StandsAs p task standing) where
   abbrev c : Caller
   c = caller_with task standing stands.space
 
@@ -268,7 +268,7 @@ module _ (p : Processes) (task : ℕ) (standing : Standing) (stands : StandsAs p
       → NextIn p task next
   next_told next is = subst (λ (o : Option Caller). IsNextOf p.areas o next) (sym stands.found) is
 
-  next_here : (next : Next) → NextIn p task next → (k : Kernel) → k.areas ≡ p.areas
+  pub next_here : (next : Next) → NextIn p task next → (k : Kernel) → k.areas ≡ p.areas
       → (outcome_in (parts k) (next_row c)).next ≡ next
   next_here next is = subst (λ (o : Option Caller). IsNextOf p.areas o next) stands.found is
 
@@ -294,7 +294,7 @@ module _ (p : Processes) (task : ℕ) (standing : Standing) (stands : StandsAs p
       (λ answer. done (makes_entry answer.reply))
       ∙ ap (λ (x : Answer). makes_entry x.reply) is
 
-  -- a call of this task, in the kernel of the processes
+  -- a call of this task, in the kernel of the cells
   pub calling_here : (context : Context) (own : AddressSpace) (taken : ℕ) (beside : Beside) (n : ℕ)
       → context.task ≡ task → IsOf context standing
       → get_named p.spaces standing.memory.place standing.memory.index ≡ Some own → taken ≡ length p.console
@@ -343,7 +343,7 @@ module _ (p : Processes) (task : ℕ) (standing : Standing) (stands : StandsAs p
     ran_here : ran count (going_in task stands.space standing.registers) ≡ Some (going_in task runs.left after)
     ran_here = ap (λ a. ran count (going_in task a standing.registers)) (sym same_space) ∙ runs.steps
 
-    -- what the processes hold then
+    -- what the cells hold then
     abbrev pub held_run : Held
     held_run = record (held_by p) { registers = map.insert p.registers task after; spaces = spaces' }
 

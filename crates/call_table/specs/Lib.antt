@@ -1,4 +1,9 @@
 -- What contracts of this crate say, by subject.
-pub mod Beside
+pub mod Entries
+pub mod Moves
+pub mod Parked
+pub mod Parking
+pub mod Parks
 pub mod Processes
+pub mod Schedules
 pub mod Turns

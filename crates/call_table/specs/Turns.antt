@@ -6,8 +6,9 @@ use Rattle.kernel_model.specs.entries.Given.{has_any}
 use Rattle.kernel_model.specs.entries.Ready.{ready_numbers}
 use Rattle.kernel_model.specs.entries.Steps.{step, task_of}
 use Rattle.call_table.specs.declared.processes.Processes.{Processes}
-use Rattle.call_table.specs.Beside.{Beside}
-use Rattle.call_table.specs.Processes.{kernel_of}
+use Rattle.proc_cells.specs.declared.cells.Cells.{Cells}
+use Rattle.proc_cells.specs.Beside.{Beside}
+use Rattle.proc_cells.specs.Cells.{kernel_of as kernel_of_cells}
 
 -- the task whose turn is next, of those whose next step is ready: the least above that of the last turn, or else the
 -- least
@@ -32,10 +33,13 @@ AreInTurn last k (entry ∷ entries) =
     (next_of last (ready_numbers k) ≡ Some (task_of entry))
     × turns_then (step k entry) (λ after. AreInTurn (task_of entry) after entries)
 
--- no task's next step is ready, whatever stands beside the processes
+-- no task's next step is ready, whatever stands beside the cells, or the processes
 -- profile
+abbrev pub AreStillIn : Cells → Type 0
+AreStillIn cells = (beside : Beside) (n : ℕ) → has_any (ready_numbers (kernel_of_cells cells beside n)) ≡ false
+
 abbrev pub AreStill : Processes → Type 0
-AreStill p = (beside : Beside) (n : ℕ) → has_any (ready_numbers (kernel_of p beside n)) ≡ false
+AreStill p = AreStillIn p.cells
 
 -- the task of the last turn of a trace, or that one where it has none
 -- profile

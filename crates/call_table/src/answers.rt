@@ -14,15 +14,20 @@ ghost use Rattle.kernel_model.specs.laws.Beginnings.{IsRoomFor};
 ghost use Rattle.kernel_model.specs.machine.Registers.{args_of, call_of, replied};
 ghost use Rattle.kernel_model.specs.entries.Parts.{changed, parts};
 ghost use Rattle.kernel_calls.specs.Children.{with_child};
-ghost use Rattle.kernel_calls.specs.Prepared.{EndsLive, MayLack, changes_of};
-ghost use Rattle.call_table.specs.Processes.{AreKept, IsAwake};
+ghost use Rattle.kernel_calls.specs.Prepared.{EndsEach, EndsLive, EndsOnly, MayLack, changes_of};
+ghost use Rattle.proc_cells.specs.Cells.{AreKept, IsAwake};
+ghost use Rattle.call_table.specs.Moves.{Moves, changes_list};
+ghost use Rattle.task_table.specs.declared.task.Made.{Made as AMade};
 
-use crate::Processes;
+use crate::entered::Entered;
 use futex_core::FutexKey;
-use kernel_calls::{Boxed, Child, Context, Prepared, args_of, call_of, commit, make, reply, sleep};
+use kernel_calls::{
+    Child, Context, Effect, Prepared, args_of, call_of, commit, make, reply, sleep,
+};
 use kernel_model::{Entry, Given};
+use proc_cells::Cells;
 use rv_table::Regs;
-use sn_base::{List, Memory};
+use sn_base::{Boxed, List, Memory};
 use std::alloc::Global;
 
 /// The entry of a call that drew nothing and met nothing.
@@ -42,117 +47,145 @@ pub(crate) fn call_entry(alloc: Global, task: u32, registers: &Regs, value: i64)
     }
 }
 
-impl Processes {
-    /// A task goes on behind its call, with a reply.
-    pub(crate) fn go_on(&mut self, task: u32, registers: Regs, value: i64)
-        requires { IsTrue (map.contains_key self.old.registers task) }
-        ensures registers { self.new.registers ≡ map.insert self.old.registers task (replied registers value) }
-        ensures tasks { self.new.tasks ≡ self.old.tasks }
-        ensures spaces { self.new.spaces ≡ self.old.spaces }
-        ensures areas { self.new.areas ≡ self.old.areas }
-        ensures sleepers { self.new.sleepers ≡ self.old.sleepers }
-        ensures console { self.new.console ≡ self.old.console }
-    {
-        let mut after = registers;
-        reply(&mut after, value);
-        self.registers.replace(u64::from(task), after);
-    }
+/// A task goes on behind its call, with a reply.
+pub(crate) fn go_on(cells: &mut Cells, task: u32, registers: Regs, value: i64)
+    requires { IsTrue (map.contains_key cells.old.registers task) }
+    ensures registers { cells.new.registers ≡ map.insert cells.old.registers task (replied registers value) }
+    ensures tasks { cells.new.tasks ≡ cells.old.tasks }
+    ensures spaces { cells.new.spaces ≡ cells.old.spaces }
+    ensures areas { cells.new.areas ≡ cells.old.areas }
+    ensures sleepers { cells.new.sleepers ≡ cells.old.sleepers }
+    ensures console { cells.new.console ≡ cells.old.console }
+{
+    let mut after = registers;
+    reply(&mut after, value);
+    cells.registers.replace(u64::from(task), after);
+}
 
-    /// Does what a call comes to that replies, and lets its task go on. An `Err` changes nothing.
-    pub(crate) fn finish(
-        &mut self,
-        alloc: Global,
-        context: &Context<'_>,
-        registers: Regs,
-        prepared: Prepared,
-    ) -> Result<Entry, Memory>
-        requires lives { EndsLive prepared.effect context.now.group self.old.tasks }
-        requires registered { IsTrue (map.contains_key self.old.registers context.now.task) }
-        ensures does { IfOk result (λ _. (k : AKernel) → k.tasks ≡ self.old.tasks → k.sleepers ≡ self.old.sleepers →
-            k.console ≡ self.old.console → changed (changes_of prepared.effect context.now.group (parts k)) k
-            ≡ record k { tasks = self.new.tasks; sleepers = self.new.sleepers; console = self.new.console }) }
-        ensures entry { IfOk result (λ entry. entry ≡ ACall context.now.task (call_of registers) (args_of registers)
-            (record { fresh = []; rises = [] }) prepared.reply) }
-        ensures registers { IfOk result (λ _. self.new.registers
-            ≡ map.insert self.old.registers context.now.task (replied registers prepared.reply)) }
-        ensures spaces { self.new.spaces ≡ self.old.spaces }
-        ensures areas { self.new.areas ≡ self.old.areas }
-        ensures err { OnErr result (AreKept self.old self.new) }
-        ensures lacking { OnErr result (MayLack prepared.effect) }
-    {
-        let Prepared {
-            reply: value,
-            effect,
-        } = prepared;
-        commit(
-            alloc,
-            effect,
-            context.group,
-            &mut self.tasks,
-            &mut self.sleepers,
-            &mut self.console,
-        )?;
-        self.go_on(context.task, registers, value);
-        Ok(call_entry(alloc, context.task, &registers, value))
-    }
+/// Does what a call comes to that replies, and lets its task go on. An `Err` changes nothing.
+pub(crate) fn finish(
+    alloc: Global,
+    cells: &mut Cells,
+    context: &Context<'_>,
+    registers: Regs,
+    prepared: Prepared,
+) -> Result<Entered, Memory>
+    requires awake { IsAwake cells.old context.now.task }
+    requires lives { EndsLive prepared.effect context.now.group cells.old.tasks }
+    requires own { EndsOnly prepared.effect context.now.task }
+    requires ended { EndsEach prepared.effect context.now.task context.now.group cells.old.tasks }
+    requires registered { IsTrue (map.contains_key cells.old.registers context.now.task) }
+    ensures does { IfOk result (λ _. (k : AKernel) → k.tasks ≡ cells.old.tasks → k.sleepers ≡ cells.old.sleepers →
+        k.console ≡ cells.old.console → changed (changes_of prepared.effect context.now.group (parts k)) k
+        ≡ record k { tasks = cells.new.tasks; sleepers = cells.new.sleepers; console = cells.new.console }) }
+    ensures entry { IfOk result (λ made. made.entry ≡ ACall context.now.task (call_of registers) (args_of registers)
+        (record { fresh = []; rises = [] }) prepared.reply) }
+    ensures moves { IfOk result (λ made.
+        Moves context.now.task context.now.memory made cells.old cells.new) }
+    ensures registers { IfOk result (λ _. cells.new.registers
+        ≡ map.insert cells.old.registers context.now.task (replied registers prepared.reply)) }
+    ensures spaces { cells.new.spaces ≡ cells.old.spaces }
+    ensures areas { cells.new.areas ≡ cells.old.areas }
+    ensures err { OnErr result (AreKept cells.old cells.new) }
+    ensures lacking { OnErr result (MayLack prepared.effect) }
+{
+    let Prepared {
+        reply: value,
+        effect,
+    } = prepared;
+    let tasks = changes_list(&effect);
+    commit(
+        alloc,
+        effect,
+        context.group,
+        &mut cells.tasks,
+        &mut cells.sleepers,
+        &mut cells.console,
+    )?;
+    go_on(cells, context.task, registers, value);
+    let entry = call_entry(alloc, context.task, &registers, value);
+    Ok(Entered { entry, tasks })
+}
 
-    /// Makes the child that a call makes, and lets its task go on with the child's number. An `Err` changes nothing.
-    #[inline(never)]
-    pub(crate) fn make_child(
-        &mut self,
-        alloc: Global,
-        context: &Context<'_>,
-        registers: Regs,
-        child: Boxed<Child>,
-    ) -> Result<Entry, Memory>
-        requires lives { IsTrue (is_live self.old.tasks.tasks context.now.task) }
-        requires room { IsRoomFor self.old.tasks }
-        requires memory { IsTrue (has_named self.old.spaces context.now.memory.place context.now.memory.index) }
-        requires registered { IsTrue (map.contains_key self.old.registers context.now.task) }
-        ensures does { IfOk result (λ _. (between : map.FinMap nat_cmp ARegs)
-            × (self.new.registers
-            ≡ map.insert between context.now.task (replied registers (pos (self.old.tasks.last + 1))))
-            × ((c : ACaller) (k : AKernel) → c.task ≡ context.now.task → c.memory ≡ context.now.memory →
-            k.tasks ≡ self.old.tasks → k.registers ≡ self.old.registers → k.spaces ≡ self.old.spaces →
-            k.areas ≡ self.old.areas → with_child child context.now.place c k ≡ record k {
-              tasks = self.new.tasks;
-              registers = between;
-              spaces = self.new.spaces;
-              areas = self.new.areas;
-            })) }
-        ensures entry { IfOk result (λ entry. entry ≡ ACall context.now.task (call_of registers) (args_of registers)
-            (record { fresh = []; rises = [] }) (pos (self.old.tasks.last + 1))) }
-        ensures sleepers { self.new.sleepers ≡ self.old.sleepers }
-        ensures console { self.new.console ≡ self.old.console }
-        ensures err { OnErr result (AreKept self.old self.new) }
-    {
-        let value = i64::from(self.tasks.last() + 1);
-        make(
-            alloc,
-            context,
-            child.into_inner(),
-            &mut self.tasks,
-            &mut self.registers,
-            &mut self.spaces,
-            &mut self.areas,
-        )?;
-        self.go_on(context.task, registers, value);
-        Ok(call_entry(alloc, context.task, &registers, value))
+/// Whether an effect changes the task list.
+fn changes_list(effect: &Effect) -> bool
+    ensures { result ≡ changes_list effect.now }
+{
+    match effect {
+        Effect::Nothing => false,
+        Effect::TakesBytes(_) => false,
+        Effect::EndsGroup(_) => true,
+        Effect::EndsTask { .. } => true,
+        Effect::SetsClear { .. } => true,
+        Effect::Wakes { .. } => false,
+        Effect::Reaps { .. } => true,
     }
+}
 
-    /// Puts a task to sleep. An `Err` changes nothing.
-    pub(crate) fn put_to_sleep(&mut self, task: u32, key: FutexKey) -> Result<Entry, Memory>
-        requires { IsAwake self.old task }
-        ensures sleeps { IfOk result (λ _. self.new.sleepers ≡ after_sleep self.old.sleepers task key) }
-        ensures entry { IfOk result (λ entry. entry ≡ ASleep task) }
-        ensures registers { self.new.registers ≡ self.old.registers }
-        ensures tasks { self.new.tasks ≡ self.old.tasks }
-        ensures spaces { self.new.spaces ≡ self.old.spaces }
-        ensures areas { self.new.areas ≡ self.old.areas }
-        ensures console { self.new.console ≡ self.old.console }
-        ensures err { OnErr result (AreKept self.old self.new) }
-    {
-        sleep(&mut self.sleepers, task, key)?;
-        Ok(Entry::Sleep { task })
-    }
+/// Makes the child that a call makes, and lets its task go on with the child's number. An `Err` changes nothing.
+#[inline(never)]
+pub(crate) fn make_child(
+    alloc: Global,
+    cells: &mut Cells,
+    context: &Context<'_>,
+    registers: Regs,
+    child: Boxed<Child>,
+) -> Result<Entered, Memory>
+    requires awake { IsAwake cells.old context.now.task }
+    requires lives { IsTrue (is_live cells.old.tasks.tasks context.now.task) }
+    requires room { IsRoomFor cells.old.tasks }
+    requires memory { IsTrue (has_named cells.old.spaces context.now.memory.place context.now.memory.index) }
+    requires registered { IsTrue (map.contains_key cells.old.registers context.now.task) }
+    ensures does { IfOk result (λ _. (between : map.FinMap nat_cmp ARegs)
+        × (cells.new.registers
+        ≡ map.insert between context.now.task (replied registers (pos (cells.old.tasks.last + 1))))
+        × ((c : ACaller) (k : AKernel) → c.task ≡ context.now.task → c.memory ≡ context.now.memory →
+        k.tasks ≡ cells.old.tasks → k.registers ≡ cells.old.registers → k.spaces ≡ cells.old.spaces →
+        k.areas ≡ cells.old.areas → with_child child context.now.place c k ≡ record k {
+          tasks = cells.new.tasks;
+          registers = between;
+          spaces = cells.new.spaces;
+          areas = cells.new.areas;
+        })) }
+    ensures entry { IfOk result (λ made. made.entry ≡ ACall context.now.task (call_of registers) (args_of registers)
+        (record { fresh = []; rises = [] }) (pos (cells.old.tasks.last + 1))) }
+    ensures moves { IfOk result (λ made.
+        Moves context.now.task context.now.memory made cells.old cells.new) }
+    ensures sleepers { cells.new.sleepers ≡ cells.old.sleepers }
+    ensures console { cells.new.console ≡ cells.old.console }
+    ensures err { OnErr result (AreKept cells.old cells.new) }
+{
+    let value = i64::from(cells.tasks.last() + 1);
+    make(
+        alloc,
+        context,
+        child.into_inner(),
+        &mut cells.tasks,
+        &mut cells.registers,
+        &mut cells.spaces,
+        &mut cells.areas,
+    )?;
+    go_on(cells, context.task, registers, value);
+    let entry = call_entry(alloc, context.task, &registers, value);
+    Ok(Entered { entry, tasks: true })
+}
+
+/// Puts a task to sleep. An `Err` changes nothing.
+pub(crate) fn put_to_sleep(cells: &mut Cells, task: u32, key: FutexKey) -> Result<Entered, Memory>
+    requires { IsAwake cells.old task }
+    ensures sleeps { IfOk result (λ _. cells.new.sleepers ≡ after_sleep cells.old.sleepers task key) }
+    ensures entry { IfOk result (λ made. made.entry ≡ ASleep task) }
+    ensures moves { IfOk result (λ made. (memory : AMade) → Moves task memory made cells.old cells.new) }
+    ensures registers { cells.new.registers ≡ cells.old.registers }
+    ensures tasks { cells.new.tasks ≡ cells.old.tasks }
+    ensures spaces { cells.new.spaces ≡ cells.old.spaces }
+    ensures areas { cells.new.areas ≡ cells.old.areas }
+    ensures console { cells.new.console ≡ cells.old.console }
+    ensures err { OnErr result (AreKept cells.old cells.new) }
+{
+    sleep(&mut cells.sleepers, task, key)?;
+    Ok(Entered {
+        entry: Entry::Sleep { task },
+        tasks: false,
+    })
 }

@@ -10,26 +10,27 @@ ghost use Rattle.kernel_model.specs.machine.Spaces.{acting_in};
 ghost use Rattle.kernel_model.specs.entries.History.{is_whole};
 ghost use Rattle.kernel_model.specs.entries.Steps.{step, task_of};
 ghost use Rattle.kernel_model.specs.files.Numbers.{numbers_in};
-ghost use Rattle.call_table.specs.Beside.{Beside};
 ghost use Rattle.kernel_model.specs.declared.kernel.Kernel.{Kernel as AKernel};
 ghost use Rattle.kernel_model.specs.entries.Waiting.{Woken, wait_of};
-ghost use Rattle.call_table.specs.Processes.{AreKept, HasRunPart, IfEntered, IfParked, IsAwake, IsOf, IsWholeTo};
-ghost use Rattle.call_table.specs.Processes.{NextIn, ReadyIs, RunsIn, StandsAs, StepsTo, is_touching, kernel_of};
+ghost use Rattle.proc_cells.specs.Beside.{Beside};
+ghost use Rattle.proc_cells.specs.Cells.{AreKept, IsAwake, StandsAs, kernel_of};
+ghost use Rattle.call_table.specs.Entries.{HasRunPart, IfEntered, IfEnters, IfParked, IfWaits, IfWaitsAlone, IsOf};
+ghost use Rattle.call_table.specs.Entries.{IsWholeTo, NextIn, ReadyIs, RunsIn, StepsTo, is_touching};
+ghost use Rattle.call_table.specs.Moves.{Moves};
+ghost use Rattle.call_table.specs.Parks.{Parks};
 
-use crate::Processes;
-use crate::answers::call_entry;
-use crate::processes::Standing;
+use crate::answers::{call_entry, finish, go_on, make_child, put_to_sleep};
+use crate::entered::{Entered, Turn};
 use kernel_calls::{
     Called, Context, Effect, Ran, args_of, call, call_of, commit, end_group, run, step,
 };
 use kernel_model::{Entry, GuestSpace, Named, Next};
+use proc_cells::{Cells, Standing};
+use quantum::QUANTUM;
 use rv_table::Regs;
 use sn_base::Memory;
 use std::alloc::Global;
 use task_table::{Made, Status};
-
-/// The most instructions of one entry.
-const QUANTUM: u32 = 10_000;
 
 /// Runs a task's next instructions over its group's memory, until one of them traps or calls, or 10,000 ran. Want of
 /// memory leaves what fewer of them have left.
@@ -56,264 +57,313 @@ fn run_in(
     }
 }
 
-impl Processes {
-    /// Makes the next entry of a live task, of that place, by the mount file's seed, and does it; or none, where the
-    /// task's next step is not ready, which changes nothing. Want of memory leaves what some whole instructions, fewer
-    /// than 10,000, have left.
-    pub fn advance(
-        &mut self,
-        alloc: Global,
-        task: u32,
-        seed: &[u8],
-        place: u64,
-    ) -> Result<Option<Entry>, Memory>
-        requires lives { IsTrue (is_live self.old.tasks.tasks task) }
-        requires later { 0 < place }
-        ensures step { IfEntered result (StepsTo self.old self.new seed.now place) }
-        ensures whole { IfEntered result (IsWholeTo self.old self.new) }
-        ensures task { IfEntered result (λ entry. task_of entry ≡ task) }
-        ensures numbers { IfEntered result (λ entry. numbers_in entry ≡ []) }
-        ensures ready { IfEntered result (λ _. ReadyIs self.old task true) }
-        ensures waits { IfParked result (ReadyIs self.old task false) }
-        ensures kept { IfParked result (AreKept self.old self.new) }
-        ensures memory { OnErr result (HasRunPart task self.old self.new) }
-    {
-        if self.sleepers.is_asleep(task) {
-            return Ok(None);
-        }
-        let standing = self.standing(task);
-        if self.sleepers.is_woken(task) {
-            return Ok(Some(self.go_on_woken(alloc, task, standing)));
-        }
-        let ran = self.run_standing(alloc, task, standing)?;
-        if ran.count > 0 {
-            return Ok(Some(Entry::Run { task, n: ran.count }));
-        }
-        let context = Context {
-            task,
-            group: standing.group,
-            memory: standing.memory,
-            place,
-            seed,
-        };
-        match ran.next {
-            Next::Goes => unreachable!(),
-            Next::Calls => self.answer(alloc, &context, standing),
-            Next::Traps(signal) => self.end(alloc, &context, standing, signal),
-            Next::Touches(_) => self.touch(alloc, &context, standing),
-        }
+/// Makes the next entry of a live task that is not on the futex list, of that place, by the mount file's seed, and does
+/// it; or none, where the task's next step is not ready, which changes nothing. Want of memory leaves what some whole
+/// instructions, fewer than 10,000, have left.
+pub(crate) fn advance(
+    alloc: Global,
+    cells: &mut Cells,
+    task: u32,
+    standing: Standing,
+    seed: &[u8],
+    place: u64,
+) -> Result<Turn, Memory>
+    requires stands { StandsAs cells.old task standing }
+    requires alive { IsTrue (is_live cells.old.tasks.tasks task) }
+    requires awake { IsAwake cells.old task }
+    requires there { IsTrue (map.contains_key cells.old.tasks.groups standing.group) }
+    requires lives { IsFalse (has_ended cells.old.tasks.groups standing.group) }
+    requires registers { IsTrue (map.contains_key cells.old.registers task) }
+    requires later { 0 < place }
+    ensures step { IfEnters result (λ made. StepsTo cells.old cells.new seed.now place made.entry) }
+    ensures whole { IfEnters result (λ made. IsWholeTo cells.old cells.new made.entry) }
+    ensures task { IfEnters result (λ made. task_of made.entry ≡ task) }
+    ensures numbers { IfEnters result (λ made. numbers_in made.entry ≡ []) }
+    ensures ready { IfEnters result (λ made. ReadyIs cells.old task true) }
+    ensures moves { IfEnters result (λ made. Moves task standing.memory made cells.old cells.new) }
+    ensures waits { IfWaits result (ReadyIs cells.old task false) }
+    ensures parks { IfWaitsAlone result (Parks cells.old task standing.memory) }
+    ensures kept { IfWaits result (AreKept cells.old cells.new) }
+    ensures memory { OnErr result (HasRunPart task cells.old cells.new) }
+{
+    let ran = run_standing(alloc, cells, task, standing)?;
+    if ran.count > 0 {
+        return Ok(Turn::Enters(Entered {
+            entry: Entry::Run { task, n: ran.count },
+            tasks: false,
+        }));
     }
-
-    /// Makes the entry of the call that a task slept in which was woken: it replies 0, and the task leaves the futex
-    /// list.
-    fn go_on_woken(&mut self, alloc: Global, task: u32, standing: Standing) -> Entry
-        requires stands { StandsAs self.old task standing }
-        requires woken { wait_of self.old.sleepers task ≡ Woken }
-        requires registers { IsTrue (map.contains_key self.old.registers task) }
-        ensures step { (beside : Beside) (n : ℕ) →
-            step (kernel_of self.old beside n) result ≡ Some (kernel_of self.new beside (n + 1)) }
-        ensures whole { (before after : AKernel) → is_whole result before after ≡ true }
-        ensures task { task_of result ≡ task }
-        ensures numbers { numbers_in result ≡ [] }
-    {
-        self.sleepers.leave(task);
-        self.go_on(task, standing.registers, 0);
-        call_entry(alloc, task, &standing.registers, 0)
+    let context = Context {
+        task,
+        group: standing.group,
+        memory: standing.memory,
+        place,
+        seed,
+    };
+    match ran.next {
+        Next::Goes => unreachable!(),
+        Next::Calls => match answer(alloc, cells, &context, standing)? {
+            Some(made) => Ok(Turn::Enters(made)),
+            None => Ok(Turn::Waits),
+        },
+        Next::Traps(signal) => Ok(Turn::Enters(end(alloc, cells, &context, standing, signal)?)),
+        Next::Touches(_) => match touch(alloc, cells, &context, standing)? {
+            Some(made) => Ok(Turn::Enters(made)),
+            None => Ok(Turn::WaitsInArea),
+        },
     }
+}
 
-    /// Runs a live task's next instructions. Where none ran, nothing has changed.
-    fn run_standing(&mut self, alloc: Global, task: u32, standing: Standing) -> Result<Ran, Memory>
-        requires stands { StandsAs self.old task standing }
-        requires lives { IsTrue (is_live self.old.tasks.tasks task) }
-        requires awake { IsAwake self.old task }
-        ensures ready { IfOk result (λ r. 0 < r.count → ReadyIs self.old task true) }
-        ensures step { IfOk result (λ r. 0 < r.count → (beside : Beside) (n : ℕ) →
-            step (kernel_of self.old beside n) (Entry.Run task r.count) ≡ Some (kernel_of self.new beside (n + 1))) }
-        ensures whole { IfOk result (λ r. (beside : Beside) (n m : ℕ) →
-            is_whole (Entry.Run task r.count) (kernel_of self.old beside n) (kernel_of self.new beside m) ≡ true) }
-        ensures none { IfOk result (λ r. r.count ≡ 0 → AreKept self.old self.new) }
-        ensures next { IfOk result (λ r. r.count ≡ 0 → touches_area r.next ≡ false → NextIn self.old task r.next) }
-        ensures touching { IfOk result (λ r. r.count ≡ 0 → is_touching self.old task ≡ touches_area r.next) }
-        ensures stops { IfOk result (λ r. r.count ≡ 0 → goes_on r.next ≡ false) }
-        ensures memory { OnErr result (HasRunPart task self.old self.new) }
-    {
-        let mut registers = standing.registers;
-        let ran = run_in(
-            alloc,
-            task,
-            &mut registers,
-            &mut self.spaces,
-            standing.memory,
-        );
-        self.registers.replace(u64::from(task), registers);
-        ran
+/// Makes the entry of the call that a task slept in which was woken: it replies 0, and the task leaves the futex
+/// list.
+pub(crate) fn go_on_woken(
+    alloc: Global,
+    cells: &mut Cells,
+    task: u32,
+    standing: Standing,
+) -> Entered
+    requires stands { StandsAs cells.old task standing }
+    requires woken { wait_of cells.old.sleepers task ≡ Woken }
+    requires registers { IsTrue (map.contains_key cells.old.registers task) }
+    ensures step { (beside : Beside) (n : ℕ) →
+        step (kernel_of cells.old beside n) result.entry ≡ Some (kernel_of cells.new beside (n + 1)) }
+    ensures whole { (before after : AKernel) → is_whole result.entry before after ≡ true }
+    ensures task { task_of result.entry ≡ task }
+    ensures numbers { numbers_in result.entry ≡ [] }
+    ensures moves { Moves task standing.memory result cells.old cells.new }
+{
+    cells.sleepers.leave(task);
+    go_on(cells, task, standing.registers, 0);
+    Entered {
+        entry: call_entry(alloc, task, &standing.registers, 0),
+        tasks: false,
     }
+}
 
-    /// Does a live task's next instruction, which touches a shared area, as an entry of its own; where it calls or
-    /// traps with the areas that it touches, that is the entry. Want of memory leaves what was there.
-    fn touch(
-        &mut self,
-        alloc: Global,
-        context: &Context<'_>,
-        standing: Standing,
-    ) -> Result<Option<Entry>, Memory>
-        requires stands { StandsAs self.old context.now.task standing }
-        requires known { IsOf context.now standing }
-        requires place { 0 < context.now.place }
-        requires alive { IsTrue (is_live self.old.tasks.tasks context.now.task) }
-        requires awake { IsAwake self.old context.now.task }
-        requires touches { IsTrue (is_touching self.old context.now.task) }
-        requires there { IsTrue (map.contains_key self.old.tasks.groups standing.group) }
-        requires lives { IsFalse (has_ended self.old.tasks.groups standing.group) }
-        requires registers { IsTrue (map.contains_key self.old.registers context.now.task) }
-        ensures step { IfEntered result (StepsTo self.old self.new context.now.seed.now context.now.place) }
-        ensures whole { IfEntered result (IsWholeTo self.old self.new) }
-        ensures task { IfEntered result (λ entry. task_of entry ≡ context.now.task) }
-        ensures numbers { IfEntered result (λ entry. numbers_in entry ≡ []) }
-        ensures ready { IfEntered result (λ _. ReadyIs self.old context.now.task true) }
-        ensures waits { IfParked result (ReadyIs self.old context.now.task false) }
-        ensures kept { IfParked result (AreKept self.old self.new) }
-        ensures memory { OnErr result (HasRunPart context.now.task self.old self.new) }
-    {
-        let task = context.task;
-        match self.step_standing(alloc, task, standing)? {
-            Next::Goes => Ok(Some(Entry::Run { task, n: 1 })),
-            Next::Calls => self.answer(alloc, context, standing),
-            Next::Traps(signal) => self.end(alloc, context, standing, signal),
-            Next::Touches(_) => unreachable!(),
+/// Runs a live task's next instructions. Where none ran, nothing has changed.
+fn run_standing(
+    alloc: Global,
+    cells: &mut Cells,
+    task: u32,
+    standing: Standing,
+) -> Result<Ran, Memory>
+    requires stands { StandsAs cells.old task standing }
+    requires lives { IsTrue (is_live cells.old.tasks.tasks task) }
+    requires awake { IsAwake cells.old task }
+    ensures ready { IfOk result (λ r. 0 < r.count → ReadyIs cells.old task true) }
+    ensures step { IfOk result (λ r. 0 < r.count → (beside : Beside) (n : ℕ) →
+        step (kernel_of cells.old beside n) (Entry.Run task r.count) ≡ Some (kernel_of cells.new beside (n + 1))) }
+    ensures whole { IfOk result (λ r. (beside : Beside) (n m : ℕ) →
+        is_whole (Entry.Run task r.count) (kernel_of cells.old beside n) (kernel_of cells.new beside m) ≡ true) }
+    ensures moves { IfOk result (λ r. Moves task standing.memory
+        (record { entry = Entry.Run task r.count; tasks = false }) cells.old cells.new) }
+    ensures none { IfOk result (λ r. r.count ≡ 0 → AreKept cells.old cells.new) }
+    ensures next { IfOk result (λ r. r.count ≡ 0 → touches_area r.next ≡ false → NextIn cells.old task r.next) }
+    ensures touching { IfOk result (λ r. r.count ≡ 0 → is_touching cells.old task ≡ touches_area r.next) }
+    ensures stops { IfOk result (λ r. r.count ≡ 0 → goes_on r.next ≡ false) }
+    ensures memory { OnErr result (HasRunPart task cells.old cells.new) }
+{
+    let mut registers = standing.registers;
+    let ran = run_in(
+        alloc,
+        task,
+        &mut registers,
+        &mut cells.spaces,
+        standing.memory,
+    );
+    cells.registers.replace(u64::from(task), registers);
+    ran
+}
+
+/// Does a live task's next instruction, which touches a shared area, as an entry of its own; where it calls or
+/// traps with the areas that it touches, that is the entry. Want of memory leaves what was there.
+fn touch(
+    alloc: Global,
+    cells: &mut Cells,
+    context: &Context<'_>,
+    standing: Standing,
+) -> Result<Option<Entered>, Memory>
+    requires stands { StandsAs cells.old context.now.task standing }
+    requires known { IsOf context.now standing }
+    requires place { 0 < context.now.place }
+    requires alive { IsTrue (is_live cells.old.tasks.tasks context.now.task) }
+    requires awake { IsAwake cells.old context.now.task }
+    requires touches { IsTrue (is_touching cells.old context.now.task) }
+    requires there { IsTrue (map.contains_key cells.old.tasks.groups standing.group) }
+    requires lives { IsFalse (has_ended cells.old.tasks.groups standing.group) }
+    requires registers { IsTrue (map.contains_key cells.old.registers context.now.task) }
+    ensures step { IfEntered result (λ made.
+        StepsTo cells.old cells.new context.now.seed.now context.now.place made.entry) }
+    ensures whole { IfEntered result (λ made. IsWholeTo cells.old cells.new made.entry) }
+    ensures task { IfEntered result (λ made. task_of made.entry ≡ context.now.task) }
+    ensures numbers { IfEntered result (λ made. numbers_in made.entry ≡ []) }
+    ensures ready { IfEntered result (λ made. ReadyIs cells.old context.now.task true) }
+    ensures moves { IfEntered result (λ made.
+        Moves context.now.task standing.memory made cells.old cells.new) }
+    ensures waits { IfParked result (ReadyIs cells.old context.now.task false) }
+    ensures kept { IfParked result (AreKept cells.old cells.new) }
+    ensures memory { OnErr result (HasRunPart context.now.task cells.old cells.new) }
+{
+    let task = context.task;
+    match step_standing(alloc, cells, task, standing)? {
+        Next::Goes => Ok(Some(Entered {
+            entry: Entry::Run { task, n: 1 },
+            tasks: false,
+        })),
+        Next::Calls => answer(alloc, cells, context, standing),
+        Next::Traps(signal) => Ok(Some(end(alloc, cells, context, standing, signal)?)),
+        Next::Touches(_) => unreachable!(),
+    }
+}
+
+/// Does a live task's next instruction, which touches a shared area, and answers what it does. Where that does not
+/// go on, and on want of memory, nothing has changed.
+fn step_standing(
+    alloc: Global,
+    cells: &mut Cells,
+    task: u32,
+    standing: Standing,
+) -> Result<Next, Memory>
+    requires stands { StandsAs cells.old task standing }
+    requires awake { IsAwake cells.old task }
+    requires touches { IsTrue (is_touching cells.old task) }
+    requires registers { IsTrue (map.contains_key cells.old.registers task) }
+    ensures ready { IfOk result (λ next. next ≡ Next.Goes → ReadyIs cells.old task true) }
+    ensures step { IfOk result (λ next. next ≡ Next.Goes → (beside : Beside) (n : ℕ) →
+        step (kernel_of cells.old beside n) (Entry.Run task 1) ≡ Some (kernel_of cells.new beside (n + 1))) }
+    ensures moves { IfOk result (λ next. Moves task standing.memory
+        (record { entry = Entry.Run task 1; tasks = false }) cells.old cells.new) }
+    ensures next { IfOk result (λ next. NextIn cells.old task next) }
+    ensures told { IfOk result (λ next. touches_area next ≡ false) }
+    ensures kept { IfOk result (λ next. goes_on next ≡ false → AreKept cells.old cells.new) }
+    ensures err { OnErr result (AreKept cells.old cells.new) }
+{
+    let mut registers = standing.registers;
+    let Some(space) = cells
+        .spaces
+        .get_mut(standing.memory.place, standing.memory.index)
+    else {
+        unreachable!()
+    };
+    let next = step(alloc, task, &mut registers, space, &mut cells.areas)?;
+    cells.registers.replace(u64::from(task), registers);
+    Ok(next)
+}
+
+/// Answers the call that a live task stands at, or puts the task to sleep, or leaves it waiting. Want of memory
+/// leaves what was there.
+fn answer(
+    alloc: Global,
+    cells: &mut Cells,
+    context: &Context<'_>,
+    standing: Standing,
+) -> Result<Option<Entered>, Memory>
+    requires stands { StandsAs cells.old context.now.task standing }
+    requires known { IsOf context.now standing }
+    requires place { 0 < context.now.place }
+    requires alive { IsTrue (is_live cells.old.tasks.tasks context.now.task) }
+    requires awake { IsAwake cells.old context.now.task }
+    requires calls { NextIn cells.old context.now.task Next.Calls }
+    requires there { IsTrue (map.contains_key cells.old.tasks.groups standing.group) }
+    requires lives { IsFalse (has_ended cells.old.tasks.groups standing.group) }
+    requires registers { IsTrue (map.contains_key cells.old.registers context.now.task) }
+    ensures step { IfEntered result (λ made.
+        StepsTo cells.old cells.new context.now.seed.now context.now.place made.entry) }
+    ensures whole { IfEntered result (λ made. IsWholeTo cells.old cells.new made.entry) }
+    ensures task { IfEntered result (λ made. task_of made.entry ≡ context.now.task) }
+    ensures numbers { IfEntered result (λ made. numbers_in made.entry ≡ []) }
+    ensures ready { IfEntered result (λ made. ReadyIs cells.old context.now.task true) }
+    ensures moves { IfEntered result (λ made.
+        Moves context.now.task standing.memory made cells.old cells.new) }
+    ensures waits { IfParked result (ReadyIs cells.old context.now.task false) }
+    ensures parks { IfParked result
+        (is_touching cells.old context.now.task ≡ false → Parks cells.old context.now.task standing.memory) }
+    ensures kept { IfParked result (AreKept cells.old cells.new) }
+    ensures memory { OnErr result (HasRunPart context.now.task cells.old cells.new) }
+{
+    let registers = standing.registers;
+    let console = cells.console.len();
+    let Some(space) = cells
+        .spaces
+        .get_mut(standing.memory.place, standing.memory.index)
+    else {
+        unreachable!()
+    };
+    let called = call(
+        alloc,
+        context,
+        call_of(&registers),
+        &registers,
+        &args_of(&registers),
+        space,
+        &mut cells.areas,
+        &cells.tasks,
+        &cells.sleepers,
+        console,
+    )?;
+    match called {
+        Called::Replies(prepared) => {
+            Ok(Some(finish(alloc, cells, context, registers, prepared)?))
         }
+        Called::Makes(child) => Ok(Some(make_child(alloc, cells, context, registers, child)?)),
+        Called::Sleeps(key) => Ok(Some(put_to_sleep(cells, context.task, key)?)),
+        Called::Waits => Ok(None),
     }
+}
 
-    /// Does a live task's next instruction, which touches a shared area, and answers what it does. Where that does not
-    /// go on, and on want of memory, nothing has changed.
-    fn step_standing(
-        &mut self,
-        alloc: Global,
-        task: u32,
-        standing: Standing,
-    ) -> Result<Next, Memory>
-        requires stands { StandsAs self.old task standing }
-        requires awake { IsAwake self.old task }
-        requires touches { IsTrue (is_touching self.old task) }
-        requires registers { IsTrue (map.contains_key self.old.registers task) }
-        ensures ready { IfOk result (λ next. next ≡ Next.Goes → ReadyIs self.old task true) }
-        ensures step { IfOk result (λ next. next ≡ Next.Goes → (beside : Beside) (n : ℕ) →
-            step (kernel_of self.old beside n) (Entry.Run task 1) ≡ Some (kernel_of self.new beside (n + 1))) }
-        ensures next { IfOk result (λ next. NextIn self.old task next) }
-        ensures told { IfOk result (λ next. touches_area next ≡ false) }
-        ensures kept { IfOk result (λ next. goes_on next ≡ false → AreKept self.old self.new) }
-        ensures err { OnErr result (AreKept self.old self.new) }
-    {
-        let mut registers = standing.registers;
-        let Some(space) = self
-            .spaces
-            .get_mut(standing.memory.place, standing.memory.index)
-        else {
-            unreachable!()
-        };
-        let next = step(alloc, task, &mut registers, space, &mut self.areas)?;
-        self.registers.replace(u64::from(task), registers);
-        Ok(next)
-    }
-
-    /// Answers the call that a live task stands at, or puts the task to sleep, or leaves it waiting. Want of memory
-    /// leaves what was there.
-    fn answer(
-        &mut self,
-        alloc: Global,
-        context: &Context<'_>,
-        standing: Standing,
-    ) -> Result<Option<Entry>, Memory>
-        requires stands { StandsAs self.old context.now.task standing }
-        requires known { IsOf context.now standing }
-        requires place { 0 < context.now.place }
-        requires alive { IsTrue (is_live self.old.tasks.tasks context.now.task) }
-        requires awake { IsAwake self.old context.now.task }
-        requires calls { NextIn self.old context.now.task Next.Calls }
-        requires there { IsTrue (map.contains_key self.old.tasks.groups standing.group) }
-        requires lives { IsFalse (has_ended self.old.tasks.groups standing.group) }
-        requires registers { IsTrue (map.contains_key self.old.registers context.now.task) }
-        ensures step { IfEntered result (StepsTo self.old self.new context.now.seed.now context.now.place) }
-        ensures whole { IfEntered result (IsWholeTo self.old self.new) }
-        ensures task { IfEntered result (λ entry. task_of entry ≡ context.now.task) }
-        ensures numbers { IfEntered result (λ entry. numbers_in entry ≡ []) }
-        ensures ready { IfEntered result (λ _. ReadyIs self.old context.now.task true) }
-        ensures waits { IfParked result (ReadyIs self.old context.now.task false) }
-        ensures kept { IfParked result (AreKept self.old self.new) }
-        ensures memory { OnErr result (HasRunPart context.now.task self.old self.new) }
-    {
-        let registers = standing.registers;
-        let console = self.console.len();
-        let Some(space) = self
-            .spaces
-            .get_mut(standing.memory.place, standing.memory.index)
-        else {
-            unreachable!()
-        };
-        let called = call(
-            alloc,
-            context,
-            call_of(&registers),
-            &registers,
-            &args_of(&registers),
-            space,
-            &mut self.areas,
-            &self.tasks,
-            &self.sleepers,
-            console,
-        )?;
-        match called {
-            Called::Replies(prepared) => {
-                Ok(Some(self.finish(alloc, context, registers, prepared)?))
-            }
-            Called::Makes(child) => Ok(Some(self.make_child(alloc, context, registers, child)?)),
-            Called::Sleeps(key) => Ok(Some(self.put_to_sleep(context.task, key)?)),
-            Called::Waits => Ok(None),
-        }
-    }
-
-    /// Ends the thread group of a live task by the signal of its next instruction's trap. Want of memory leaves what
-    /// was there.
-    fn end(
-        &mut self,
-        alloc: Global,
-        context: &Context<'_>,
-        standing: Standing,
-        signal: u8,
-    ) -> Result<Option<Entry>, Memory>
-        requires stands { StandsAs self.old context.now.task standing }
-        requires known { IsOf context.now standing }
-        requires awake { IsAwake self.old context.now.task }
-        requires traps { NextIn self.old context.now.task (Next.Traps signal) }
-        requires there { IsTrue (map.contains_key self.old.tasks.groups standing.group) }
-        requires lives { IsFalse (has_ended self.old.tasks.groups standing.group) }
-        ensures step { IfEntered result (StepsTo self.old self.new context.now.seed.now context.now.place) }
-        ensures whole { IfEntered result (IsWholeTo self.old self.new) }
-        ensures task { IfEntered result (λ entry. task_of entry ≡ context.now.task) }
-        ensures numbers { IfEntered result (λ entry. numbers_in entry ≡ []) }
-        ensures ready { IfEntered result (λ _. ReadyIs self.old context.now.task true) }
-        ensures enters { IfParked result ⊥ }
-        ensures memory { OnErr result (HasRunPart context.now.task self.old self.new) }
-    {
-        let Some(space) = self
-            .spaces
-            .get_mut(standing.memory.place, standing.memory.index)
-        else {
-            unreachable!()
-        };
-        let status = Status::Killed(signal);
-        let ending = end_group(alloc, context, status, space, &mut self.areas, &self.tasks)?;
-        commit(
-            alloc,
-            Effect::EndsGroup(ending),
-            standing.group,
-            &mut self.tasks,
-            &mut self.sleepers,
-            &mut self.console,
-        )?;
-        Ok(Some(Entry::End {
+/// Ends the thread group of a live task by the signal of its next instruction's trap. Want of memory leaves what
+/// was there.
+fn end(
+    alloc: Global,
+    cells: &mut Cells,
+    context: &Context<'_>,
+    standing: Standing,
+    signal: u8,
+) -> Result<Entered, Memory>
+    requires stands { StandsAs cells.old context.now.task standing }
+    requires known { IsOf context.now standing }
+    requires awake { IsAwake cells.old context.now.task }
+    requires traps { NextIn cells.old context.now.task (Next.Traps signal) }
+    requires there { IsTrue (map.contains_key cells.old.tasks.groups standing.group) }
+    requires lives { IsFalse (has_ended cells.old.tasks.groups standing.group) }
+    ensures step { IfOk result (λ made.
+        StepsTo cells.old cells.new context.now.seed.now context.now.place made.entry) }
+    ensures whole { IfOk result (λ made. IsWholeTo cells.old cells.new made.entry) }
+    ensures task { IfOk result (λ made. task_of made.entry ≡ context.now.task) }
+    ensures numbers { IfOk result (λ made. numbers_in made.entry ≡ []) }
+    ensures ready { IfOk result (λ made. ReadyIs cells.old context.now.task true) }
+    ensures moves { IfOk result (λ made.
+        Moves context.now.task standing.memory made cells.old cells.new) }
+    ensures memory { OnErr result (HasRunPart context.now.task cells.old cells.new) }
+{
+    let Some(space) = cells
+        .spaces
+        .get_mut(standing.memory.place, standing.memory.index)
+    else {
+        unreachable!()
+    };
+    let status = Status::Killed(signal);
+    let ending = end_group(
+        alloc,
+        context,
+        status,
+        space,
+        &mut cells.areas,
+        &cells.tasks,
+    )?;
+    commit(
+        alloc,
+        Effect::EndsGroup(ending),
+        standing.group,
+        &mut cells.tasks,
+        &mut cells.sleepers,
+        &mut cells.console,
+    )?;
+    Ok(Entered {
+        entry: Entry::End {
             task: context.task,
             signal,
-        }))
-    }
+        },
+        tasks: true,
+    })
 }

@@ -1,18 +1,21 @@
 //! Turns: the entries of processes, one after another, until no task's step is ready or the trace is full.
 
 ghost use Rattle.std.specs.Prelude.{◌≡◌, ◌<◌, ◌≤◌, ◌+◌, ◌⊎◌, ℕ, true, length};
-ghost use Rattle.std.specs.Prelude.{nat_lt, find, Some, None, IfSome, []};
+ghost use Rattle.std.specs.Prelude.{nat_lt, find, Some, None, IfSome, OnOk, []};
 ghost use Rattle.std.specs.List.{flat_map};
 ghost use Rattle.kernel_model.specs.entries.History.{each_whole, replay};
 ghost use Rattle.kernel_model.specs.entries.Ready.{ready_numbers};
 ghost use Rattle.kernel_model.specs.entries.Steps.{task_of};
 ghost use Rattle.kernel_model.specs.files.Numbers.{numbers_in};
-ghost use Rattle.task_table.specs.Kept.{IsKept};
-ghost use Rattle.call_table.specs.Beside.{Beside};
-ghost use Rattle.call_table.specs.Processes.{AreKept, IfEntered, IfParked, IsWholeTo, StepsTo, kernel_of};
-ghost use Rattle.call_table.specs.Turns.{AreInTurn, AreStill, Leaves, next_of};
+ghost use Rattle.proc_cells.specs.Beside.{Beside};
+ghost use Rattle.proc_cells.specs.Cells.{AreKept, kernel_of as kernel_of_cells};
+ghost use Rattle.call_table.specs.Entries.{IfEntered, IfParked, IsWholeTo, StepsTo};
+ghost use Rattle.call_table.specs.Processes.{kernel_of};
+ghost use Rattle.call_table.specs.Schedules.{AreParked};
+ghost use Rattle.call_table.specs.Turns.{AreInTurn, AreStill, AreStillIn, Leaves, next_of};
 
 use crate::Processes;
+use crate::schedule::Schedule;
 use kernel_model::{Entry, Trace};
 use sn_base::{List, Memory};
 use std::alloc::Global;
@@ -24,9 +27,9 @@ pub struct Ran {
     pub trace: Trace,
 }
 
-impl Processes {
+impl Schedule {
     /// Has the task of the least number above another make an entry, of those whose next step is ready; or none, where
-    /// there is no such task, which changes nothing.
+    /// there is no such task, which changes nothing of the cells.
     fn enter_above(
         &mut self,
         alloc: Global,
@@ -34,32 +37,30 @@ impl Processes {
         seed: &[u8],
         place: u64,
     ) -> Result<Option<Entry>, Memory>
-        requires { 0 < place }
-        ensures step { IfEntered result (StepsTo self.old self.new seed.now place) }
-        ensures whole { IfEntered result (IsWholeTo self.old self.new) }
+        requires later { 0 < place }
+        requires parked { AreParked self.old.cells self.old.parking }
+        ensures step { IfEntered result (StepsTo self.old.cells self.new.cells seed.now place) }
+        ensures whole { IfEntered result (IsWholeTo self.old.cells self.new.cells) }
         ensures numbers { IfEntered result (λ entry. numbers_in entry ≡ []) }
         ensures found { IfEntered result (λ entry. (beside : Beside) (n : ℕ) →
-            find (nat_lt after) (ready_numbers (kernel_of self.old beside n)) ≡ Some (task_of entry)) }
+            find (nat_lt after) (ready_numbers (kernel_of_cells self.old.cells beside n)) ≡ Some (task_of entry)) }
         ensures none { IfParked result ((beside : Beside) (n : ℕ) →
-            find (nat_lt after) (ready_numbers (kernel_of self.old beside n)) ≡ None) }
-        ensures kept { IfParked result (AreKept self.old self.new) }
-        ensures sound { IsKept self.old.tasks }
+            find (nat_lt after) (ready_numbers (kernel_of_cells self.old.cells beside n)) ≡ None) }
+        ensures kept { IfParked result (AreKept self.old.cells self.new.cells) }
+        ensures parked { OnOk result (AreParked self.new.cells self.new.parking) }
     {
-        if self.tasks.live() == 0 {
-            return Ok(None);
-        }
-        let task = match self.tasks.next_live(after) {
-            Some(task) => task,
+        let candidate = match self.next_above(after) {
+            Some(candidate) => candidate,
             None => return Ok(None),
         };
-        match self.advance(alloc, task, seed, place)? {
+        match self.enter(alloc, candidate, seed, place)? {
             Some(entry) => Ok(Some(entry)),
-            None => self.enter_above(alloc, task, seed, place),
+            None => self.enter_above(alloc, candidate.task, seed, place),
         }
     }
 
     /// Has the task whose turn is next, behind that of the last turn, make an entry; or none, where no task's next step
-    /// is ready, which changes nothing.
+    /// is ready, which changes nothing of the cells.
     fn turn(
         &mut self,
         alloc: Global,
@@ -67,15 +68,20 @@ impl Processes {
         seed: &[u8],
         place: u64,
     ) -> Result<Option<Entry>, Memory>
-        requires { 0 < place }
-        ensures step { IfEntered result (StepsTo self.old self.new seed.now place) }
-        ensures whole { IfEntered result (IsWholeTo self.old self.new) }
+        requires later { 0 < place }
+        requires parked { AreParked self.old.cells self.old.parking }
+        ensures step { IfEntered result (StepsTo self.old.cells self.new.cells seed.now place) }
+        ensures whole { IfEntered result (IsWholeTo self.old.cells self.new.cells) }
         ensures numbers { IfEntered result (λ entry. numbers_in entry ≡ []) }
         ensures turn { IfEntered result (λ entry. (beside : Beside) (n : ℕ) →
-            next_of last (ready_numbers (kernel_of self.old beside n)) ≡ Some (task_of entry)) }
-        ensures still { IfParked result (AreStill self.new) }
-        ensures kept { IfParked result (AreKept self.old self.new) }
+            next_of last (ready_numbers (kernel_of_cells self.old.cells beside n)) ≡ Some (task_of entry)) }
+        ensures still { IfParked result (AreStillIn self.new.cells) }
+        ensures kept { IfParked result (AreKept self.old.cells self.new.cells) }
+        ensures parked { OnOk result (AreParked self.new.cells self.new.parking) }
     {
+        if self.cells.tasks.live() == 0 {
+            return Ok(None);
+        }
         match self.enter_above(alloc, last, seed, place)? {
             Some(entry) => Ok(Some(entry)),
             None => self.enter_above(alloc, 0, seed, place),
@@ -99,11 +105,16 @@ pub fn run_turns(alloc: Global, processes: Processes, seed: &[u8], entries: u64)
     ensures bound { length result.trace ≤ entries }
     ensures ended { IfSome result.processes (λ p. AreStill p ⊎ (length result.trace ≡ entries)) }
 {
-    let mut processes = processes;
     let mut trace = List::new(alloc);
+    let Ok(mut schedule) = Schedule::begin(alloc, processes.cells) else {
+        return Ran {
+            processes: None,
+            trace,
+        };
+    };
     let mut last = 0;
     for place in 0..entries {
-        let Ok(made) = processes.turn(alloc, last, seed, place + 1) else {
+        let Ok(made) = schedule.turn(alloc, last, seed, place + 1) else {
             return Ran {
                 processes: None,
                 trace,
@@ -113,7 +124,9 @@ pub fn run_turns(alloc: Global, processes: Processes, seed: &[u8], entries: u64)
             Some(entry) => entry,
             None => {
                 return Ran {
-                    processes: Some(processes),
+                    processes: Some(Processes {
+                        cells: schedule.cells,
+                    }),
                     trace,
                 };
             }
@@ -127,7 +140,9 @@ pub fn run_turns(alloc: Global, processes: Processes, seed: &[u8], entries: u64)
         }
     }
     Ran {
-        processes: Some(processes),
+        processes: Some(Processes {
+            cells: schedule.cells,
+        }),
         trace,
     }
 }

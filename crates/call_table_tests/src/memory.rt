@@ -78,7 +78,7 @@ fn left(alloc: Global, words: &[u32], entries: u64) -> Result<Processes, Fail> {
 
 /// The byte at the begin of the shared area that the call of the second entry made, or `None`.
 fn shared_byte(processes: &Processes) -> Option<u8> {
-    let made = processes.areas.get(2, 0)?;
+    let made = processes.cells.areas.get(2, 0)?;
     made.area.frames.byte(0, 0)
 }
 

@@ -16,11 +16,11 @@ fn expect_tasks(rt: &impl Abort, told: &Told, tasks: &[u32]) {
 
 /// That the live tasks are those with the numbers up to that one.
 fn expect_live_up_to(rt: &impl Abort, processes: &Processes, last: u32) {
-    assert_eq!(rt; processes.tasks.last(), last);
+    assert_eq!(rt; processes.cells.tasks.last(), last);
     for number in 0..last {
-        assert_eq!(rt; processes.tasks.next_live(number), Some(number + 1));
+        assert_eq!(rt; processes.cells.tasks.next_live(number), Some(number + 1));
     }
-    assert_eq!(rt; processes.tasks.next_live(last), None);
+    assert_eq!(rt; processes.cells.tasks.next_live(last), None);
 }
 
 #[test]

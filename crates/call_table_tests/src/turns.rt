@@ -111,8 +111,9 @@ pub fn turns_of(
     };
     let lines = lines_of(alloc, trace.as_slice())?;
     let tasks = tasks_of(alloc, trace.as_slice())?;
-    let lives = processes.any_live();
-    let kernel = processes.into_kernel(alloc, trace.len() as u64);
+    let Processes { cells, .. } = processes;
+    let lives = cells.any_live();
+    let kernel = cells.into_kernel(alloc, trace.len() as u64);
     Ok(Told {
         lines,
         tasks,
@@ -172,10 +173,10 @@ fn what_is_written_comes_to_the_console(rt: HostRuntime) -> Result<(), Fail> {
 }
 
 /// Aborts unless a task lives.
-fn expect_live(rt: &impl Abort, processes: &Processes, number: u32)
-    ensures { IsTrue (is_live processes.now.tasks.tasks number) }
+pub fn expect_live(rt: &impl Abort, processes: &Processes, number: u32)
+    ensures { IsTrue (is_live processes.now.cells.tasks.tasks number) }
 {
-    let live = match processes.tasks.task(number) {
+    let live = match processes.cells.tasks.task(number) {
         Some(task) => task.live,
         None => false,
     };
@@ -183,12 +184,10 @@ fn expect_live(rt: &impl Abort, processes: &Processes, number: u32)
 }
 
 #[test]
-fn a_live_task_advances_by_one_entry(rt: HostRuntime) -> Result<(), Fail> {
-    let mut processes = processes_of(rt.alloc(), &[WRITES_NOTHING.words])?;
-    expect_live(&rt, &processes, 1);
-    let entry = processes
-        .advance(rt.alloc(), 1, &SEED, 1)?
-        .ok_or("not ready")?;
-    assert!(rt; line_of(&entry) == run(4));
+fn as_many_entries_are_made_as_were_asked_for(rt: HostRuntime) -> Result<(), Fail> {
+    let processes = processes_of(rt.alloc(), &[WRITES_NOTHING.words])?;
+    let ran = run_turns(rt.alloc(), processes, &SEED, 1);
+    assert_eq!(rt; ran.trace.len(), 1);
+    assert!(rt; line_of(ran.trace.at(0)) == run(4));
     Ok(())
 }

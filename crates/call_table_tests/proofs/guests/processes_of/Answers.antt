@@ -10,10 +10,10 @@ loop-index-init c = subst (λ (list : TaskTable). AreOpened 0 list) (sym c.new-p
 
 pub open-requires-clause-room : goal.open-requires-clause-room
 open-requires-clause-room c =
-    room_for c.loop-index.index c.loop-index.processes.tasks (omega arith) c.loop-index.invariant
+    room_for c.loop-index.index c.loop-index.processes.cells.tasks (omega arith) c.loop-index.invariant
 
 pub loop-index-preserved : goal.loop-index-preserved
 loop-index-preserved c =
-    let next = made_by (c.loop-index.processes.tasks.last + 1) in
+    let next = made_by (c.loop-index.processes.cells.tasks.last + 1) in
     subst (λ (list : TaskTable). AreOpened (c.loop-index.index + 1) list) (sym c.in_ok-processes.ensures.tasks)
-    (opened_more c.loop-index.index c.loop-index.processes.tasks next next 1 (omega arith) c.loop-index.invariant)
+    (opened_more c.loop-index.index c.loop-index.processes.cells.tasks next next 1 (omega arith) c.loop-index.invariant)

@@ -3,24 +3,20 @@ use Rattle.std.proofs.Common.{ℕ, ◌+◌, ap, ◌∙◌}
 use Rattle.task_table.specs.Clones.{opened}
 use Rattle.kernel_model.specs.declared.kernel.Kernel.{Kernel}
 use Rattle.kernel_model.specs.opening.Opening.{made_by}
-use Rattle.call_table.specs.Beside.{nothing_beside}
+use Rattle.proc_cells.specs.Beside.{nothing_beside}
 use Rattle.call_table.proofs.Openings.{with_next}
-use Rattle.call_table.proofs.Results.{on_ok}
 use Rattle.call_table.proofs.processes.Processes.open.Goals as goal
 
 pub returns-clause-begun : goal.returns-clause-begun
-returns-clause-begun c =
-    on_ok _ _ c.begin.result (λ p begun. λ beside n seed at.
-    begun beside n
-    ∙ with_next c.args.self (c.last-number.result + 1) c.args.root c.in_ok-beginning.beginning.registers
+returns-clause-begun c = λ beside n seed at.
+    c.in_ok-cells.ensures beside n
+    ∙ with_next c.args.self.cells (c.last-number.result + 1) c.args.root c.in_ok-beginning.beginning.registers
     c.in_ok-beginning.beginning.space c.args.program.now c.args.image.now c.args.seed.now beside n
     (ap (λ (k : ℕ). k + 1) c.last-number.ensures) c.in_ok-beginning.ensures.registers
-    c.in_ok-beginning.ensures.space seed at) c.begin.ensures
+    c.in_ok-beginning.ensures.space seed at
 
 pub returns-clause-tasks : goal.returns-clause-tasks
 returns-clause-tasks c =
-    on_ok _ _ c.begin.result (λ p begun.
-    ap (λ (k : Kernel). k.tasks) (begun nothing_beside 0)
-    ∙ ap (λ (k : ℕ). opened c.args.self.tasks (made_by (k + 1)) (made_by (k + 1)) c.args.root)
-    c.last-number.ensures)
-    c.begin.ensures
+    ap (λ (k : Kernel). k.tasks) (c.in_ok-cells.ensures nothing_beside 0)
+    ∙ ap (λ (k : ℕ). opened c.args.self.cells.tasks (made_by (k + 1)) (made_by (k + 1)) c.args.root)
+    c.last-number.ensures

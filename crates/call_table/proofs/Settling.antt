@@ -1,0 +1,293 @@
+-- After an entry, tasks are looked at and parked as they are to be.
+use Rattle.std.proofs.Common.{◌≡◌, ◌≢◌, ℕ, ◌+◌, ◌<◌, ◌≤◌, Bool, true, false, refl, ap, sym, subst, ◌∙◌, ◌⊎◌, inl, inr, arith}
+use Rattle.std.specs.Prelude.{Option, Some, None, is_some, nat_lt, ◌==◌, ◌&&◌, ◌||◌, if◌then◌else◌}
+use Rattle.std.specs.Option.{option_map_or}
+use Rattle.std.specs.FinMap as map
+use Rattle.std.proofs.lemmas.Bool.{and_parts, eqb-true, eq-eqb, lt-ltb, ltb-true, or_parts}
+use Rattle.sn_base.proofs.Maps.{get-remove_same, get-remove_other}
+use Rattle.task_table.specs.declared.task.Made.{Made}
+use Rattle.task_table.specs.Table.{TaskTable, is_live}
+use Rattle.kernel_model.specs.entries.Waiting.{Awake, wait_of}
+use Rattle.kernel_model.proofs.NamedMaps.{same_or_other}
+use Rattle.proc_cells.specs.declared.cells.Cells.{Cells}
+use Rattle.proc_cells.specs.Cells.{IsAwake}
+use Rattle.call_table.specs.Moves.{Moves, puts_to_sleep}
+use Rattle.call_table.specs.Parked.{is_parked, same_made}
+use Rattle.call_table.specs.Parking.{HaveWoken}
+use Rattle.call_table.specs.Parks.{Parks}
+use Rattle.call_table.specs.Schedules.{AreParked, AreParkedBut, is_child, is_covered, is_off}
+use Rattle.call_table.specs.declared.entered.Entered.{Entered}
+use Rattle.call_table.specs.declared.parking.Parking.{Parking}
+use Rattle.call_table.proofs.Parkings.{awake_off, off_awake, parks_kept}
+
+-- ---- truth values
+
+either : (a b : Bool) → (a || b) ≡ true → (a ≡ true) ⊎ (b ≡ true)
+either true b e = inl refl
+either false b e = inr e
+
+first_of : (a b : Bool) → a ≡ true → (a || b) ≡ true
+first_of a b e = ap (λ x. x || b) e
+
+second_of : (a b : Bool) → b ≡ true → (a || b) ≡ true
+second_of true b e = refl
+second_of false b e = e
+
+-- ---- a task that is parked or not
+
+-- what a parked task's memory passes
+passed : (test : Made → Bool) (o : Option Made) → option_map_or test o false ≡ true
+    → (memory : Made) × (o ≡ Some memory) × (test memory ≡ true)
+passed test None e = absurd (cc e)
+passed test (Some memory) e = (memory, refl, e)
+
+-- one that was passed over has failed it
+failed : (test : Made → Bool) (o : Option Made) (memory : Made)
+    → (if option_map_or test o false then None else o) ≡ Some memory → (o ≡ Some memory) × (test memory ≡ false)
+failed test None memory e = absurd (cc e)
+failed test (Some m) memory e = by (test m) refl e
+  where
+    by : (b : Bool) → test m ≡ b → (if b then None else Some m) ≡ Some memory
+        → (Some m ≡ Some memory) × (test memory ≡ false)
+    by true is e = absurd (cc e)
+    by false is e = let same : m ≡ memory = cc e in (e, ap test (sym same) ∙ is)
+
+-- and where none is parked any more, none is
+none_left : (test : Made → Bool) (o : Option Made) → ((memory : Made) → test memory ≡ true)
+    → (if option_map_or test o false then None else o) ≡ None
+none_left test None all = refl
+none_left test (Some m) all = ap (λ b. if b then None else Some m) (all m)
+
+taken_out : (test : Made → Bool) (o : Option Made) → option_map_or test o false ≡ true
+    → (if option_map_or test o false then None else o) ≡ None
+taken_out test o e = ap (λ b. if b then None else o) e
+
+stays_none : (test : Made → Bool) (o : Option Made) → o ≡ None
+    → (if option_map_or test o false then None else o) ≡ None
+stays_none test o e = ap (λ x. if option_map_or test x false then None else x) e
+
+-- ---- an entry of a task with a memory
+
+-- whether those parked with a memory are looked at again
+abbrev pub is_woken_by : Entered → (own memory : Made) → Bool
+is_woken_by made own memory = made.tasks || same_made memory own
+
+module _ (task : ℕ) (memory : Made) (made : Entered) (before after : Cells)
+    (moves : Moves task memory made before after) (p q : Parking) (but : AreParkedBut task before p)
+    (kept : (t : ℕ) → map.get q.parked t
+    ≡ (if is_parked (is_woken_by made memory) p.parked t then None else map.get p.parked t))
+    (between : ℕ → Bool)
+    (rests : (t : ℕ) → between t ≡ true → (map.contains_key p.awake t ≡ true)
+    × (puts_to_sleep made.entry ≡ true → task ≢ t))
+    (stays : (t : ℕ) → map.contains_key p.awake t ≡ true → (puts_to_sleep made.entry ≡ false) ⊎ (task ≢ t)
+    → between t ≡ true)
+    (looked_at : (t : ℕ) → map.contains_key q.awake t ≡ ((between t || is_child after before.tasks.last t)
+    || is_parked (is_woken_by made memory) p.parked t)) where
+  -- the task itself isn't parked
+  not_itself : (t : ℕ) (m : Made) → map.get p.parked t ≡ Some m → task ≢ t
+  not_itself t m is same = cc (is, ap (map.get p.parked) (sym same) ∙ but.apart task but.looked_at)
+
+  -- one that was looked at before
+  rested_off : (t : ℕ) → between t ≡ true → IsAwake after t
+  rested_off t e = by (same_or_other task t) (puts_to_sleep made.entry) refl
+    where
+      by : (task ≡ t) ⊎ (task ≢ t) → (b : Bool) → puts_to_sleep made.entry ≡ b → IsAwake after t
+      by (inl same) true sleeps = absurd ((rests t e).1 sleeps same)
+      by (inl same) false sleeps = ap (wait_of after.sleepers) (sym same) ∙ moves.itself sleeps
+      by (inr apart) b sleeps = moves.off t apart (but.awake t apart (rests t e).0)
+
+  -- a task that was made
+  child_parts : (t : ℕ) → is_child after before.tasks.last t ≡ true
+      → (t ≡ after.tasks.last) × (before.tasks.last < after.tasks.last)
+      × (is_off after.sleepers after.tasks.last ≡ true)
+  child_parts t e =
+      let parts = and_parts (nat_lt before.tasks.last after.tasks.last && is_off after.sleepers after.tasks.last)
+      (t == after.tasks.last) e in
+      let others = and_parts (nat_lt before.tasks.last after.tasks.last) (is_off after.sleepers after.tasks.last)
+      parts.0 in
+      (eqb-true t after.tasks.last parts.1, ltb-true before.tasks.last after.tasks.last others.0, others.1)
+
+  child_off : (t : ℕ) → is_child after before.tasks.last t ≡ true → IsAwake after t
+  child_off t e =
+      let child = child_parts t e in
+      ap (wait_of after.sleepers) child.0 ∙ off_awake after.sleepers after.tasks.last child.2
+
+  -- changes the task list
+  child_listed : (t : ℕ) → is_child after before.tasks.last t ≡ true → made.tasks ≡ true
+  child_listed t e = by made.tasks refl
+    where
+      by : (b : Bool) → made.tasks ≡ b → made.tasks ≡ true
+      by true is = is
+      by false is =
+          let child = child_parts t e in
+          let same : after.tasks.last ≡ before.tasks.last = ap (λ (x : TaskTable). x.last) (moves.tasks is) in
+          absurd (omega (arith, same, child.1))
+
+  woken_off : (t : ℕ) → is_parked (is_woken_by made memory) p.parked t ≡ true → IsAwake after t
+  woken_off t e =
+      let m = passed (is_woken_by made memory) (map.get p.parked t) e in
+      moves.off t (not_itself t m.0 m.1) (but.parked t m.0 m.1).awake
+
+  -- of those that are looked at
+  settled_awake : (t : ℕ) → map.contains_key q.awake t ≡ true → IsAwake after t
+  settled_awake t e =
+      elim (either (between t || is_child after before.tasks.last t) (is_parked (is_woken_by made memory) p.parked t)
+      (sym (looked_at t) ∙ e)) [
+        | inl f ↦ elim (either (between t) (is_child after before.tasks.last t) f) [
+          | inl g ↦ rested_off t g
+          | inr g ↦ child_off t g
+        ]
+        | inr f ↦ woken_off t f
+      ]
+
+  all_woken : made.tasks ≡ true → (m : Made) → is_woken_by made memory m ≡ true
+  all_woken is m = ap (λ b. b || same_made m memory) is
+
+  settled_apart : (t : ℕ) → map.contains_key q.awake t ≡ true → map.get q.parked t ≡ None
+  settled_apart t e =
+      kept t
+      ∙ elim (either (between t || is_child after before.tasks.last t) (is_parked (is_woken_by made memory) p.parked t)
+      (sym (looked_at t) ∙ e)) [
+        | inl f ↦ elim (either (between t) (is_child after before.tasks.last t) f) [
+          | inl g ↦ stays_none (is_woken_by made memory) (map.get p.parked t) (but.apart t (rests t g).0)
+          | inr g ↦ none_left (is_woken_by made memory) (map.get p.parked t) (all_woken (child_listed t g))
+        ]
+        | inr f ↦ taken_out (is_woken_by made memory) (map.get p.parked t) f
+      ]
+
+  -- of those that are parked
+  settled_parked : (t : ℕ) (m : Made) → map.get q.parked t ≡ Some m → Parks after t m
+  settled_parked t m e =
+      let was = failed (is_woken_by made memory) (map.get p.parked t) m (sym (kept t) ∙ e) in
+      let parts = or_parts made.tasks (same_made m memory) was.1 in
+      parks_kept task memory made before after t m moves parts.0 (not_itself t m was.0) parts.1
+      (but.parked t m was.0)
+
+  -- and of all others
+  looked_at_again : (t : ℕ) → between t ≡ true → is_covered q t ≡ true
+  looked_at_again t e =
+      first_of (map.contains_key q.awake t) (is_some (map.get q.parked t))
+      (looked_at t
+      ∙ first_of (between t || is_child after before.tasks.last t) (is_parked (is_woken_by made memory) p.parked t)
+      (first_of (between t) (is_child after before.tasks.last t) e))
+
+  was_parked : (t : ℕ) (m : Made) → map.get p.parked t ≡ Some m → is_covered q t ≡ true
+  was_parked t m is = by (is_woken_by made memory m) refl
+    where
+      woken : is_parked (is_woken_by made memory) p.parked t ≡ is_woken_by made memory m
+      woken = ap (λ o. option_map_or (is_woken_by made memory) o false) is
+
+      by : (b : Bool) → is_woken_by made memory m ≡ b → is_covered q t ≡ true
+      by true e =
+          first_of (map.contains_key q.awake t) (is_some (map.get q.parked t))
+          (looked_at t
+          ∙ second_of (between t || is_child after before.tasks.last t)
+          (is_parked (is_woken_by made memory) p.parked t) (woken ∙ e))
+      by false e =
+          second_of (map.contains_key q.awake t) (is_some (map.get q.parked t))
+          (ap is_some (kept t ∙ ap (λ b. if b then None else map.get p.parked t) (woken ∙ e) ∙ is))
+
+  covered_before : (t : ℕ) → task ≢ t → (b : Bool) (o : Option Made) → map.contains_key p.awake t ≡ b
+      → map.get p.parked t ≡ o → (b || is_some o) ≡ true → is_covered q t ≡ true
+  covered_before t apart true o awake parked e = looked_at_again t (stays t awake (inr apart))
+  covered_before t apart false None awake parked e = absurd (cc e)
+  covered_before t apart false (Some m) awake parked e = was_parked t m parked
+
+  new_covered : (t : ℕ) → is_live after.tasks.tasks t ≡ true → is_live before.tasks.tasks t ≡ false → IsAwake after t
+      → is_covered q t ≡ true
+  new_covered t live dead off =
+      let child = moves.lives t live dead in
+      let above : nat_lt before.tasks.last after.tasks.last ≡ true =
+      lt-ltb before.tasks.last after.tasks.last (omega (arith, child.1)) in
+      let is : is_child after before.tasks.last t ≡ true =
+      ap (λ b. (b && is_off after.sleepers after.tasks.last) && (t == after.tasks.last)) above
+      ∙ ap (λ b. b && (t == after.tasks.last)) (ap (is_off after.sleepers) (sym child.0)
+      ∙ awake_off after.sleepers t off)
+      ∙ eq-eqb t after.tasks.last child.0 in
+      first_of (map.contains_key q.awake t) (is_some (map.get q.parked t))
+      (looked_at t
+      ∙ first_of (between t || is_child after before.tasks.last t) (is_parked (is_woken_by made memory) p.parked t)
+      (second_of (between t) (is_child after before.tasks.last t) is))
+
+  settled_covers : (t : ℕ) → is_live after.tasks.tasks t ≡ true → IsAwake after t → is_covered q t ≡ true
+  settled_covers t live off = by (same_or_other task t)
+    where
+      itself : task ≡ t → (b : Bool) → puts_to_sleep made.entry ≡ b → is_covered q t ≡ true
+      itself same true sleeps = absurd (moves.asleep sleeps (ap (wait_of after.sleepers) same ∙ off))
+      itself same false sleeps =
+          looked_at_again t (stays t (ap (map.contains_key p.awake) (sym same) ∙ but.looked_at) (inl sleeps))
+
+      other : task ≢ t → (b : Bool) → is_live before.tasks.tasks t ≡ b → is_covered q t ≡ true
+      other apart true lived =
+          covered_before t apart (map.contains_key p.awake t) (map.get p.parked t) refl refl
+          (but.covers t apart lived (moves.was_off t apart live off))
+      other apart false dead = new_covered t live dead off
+
+      by : (task ≡ t) ⊎ (task ≢ t) → is_covered q t ≡ true
+      by (inl same) = itself same (puts_to_sleep made.entry) refl
+      by (inr apart) = other apart (is_live before.tasks.tasks t) refl
+
+  pub settled : AreParked after q
+  settled = record {
+    awake = settled_awake;
+    apart = settled_apart;
+    parked = settled_parked;
+    covers = settled_covers;
+  }
+
+-- ---- by what the calls leave
+
+module _ (task : ℕ) (memory : Made) (made : Entered) (before after : Cells)
+    (moves : Moves task memory made before after) (p r s q : Parking) (but : AreParkedBut task before p) (last : ℕ)
+    (same : last ≡ before.tasks.last) (test : Made → Bool) (woken_by : is_woken_by made memory ≡ test)
+    (woken : HaveWoken test s q) (parked : s.parked ≡ p.parked)
+    (rested : r.awake ≡ (if puts_to_sleep made.entry then map.remove p.awake task else p.awake))
+    (child : (t : ℕ) → map.contains_key s.awake t ≡ (map.contains_key r.awake t || is_child after last t)) where
+  removed : (b : Bool) → puts_to_sleep made.entry ≡ b → r.awake ≡ (if b then map.remove p.awake task else p.awake)
+  removed b is = rested ∙ ap (λ x. if x then map.remove p.awake task else p.awake) is
+
+  rests : (t : ℕ) → map.contains_key r.awake t ≡ true → (map.contains_key p.awake t ≡ true)
+      × (puts_to_sleep made.entry ≡ true → task ≢ t)
+  rests t e = by (puts_to_sleep made.entry) refl (same_or_other task t)
+    where
+      by : (b : Bool) → puts_to_sleep made.entry ≡ b → (task ≡ t) ⊎ (task ≢ t) → (map.contains_key p.awake t ≡ true)
+          × (puts_to_sleep made.entry ≡ true → task ≢ t)
+      by false is o =
+          (ap (λ m. map.contains_key m t) (sym (removed false is)) ∙ e, λ sleeps. absurd (cc (is, sleeps)))
+      by true is (inl here) =
+          let gone : map.contains_key r.awake t ≡ false =
+          ap (λ m. map.contains_key m t) (removed true is) ∙ ap (map.contains_key (map.remove p.awake task)) (sym here)
+          ∙ ap is_some (get-remove_same p.awake task) in
+          absurd (cc (gone, e))
+      by true is (inr apart) = (
+        ap is_some (sym (get-remove_other p.awake task t apart))
+            ∙ ap (λ m. map.contains_key m t) (sym (removed true is)) ∙ e,
+        λ sleeps. apart,
+      )
+
+  stays : (t : ℕ) → map.contains_key p.awake t ≡ true → (puts_to_sleep made.entry ≡ false) ⊎ (task ≢ t)
+      → map.contains_key r.awake t ≡ true
+  stays t e how = by (puts_to_sleep made.entry) refl how
+    where
+      by : (b : Bool) → puts_to_sleep made.entry ≡ b → (puts_to_sleep made.entry ≡ false) ⊎ (task ≢ t)
+          → map.contains_key r.awake t ≡ true
+      by false is o = ap (λ m. map.contains_key m t) (removed false is) ∙ e
+      by true is (inl goes) = absurd (cc (is, goes))
+      by true is (inr apart) =
+          ap (λ m. map.contains_key m t) (removed true is) ∙ ap is_some (get-remove_other p.awake task t apart) ∙ e
+
+  among : (t : ℕ) → is_parked test s.parked t ≡ is_parked (is_woken_by made memory) p.parked t
+  among t = ap (λ m. is_parked test m t) parked ∙ ap (λ f. is_parked f p.parked t) (sym woken_by)
+
+  pub settled_by : AreParked after q
+  settled_by =
+      settled task memory made before after moves p q but
+      (λ t. woken.parked t
+      ∙ ap (λ b. if b then None else map.get s.parked t) (among t)
+      ∙ ap (λ m. if is_parked (is_woken_by made memory) p.parked t then None else map.get m t) parked)
+      (map.contains_key r.awake) rests stays
+      (λ t. woken.awake t
+      ∙ ap (λ b. b || is_parked test s.parked t) (child t)
+      ∙ ap (λ b. (map.contains_key r.awake t || is_child after last t) || b) (among t)
+      ∙ ap (λ n. (map.contains_key r.awake t || is_child after n t)
+      || is_parked (is_woken_by made memory) p.parked t) same)

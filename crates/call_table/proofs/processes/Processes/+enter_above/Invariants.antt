@@ -1,6 +1,0 @@
--- The numbers above grow fewer.
-use Rattle.std.proofs.Common.{◌-◌}
-use Rattle.call_table.proofs.processes.Processes.+enter_above.Given as goal
-
-abbrev pub decreases-enter_above : goal.decreases-enter_above
-decreases-enter_above l = l.self.now.tasks.last - l.after

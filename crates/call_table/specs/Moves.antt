@@ -1,0 +1,53 @@
+-- What an entry of a task leaves as it was.
+use Rattle.std.specs.Prelude.{◌≡◌, ◌≢◌, ◌≤◌, ◌+◌, ℕ, Bool, true, false}
+use Rattle.std.specs.FinMap as map
+use Rattle.task_table.specs.declared.task.Made.{Made}
+use Rattle.task_table.specs.Table.{is_live}
+use Rattle.kernel_model.specs.Names.{get_named}
+use Rattle.kernel_model.specs.declared.entry.Entry.{Entry}
+use Rattle.kernel_model.specs.declared.entry.Entry.TheVariants.{Run, Call, End, Sleep}
+use Rattle.kernel_model.specs.entries.Waiting.{Awake, wait_of}
+use Rattle.kernel_calls.specs.declared.prepared.Effect.{Effect}
+use Rattle.kernel_calls.specs.declared.prepared.Effect.TheVariants.{Nothing, TakesBytes, EndsGroup, EndsTask, SetsClear}
+use Rattle.kernel_calls.specs.declared.prepared.Effect.TheVariants.{Wakes, Reaps}
+use Rattle.proc_cells.specs.declared.cells.Cells.{Cells}
+use Rattle.call_table.specs.Parked.{same_made}
+use Rattle.call_table.specs.declared.entered.Entered.{Entered}
+
+-- whether an effect changes the task list
+-- exit_group(2), _exit(2), set_tid_address(2), wait4(2)
+abbrev pub changes_list : Effect → Bool
+changes_list Nothing = false
+changes_list (TakesBytes bytes) = false
+changes_list (EndsGroup ending) = true
+changes_list (EndsTask task ending) = true
+changes_list (SetsClear task address) = true
+changes_list (Wakes key most) = false
+changes_list (Reaps which) = true
+
+-- whether an entry puts its task to sleep
+-- futex(2), FUTEX_WAIT
+abbrev pub puts_to_sleep : Entry → Bool
+puts_to_sleep (Run task n) = false
+puts_to_sleep (Call task number args given reply) = false
+puts_to_sleep (End task signal) = false
+puts_to_sleep (Sleep task) = true
+
+-- What an entry of a task with this memory leaves as it was. Where it leaves the task list, all other tasks have their
+-- registers, and all other memories are as they were. Who lives has lived, but for one of a number above all. Who was
+-- off the futex list is off it, but for the task itself where it was put to sleep, and who lives and is off it was.
+-- profile
+pub record Moves (task : ℕ) (memory : Made) (made : Entered) (before after : Cells) : Type 0 where
+  pub tasks : made.tasks ≡ false → after.tasks ≡ before.tasks
+  pub registers : made.tasks ≡ false → (other : ℕ) → task ≢ other
+      → map.get after.registers other ≡ map.get before.registers other
+  pub spaces : made.tasks ≡ false → (name : Made) → same_made name memory ≡ false
+      → get_named after.spaces name.place name.index ≡ get_named before.spaces name.place name.index
+  pub last : before.tasks.last ≤ after.tasks.last
+  pub lives : (other : ℕ) → is_live after.tasks.tasks other ≡ true → is_live before.tasks.tasks other ≡ false
+      → (other ≡ after.tasks.last) × (before.tasks.last + 1 ≤ after.tasks.last)
+  pub off : (other : ℕ) → task ≢ other → wait_of before.sleepers other ≡ Awake → wait_of after.sleepers other ≡ Awake
+  pub was_off : (other : ℕ) → task ≢ other → is_live after.tasks.tasks other ≡ true
+      → wait_of after.sleepers other ≡ Awake → wait_of before.sleepers other ≡ Awake
+  pub itself : puts_to_sleep made.entry ≡ false → wait_of after.sleepers task ≡ Awake
+  pub asleep : puts_to_sleep made.entry ≡ true → wait_of after.sleepers task ≡ Awake → ⊥

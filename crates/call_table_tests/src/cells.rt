@@ -1,0 +1,30 @@
+//! The cells that tasks share: none at first, and then how each opening task stands there.
+
+use crate::guests::processes_of;
+use crate::turns::expect_live;
+use proc_cells::Cells;
+use sn_vectors::words::EBREAK;
+use std::test::Fail;
+use task_table::Made;
+
+#[test]
+fn no_task_lives_in_new_cells(rt: HostRuntime) {
+    let cells = Cells::new(rt.alloc());
+    assert!(rt; !cells.any_live());
+    let kernel = cells.into_kernel(rt.alloc(), 7);
+    assert_eq!(rt; kernel.tasks.last(), 0);
+    assert_eq!(rt; kernel.console.len(), 0);
+    assert_eq!(rt; kernel.entries, 7);
+}
+
+#[test]
+fn an_opening_task_stands_in_a_group_and_memory_of_its_number(rt: HostRuntime) -> Result<(), Fail> {
+    let processes = processes_of(rt.alloc(), &[&[EBREAK], &[EBREAK]])?;
+    expect_live(&rt, &processes, 2);
+    let standing = processes.cells.standing(2);
+    assert_eq!(rt; standing.group, 2);
+    let named_by_number = Made { place: 0, index: 2 };
+    assert_eq!(rt; standing.memory, named_by_number);
+    assert_eq!(rt; standing.registers.pc, 65_656);
+    Ok(())
+}
