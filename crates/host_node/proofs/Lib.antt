@@ -1,3 +1,4 @@
+pub mod Apart
 mod EntryLemmas
 mod Listings
 mod OrderLemmas

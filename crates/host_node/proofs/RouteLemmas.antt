@@ -1,17 +1,19 @@
 -- What stands where names lead in a host's tree after something was put there.
-use Rattle.std.proofs.Common.{◌≡◌, ℕ, Bool, true, false, cond, ◌&&◌, not, List, [], ◌∷◌, Option, Some, None, refl, sym, ap, ◌∙◌, option_and_then}
+use Rattle.std.proofs.Common.{◌≡◌, ℕ, Bool, true, false, cond, ◌&&◌, not, List, [], ◌∷◌, Option, Some, None, refl, sym}
+use Rattle.std.proofs.Common.{ap, ◌∙◌, option_and_then}
 use Rattle.std.specs.Option.{option_map_or}
 use Rattle.host_node.specs.declared.kind.Kind.TheVariants.{Dir}
 use Rattle.host_node.specs.Tree.{Shape, lent, is_lent, is_directory, child_of, with_child, none_lent}
 use Rattle.host_node.specs.Routes.{subtree, put_subtree, only_directory, directory_at, is_free}
-use Rattle.host_node.proofs.TreeLemmas.{directory_from_child, child_of-with_same, with_child_twice, with_child_found, none_lent-child_of, none_lent-with_child, is_lent-none_lent, second_part}
+use Rattle.host_node.proofs.TreeLemmas.{directory_from_child, child_of-with_same, with_child_twice, with_child_found}
+use Rattle.host_node.proofs.TreeLemmas.{none_lent-child_of, none_lent-with_child, is_lent-none_lent, second_part}
 
 -- a step of the way
-put_step : (name : List ℕ) (names : List (List ℕ)) (new t c : Shape) → child_of name t ≡ Some c
+pub put_step : (name : List ℕ) (names : List (List ℕ)) (new t c : Shape) → child_of name t ≡ Some c
     → put_subtree (name ∷ names) new t ≡ with_child name (put_subtree names new c) t
 put_step name names new t c h = ap (λ o. option_map_or (λ s. with_child name (put_subtree names new s) t) o t) h
 
-no_step : (name : List ℕ) (names : List (List ℕ)) (new t : Shape) → child_of name t ≡ None
+pub no_step : (name : List ℕ) (names : List (List ℕ)) (new t : Shape) → child_of name t ≡ None
     → put_subtree (name ∷ names) new t ≡ t
 no_step name names new t h = ap (λ o. option_map_or (λ s. with_child name (put_subtree names new s) t) o t) h
 

@@ -1,61 +1,21 @@
 -- Children that go back over a tree of which they were lent: it is as if none had been lent.
-use Rattle.std.proofs.Common.{◌≡◌, ℕ, ◌+◌, Bool, true, false, List, [], ◌∷◌, refl, ap, sym, ◌∙◌, subst}
-use Rattle.std.specs.Prelude.{Option, Some, None, option_map, is_some, if◌then◌else◌}
+use Rattle.std.proofs.Common.{◌≡◌, ℕ, ◌+◌, true, false, List, [], ◌∷◌, refl, ap, sym, ◌∙◌, subst}
+use Rattle.std.specs.Prelude.{Option, Some, None, option_map, is_some}
 use Rattle.std.specs.Str.{bytes_eq}
-use Rattle.std.proofs.lemmas.Slice.Eq.{bytes_eq-Decides}
-use Rattle.host_node.specs.Tree.{Shape, Children, directory, file, link, lent, no_children, child, kind_of}
-use Rattle.host_node.specs.Tree.{find_child, replace_child, put_child, child_of, with_child}
-use Rattle.host_node.specs.Tree.{lend_child}
-use Rattle.host_node.proofs.TreeLemmas.{put-replaces, find-replace_other, lend_child_found, with_child_twice}
-use Rattle.host_node.proofs.TreeLemmas.{child_of-with_other}
+use Rattle.host_node.specs.Tree.{Shape, lent, kind_of, child_of, with_child, lend_child}
+use Rattle.host_node.proofs.Apart.{apart, with_apart}
+use Rattle.host_node.proofs.TreeLemmas.{lend_child_found, with_child_twice, child_of-with_other}
 use Rattle.kernel_model.specs.declared.opening.Rise.{Rise}
 use Rattle.kernel_model.specs.files.FileTree.{with_plain}
 use Rattle.kernel_model.specs.files.Settled.{rise_in}
 use Rattle.image_walk.specs.Granted.{put_all}
 use Rattle.image_walk.specs.Loading.{faulted_by}
 use Rattle.image_walk.specs.Standing.{lend_all, IsNoneOf, AreThere, lent_from}
-use Rattle.image_walk.proofs.Trees.{apart, child_of-lend_other, child_of-lend_same}
+use Rattle.image_walk.proofs.Trees.{child_of-lend_other, child_of-lend_same}
 use Rattle.image_walk.proofs.Lending.{still_there}
 use Rattle.image_walk.proofs.Places.{IsThere}
 
 -- ---- two names
-
--- two entries are replaced in either order
-replace_apart : (n m : List ℕ) (x y : Shape) (cs : Children) → bytes_eq m n ≡ false
-    → replace_child n x (replace_child m y cs) ≡ replace_child m y (replace_child n x cs)
-replace_apart n m x y no_children d = refl
-replace_apart n m x y (child other s rest) d =
-    by (bytes_eq n other) (bytes_eq m other) refl refl (replace_apart n m x y rest d)
-  where
-    by : (b c : Bool) → bytes_eq n other ≡ b → bytes_eq m other ≡ c
-        → replace_child n x (replace_child m y rest) ≡ replace_child m y (replace_child n x rest)
-        → replace_child n x (if c then child other y rest else child other s (replace_child m y rest))
-        ≡ replace_child m y (if b then child other x rest else child other s (replace_child n x rest))
-    by true true e f more =
-        let one : n ≡ other = (bytes_eq-Decides n other).0 e in
-        let two : bytes_eq m n ≡ true = ap (bytes_eq m) one ∙ f in
-        absurd (cc (d, two))
-    by true false e f more = rw (e, f) refl
-    by false true e f more = rw (e, f) refl
-    by false false e f more = rw (e, f) (ap (child other s) more)
-
-put_apart : (n m : List ℕ) (x y : Shape) (cs : Children) → bytes_eq m n ≡ false → is_some (find_child n cs) ≡ true
-    → is_some (find_child m cs) ≡ true → put_child n x (put_child m y cs) ≡ put_child m y (put_child n x cs)
-put_apart n m x y cs d hn hm =
-    ap (put_child n x) (put-replaces m y cs hm)
-    ∙ put-replaces n x (replace_child m y cs) (ap is_some (find-replace_other n m y cs (apart m n d)) ∙ hn)
-    ∙ replace_apart n m x y cs d
-    ∙ sym (put-replaces m y (replace_child n x cs) (ap is_some (find-replace_other m n x cs d) ∙ hm))
-    ∙ sym (ap (put_child m y) (put-replaces n x cs hn))
-
--- two children that are there are put in either order
-with_apart : (n m : List ℕ) (x y t : Shape) → bytes_eq m n ≡ false → is_some (child_of n t) ≡ true
-    → is_some (child_of m t) ≡ true → with_child n x (with_child m y t) ≡ with_child m y (with_child n x t)
-with_apart n m x y (directory mode faults entries) d hn hm =
-    ap (directory mode faults) (put_apart n m x y entries d hn hm)
-with_apart n m x y (file bytes mode faults) d hn hm = refl
-with_apart n m x y (link text faults) d hn hm = refl
-with_apart n m x y (lent kind) d hn hm = refl
 
 there_some : (o : Option Shape) → IsThere o → is_some o ≡ true
 there_some None h = absurd h

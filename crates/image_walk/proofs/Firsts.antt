@@ -1,27 +1,14 @@
--- The nodes before any opening execve, and the numbers that are drawn after them.
-use Rattle.std.proofs.Common.{◌≡◌, ◌≢◌, ℕ, zero, suc, ◌+◌, ◌<◌, ◌^◌, Bool, true, false, List, [], ◌∷◌, ◌++◌, length}
+-- A granted folder before any opening execve, and the numbers that are drawn then.
+use Rattle.std.proofs.Common.{◌≡◌, ℕ, zero, suc, ◌+◌, ◌<◌, ◌^◌, Bool, true, false, List, [], ◌∷◌, ◌++◌, length}
 use Rattle.std.proofs.Common.{refl, ap, sym, ◌∙◌, arith}
 use Rattle.std.specs.Prelude.{Some, if◌then◌else◌}
-use Rattle.std.specs.FinMap as map
-use Rattle.sn_base.proofs.Maps.{get_of_empty, get-insert_same, get-insert_other}
 use Rattle.host_node.specs.Tree.{Shape, faults_of, none_lent}
 use Rattle.kernel_model.specs.entries.Given.{numbers_of}
-use Rattle.kernel_model.specs.files.FileTree.{root_node}
 use Rattle.kernel_model.specs.files.Numbers.{count_up}
-use Rattle.kernel_model.specs.opening.Opening.{rooted}
 use Rattle.image_walk.specs.declared.granted.Numbering.{Numbering}
-use Rattle.image_walk.specs.Standing.{Stands, AreNodes}
+use Rattle.image_walk.specs.Standing.{Stands}
 use Rattle.image_walk.specs.Executing.{fresh_for}
 use Rattle.image_walk.proofs.Trees.{faulted_by_none}
-
-pub first_nodes : (num : Numbering) (low : num.root < num.first) (t : Shape)
-    → AreNodes num (rooted num.root (t ∷ [])) t []
-first_nodes num low t = record {
-  root = get-insert_same _ num.root (root_node num.root t);
-  children = λ ino h.
-      let differs : num.root ≢ ino = λ e. absurd (omega arith) in
-      get-insert_other map.empty num.root ino (root_node num.root t) differs ∙ get_of_empty ino;
-}
 
 pub first_stands : (num : Numbering) (t : Shape) → faults_of t < 2 ^ 64 → none_lent t ≡ true → Stands num t [] []
     (Some t) []

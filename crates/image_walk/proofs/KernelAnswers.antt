@@ -1,11 +1,11 @@
 -- What a kernel's opening execve comes to is what was answered, and leaves the nodes that then stand.
-use Rattle.std.proofs.Common.{◌≡◌, ℕ, ◌+◌, ◌≤◌, Bool, true, false, List, [], ◌∷◌, ◌++◌, length, refl, ap}
-use Rattle.std.proofs.Common.{sym, ◌∙◌, subst}
-use Rattle.std.specs.Prelude.{Option, Ok, Err, unwrap_or, if◌then◌else◌}
+use Rattle.std.proofs.Common.{◌≡◌, ◌≢◌, ℕ, ◌+◌, ◌<◌, ◌≤◌, Bool, true, false, List, [], ◌∷◌, ◌++◌, length, refl, ap}
+use Rattle.std.proofs.Common.{sym, ◌∙◌, subst, arith, inl, inr}
+use Rattle.std.specs.Prelude.{Option, None, Ok, Err, unwrap_or, if◌then◌else◌}
 use Rattle.std.specs.Ordering.{nat_cmp}
 use Rattle.std.specs.FinMap as map
 use Rattle.sn_base.specs.Sums.{capped}
-use Rattle.sn_base.proofs.Maps.{get_of_empty}
+use Rattle.sn_base.proofs.Maps.{get_of_empty, get-insert_other}
 use Rattle.host_node.specs.Tree.{Shape, child_of}
 use Rattle.sn_errno.specs.declared.errno.Errno.{Errno}
 use Rattle.sn_errno.specs.declared.errno.Errno.TheVariants.{EIO, E2BIG}
@@ -20,15 +20,15 @@ use Rattle.kernel_model.specs.files.Settled.{tree_now}
 use Rattle.kernel_model.specs.entries.Given.{node_changes, risen, may_meet}
 use Rattle.kernel_model.specs.entries.Parts.{parts, outcome_in, Change, changed}
 use Rattle.kernel_model.specs.opening.Arguments.{is_too_long}
-use Rattle.kernel_model.specs.opening.Opening.{Walked, Executed, execve_of, by_walk, unwalked}
+use Rattle.kernel_model.specs.opening.Opening.{Walked, execve_of, by_walk, unwalked}
 use Rattle.kernel_model.specs.opening.Opening as opening
 use Rattle.image_walk.specs.declared.granted.Numbering.{Numbering}
 use Rattle.image_walk.specs.declared.loading.Answer.{Answer}
 use Rattle.image_walk.specs.declared.loading.Answer.TheVariants.{Starts, Refuses}
 use Rattle.image_walk.specs.Granted.{Child, GivesBack}
-use Rattle.image_walk.specs.Standing.{IsNumbering, IsNoneOf, AreNodes, AreThere, Stands}
+use Rattle.image_walk.specs.Standing.{IsNumbering, IsNoneOf, AreNodes, AreThere, KeepsRoots, Stands}
 use Rattle.image_walk.specs.Standing.{no_left}
-use Rattle.image_walk.specs.Executing.{walked_among, fresh_for, named_then, AnswersBy, Answers, Executes}
+use Rattle.image_walk.specs.Executing.{HasNumber, walked_among, fresh_for, named_then, AnswersBy, Answers, Executes}
 use Rattle.image_walk.proofs.Places.{IsThere}
 use Rattle.image_walk.proofs.KernelWalk.{has_nodes, execve_is, HasNodes}
 use Rattle.image_walk.proofs.KernelNumbers.{nodes_then, Draws, by_walk_quiet, by_walk_failing, number_some}
@@ -72,6 +72,16 @@ answers_by num true walked drawn count rises answer h =
     (subst (λ (a : Answer). AnswersBy num unwalked drawn count [] a) (sym h.2)
     (ap (λ d. record { draws = d; image = Err E2BIG }) (sym h.0)))
 
+-- no count of the other roots rose
+abbrev pub AreStill : Numbering → (failed : map.FinMap nat_cmp ℕ) → Type 0
+AreStill num failed = (ino : ℕ) → ino ≢ num.root → ino < num.first → map.get failed ino ≡ None
+
+-- a node that failed is the root or a child, and no other root
+other_root : (num : Numbering) (count ino other : ℕ) → HasNumber num count ino → other ≢ num.root → other < num.first
+    → ino ≢ other
+other_root num count ino other (inl e) differs low = λ same. differs (sym same ∙ e)
+other_root num count ino other (inr h) differs low = λ same. absurd (let from : num.first ≤ ino = h.0 in omega arith)
+
 -- the image begins: what was drawn and met may be, the changes that it begins with, and the nodes then
 pub record Started (num : Numbering) (k : Kernel) (t : Shape) (names : List (List ℕ)) (p : Program) (given : Given)
     (image : Image) : Type 0 where
@@ -79,16 +89,19 @@ pub record Started (num : Numbering) (k : Kernel) (t : Shape) (names : List (Lis
   pub may : may_meet k.nodes given ≡ true
   pub comes : outcome_in (parts k) (execve_of num.root p given) ≡ opening.Starts image changes
   pub nodes : AreNodes num (changed changes k).nodes t names
+  pub others : KeepsRoots num k.nodes (changed changes k).nodes
   pub rest : changed changes k ≡ record k { nodes = (changed changes k).nodes }
 
--- the execve fails: what was drawn and met may be, the changes that it leaves, and that the root's tree then is what
--- the nodes give back
+-- the execve fails: what was drawn and met may be, the changes that it leaves, that the root's tree then is what the
+-- nodes give back, and that the other roots stand
 pub record Failed (num : Numbering) (k : Kernel) (p : Program) (given : Given) (errno : Errno) (root : Option Shape)
     (children : List Child) : Type 0 where
   pub changes : List Change
   pub may : may_meet k.nodes given ≡ true
   pub comes : outcome_in (parts k) (execve_of num.root p given) ≡ opening.Fails errno changes
   pub settles : GivesBack root children (tree_now (changed changes k) no_left num.root)
+  pub others : KeepsRoots num k.nodes (changed changes k).nodes
+  pub still : AreStill num (changed changes k).failed
 
 module _ (num : Numbering) (facts : IsNumbering num) (k : Kernel) (t : Shape) (names : List (List ℕ)) (name : List ℕ)
     (given : Given) (answer : Answer)
@@ -154,6 +167,7 @@ module _ (num : Numbering) (facts : IsNumbering num) (k : Kernel) (t : Shape) (n
         comes =
             executed_by [] r ∙ by_walk_quiet num facts (parts k) t names name has e.drawn (Ok image) walked drawing h;
         nodes = left.nodes;
+        others = left.others;
         rest = left.rest;
       }
       by (x ∷ []) r h = absurd (let same = h.0 in cc)
@@ -182,6 +196,26 @@ module _ (num : Numbering) (facts : IsNumbering num) (k : Kernel) (t : Shape) (n
       (named_then e.drawn names name) x root children left.nodes (risen_once x)
       (subst (λ (rs : List Rise). Stands num t (named_then e.drawn names name) rs root children) r e.stands))
 
+  -- no count of another root rises, where none rose or that of one node that has a number
+  still_quiet : AreStill num (changed drawn_changes k).failed
+  still_quiet = λ ino differs low.
+      ap (λ (x : Kernel). map.get x.failed ino) left.rest
+      ∙ ap (λ (m : map.FinMap nat_cmp ℕ). map.get m ino) failed ∙ get_of_empty ino
+
+  still_faulted : (x : Rise) → HasNumber num (length (named_then e.drawn names name)) x.ino
+      → AreStill num (changed (risen_changes x) k).failed
+  still_faulted x number = λ ino differs low.
+      ap (λ (after : Kernel). map.get after.failed ino)
+      (changed-more drawn_changes (OfFaults, risen (x ∷ []) k.failed) k)
+      ∙ ap (λ (m : map.FinMap nat_cmp ℕ). map.get m ino) (risen_once x)
+      ∙ get-insert_other map.empty x.ino ino (capped (0 + x.count)) (other_root num _ x.ino ino number differs low)
+      ∙ get_of_empty ino
+
+  others_faulted : (x : Rise) → KeepsRoots num k.nodes (changed (risen_changes x) k).nodes
+  others_faulted x =
+      subst (λ (after : Kernel). KeepsRoots num k.nodes after.nodes)
+      (sym (changed-more drawn_changes (OfFaults, risen (x ∷ []) k.failed) k)) left.others
+
   pub execve_fails : (errno : Errno) → answer ≡ Refuses errno → Failed num k p given errno root children
   execve_fails errno is =
       by given.rises refl (subst
@@ -196,6 +230,8 @@ module _ (num : Numbering) (facts : IsNumbering num) (k : Kernel) (t : Shape) (n
         comes =
             executed_by [] r ∙ by_walk_quiet num facts (parts k) t names name has e.drawn (Err errno) walked drawing h;
         settles = settles_quiet r;
+        others = left.others;
+        still = still_quiet;
       }
       by (x ∷ []) r h =
           let same : EIO ≡ errno = let refused = h.0 in cc in
@@ -208,6 +244,8 @@ module _ (num : Numbering) (facts : IsNumbering num) (k : Kernel) (t : Shape) (n
                 (number_some num facts _ x.ino h.2)
                 ∙ ap (λ errno. opening.Fails errno (risen_changes x)) same;
             settles = settles_faulted x r;
+            others = others_faulted x;
+            still = still_faulted x h.2;
           }
       by (x ∷ y ∷ rises) r h = absurd h
 

@@ -6,11 +6,12 @@ use Rattle.std.specs.FinMap as map
 use Rattle.sn_base.proofs.Maps.{get-insert_same, get-insert_other}
 use Rattle.host_node.specs.Tree.{Shape, child_of}
 use Rattle.kernel_model.specs.declared.kernel.Kernel.{Kernel}
+use Rattle.kernel_model.specs.declared.kernel.Node.{Node}
 use Rattle.kernel_model.specs.files.FileTree.{Nodes, child_node, numbered_in}
 use Rattle.kernel_model.specs.entries.Given.{node_changes}
 use Rattle.kernel_model.specs.entries.Parts.{Change, changed}
 use Rattle.image_walk.specs.declared.granted.Numbering.{Numbering}
-use Rattle.image_walk.specs.Standing.{lend_all, numbers_from, root_with, HaveNodes, AreNodes}
+use Rattle.image_walk.specs.Standing.{lend_all, numbers_from, root_with, HaveNodes, AreNodes, KeepsRoots}
 use Rattle.image_walk.specs.Executing.{named_then}
 use Rattle.image_walk.proofs.Lending.{lend_all-more}
 use Rattle.image_walk.proofs.Places.{IsThere}
@@ -98,11 +99,21 @@ are_more num low nodes t names name x a e = record {
       (sym e));
 }
 
+-- the other roots are not among those that changed
+roots_more : (num : Numbering) (nodes : Nodes) (last : ℕ) (root child : Node) → num.first ≤ last
+    → KeepsRoots num nodes (map.insert (map.insert nodes num.root root) last child)
+roots_more num nodes last root child high = λ ino differs low.
+    let above : last ≢ ino = λ e. absurd (omega arith) in
+    let other : num.root ≢ ino = λ e. differs (sym e) in
+    get-insert_other (map.insert nodes num.root root) last ino child above
+    ∙ get-insert_other nodes num.root ino root other
+
 -- ---- what changes leave
 
--- the kernel with changed nodes, and the same otherwise but for counts that rose
+-- the kernel with changed nodes, and the same otherwise but for counts that rose; the other roots stand
 pub record Leaves (num : Numbering) (k after : Kernel) (t : Shape) (names : List (List ℕ)) : Type 0 where
   pub nodes : AreNodes num after.nodes t names
+  pub others : KeepsRoots num k.nodes after.nodes
   pub rest : after ≡ record k { nodes = after.nodes }
 
 leaves_drawn : (num : Numbering) (low : num.root < num.first) (k : Kernel) (t : Shape) (names : List (List ℕ))
@@ -111,14 +122,20 @@ leaves_drawn : (num : Numbering) (low : num.root < num.first) (k : Kernel) (t : 
     → Leaves num k (changed (node_changes (nodes_drawn num t names name o)) k) t (names ++ name ∷ [])
 leaves_drawn num low k t names name None a e there = absurd there
 leaves_drawn num low k t names name (Some x) a e there =
-    record { nodes = are_more num low k.nodes t names name x a e; rest = refl }
+    record {
+      nodes = are_more num low k.nodes t names name x a e;
+      others =
+          let high : num.first ≤ length names + num.first = omega arith in
+          roots_more num k.nodes (length names + num.first) _ _ high;
+      rest = refl;
+    }
 
 pub leaves : (num : Numbering) (low : num.root < num.first) (drawn : Bool) (k : Kernel) (t : Shape)
     (names : List (List ℕ)) (name : List ℕ) → AreNodes num k.nodes t names
     → Draws num t names name drawn
     → Leaves num k (changed (node_changes (nodes_then num drawn t names name)) k) t (named_then drawn names name)
 leaves num low true k t names name a d = leaves_drawn num low k t names name (child_of name t) a refl (d.there refl)
-leaves num low false k t names name a d = record { nodes = a; rest = refl }
+leaves num low false k t names name a d = record { nodes = a; others = λ ino differs below. refl; rest = refl }
 
 -- one more change
 pub changed-more : (changes : List Change) (change : Change) (k : Kernel)

@@ -4,7 +4,8 @@ use Rattle.std.specs.Prelude.{Option, Some, None, IsSomeAnd, ⊤}
 use Rattle.host_node.specs.Tree.{Shape, faults_of, is_lent, is_directory, child_of, lend_child}
 use Rattle.kernel_model.specs.files.FileTree.{owner_executes}
 use Rattle.image_walk.specs.Standing.{lend_all, IsNoneOf, AreThere}
-use Rattle.image_walk.proofs.Trees.{apart, faults_of-lend, is_directory-lend, owner_executes-lend, child_of-lend_other}
+use Rattle.host_node.proofs.Apart.{apart}
+use Rattle.image_walk.proofs.Trees.{faults_of-lend, is_directory-lend, owner_executes-lend, child_of-lend_other}
 use Rattle.image_walk.proofs.Trees.{child_of-lend_same}
 
 -- what a directory keeps where children are lent: its count,

@@ -14,7 +14,8 @@ use Rattle.image_walk.specs.declared.granted.Numbering.{Numbering}
 use Rattle.image_walk.specs.Granted.{Child, place_of}
 use Rattle.image_walk.specs.Loading.{faulted_by}
 use Rattle.image_walk.specs.Standing.{lend_all, IsNoneOf, AreThere, lent_from, numbers_from, Stands}
-use Rattle.image_walk.proofs.Trees.{apart, faulted_by_none, free_child}
+use Rattle.host_node.proofs.Apart.{apart}
+use Rattle.image_walk.proofs.Trees.{faulted_by_none, free_child}
 use Rattle.image_walk.proofs.Lending.{faults_of-lend_all, is_directory-lend_all, child_of-lend_all}
 
 -- a child that is there, and is not lent in its tree

@@ -12,7 +12,8 @@ use Rattle.image_walk.specs.declared.granted.Numbering.{Numbering}
 use Rattle.image_walk.specs.Granted.{Child, place_of}
 use Rattle.image_walk.specs.Loading.{faulted_by}
 use Rattle.image_walk.specs.Standing.{lend_all, IsNoneOf, AreThere, lent_from, Stands}
-use Rattle.image_walk.proofs.Trees.{apart, faulted_by_none}
+use Rattle.host_node.proofs.Apart.{apart}
+use Rattle.image_walk.proofs.Trees.{faulted_by_none}
 use Rattle.image_walk.proofs.Lending.{faults_of-lend_all, lend_all-more}
 use Rattle.image_walk.proofs.Places.{IsThere, placed}
 

@@ -3,7 +3,6 @@ use Rattle.std.proofs.Common.{◌≡◌, ℕ, ◌+◌, ◌<◌, ◌^◌, true, f
 use Rattle.std.specs.Prelude.{Option, Some, None, IfSome}
 use Rattle.std.specs.Option.{option_map_or}
 use Rattle.std.specs.Str.{bytes_eq}
-use Rattle.std.proofs.lemmas.Cmp.{nat_list_eq_equiv}
 use Rattle.sn_base.specs.Sums.{capped}
 use Rattle.host_node.specs.Tree.{Shape, Children, directory, file, link, lent, kind_of, faults_of, with_faults, is_lent}
 use Rattle.host_node.specs.Tree.{is_directory, find_child, replace_child, child_of, lend_in, lend_child}
@@ -13,10 +12,6 @@ use Rattle.host_node.proofs.TreeLemmas.{directory_from_child, children_of-with_f
 use Rattle.host_node.proofs.TreeLemmas.{is_lent-none_lent}
 use Rattle.kernel_model.specs.files.FileTree.{owner_executes}
 use Rattle.image_walk.specs.Loading.{faulted_by}
-
--- two names that differ, the other way round
-pub apart : (m name : List ℕ) → bytes_eq m name ≡ false → bytes_eq name m ≡ false
-apart m name e = nat_list_eq_equiv.symm name m ∙ e
 
 -- a count that did not rise
 pub faulted_by_none : (s : Shape) → faults_of s < 2 ^ 64 → faulted_by 0 s ≡ s

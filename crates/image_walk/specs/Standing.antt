@@ -1,6 +1,6 @@
 -- A granted tree of which children of the root were lent, and the kernel's nodes that it then is.
-use Rattle.std.specs.Prelude.{◌≡◌, ℕ, ◌+◌, ◌<◌, ◌≤◌, ◌^◌, List, [], ◌∷◌, true, false, Option, Some, None, IsSomeAnd, ⊤}
-use Rattle.std.specs.Prelude.{option_map}
+use Rattle.std.specs.Prelude.{◌≡◌, ◌≢◌, ℕ, ◌+◌, ◌<◌, ◌≤◌, ◌^◌, List, [], ◌∷◌, true, false, Option, Some, None}
+use Rattle.std.specs.Prelude.{IsSomeAnd, ⊤, option_map}
 use Rattle.std.specs.Str.{bytes_eq}
 use Rattle.std.specs.FinMap as map
 use Rattle.host_node.specs.Tree.{Shape, faults_of, child_of, lend_child, is_lent, none_lent}
@@ -83,6 +83,11 @@ HaveNodes num nodes n t (name ∷ names) =
 pub record AreNodes (num : Numbering) (nodes : Nodes) (t : Shape) (names : List (List ℕ)) : Type 0 where
   pub root : map.get nodes num.root ≡ Some (root_with num t names)
   pub children : HaveNodes num nodes num.first t names
+
+-- the nodes of the other roots, whose numbers are below those of children, are as they were
+-- inode(7), st_ino
+abbrev pub KeepsRoots : Numbering → (before after : Nodes) → Type 0
+KeepsRoots num before after = (ino : ℕ) → ino ≢ num.root → ino < num.first → map.get after ino ≡ map.get before ino
 
 -- nothing that reached no entry, and nothing lent
 -- profile

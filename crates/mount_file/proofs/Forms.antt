@@ -1,6 +1,7 @@
--- A mount file that is read has one mount, at `/`, and at most 64 tasks, each with a path of `/` and a name.
+-- A mount file that is read has a mount at `/`, as many mounts as may be, no two of which clash, and at most 64 tasks,
+-- each with a path of `/` and a name.
 use Rattle.std.proofs.Common.{◌≡◌, ℕ, ℤ, pos, negsuc, ◌≤◌, nat_le, List, [], ◌∷◌, length, Bool, true}
-use Rattle.std.proofs.Common.{false, ◌&&◌, ◌||◌, ◌==◌, not, Option, Some, None, option_map, option_and_then, is_none}
+use Rattle.std.proofs.Common.{false, ◌&&◌, ◌==◌, not, Option, Some, None, option_map, option_and_then, is_none}
 use Rattle.std.proofs.Common.{inl, inr, Result, Ok, Err, IfOk, refl, ap, sym, subst, ◌∙◌, arith}
 use Rattle.std.specs.Prelude.{if◌then◌else◌, codes}
 use Rattle.std.specs.Option.{option_map_or}
@@ -14,10 +15,9 @@ use Rattle.mount_file.specs.Form.{HasForm, IsNamed, AreNamed}
 use Rattle.mount_file.specs.Keys.{has_keys}
 use Rattle.mount_file.specs.MountFile.{ruled, document_read, IsMountFile}
 use Rattle.mount_file.specs.Read.{Reads}
-use Rattle.mount_file.specs.Rules.{has_root, has_clash, has_too_many, rule_broken}
+use Rattle.mount_file.specs.Rules.{has_root, has_clash, has_too_many, most_mounts, most_tasks, rule_broken}
 use Rattle.mount_file.specs.Tables.{each_in, some_tasks, texts_at, mount_in, task_in, mounts_in}
 use Rattle.mount_file.specs.Values.{entries_in, seed_in, hex_bytes, path_in, is_name}
-use Rattle.mount_file.specs.declared.mounts.Mount.{Mount}
 use Rattle.mount_file.specs.declared.mounts.MountFault.{MountFault}
 use Rattle.mount_file.specs.declared.mounts.MountFault.TheVariants.{Field, Range, NoRoot, Twice, TooMany}
 use Rattle.mount_file.specs.declared.mounts.Mounts.{Mounts}
@@ -130,43 +130,28 @@ answered true (Some n) m is =
 
 unbroken : (root clash many : Bool) → ◌≡◌ {A = Option MountFault}
     (if not root then Some NoRoot else if clash then Some Twice else if many then Some TooMany else None) None
-    → (root ≡ true) × (many ≡ false)
+    → (root ≡ true) × (clash ≡ false) × (many ≡ false)
 unbroken false clash many is = cc
 unbroken true true many is = cc
 unbroken true false true is = cc
-unbroken true false false is = (refl, refl)
+unbroken true false false is = (refl, refl, refl)
 
-few : (m : Mounts) → has_too_many m ≡ false → (length m.mounts ≤ 1) × (length m.tasks ≤ 64)
+few : (m : Mounts) → has_too_many m ≡ false → (length m.mounts ≤ most_mounts) × (length m.tasks ≤ most_tasks)
 few m is = grind (arith, nat_tests)
-
-either : (b : Bool) → (b || false) ≡ true → b ≡ true
-either true is = refl
-either false is = cc
-
-at_none : (o : Option (List ℕ)) → is_none o ≡ true → o ≡ None
-at_none None is = refl
-at_none (Some x) is = cc
-
-one_mount : (ms : List Mount) → has_root ms ≡ true → length ms ≤ 1
-    → (mount : Mount) × (ms ≡ mount ∷ []) × (mount.at ≡ None)
-one_mount [] root few = cc
-one_mount (mount ∷ []) root few = (mount, refl, at_none mount.at (either (is_none mount.at) root))
-one_mount (mount ∷ other ∷ ms) root few = absurd (omega arith)
 
 form_in : (d : Members) (m : Mounts) → document_read d ≡ Ok m → HasForm m
 form_in d m is =
     let (says, no_rule) = answered (has_keys d) (mounts_in d) m is in
-    let (root, not_many) = unbroken (has_root m.mounts) (has_clash m.mounts) (has_too_many m) no_rule in
+    let (root, no_clash, not_many) = unbroken (has_root m.mounts) (has_clash m.mounts) (has_too_many m) no_rule in
     let (few_mounts, few_tasks) = few m not_many in
     let p = parts d m says in
-    let (mount, mounts_are, at_root) = one_mount m.mounts root few_mounts in
     record {
       some_entries = p.entries.0;
       few_entries = p.entries.1;
       seed = p.seed;
-      mount = mount;
-      mounts_are = mounts_are;
-      at_root = at_root;
+      rooted = root;
+      apart = no_clash;
+      few_mounts = few_mounts;
       some_tasks = p.some;
       few_tasks = few_tasks;
       named = p.named;

@@ -4,9 +4,10 @@
 //! file's order, as records and lists.
 //!
 //! Proved: `read_mounts` answers what the bytes say (`ok`), or their first fault and no other (`fault`, `faulty`), or
-//! want of memory; what it answers so far has one mount, at `/`, and 1 to 64 tasks, each with a path of `/` and a name
-//! (`form`). Bytes say one thing at most and have one first fault at most (`mounts_same`, `fault_same`, `no_fault` in
-//! `proofs/`). `Mount::copy` and `copied_mounts` answer the same mounts, in memory of their own.
+//! want of memory; what it answers has a mount at `/`, no two that clash and so far no more than one, and 1 to 64
+//! tasks, each with a path of `/` and a name (`form`). Bytes say one thing at most and have one first fault at most
+//! (`mounts_same`, `fault_same`, `no_fault` in `proofs/`). `Mount::copy` and `copied_mounts` answer the same mounts, in
+//! memory of their own.
 //!
 //! Not said: whether the folders and images are there, and when memory runs out.
 //!

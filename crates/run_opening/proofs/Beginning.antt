@@ -2,14 +2,15 @@
 use Rattle.std.proofs.Common.{◌≡◌, ℕ, ◌+◌, ◌<◌, ◌≤◌, Bool, true, false, List, [], ◌∷◌, ◌++◌, length, drop, refl, ap}
 use Rattle.std.proofs.Common.{sym, ◌∙◌}
 use Rattle.std.proofs.Common.{subst, arith, length-append}
-use Rattle.std.specs.Prelude.{Option, Some, None, Result, Ok, Err, IfOk, IfErr, IsErrAnd, slice_get, if◌then◌else◌}
-use Rattle.std.specs.Prelude.{is_some}
+use Rattle.std.specs.Prelude.{Option, Some, None, Result, Ok, Err, IfOk, IfErr, IsErrAnd, OnErr, slice_get}
+use Rattle.std.specs.Prelude.{if◌then◌else◌}
 use Rattle.std.proofs.lemmas.List.{append_assoc, append-nil, drop_more}
 use Rattle.std.proofs.lemmas.Option.{get_or_from_slice_get, slice_get_within}
 use Rattle.host_node.specs.Tree.{Shape}
 use Rattle.sn_errno.specs.declared.errno.Errno.{Errno}
 use Rattle.elf_image.specs.declared.image.Image.{Image as Executable}
 use Rattle.mount_file.specs.Form.{HasForm}
+use Rattle.mount_file.specs.Rules.{most_mounts}
 use Rattle.mount_file.specs.declared.mounts.Mounts.{Mounts}
 use Rattle.mount_file.specs.declared.mounts.Program.{Program}
 use Rattle.task_table.specs.Table.{TaskTable}
@@ -29,28 +30,26 @@ use Rattle.image_walk.specs.declared.loading.Answer.{Answer}
 use Rattle.image_walk.specs.declared.loading.Answer.TheVariants as answers
 use Rattle.image_walk.specs.Executing.{Executes, named_then}
 use Rattle.image_walk.specs.Granted.{Child}
-use Rattle.image_walk.specs.Standing.{IsNumbering, Stands, AreNodes}
+use Rattle.image_walk.specs.Standing.{IsNumbering, Stands}
 use Rattle.image_walk.specs.Walking.{IsGrant, IsRoot, IsSilent}
 use Rattle.image_walk.proofs.KernelAnswers.{Started, Failed, execve_starts, execve_fails, stands_on}
-use Rattle.image_walk.proofs.Firsts.{first_nodes}
 use Rattle.image_walk.proofs.Places.{root_is}
 use Rattle.call_table.specs.declared.processes.Processes.{Processes}
-use Rattle.call_table.specs.Beside.{Beside}
+use Rattle.proc_cells.specs.Beside.{Beside}
 use Rattle.call_table.specs.Processes.{kernel_of}
 use Rattle.run_opening.specs.declared.opening.OpenErr.{OpenErr}
 use Rattle.run_opening.specs.declared.opening.OpenErr.TheVariants.{Image, Memory}
-use Rattle.run_opening.specs.Openings.{Begins, HasBegun, IsRefused, IsStanding, Stops, beside_of, numbering_of}
+use Rattle.run_opening.specs.Openings.{Begins, HasBegun, IsRefused, IsStanding, StandsStill, Stops, beside_of}
+use Rattle.run_opening.specs.Openings.{numbering_of}
+use Rattle.run_opening.specs.Trees.{AreOthers, Others, trees_with}
+use Rattle.run_opening.proofs.Roots.{are_nodes, have_trees, root_within}
 
--- ---- the numbers, where there is the one mount at `/`
-
-pub root_one : (m : Mounts) → HasForm m → root_of m.mounts ≡ 1
-root_one m form =
-    ap root_of form.mounts_are ∙ ap (λ (place : Option (List ℕ)). if is_some place then 2 else 1) form.at_root
+-- ---- the numbers
 
 pub are_numbering : (m : Mounts) → HasForm m → IsNumbering (numbering_of m.mounts)
 are_numbering m form =
-    let root : root_of m.mounts ≡ 1 = root_one m form in
-    let count : length m.mounts ≡ 1 = ap length form.mounts_are in
+    let within = root_within 1 m.mounts form.rooted in
+    let few : length m.mounts ≤ most_mounts = form.few_mounts in
     (omega arith, omega arith, omega arith)
 
 -- ---- an execve
@@ -75,9 +74,9 @@ next_programs programs i p e =
     drop_more programs i p (slice_get_within programs i p e)
     ∙ ap (λ q. q ∷ drop (i + 1) programs) (get_or_from_slice_get programs i p p e)
 
-module _ (m : Mounts) (t : Shape) (i : ℕ) (tasks tasks' : List Opened) (p : Processes) (program : Program)
-    (name : List ℕ) (o : Opened) (root root' : Option Shape) (children children' : List Child)
-    (h : HasBegun m t i tasks p root children) (at : slice_get m.tasks i ≡ Some program)
+module _ (m : Mounts) (others : Others) (t : Shape) (i : ℕ) (tasks tasks' : List Opened) (p : Processes)
+    (program : Program) (name : List ℕ) (o : Opened) (root root' : Option Shape) (children children' : List Child)
+    (h : HasBegun m others t i tasks p root children) (at : slice_get m.tasks i ≡ Some program)
     (path : program.path ≡ 47 ∷ name) (few : i < 64) (pushed : tasks' ≡ tasks ++ o ∷ [])
     (facts : IsNumbering (numbering_of m.mounts)) where
   abbrev num : Numbering
@@ -94,11 +93,11 @@ module _ (m : Mounts) (t : Shape) (i : ℕ) (tasks tasks' : List Opened) (p : Pr
 
   -- what is left comes to what the next execve does, where what it drew and met may be
   next : (rest : List Opened) → may_meet h.nodes o.given ≡ true
-      → tasks_begun 1 m.tasks (tasks' ++ rest) (bare m (t ∷ []))
+      → tasks_begun 1 m.tasks (tasks' ++ rest) (bare m (trees_with others t))
       ≡ task_begun (tasks_begun (i + 1 + 1) (drop (i + 1) m.tasks) rest) (with_task (i + 1) program) (i + 1) k
       (outcome_in (parts k) (execve_of num.root program o.given))
   next rest may =
-      ap (λ os. tasks_begun 1 m.tasks os (bare m (t ∷ [])))
+      ap (λ os. tasks_begun 1 m.tasks os (bare m (trees_with others t)))
       (ap (λ os. os ++ rest) pushed ∙ append_assoc tasks (o ∷ []) rest)
       ∙ h.begun (o ∷ rest)
       ∙ ap (λ ps. tasks_begun (i + 1) ps (o ∷ rest) k) (next_programs m.tasks i program at)
@@ -112,9 +111,9 @@ module _ (m : Mounts) (t : Shape) (i : ℕ) (tasks tasks' : List Opened) (p : Pr
   module _ (image : Executable) (more : Processes)
       (e : Executes num (is_too_long program.args program.env) t h.names name o.given (answers.Starts image) root'
       children')
-      (last : p.tasks.last ≡ i)
+      (last : p.cells.tasks.last ≡ i)
       (begun : (beside : Beside) (n : ℕ) → beside.seed ≡ m.seed → root_of beside.mounts ≡ root_of m.mounts
-      → kernel_of more beside n ≡ with_task (p.tasks.last + 1) program image (kernel_of p beside n)) where
+      → kernel_of more beside n ≡ with_task (p.cells.tasks.last + 1) program image (kernel_of p beside n)) where
     started : Started num k t (named_then e.drawn h.names name) program o.given image
     started =
         execve_starts num facts k t h.names name o.given
@@ -130,12 +129,14 @@ module _ (m : Mounts) (t : Shape) (i : ℕ) (tasks tasks' : List Opened) (p : Pr
         ∙ ap (λ n. with_task (n + 1) program image (kernel_of p (beside_of m nodes') 0)) (sym last)
         ∙ sym (begun (beside_of m nodes') 0 refl refl)
 
-    pub task_begins : HasBegun m t (i + 1) tasks' more root' children'
+    pub task_begins : HasBegun m others t (i + 1) tasks' more root' children'
     task_begins = record {
+      beside = h.beside;
       names = named_then e.drawn h.names name;
       nodes = nodes';
       stands = stands_on num (is_too_long program.args program.env) t h.names name o.given image root' children' e;
       are = started.nodes;
+      kept = λ ino differs low. started.others ino differs low ∙ h.kept ino differs low;
       few =
           let named : length (named_then e.drawn h.names name) ≤ length h.names + 1 = named_few e.drawn h.names name in
           let before : length h.names ≤ i = h.few in
@@ -158,25 +159,40 @@ module _ (m : Mounts) (t : Shape) (i : ℕ) (tasks tasks' : List Opened) (p : Pr
         (answers.Refuses errno) root' children' program path h.are refl room e
         errno refl
 
-    pub task_refused : (task : ℕ) → task ≡ i + 1 → IsRefused m t tasks' task errno root' children'
+    pub task_refused : (task : ℕ) → task ≡ i + 1 → IsRefused m others t tasks' task errno root' children'
     task_refused task is = record {
       left = changed failed.changes k;
       refuses =
-          ap (λ os. tasks_begun 1 m.tasks os (bare m (t ∷ []))) (sym (append-nil tasks'))
+          ap (λ os. tasks_begun 1 m.tasks os (bare m (trees_with others t))) (sym (append-nil tasks'))
           ∙ next [] failed.may
           ∙ ap (task_begun (tasks_begun (i + 1 + 1) (drop (i + 1) m.tasks) []) (with_task (i + 1) program) (i + 1) k)
           failed.comes
           ∙ ap (λ n. Refuses (changed failed.changes k) n errno) (sym is);
       settles = failed.settles;
+      others_keep = λ after tree.
+          have_trees m.mounts others t after (changed failed.changes k) h.beside
+          (λ ino differs low. failed.others ino differs low ∙ h.kept ino differs low) failed.still tree;
     }
 
--- the folder stands, whatever an execve answers
+-- the folder stands, whatever an execve answers,
 pub standing : (num : Numbering) (long : Bool) (t : Shape) (names : List (List ℕ)) (name : List ℕ) (given : Given)
     (answer : Answer)
     (root : Option Shape) (children : List Child)
     → Executes num long t names name given answer root children → IsStanding num t root children
 standing num long t names name given answer root children e =
     record { names = named_then e.drawn names name; rises = given.rises; stands = e.stands }
+
+-- and no count has risen where an image begins
+stands_then : (num : Numbering) (long : Bool) (t : Shape) (names : List (List ℕ)) (name : List ℕ) (given : Given)
+    (image : Executable) (answer : Answer) (root : Option Shape) (children : List Child)
+    → answer ≡ answers.Starts image
+    → Executes num long t names name given answer root children → StandsStill num t root children
+stands_then num long t names name given image answer root children is e =
+    let started = subst (λ (x : Answer). Executes num long t names name given x root children) is e in
+    record {
+      names = named_then started.drawn names name;
+      stands = stands_on num long t names name given image root children started;
+    }
 
 -- ---- what comes of the answer
 
@@ -199,61 +215,82 @@ module _ (m : Mounts) (i : ℕ) (tasks tasks' : List Opened) (p : Processes) (pr
     (o : Opened) (root root' : Option Shape) (children children' : List Child) (answer : Answer)
     (executes : ExecutesFor (numbering_of m.mounts) program name o.given answer root root' children children')
     (at : slice_get m.tasks i ≡ Some program) (path : program.path ≡ 47 ∷ name) (few : i < 64)
-    (pushed : tasks' ≡ tasks ++ o ∷ []) (last : p.tasks.last ≡ i) (facts : IsNumbering (numbering_of m.mounts)) where
+    (pushed : tasks' ≡ tasks ++ o ∷ []) (last : p.cells.tasks.last ≡ i)
+    (facts : IsNumbering (numbering_of m.mounts)) where
+  abbrev numbers : Numbering
+  numbers = numbering_of m.mounts
+
+  abbrev too_long : Bool
+  too_long = is_too_long program.args program.env
+
   pub begun_then : (result : Result Processes OpenErr) → Begins m.seed (root_of m.mounts) program answer p result
-      → IfOk result (λ q. (t : Shape) → HasBegun m t i tasks p root children
-      → HasBegun m t (i + 1) tasks' q root' children')
+      → IfOk result (λ q. (others : Others) (t : Shape) → HasBegun m others t i tasks p root children
+      → HasBegun m others t (i + 1) tasks' q root' children')
   begun_then (Err e) b = tt
-  begun_then (Ok q) b = λ t h.
-      task_begins m t i tasks tasks' p program name o root root' children children' h at path few pushed facts b.0 q
-      (subst (λ (x : Answer). Executes (numbering_of m.mounts)
-      (is_too_long program.args program.env) t h.names name o.given x root' children')
+  begun_then (Ok q) b = λ others t h.
+      task_begins m others t i tasks tasks' p program name o root root' children children' h at path few pushed facts
+      b.0 q (subst (λ (x : Answer). Executes numbers too_long t h.names name o.given x root' children')
       b.1 (executes t h.names h.stands)) last b.3
 
+  pub stands_still : (result : Result Processes OpenErr) → Begins m.seed (root_of m.mounts) program answer p result
+      → IfOk result (λ q. (t : Shape) → StandsStill numbers t root children → StandsStill numbers t root' children')
+  stands_still (Err e) b = tt
+  stands_still (Ok q) b = λ t s.
+      stands_then numbers too_long t s.names name o.given b.0 answer root' children' b.1 (executes t s.names s.stands)
+
   pub stopped_then : (result : Result Processes OpenErr) → Begins m.seed (root_of m.mounts) program answer p result
-      → IfErr result (λ e. (t : Shape) → HasBegun m t i tasks p root children → Stops m t e tasks' root' children')
+      → IfErr result (λ e. (others : Others) (t : Shape) → HasBegun m others t i tasks p root children
+      → Stops m others t e tasks' root' children')
   stopped_then (Ok q) b = tt
-  stopped_then (Err (Image task errno)) b = λ t h.
-      let e = executes t h.names h.stands in (
-        task_refused m t i tasks tasks' p program name o root root' children children' h at path few pushed facts errno
-            (subst (λ (x : Answer). Executes (numbering_of m.mounts)
-            (is_too_long program.args program.env) t h.names name o.given x root'
-            children') b.1 e) task (b.0 ∙ ap (λ n. n + 1) last),
-        standing (numbering_of m.mounts)
-            (is_too_long program.args program.env) t h.names name o.given answer root' children' e,
-      )
-  stopped_then (Err Memory) b = λ t h.
-      standing (numbering_of m.mounts)
-      (is_too_long program.args program.env) t h.names name o.given answer root' children'
-      (executes t h.names h.stands)
+  stopped_then (Err (Image task errno)) b = λ others t h.
+      let e = executes t h.names h.stands in
+      task_refused m others t i tasks tasks' p program name o root root' children children' h at path few pushed facts
+      errno (subst (λ (x : Answer). Executes numbers too_long t h.names name o.given x root' children') b.1 e)
+      task (b.0 ∙ ap (λ n. n + 1) last)
+  stopped_then (Err Memory) b = λ others t h. tt
+
+-- whatever an execve answers, the folder can be put together again
+pub stands_err : (m : Mounts) (program : Program) (name : List ℕ) (given : Given) (answer : Answer)
+    (root root' : Option Shape) (children children' : List Child)
+    → ExecutesFor (numbering_of m.mounts) program name given answer root root' children children'
+    → (result : Result Processes OpenErr)
+    → OnErr result ((t : Shape) → StandsStill (numbering_of m.mounts) t root children
+    → IsStanding (numbering_of m.mounts) t root' children')
+stands_err m program name given answer root root' children children' executes (Ok q) = tt
+stands_err m program name given answer root root' children children' executes (Err e) = λ t s.
+    standing (numbering_of m.mounts) (is_too_long program.args program.env) t s.names name given answer root' children'
+    (executes t s.names s.stands)
 
 -- so many tasks live, and there is room for more
 pub opened_then : (seed : List ℕ) (root : ℕ) (program : Program) (answer : Answer) (i : ℕ) (p : Processes)
-    (result : Result Processes OpenErr) → AreOpened i p.tasks → i < 64 → Begins seed root program answer p result
-    → IfOk result (λ q. AreOpened (i + 1) q.tasks)
+    (result : Result Processes OpenErr) → AreOpened i p.cells.tasks → i < 64 → Begins seed root program answer p result
+    → IfOk result (λ q. AreOpened (i + 1) q.cells.tasks)
 opened_then seed root program answer i p (Err e) o few b = tt
 opened_then seed root program answer i p (Ok q) o few b =
     subst (λ (list : TaskTable). AreOpened (i + 1) list) (sym b.2)
-    (opened_more i p.tasks (made_by (p.tasks.last + 1)) (made_by (p.tasks.last + 1)) root few o)
+    (opened_more i p.cells.tasks (made_by (p.cells.tasks.last + 1)) (made_by (p.cells.tasks.last + 1)) root few o)
 
 -- ---- before the first task, and between two
 
-pub begun_none : (m : Mounts) (t : Shape) (p : Processes) (root : Option Shape) (children : List Child)
-    (tasks : List Opened) → HasForm m → Stands (numbering_of m.mounts) t [] [] root children → tasks ≡ []
-    → ((nodes : Nodes) → kernel_of p (beside_of m nodes) 0 ≡ record (bare m (t ∷ [])) { nodes = nodes })
-    → HasBegun m t 0 tasks p root children
-begun_none m t p root children tasks form st none is = record {
-  names = [];
-  nodes = rooted 1 (t ∷ []);
-  stands = st;
-  are =
-      subst (λ (r : ℕ). AreNodes (numbering_of m.mounts) (rooted r (t ∷ [])) t []) (root_one m form)
-      (first_nodes (numbering_of m.mounts) (are_numbering m form).1 t);
-  few = omega arith;
-  begun = λ rest.
-      ap (λ os. tasks_begun 1 m.tasks (os ++ rest) (bare m (t ∷ []))) none
-      ∙ ap (tasks_begun 1 m.tasks rest) (sym (is (rooted 1 (t ∷ []))));
-}
+pub begun_none : (m : Mounts) (others : Others) (t : Shape) (p : Processes) (root : Option Shape)
+    (children : List Child) (tasks : List Opened) → AreOthers m.mounts others
+    → Stands (numbering_of m.mounts) t [] [] root children → tasks ≡ []
+    → ((nodes : Nodes) → kernel_of p (beside_of m nodes) 0 ≡ record (bare m (trees_with others t)) { nodes = nodes })
+    → HasBegun m others t 0 tasks p root children
+begun_none m others t p root children tasks are st none is =
+    let first : length m.mounts + 1 ≡ length others.before + length others.behind + 2 = omega (arith, are.long) in
+    record {
+      beside = are;
+      names = [];
+      nodes = rooted 1 (trees_with others t);
+      stands = st;
+      are = are_nodes (numbering_of m.mounts) others t are.place first;
+      kept = λ ino differs low. refl;
+      few = omega arith;
+      begun = λ rest.
+          ap (λ os. tasks_begun 1 m.tasks (os ++ rest) (bare m (trees_with others t))) none
+          ∙ ap (tasks_begun 1 m.tasks rest) (sym (is (rooted 1 (trees_with others t))));
+    }
 
 pub still_grant : (num : Numbering) (told root : Option Shape) (children : List Child) → IsRoot told
     → (told ≡ None → IsSilent root children)
@@ -268,14 +305,11 @@ still_grant num (Some t) root children is silent tells =
     (t, s.0, is.0, subst (λ (o : Option Shape). Stands num t s.0 [] o children) root_tells s.1)
 
 -- want of memory in the record
-pub err_stops : (m : Mounts) (i : ℕ) (tasks tasks' : List Opened) (p : Processes) (program : Program) (name : List ℕ)
-    (given : Given) (answer : Answer) (root root' : Option Shape) (children children' : List Child)
-    → ExecutesFor (numbering_of m.mounts) program name given answer root root' children children' →
-    (result : Result Processes OpenErr)
+pub err_stops : (m : Mounts) (i : ℕ) (tasks tasks' : List Opened) (p : Processes) (root root' : Option Shape)
+    (children children' : List Child) (result : Result Processes OpenErr)
     → IsErrAnd result (λ e. e ≡ Memory)
-    → IfErr result (λ e. (t : Shape) → HasBegun m t i tasks p root children → Stops m t e tasks' root' children')
-err_stops m i tasks tasks' p program name given answer root root' children children' executes (Ok q) is = tt
-err_stops m i tasks tasks' p program name given answer root root' children children' executes (Err e) is = λ t h.
-    subst (λ (x : OpenErr). Stops m t x tasks' root' children') (sym is)
-    (standing (numbering_of m.mounts) (is_too_long program.args program.env) t h.names name given answer root' children'
-    (executes t h.names h.stands))
+    → IfErr result (λ e. (others : Others) (t : Shape) → HasBegun m others t i tasks p root children
+    → Stops m others t e tasks' root' children')
+err_stops m i tasks tasks' p root root' children children' (Ok q) is = tt
+err_stops m i tasks tasks' p root root' children children' (Err e) is = λ others t h.
+    subst (λ (x : OpenErr). Stops m others t x tasks' root' children') (sym is) tt

@@ -1,3 +1,4 @@
 -- What contracts of this crate say, by subject.
 pub mod Records
+pub mod Trees
 pub mod Openings

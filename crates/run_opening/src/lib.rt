@@ -1,15 +1,15 @@
-//! The opening of a run: the tasks of a mount file, opened in order over a granted folder.
+//! The opening of a run: the tasks of a mount file, opened in order over the granted folder of the mount at `/`.
 //!
 //! A caller sees `open_tasks`, which has each program execute in turn and begins a task of its image, and answers the
 //! processes; where an execve is refused it answers which and why (`OpenErr`). What each drew and met stands in the
 //! record of the opening, as an `Opened` for each execve that was done. `numbering` tells the inode numbers of the
 //! folder that is mounted at `/`.
 //!
-//! Proved, where the folder's root tells its tree: the processes are the kernel that the definitions open, over the
-//! nodes of that folder (`begun`); a refusal is that of the first execve that fails, and leaves the tree that the nodes
-//! have then (`stopped`); on want of memory the folder can be put together again, and at most counts of failed calls
-//! rose (`stopped`). Whatever the root tells, the record is of the programs in order, and its inode numbers run up
-//! without a gap (`recorded`).
+//! Proved, where the folder's root tells its tree, whatever trees the other mounts have: the processes are the kernel
+//! that the definitions open over all of them, with the other roots as they were granted (`begun`); a refusal is that
+//! of the first execve that fails, and leaves the trees that the nodes have then (`stopped`); the folder can be put
+//! together again, and at most counts of failed calls rose (`stands`, `standing`). Whatever the root tells, the record
+//! is of the programs in order, and its inode numbers run up without a gap (`recorded`).
 //!
 //! Not said: what a host is, which folder it granted, and what the tasks then do.
 //!

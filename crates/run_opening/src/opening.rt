@@ -1,6 +1,6 @@
 //! The tasks of a mount file, opened in order.
 
-ghost use Rattle.std.specs.Prelude.{◌≡◌, ◌+◌, ◌<◌, ◌≤◌, ℕ, [], length, None, Some, true, IfOk, IfErr, slice_get};
+ghost use Rattle.std.specs.Prelude.{◌≡◌, ◌+◌, ◌<◌, ◌≤◌, ℕ, [], length, None, Some, true, IfOk, IfErr, OnErr, slice_get};
 ghost use Rattle.host_node.specs.Tree.{Shape};
 ghost use Rattle.sn_errno.specs.declared.errno.Errno.TheVariants.{E2BIG};
 ghost use Rattle.kernel_model.proofs.OpenedTasks.{AreOpened};
@@ -11,8 +11,9 @@ ghost use Rattle.image_walk.specs.Granted.{told_of};
 ghost use Rattle.image_walk.specs.Loading.{is_roomy};
 ghost use Rattle.image_walk.specs.Standing.{IsNumbering, Stands};
 ghost use Rattle.image_walk.specs.Walking.{IsGrant, IsRoot, IsSilent};
-ghost use Rattle.run_opening.specs.Openings.{Begins, HasBegun, Stops, numbering_of};
+ghost use Rattle.run_opening.specs.Openings.{Begins, HasBegun, IsStanding, StandsStill, Stops, numbering_of};
 ghost use Rattle.run_opening.specs.Records.{IsRecord, IsRecorded};
+ghost use Rattle.run_opening.specs.Trees.{AreOthers, Others};
 
 use crate::executing::{Done, execute};
 use call_table::Processes;
@@ -55,7 +56,7 @@ fn begin(
 ) -> Result<Processes, OpenErr>
     requires long { is_too_long program.now.args program.now.env ≡ true → answer ≡ Answer.Refuses E2BIG }
     requires pages { is_roomy answer ≡ true }
-    requires room { IsRoomFor processes.tasks }
+    requires room { IsRoomFor processes.cells.tasks }
     ensures { Begins seed.now root program.now answer processes result }
 {
     match answer {
@@ -64,7 +65,7 @@ fn begin(
             Ok(more)
         }
         Answer::Refuses(errno) => Err(OpenErr::Image {
-            task: processes.tasks.last() + 1,
+            task: processes.cells.tasks.last() + 1,
             errno,
         }),
         Answer::Memory => Err(OpenErr::Memory),
@@ -86,24 +87,34 @@ fn open_task<N: HostNode>(
     requires numbers { granted.old.numbers ≡ numbering_of mounts.now.mounts }
     requires known { IsNumbering granted.old.numbers }
     requires grant { IsGrant granted.old.numbers (N.told granted.old.root) (told_of N.told granted.old.lent.items) }
-    requires opened { AreOpened index processes.tasks }
+    requires opened { AreOpened index processes.cells.tasks }
     requires record { IsRecord mounts.now tasks.old index (length granted.old.lent.items) }
     ensures same { granted.new.numbers ≡ granted.old.numbers }
-    ensures opened { IfOk result (λ p. AreOpened (index + 1) p.tasks) }
+    ensures opened { IfOk result (λ p. AreOpened (index + 1) p.cells.tasks) }
     ensures record { IfOk result (λ p. IsRecord mounts.now tasks.new (index + 1)
         (length granted.new.lent.items)) }
     ensures recorded { IsRecorded mounts.now tasks.new }
     ensures silent { IsSilent (N.told granted.old.root) (told_of N.told granted.old.lent.items) →
         IsSilent (N.told granted.new.root) (told_of N.told granted.new.lent.items) }
-    ensures begun { IfOk result (λ p. (t : Shape) →
-        HasBegun mounts.now t index tasks.old processes (N.told granted.old.root)
+    ensures stands { IfOk result (λ p. (t : Shape) →
+        StandsStill (numbering_of mounts.now.mounts) t (N.told granted.old.root)
         (told_of N.told granted.old.lent.items) →
-        HasBegun mounts.now t (index + 1) tasks.new p (N.told granted.new.root)
+        StandsStill (numbering_of mounts.now.mounts) t (N.told granted.new.root)
         (told_of N.told granted.new.lent.items)) }
-    ensures stopped { IfErr result (λ e. (t : Shape) →
-        HasBegun mounts.now t index tasks.old processes (N.told granted.old.root)
+    ensures begun { IfOk result (λ p. (others : Others) (t : Shape) →
+        HasBegun mounts.now others t index tasks.old processes (N.told granted.old.root)
         (told_of N.told granted.old.lent.items) →
-        Stops mounts.now t e tasks.new (N.told granted.new.root) (told_of N.told granted.new.lent.items)) }
+        HasBegun mounts.now others t (index + 1) tasks.new p (N.told granted.new.root)
+        (told_of N.told granted.new.lent.items)) }
+    ensures stopped { IfErr result (λ e. (others : Others) (t : Shape) →
+        HasBegun mounts.now others t index tasks.old processes (N.told granted.old.root)
+        (told_of N.told granted.old.lent.items) →
+        Stops mounts.now others t e tasks.new (N.told granted.new.root) (told_of N.told granted.new.lent.items)) }
+    ensures standing { OnErr result ((t : Shape) →
+        StandsStill (numbering_of mounts.now.mounts) t (N.told granted.old.root)
+        (told_of N.told granted.old.lent.items) →
+        IsStanding (numbering_of mounts.now.mounts) t (N.told granted.new.root)
+        (told_of N.told granted.new.lent.items)) }
 {
     let root = granted.numbers.root;
     let program = mounts.tasks.at(index);
@@ -119,8 +130,8 @@ fn open_task<N: HostNode>(
     )
 }
 
-/// Opens the tasks of a mount file in order, over a granted folder, and records what each execve drew and met. On an
-/// `Err` no task is left, and the children that were lent can go back.
+/// Opens the tasks of a mount file in order, over the granted folder of the mount at `/`, and records what each execve
+/// drew and met. On an `Err` no task is left, and the children that were lent can go back.
 ///
 /// execve(2).
 pub fn open_tasks<N: HostNode>(
@@ -141,11 +152,19 @@ pub fn open_tasks<N: HostNode>(
         (length granted.new.lent.items)) }
     ensures silent { N.told granted.old.root ≡ None →
         IsSilent (N.told granted.new.root) (told_of N.told granted.new.lent.items) }
-    ensures begun { IfOk result (λ p. (t : Shape) → N.told granted.old.root ≡ Some t →
-        HasBegun mounts.now t (length mounts.now.tasks) tasks.new p (N.told granted.new.root)
+    ensures stands { IfOk result (λ p. (t : Shape) → N.told granted.old.root ≡ Some t →
+        StandsStill (numbering_of mounts.now.mounts) t (N.told granted.new.root)
         (told_of N.told granted.new.lent.items)) }
-    ensures stopped { IfErr result (λ e. (t : Shape) → N.told granted.old.root ≡ Some t →
-        Stops mounts.now t e tasks.new (N.told granted.new.root) (told_of N.told granted.new.lent.items)) }
+    ensures begun { IfOk result (λ p. (others : Others) (t : Shape) → AreOthers mounts.now.mounts others →
+        N.told granted.old.root ≡ Some t →
+        HasBegun mounts.now others t (length mounts.now.tasks) tasks.new p (N.told granted.new.root)
+        (told_of N.told granted.new.lent.items)) }
+    ensures stopped { IfErr result (λ e. (others : Others) (t : Shape) → AreOthers mounts.now.mounts others →
+        N.told granted.old.root ≡ Some t →
+        Stops mounts.now others t e tasks.new (N.told granted.new.root) (told_of N.told granted.new.lent.items)) }
+    ensures standing { OnErr result ((t : Shape) → N.told granted.old.root ≡ Some t →
+        IsStanding (numbering_of mounts.now.mounts) t (N.told granted.new.root)
+        (told_of N.told granted.new.lent.items)) }
 {
     let mut processes = Processes::new(alloc);
     for index in 0..mounts.tasks.len() {

@@ -2,16 +2,12 @@
 use Rattle.std.proofs.Common.{◌≡◌, ℕ, List, [], refl, sym, subst}
 use Rattle.std.specs.Prelude.{Option, Some, None}
 use Rattle.host_node.specs.Tree.{Shape}
-use Rattle.kernel_model.specs.declared.opening.Opened.{Opened}
-use Rattle.mount_file.specs.declared.mounts.Mounts.{Mounts}
 use Rattle.image_walk.specs.declared.granted.Numbering.{Numbering}
 use Rattle.image_walk.specs.Granted.{Child, CanGiveBack}
 use Rattle.image_walk.specs.Standing.{Stands}
 use Rattle.image_walk.specs.Walking.{IsGrant, IsSilent}
 use Rattle.image_walk.proofs.OutAgain.{can_give_back}
-use Rattle.run_opening.specs.declared.opening.OpenErr.{OpenErr}
-use Rattle.run_opening.specs.declared.opening.OpenErr.TheVariants.{Image, Memory}
-use Rattle.run_opening.specs.Openings.{IsStanding, Stops, numbering_of}
+use Rattle.run_opening.specs.Openings.{IsStanding}
 
 -- whether the root tells its tree or nothing, behind an execve
 pub can_then : (num : Numbering) (root root' : Option Shape) (children children' : List Child)
@@ -30,12 +26,7 @@ can_where None root children silent tells =
     subst (λ (o : Option Shape). CanGiveBack o children) (sym (silent refl).0) tt
 can_where (Some t) root children silent tells = tells t refl
 
-back : (num : Numbering) (t : Shape) (root : Option Shape) (children : List Child) → IsStanding num t root children
-    → CanGiveBack root children
+-- of a folder that stands
+pub back : (num : Numbering) (t : Shape) (root : Option Shape) (children : List Child)
+    → IsStanding num t root children → CanGiveBack root children
 back num t root children s = can_give_back num t s.names s.rises root children s.stands
-
--- an opening that ended before all tasks had begun
-pub can_stopped : (m : Mounts) (t : Shape) (why : OpenErr) (tasks : List Opened) (root : Option Shape)
-    (children : List Child) → Stops m t why tasks root children → CanGiveBack root children
-can_stopped m t Memory tasks root children stops = back (numbering_of m.mounts) t root children stops
-can_stopped m t (Image task errno) tasks root children stops = back (numbering_of m.mounts) t root children stops.1

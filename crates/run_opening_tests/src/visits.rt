@@ -89,7 +89,7 @@ fn opened<N: HostNode>(
     ensures { CanGiveBack (N.told granted.new.root) (told_of N.told granted.new.lent.items) }
 {
     match open_tasks(alloc, mounts, granted, tasks) {
-        Ok(processes) => Ok(processes.tasks.live()),
+        Ok(processes) => Ok(processes.cells.tasks.live()),
         Err(why) => Err(why),
     }
 }

@@ -1,9 +1,12 @@
 -- A task more has begun as its execve answered, and the record has it.
-use Rattle.std.proofs.Common.{◌+◌, length, subst, arith}
+use Rattle.std.proofs.Common.{◌+◌, [], length, sym, subst, arith}
+use Rattle.image_walk.specs.declared.granted.Numbering.{Numbering}
 use Rattle.image_walk.specs.Granted.{told_of}
-use Rattle.image_walk.specs.Standing.{IsNumbering}
-use Rattle.run_opening.proofs.Beginning.{begun_then, stopped_then, opened_then, err_stops, executes_as}
-use Rattle.run_opening.proofs.Beginning.{begins_as}
+use Rattle.image_walk.specs.Standing.{IsNumbering, Stands}
+use Rattle.image_walk.proofs.Deeds.{err_leaves}
+use Rattle.run_opening.specs.Openings.{IsStanding}
+use Rattle.run_opening.proofs.Beginning.{begun_then, stands_still, stopped_then, opened_then, err_stops, stands_err}
+use Rattle.run_opening.proofs.Beginning.{executes_as, begins_as}
 use Rattle.run_opening.proofs.Recording.{named_at, record_more, recorded, any_ok}
 use Rattle.run_opening.proofs.opening.open_task.Goals as goal
 
@@ -11,20 +14,38 @@ pub execute-requires-clause-named : goal.execute-requires-clause-named
 execute-requires-clause-named g c κs within =
     named_at c.args.mounts.now.tasks c.args.index c.at-program.result.now c.requires.named c.at-program.ensures
 
+pub returns-in_err-opened-clause-standing : goal.returns-in_err-opened-clause-standing
+returns-in_err-opened-clause-standing g c =
+    let told = g.N.HostNode.told in
+    let root' = told c.execute.new.granted.root in
+    let children' = told_of told c.execute.new.granted.lent.items in
+    err_leaves c.from_residual.result (λ t s.
+    subst (λ (num : Numbering). IsStanding num t root' children') c.requires.numbers
+    (c.in_err-opened.ensures.err t s.names
+    (subst (λ (num : Numbering). Stands num t s.names [] (told c.args.granted.now.root)
+    (told_of told c.args.granted.now.lent.items)) (sym c.requires.numbers) s.stands)))
+
 pub returns-in_err-push-clause-stopped : goal.returns-in_err-push-clause-stopped
 returns-in_err-push-clause-stopped g c =
     let told = g.N.HostNode.told in
+    err_stops c.args.mounts.now c.args.index c.args.tasks.now c.push.new.self c.args.processes
+    (told c.args.granted.now.root) (told c.execute.new.granted.root) (told_of told c.args.granted.now.lent.items)
+    (told_of told c.execute.new.granted.lent.items)
+    c.from_residual-in_err-push.result c.from_residual-in_err-push.ensures.1
+
+pub returns-in_err-push-clause-standing : goal.returns-in_err-push-clause-standing
+returns-in_err-push-clause-standing g c =
+    let told = g.N.HostNode.told in
     let program = c.at-program.result.now in
     let named = named_at c.args.mounts.now.tasks c.args.index program c.requires.named c.at-program.ensures in
-    err_stops c.args.mounts.now c.args.index c.args.tasks.now c.push.new.self c.args.processes program named.0
-    c.in_ok-opened.field-0.opened.given c.in_ok-opened.field-0.answer (told c.args.granted.now.root)
-    (told c.execute.new.granted.root) (told_of told c.args.granted.now.lent.items)
+    stands_err c.args.mounts.now program named.0 c.in_ok-opened.field-0.opened.given c.in_ok-opened.field-0.answer
+    (told c.args.granted.now.root) (told c.execute.new.granted.root) (told_of told c.args.granted.now.lent.items)
     (told_of told c.execute.new.granted.lent.items)
     (executes_as c.args.mounts.now c.args.granted.now.numbers program named.0 c.in_ok-opened.field-0.opened.given
     c.in_ok-opened.field-0.answer (told c.args.granted.now.root) (told c.execute.new.granted.root)
     (told_of told c.args.granted.now.lent.items) (told_of told c.execute.new.granted.lent.items) c.requires.numbers
     (c.in_ok-opened.ensures.executes named.0 named.2))
-    c.from_residual-in_err-push.result c.from_residual-in_err-push.ensures.1
+    c.from_residual-in_err-push.result
 
 pub returns-clause-opened : goal.returns-clause-opened
 returns-clause-opened g c =
@@ -48,6 +69,25 @@ returns-clause-recorded g c =
     (length c.args.granted.now.lent.items) (length c.execute.new.granted.lent.items) c.at-program.result.now
     c.in_ok-opened.field-0.opened c.requires.numbers c.requires.record c.at-program.ensures c.in_ok-opened.ensures.words
     c.in_ok-opened.ensures.numbers c.in_ok-push.ensures.ok)
+
+pub returns-clause-stands : goal.returns-clause-stands
+returns-clause-stands g c =
+    let told = g.N.HostNode.told in
+    let program = c.at-program.result.now in
+    let named = named_at c.args.mounts.now.tasks c.args.index program c.requires.named c.at-program.ensures in
+    stands_still c.args.mounts.now c.args.index c.args.tasks.now c.push.new.self c.args.processes program named.0
+    c.in_ok-opened.field-0.opened (told c.args.granted.now.root) (told c.execute.new.granted.root)
+    (told_of told c.args.granted.now.lent.items) (told_of told c.execute.new.granted.lent.items)
+    c.in_ok-opened.field-0.answer
+    (executes_as c.args.mounts.now c.args.granted.now.numbers program named.0 c.in_ok-opened.field-0.opened.given
+    c.in_ok-opened.field-0.answer (told c.args.granted.now.root) (told c.execute.new.granted.root)
+    (told_of told c.args.granted.now.lent.items) (told_of told c.execute.new.granted.lent.items) c.requires.numbers
+    (c.in_ok-opened.ensures.executes named.0 named.2)) c.at-program.ensures named.2
+    (omega (arith, c.requires.within, c.requires.few)) c.in_ok-push.ensures.ok c.requires.opened.last
+    (subst IsNumbering c.requires.numbers c.requires.known) c.begin.result
+    (begins_as c.args.mounts.now c.args.granted.now.numbers c.as_slice.result.now program
+    c.in_ok-opened.field-0.answer c.args.processes c.begin.result c.requires.numbers c.as_slice.ensures
+    c.begin.ensures)
 
 pub returns-clause-begun : goal.returns-clause-begun
 returns-clause-begun g c =
@@ -86,3 +126,17 @@ returns-clause-stopped g c =
     (begins_as c.args.mounts.now c.args.granted.now.numbers c.as_slice.result.now program
     c.in_ok-opened.field-0.answer c.args.processes c.begin.result c.requires.numbers c.as_slice.ensures
     c.begin.ensures)
+
+pub returns-clause-standing : goal.returns-clause-standing
+returns-clause-standing g c =
+    let told = g.N.HostNode.told in
+    let program = c.at-program.result.now in
+    let named = named_at c.args.mounts.now.tasks c.args.index program c.requires.named c.at-program.ensures in
+    stands_err c.args.mounts.now program named.0 c.in_ok-opened.field-0.opened.given c.in_ok-opened.field-0.answer
+    (told c.args.granted.now.root) (told c.execute.new.granted.root) (told_of told c.args.granted.now.lent.items)
+    (told_of told c.execute.new.granted.lent.items)
+    (executes_as c.args.mounts.now c.args.granted.now.numbers program named.0 c.in_ok-opened.field-0.opened.given
+    c.in_ok-opened.field-0.answer (told c.args.granted.now.root) (told c.execute.new.granted.root)
+    (told_of told c.args.granted.now.lent.items) (told_of told c.execute.new.granted.lent.items) c.requires.numbers
+    (c.in_ok-opened.ensures.executes named.0 named.2))
+    c.begin.result

@@ -1,5 +1,7 @@
 -- Before the first task nothing has begun, and each task finds the folder as a grant.
-use Rattle.std.proofs.Common.{[], ap, sym, ◌∙◌, subst, length, refl}
+use Rattle.std.proofs.Common.{◌≡◌, [], ap, sym, ◌∙◌, subst, length, refl}
+use Rattle.std.specs.Prelude.{Some}
+use Rattle.host_node.specs.Tree.{Shape}
 use Rattle.task_table.specs.Table.{TaskTable}
 use Rattle.kernel_model.proofs.OpenedTasks.{AreOpened, opened_none}
 use Rattle.image_walk.specs.declared.granted.Numbering.{Numbering}
@@ -14,6 +16,9 @@ use Rattle.run_opening.proofs.opening.open_tasks.Goals as goal
 pub loop-index-init : goal.loop-index-init
 loop-index-init g c =
     let told = g.N.HostNode.told in
+    let stands = λ (t : Shape) (e : told c.args.granted.now.root ≡ Some t).
+    subst (λ (num : Numbering). Stands num t [] [] (told c.args.granted.now.root)
+    (told_of told c.args.granted.now.lent.items)) c.requires.numbers (c.requires.stands t e) in
     record {
       same = refl;
       opened = subst (λ (list : TaskTable). AreOpened 0 list) (sym c.new-processes.ensures.none) opened_none;
@@ -21,11 +26,10 @@ loop-index-init g c =
           record_none c.args.mounts.now c.args.tasks.now (length c.args.granted.now.lent.items) c.requires.none
           (ap length c.requires.lent);
       silent = λ e. (e, subst (λ ls. TellNothing (told_of told ls)) (sym c.requires.lent) tt);
-      begun = λ t e.
-          begun_none c.args.mounts.now t c.new-processes.result (told c.args.granted.now.root)
-          (told_of told c.args.granted.now.lent.items) c.args.tasks.now c.requires.form
-          (subst (λ (num : Numbering). Stands num t [] [] (told c.args.granted.now.root)
-          (told_of told c.args.granted.now.lent.items)) c.requires.numbers (c.requires.stands t e)) c.requires.none
+      stands = λ t e. record { names = []; stands = stands t e };
+      begun = λ others t are e.
+          begun_none c.args.mounts.now others t c.new-processes.result (told c.args.granted.now.root)
+          (told_of told c.args.granted.now.lent.items) c.args.tasks.now are (stands t e) c.requires.none
           (λ nodes. c.new-processes.ensures.begun (beside_of c.args.mounts.now nodes) 0);
     }
 
@@ -34,7 +38,7 @@ open_task-requires-clause-grant g c κs within =
     let told = g.N.HostNode.told in
     still_grant c.loop-index.granted.numbers (told c.args.granted.now.root) (told c.loop-index.granted.root)
     (told_of told c.loop-index.granted.lent.items) c.requires.root c.loop-index.invariant.silent
-    (λ t e. let h = c.loop-index.invariant.begun t e in (
+    (λ t e. let h = c.loop-index.invariant.stands t e in (
       h.names,
       subst (λ (num : Numbering). Stands num t h.names [] (told c.loop-index.granted.root)
           (told_of told c.loop-index.granted.lent.items))

@@ -5,8 +5,9 @@ use Rattle.host_node.specs.Tree.{Shape}
 use Rattle.kernel_model.proofs.OpenedTasks.{AreOpened}
 use Rattle.image_walk.specs.Granted.{told_of}
 use Rattle.image_walk.specs.Walking.{IsSilent}
-use Rattle.run_opening.specs.Openings.{HasBegun}
+use Rattle.run_opening.specs.Openings.{HasBegun, StandsStill, numbering_of}
 use Rattle.run_opening.specs.Records.{IsRecord}
+use Rattle.run_opening.specs.Trees.{AreOthers, Others}
 use Rattle.run_opening.proofs.opening.open_tasks.Given as goal
 
 abbrev pub invariant-loop-index : goal.invariant-loop-index
@@ -14,9 +15,12 @@ invariant-loop-index g l =
     let told = g.N.HostNode.told in
     record {
       same : l.granted.numbers ≡ l.fn.granted.numbers;
-      opened : AreOpened l.index l.processes.tasks;
+      opened : AreOpened l.index l.processes.cells.tasks;
       record_so_far : IsRecord l.mounts l.tasks l.index (length l.granted.lent.items);
       silent : told l.fn.granted.root ≡ None → IsSilent (told l.granted.root) (told_of told l.granted.lent.items);
-      begun : (t : Shape) → told l.fn.granted.root ≡ Some t
-          → HasBegun l.mounts t l.index l.tasks l.processes (told l.granted.root) (told_of told l.granted.lent.items);
+      stands : (t : Shape) → told l.fn.granted.root ≡ Some t
+          → StandsStill (numbering_of l.mounts.mounts) t (told l.granted.root) (told_of told l.granted.lent.items);
+      begun : (others : Others) (t : Shape) → AreOthers l.mounts.mounts others → told l.fn.granted.root ≡ Some t
+          → HasBegun l.mounts others t l.index l.tasks l.processes (told l.granted.root)
+          (told_of told l.granted.lent.items);
     }

@@ -3,7 +3,7 @@ use Rattle.std.proofs.Common.{[]}
 use Rattle.image_walk.specs.Granted.{told_of}
 use Rattle.image_walk.proofs.OutAgain.{can_give_back}
 use Rattle.run_opening.specs.Openings.{numbering_of}
-use Rattle.run_opening_tests.proofs.Back.{can_where, can_stopped}
+use Rattle.run_opening_tests.proofs.Back.{back, can_where}
 use Rattle.run_opening_tests.proofs.visits.opened.Goals as goal
 
 pub returns-in-Ok : goal.returns-in-Ok
@@ -12,7 +12,7 @@ returns-in-Ok g c =
     let root = told c.open_tasks.new.granted.root in
     let children = told_of told c.open_tasks.new.granted.lent.items in
     can_where (told c.args.granted.now.root) root children c.open_tasks.ensures.silent
-    (λ t e. let h = c.in-Ok.ensures.begun t e in can_give_back (numbering_of c.args.mounts.now.mounts) t h.names
+    (λ t e. let h = c.in-Ok.ensures.stands t e in can_give_back (numbering_of c.args.mounts.now.mounts) t h.names
     [] root children h.stands)
 
 pub returns-in-Err : goal.returns-in-Err
@@ -21,5 +21,4 @@ returns-in-Err g c =
     let root = told c.open_tasks.new.granted.root in
     let children = told_of told c.open_tasks.new.granted.lent.items in
     can_where (told c.args.granted.now.root) root children c.open_tasks.ensures.silent
-    (λ t e. can_stopped c.args.mounts.now t c.in-Err.why c.open_tasks.new.tasks root children
-    (c.in-Err.ensures.stopped t e))
+    (λ t e. back (numbering_of c.args.mounts.now.mounts) t root children (c.in-Err.ensures.standing t e))
