@@ -13,32 +13,21 @@
 #![tactic(auto)]
 
 use host_folder::Folders;
-use sentry_run::{Fault, report, run_sentry};
+use sentry_run::{Fault, report, run_sentry, told_words};
 use sn_edge::{FileSource, StdSink};
-use std::io::ErrorKind;
+use std::io;
 use std::process::ExitCode;
-use std::{env, io};
-
-/// The words after the program's name.
-fn words_of(rt: HostRuntime) -> io::Result<Vec<String>> {
-    let mut words = Vec::new(rt.alloc());
-    for word in env::args(&rt)?.skip(1) {
-        words.push(word)?;
-    }
-    Ok(words)
-}
 
 /// How a run of the program comes out, over the real objects.
 fn run_real(rt: HostRuntime) -> Fault {
-    match words_of(rt) {
+    match told_words(rt) {
         Ok(words) => {
             let mut files = FileSource::new(&rt);
             let mut host = Folders::new(rt);
             let mut out = StdSink::new(io::writer(&rt));
             run_sentry(rt.alloc(), &words, &mut files, &mut host, &mut out).fault
         }
-        Err(error) if error.kind() == ErrorKind::OutOfMemory => Fault::Memory,
-        Err(_) => Fault::Usage,
+        Err(fault) => fault,
     }
 }
 

@@ -6,6 +6,7 @@ use Rattle.std.proofs.lemmas.Option.{same_Some}
 use Rattle.host_node.specs.Tree.{Shape}
 use Rattle.sn_base.specs.Faults.{HasCause}
 use Rattle.sn_edge.specs.Shelf.{Shelf, content_at}
+use Rattle.mount_file.specs.Form.{HasForm}
 use Rattle.mount_file.specs.declared.mounts.Mounts.{Mounts}
 use Rattle.kernel_model.specs.declared.entry.Entry.{Entry}
 use Rattle.kernel_model.specs.declared.kernel.Kernel.{Kernel}
@@ -181,22 +182,22 @@ same_end x state k f whole b e is h =
     one_end x.mounts x.outcome.trace k f whole
     (subst (λ (y : Kernel). EndsIn x.mounts x.outcome.trace y f) (same_state x state k b e) is) h
 
-over_by : (x : Session) (p : Output) (whole f : Fault) → length x.mounts.mounts ≡ 1 → ToldFacts x p f
+over_by : (x : Session) (p : Output) (whole f : Fault) → HasForm x.mounts → ToldFacts x p f
     → (k : Kernel) → state_left x ≡ Some k → EndsIn x.mounts x.outcome.trace k whole
     → ComesTo whole p.before.told p.after.told (text_with x p k) f
-over_by x p whole faults.Done one t k e h = same_end x t.0 k faults.Done whole t.1 e t.2 h
-over_by x p whole faults.Full one t k e h = same_end x t.0 k faults.Full whole t.1 e t.2 h
-over_by x p whole faults.Stuck one t k e h =
+over_by x p whole faults.Done form t k e h = same_end x t.0 k faults.Done whole t.1 e t.2 h
+over_by x p whole faults.Full form t k e h = same_end x t.0 k faults.Full whole t.1 e t.2 h
+over_by x p whole faults.Stuck form t k e h =
     same_end x t.0 k faults.Stuck whole t.1 e (t.2.lives, t.2.short) h
-over_by x p whole faults.SinkFault one t k e h =
+over_by x p whole faults.SinkFault form t k e h =
     subst (λ (state : Kernel). StopsShort p.before.told p.after.told (text_with x p state))
     (same_state x t.0 k t.1 e) t.3
-over_by x p whole faults.Memory one t k e h = tt
-over_by x p whole (faults.Image task errno) one t k e h =
+over_by x p whole faults.Memory form t k e h = tt
+over_by x p whole (faults.Image task errno) form t k e h =
     stateless x (Refuses t.left task errno) k t.refuses refl e
-over_by x p whole faults.HostFault one t k e h = stateless x (Misfits 0) k (unopened x one t.opened) refl e
-over_by x p whole (faults.Grant n) one t k e h = stateless x (Misfits 0) k (unopened x one t.1.opened) refl e
-over_by x p whole _ one t k e h = absurd t
+over_by x p whole faults.HostFault form t k e h = stateless x (Misfits 0) k (unopened x form t.opened) refl e
+over_by x p whole (faults.Grant n) form t k e h = stateless x (Misfits 0) k (unopened x form t.0.opened) refl e
+over_by x p whole _ form t k e h = absurd t
 
 -- what a call comes to that is over with that answer, by the state that its trace leaves
 abbrev OverAs : Call → Outcome → Fault → Kernel → Type 0
@@ -206,7 +207,7 @@ OverAs s r whole k =
 over_as : (s : Call) (m : Mounts) (r : Outcome) (whole : Fault) → Over s m r → (w : Shape)
     → s.before.host.told ≡ Some w → (k : Kernel) → state_left (session s m r w) ≡ Some k
     → EndsIn m r.trace k whole → OverAs s r whole k
-over_as s m r whole o w told = over_by (session s m r w) (output s) whole r.fault o.one_mount (o.told w told)
+over_as s m r whole o w told = over_by (session s m r w) (output s) whole r.fault o.form (o.told w told)
 
 where_left : (s : Call) (r : Outcome) (F : Mounts → Kernel → Type 0) → Way s r
     → ((m : Mounts) → Over s m r → (w : Shape) → s.before.host.told ≡ Some w → (k : Kernel)

@@ -1,5 +1,5 @@
 -- The clauses of a run, each from the way that it went.
-use Rattle.std.proofs.Common.{◌≡◌, ◌≢◌, ℕ, List, [], refl, ap, sym, ◌∙◌, subst}
+use Rattle.std.proofs.Common.{◌≡◌, ◌≢◌, ℕ, ◌≤◌, List, [], length, refl, ap, sym, ◌∙◌, subst}
 use Rattle.std.specs.Prelude.{Option, Some, None, IfSome}
 use Rattle.std.proofs.lemmas.Option.{same_Some}
 use Rattle.std.proofs.Common.{arith}
@@ -9,6 +9,7 @@ use Rattle.sn_edge.specs.Shelf.{Shelf}
 use Rattle.sn_edge.specs.Reading.{ReadsWithin}
 use Rattle.sn_errno.specs.declared.errno.Errno.{Errno}
 use Rattle.kernel_model.specs.declared.kernel.Kernel.{Kernel}
+use Rattle.mount_file.specs.Form.{HasForm}
 use Rattle.mount_file.specs.declared.mounts.Mounts.{Mounts}
 use Rattle.mount_file.specs.declared.mounts.MountFault.{MountFault}
 use Rattle.mount_file.specs.declared.mounts.MountFault.TheVariants as mount_faults
@@ -18,10 +19,12 @@ use Rattle.sentry_run.specs.declared.outcome.Fault.TheVariants as faults
 use Rattle.sentry_run.specs.declared.outcome.Outcome.{Outcome}
 use Rattle.sentry_run.specs.Ran.{ReadsAs, FailsToRead}
 use Rattle.sentry_run.specs.Causes.{status_of, IsUnread}
-use Rattle.sentry_run.specs.Outcome.{ReadsMounts, HasMountFault, granted, begun, state_after, world_after, WhereRead}
+use Rattle.sentry_run.specs.Outcome.{ReadsMounts, HasMountFault, first_lacking, granted, begun, state_after}
+use Rattle.sentry_run.specs.Outcome.{world_after, WhereRead}
 use Rattle.sentry_run.specs.Outcome.{WhereState, RefusesAs, refused_kernel}
 use Rattle.sentry_run.specs.Sides.{Side, Sides}
 use Rattle.sentry_run.proofs.Courses.{Session, Began, state_left, state_of}
+use Rattle.sentry_run.proofs.Folders.{lacking_none}
 use Rattle.sentry_run.proofs.RunFacts.{AnyFacts, ToldFacts}
 use Rattle.sentry_run.proofs.Ways.{Call, session, output, Over, Way, Misused, Unread, Over_file}
 
@@ -36,8 +39,8 @@ pub fails_as : (s : Call) (command : Command) (r : Outcome) (f : Fault)
 fails_as s command r f h e = subst (FailsToRead command s.before.source s.after.source) e h
 
 pub any_as : (s : Call) (m : Mounts) (r : Outcome) (f : Fault) → Over s m r → r.fault ≡ f
-    → AnyFacts m.entries r.trace s.before s.after f
-any_as s m r f o e = subst (AnyFacts m.entries r.trace s.before s.after) e o.any
+    → AnyFacts m r.trace s.before s.after f
+any_as s m r f o e = subst (AnyFacts m r.trace s.before s.after) e o.any
 
 pub told_as : (s : Call) (m : Mounts) (r : Outcome) (f : Fault) → Over s m r → r.fault ≡ f → (w : Shape)
     → s.before.host.told ≡ Some w → ToldFacts (session s m r w) (output s) f
@@ -55,6 +58,17 @@ where_some : (mounts : Option Mounts) (world : Option Shape) (F : Mounts → Sha
 where_some None world F m e f = tt
 where_some (Some n) None F m e f = tt
 where_some (Some n) (Some w) F m e f = subst (λ (x : Mounts). F x w) (sym (same_Some n m e)) (f w refl)
+
+-- a fact of the mount file that is shown of each run over an accepted one
+pub if_read : (s : Call) (r : Outcome) (F : Mounts → Type 0) → Way s r → ((m : Mounts) → Over s m r → F m)
+    → IfSome r.mounts F
+if_read s r F (Misused e n) f = subst (λ (o : Option Mounts). IfSome o F) (sym n.refused.mounts) tt
+if_read s r F (Unread command e w u) f = subst (λ (o : Option Mounts). IfSome o F) (sym u.refused.mounts) tt
+if_read s r F (Over_file command e w m d o) f = subst (λ (o : Option Mounts). IfSome o F) (sym o.read) (f m o)
+
+-- the mount file has the form of those that are read
+pub form : (s : Call) (r : Outcome) → Way s r → IfSome r.mounts HasForm
+form s r way = if_read s r HasForm way (λ m o. o.form)
 
 -- a fact of the mount file and the world that is shown of each run over an accepted one
 pub where_read : (s : Call) (r : Outcome) (F : Mounts → Shape → Type 0) → Way s r
@@ -206,16 +220,26 @@ mounts s r (Over_file command e w m d o) f h = absurd (any_as s m r (faults.Moun
 
 -- ---- grant and image
 
-pub grant_number : (s : Call) (r : Outcome) → Way s r → (n : ℕ) → r.fault ≡ faults.Grant n → n ≡ 1
-grant_number s r (Misused e n) k h = let g = usage_is (faults.Grant k) r n.refused.fault h in cc
-grant_number s r (Unread command e w u) k h = absurd (fails_as s command r (faults.Grant k) u.fails h)
-grant_number s r (Over_file command e w m d o) k h = (any_as s m r (faults.Grant k) o h).0
+-- the mount is one of the mount file's
+pub grant_number : (s : Call) (r : Outcome) → Way s r → (n : ℕ) → r.fault ≡ faults.Grant n
+    → IfSome r.mounts (λ m. (1 ≤ n) × (n ≤ length m.mounts))
+grant_number s r way k h =
+    if_read s r (λ m. (1 ≤ k) × (k ≤ length m.mounts)) way
+    (λ m o. let a = any_as s m r (faults.Grant k) o h in (a.0, a.1))
 
+-- it is the first whose folder isn't there,
+pub grant_first : (s : Call) (r : Outcome) → Way s r → (n : ℕ) → r.fault ≡ faults.Grant n
+    → WhereRead r.mounts s.before.host.told (λ m w. first_lacking 1 m.mounts w ≡ Some n)
+grant_first s r way k h =
+    where_read s r (λ m w. first_lacking 1 m.mounts w ≡ Some k) way
+    (λ m o w told. (told_as s m r (faults.Grant k) o h w told).1)
+
+-- so that not all are granted
 pub grant : (s : Call) (r : Outcome) → Way s r → (n : ℕ) → r.fault ≡ faults.Grant n
     → WhereRead r.mounts s.before.host.told (λ m w. granted m.mounts w ≡ None)
 grant s r way k h =
     where_read s r (λ m w. granted m.mounts w ≡ None) way
-    (λ m o w told. (told_as s m r (faults.Grant k) o h w told).2)
+    (λ m o w told. lacking_none 1 m.mounts w k (told_as s m r (faults.Grant k) o h w told).1)
 
 pub image : (s : Call) (r : Outcome) → Way s r → (task : ℕ) (errno : Errno) → r.fault ≡ faults.Image task errno
     → WhereRead r.mounts s.before.host.told (λ m w. RefusesAs (begun m w r.opening) task errno)

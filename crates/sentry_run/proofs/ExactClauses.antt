@@ -1,5 +1,5 @@
 -- The clauses of a run that go from a cause to the answer, each from the way that it went.
-use Rattle.std.proofs.Common.{◌≡◌, inl, inr, ℕ, false, List, [], ◌∷◌, length, refl, ap, sym, ◌∙◌, subst}
+use Rattle.std.proofs.Common.{true, ◌≡◌, inl, inr, ℕ, false, List, [], ◌∷◌, length, refl, ap, sym, ◌∙◌, subst}
 use Rattle.std.specs.Prelude.{Option, Some, None, IsSome, IsSomeAnd, if◌then◌else◌, ◌&&◌, nat_eq, map}
 use Rattle.std.specs.Str.{bytes_eq}
 use Rattle.std.proofs.lemmas.Option.{same_Some}
@@ -11,11 +11,14 @@ use Rattle.kernel_model.specs.declared.kernel.Kernel.{Kernel}
 use Rattle.mount_file.specs.declared.mounts.Mounts.{Mounts}
 use Rattle.mount_file.specs.declared.mounts.Mount.{Mount}
 use Rattle.kernel_model.specs.declared.opening.Opening.{Opening}
+use Rattle.mount_file.specs.Form.{HasForm}
 use Rattle.mount_file.specs.MountFile.{IsMountFile, IsFaultOf}
+use Rattle.mount_file.specs.Rules.{has_root}
 use Rattle.mount_file.specs.declared.mounts.MountFault.{MountFault}
 use Rattle.mount_file.proofs.Faults.{mounts_same, fault_same, no_fault}
 use Rattle.kernel_model.specs.opening.Opening.{Opens, Refuses, Misfits, opening_of, tasks_begun, bare}
-use Rattle.kernel_model.specs.opening.Records.{is_of, same_list}
+use Rattle.kernel_model.specs.opening.Records.{is_of}
+use lib.Pointwise.{pointwise}
 use Rattle.kernel_model.specs.opening.Records.{same_mount, begins}
 use Rattle.kernel_model.specs.files.Numbers.{count_up}
 use Rattle.mount_file.specs.declared.mounts.Program.{Program}
@@ -31,6 +34,7 @@ use Rattle.sentry_run.specs.Outcome.{IsAccepted}
 use Rattle.sentry_run.specs.Causes.{MayFailToRead, MayFailToGrant, MayFailToStart, HasEnded}
 use Rattle.sentry_run.specs.Sides.{Side}
 use Rattle.sentry_run.proofs.Courses.{Session, Output}
+use Rattle.sentry_run.proofs.Folders.{lacking_none}
 use Rattle.sentry_run.proofs.RunFacts.{ToldFacts}
 use Rattle.sentry_run.proofs.Ways.{Call, session, output, Over, Way, Misused, Unread, Over_file}
 use Rattle.sentry_run.proofs.Clauses.{any_as, told_as, where_read}
@@ -54,17 +58,17 @@ starts_not_refused : (x : Session) (k j : Kernel) (task : ℕ) (errno : Errno)
     → begun x.mounts x.world x.outcome.opening ≡ Refuses j task errno → ⊥
 starts_not_refused x k j task errno e b = let f : Opens k ≡ Refuses j task errno = sym e ∙ b in cc
 
-no_mounts : (mounts : List Mount) → length mounts ≡ 1 → same_list same_mount [] mounts ≡ false
+no_mounts : (mounts : List Mount) → has_root mounts ≡ true → pointwise same_mount [] mounts ≡ false
 no_mounts [] e = cc
 no_mounts (m ∷ ms) e = refl
 
 -- a record of nothing is of no mount file with a mount
-nothing_unlike : (m : Mounts) → length m.mounts ≡ 1 → is_of m nothing_opened ≡ false
+nothing_unlike : (m : Mounts) → HasForm m → is_of m nothing_opened ≡ false
 nothing_unlike m e =
-    ap (λ b. b && same_list nat_eq [] (count_up 1 (length m.mounts)) && begins (same_list bytes_eq) []
-    (map (λ (p : Program). p.args) m.tasks)) (no_mounts m.mounts e)
+    ap (λ b. b && pointwise nat_eq [] (count_up 1 (length m.mounts)) && begins (pointwise bytes_eq) []
+    (map (λ (p : Program). p.args) m.tasks)) (no_mounts m.mounts e.rooted)
 
-nothing_begun : (m : Mounts) (trees : Option (List Shape)) → length m.mounts ≡ 1
+nothing_begun : (m : Mounts) (trees : Option (List Shape)) → HasForm m
     → begun_over m nothing_opened trees ≡ Misfits 0
 unfolding opening_of
 nothing_begun m None e = refl
@@ -72,11 +76,11 @@ nothing_begun m (Some trees) e =
     ap (λ b. if b then tasks_begun 1 m.tasks [] (bare m trees) else Misfits 0) (nothing_unlike m e)
 
 -- an opening of nothing is a misfit
-pub unopened : (x : Session) → length x.mounts.mounts ≡ 1 → x.outcome.opening ≡ nothing_opened
+pub unopened : (x : Session) → HasForm x.mounts → x.outcome.opening ≡ nothing_opened
     → begun x.mounts x.world x.outcome.opening ≡ Misfits 0
 unopened x one e = ap (begun x.mounts x.world) e ∙ nothing_begun x.mounts (granted x.mounts.mounts x.world) one
 
-nothing_refused : (x : Session) (k : Kernel) (task : ℕ) (errno : Errno) → length x.mounts.mounts ≡ 1
+nothing_refused : (x : Session) (k : Kernel) (task : ℕ) (errno : Errno) → HasForm x.mounts
     → x.outcome.opening ≡ nothing_opened → begun x.mounts x.world x.outcome.opening ≡ Refuses k task errno → ⊥
 nothing_refused x k task errno e f b =
     let g : Misfits 0 ≡ Refuses k task errno = sym (unopened x e f) ∙ b in
@@ -102,7 +106,7 @@ grant_exact s r way =
     where_read s r (λ m w. granted m.mounts w ≡ None → MayFailToGrant r.fault) way
     (λ m o w told. grant_by (session s m r w) (output s) r.fault (o.told w told))
 
-image_by : (x : Session) (p : Output) (f : Fault) → length x.mounts.mounts ≡ 1 → ToldFacts x p f
+image_by : (x : Session) (p : Output) (f : Fault) → HasForm x.mounts → ToldFacts x p f
     → (k : Kernel) (task : ℕ) (errno : Errno) → begun x.mounts x.world x.outcome.opening ≡ Refuses k task errno
     → MayFailToStart task errno f
 image_by x p faults.Done e t k task errno b = absurd (starts_not_refused x t.1.start k task errno t.1.opens b)
@@ -116,7 +120,7 @@ image_by x p (faults.Image n err) e t k task errno b =
     inl cc
 image_by x p faults.Memory e t k task errno b = inr refl
 image_by x p faults.HostFault e t k task errno b = absurd (nothing_refused x k task errno e t.opened b)
-image_by x p (faults.Grant n) e t k task errno b = absurd (nothing_refused x k task errno e t.1.opened b)
+image_by x p (faults.Grant n) e t k task errno b = absurd (nothing_refused x k task errno e t.0.opened b)
 image_by x p _ e t k task errno b = absurd t
 
 pub image_exact : (s : Call) (r : Outcome) → Way s r
@@ -125,7 +129,7 @@ pub image_exact : (s : Call) (r : Outcome) → Way s r
 image_exact s r way =
     where_read s r (λ m w. (k : Kernel) (task : ℕ) (errno : Errno)
     → begun m w r.opening ≡ Refuses k task errno → MayFailToStart task errno r.fault) way
-    (λ m o w told. image_by (session s m r w) (output s) r.fault o.one_mount (o.told w told))
+    (λ m o w told. image_by (session s m r w) (output s) r.fault o.form (o.told w told))
 
 -- ---- from the bytes of a mount file to the answer
 
@@ -245,7 +249,8 @@ over_end s command m r (faults.Image task errno) e d o h a no_host no_sink =
 over_end s command m r (faults.Grant n) e d o h a no_host no_sink =
     let t = told_as s m r (faults.Grant n) o h a.tree a.tree_is in
     absurd (not_none (granted a.mounts.mounts a.tree) a.folders
-    (ap (λ (x : Mounts). granted x.mounts a.tree) (file_is s command m r e d a) ∙ t.2))
+    (ap (λ (x : Mounts). granted x.mounts a.tree) (file_is s command m r e d a)
+    ∙ lacking_none 1 m.mounts a.tree n t.1))
 over_end s command m r faults.Usage e d o h a no_host no_sink = absurd (any_as s m r faults.Usage o h)
 over_end s command m r (faults.Mounts f) e d o h a no_host no_sink = absurd (any_as s m r (faults.Mounts f) o h)
 over_end s command m r faults.SourceFault e d o h a no_host no_sink = absurd (any_as s m r faults.SourceFault o h)

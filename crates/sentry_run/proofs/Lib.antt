@@ -7,6 +7,11 @@ pub mod RunsOfTurns
 pub mod Counts
 pub mod Endings
 pub mod GivenBack
+pub mod Folders
+pub mod MountsFrom
+pub mod Ends
+pub mod GrantsBehind
+pub mod GrantsFrom
 pub mod ReadAs
 pub mod Courses
 pub mod RunFacts

@@ -1,10 +1,13 @@
 -- What each answer of a run says, fault by fault.
-use Rattle.std.proofs.Common.{◌≡◌, ◌⊎◌, inl, inr, ℕ, ◌<◌, true, false, List, [], length, refl, ap, sym, ◌∙◌, subst}
+use Rattle.std.proofs.Common.{◌≡◌, ◌⊎◌, inl, inr, ℕ, ◌<◌, ◌≤◌, true, false, List, [], length, refl, ap, sym, ◌∙◌}
+use Rattle.std.proofs.Common.{subst}
 use Rattle.std.proofs.lemmas.List.{append-nil}
 use Rattle.std.specs.Prelude.{Option, Some, None, IsSome, ⊤}
 use Rattle.host_node.specs.Tree.{Shape}
-use Rattle.sn_base.specs.Faults.{Rose}
+use Rattle.sn_base.specs.Faults.{HasCause, Rose}
 use Rattle.sn_edge.specs.Taken.{with_taken}
+use Rattle.mount_file.specs.Form.{HasForm}
+use Rattle.mount_file.specs.declared.mounts.Mounts.{Mounts}
 use Rattle.kernel_model.specs.declared.entry.Entry.{Entry}
 use Rattle.kernel_model.specs.declared.kernel.Kernel.{Kernel}
 use Rattle.kernel_model.specs.entries.History.{any_live}
@@ -17,11 +20,13 @@ use Rattle.image_walk.specs.Standing.{no_left}
 use Rattle.image_walk.proofs.Counts.{risen_same}
 use Rattle.sentry_run.specs.Causes.{is_host_fault, is_grant_failed}
 use Rattle.sentry_run.specs.Concluded.{Writes, Fronts, StopsShort, Concludes}
-use Rattle.sentry_run.specs.Outcome.{granted, IsHistory, IsOver, text_of, KeepsOutside, LeavesInside}
+use Rattle.sentry_run.specs.Outcome.{first_lacking, IsHistory, IsOver, text_of, KeepsOutside, LeavesInside}
+use Rattle.sentry_run.specs.Granted.{IsOfMounts}
 use Rattle.sentry_run.specs.Sides.{Side, Sides}
 use Rattle.sentry_run.proofs.Courses.{Session, Output, text_with, state_left, world_with, Began, Refused, Course}
 use Rattle.sentry_run.proofs.Courses.{Finished, Filled, Halted, Stopped, Starved, Emptied, Untaken, Failing, Missing}
-use Rattle.sentry_run.proofs.Courses.{state_of, outside_one}
+use Rattle.sentry_run.proofs.Courses.{state_of}
+use Rattle.sentry_run.proofs.Folders.{outside_root}
 
 -- ---- whatever the host tells
 
@@ -29,45 +34,47 @@ pub record Silent (trace : List Entry) (before after : Side (List ℕ)) : Type 0
   pub empty : trace ≡ []
   pub same_sink : after.told ≡ before.told
 
-abbrev pub AnyFacts : (entries : ℕ) → List Entry → (before after : Sides) → Fault → Type 0
-AnyFacts entries trace before after faults.Done = ⊤
-AnyFacts entries trace before after faults.Full = length trace ≡ entries
-AnyFacts entries trace before after faults.Stuck = length trace < entries
-AnyFacts entries trace before after faults.SinkFault = Rose before.sink.count after.sink.count
-AnyFacts entries trace before after faults.Memory = ⊤
-AnyFacts entries trace before after (faults.Image task errno) = Silent trace before.sink after.sink
-AnyFacts entries trace before after faults.HostFault =
+abbrev pub AnyFacts : Mounts → List Entry → (before after : Sides) → Fault → Type 0
+AnyFacts m trace before after faults.Done = ⊤
+AnyFacts m trace before after faults.Full = length trace ≡ m.entries
+AnyFacts m trace before after faults.Stuck = length trace < m.entries
+AnyFacts m trace before after faults.SinkFault = Rose before.sink.count after.sink.count
+AnyFacts m trace before after faults.Memory = ⊤
+AnyFacts m trace before after (faults.Image task errno) = Silent trace before.sink after.sink
+AnyFacts m trace before after faults.HostFault =
     Rose before.host.count after.host.count × Silent trace before.sink after.sink
-AnyFacts entries trace before after (faults.Grant n) = (n ≡ 1) × Silent trace before.sink after.sink
-AnyFacts entries trace before after _ = ⊥
+AnyFacts m trace before after (faults.Grant n) =
+    (1 ≤ n) × (n ≤ length m.mounts) × Silent trace before.sink after.sink
+AnyFacts m trace before after _ = ⊥
 
-any_written : (text : List ℕ) (entries : ℕ) (trace : List Entry) (before after : Sides) (whole fault : Fault)
-    → AnyFacts entries trace before after whole → Writes text whole before.sink after.sink fault
-    → AnyFacts entries trace before after fault
-any_written text entries trace before after whole fault facts (inl w) =
-    subst (AnyFacts entries trace before after) (sym w.0) facts
-any_written text entries trace before after whole fault facts (inr (inl w)) =
-    subst (AnyFacts entries trace before after) (sym w.0) w.1
-any_written text entries trace before after whole fault facts (inr (inr w)) =
-    subst (AnyFacts entries trace before after) (sym w.0) tt
+any_written : (text : List ℕ) (m : Mounts) (trace : List Entry) (before after : Sides) (whole fault : Fault)
+    → AnyFacts m trace before after whole → Writes text whole before.sink after.sink fault
+    → AnyFacts m trace before after fault
+any_written text m trace before after whole fault facts (inl w) =
+    subst (AnyFacts m trace before after) (sym w.0) facts
+any_written text m trace before after whole fault facts (inr (inl w)) =
+    subst (AnyFacts m trace before after) (sym w.0) w.1
+any_written text m trace before after whole fault facts (inr (inr w)) =
+    subst (AnyFacts m trace before after) (sym w.0) tt
 
-pub any_facts : (entries : ℕ) (trace : List Entry) (text : Kernel → List ℕ) (before after : Sides) (fault : Fault)
-    (end : End) → TraceOf entries end trace → (end ≡ ends.HostFault → Rose before.host.count after.host.count)
-    → Concludes end text before.sink after.sink fault → AnyFacts entries trace before after fault
-any_facts entries trace text before after fault (ends.Done kernel) t h c =
-    any_written (text kernel) entries trace before after faults.Done fault tt c
-any_facts entries trace text before after fault (ends.Full kernel) t h c =
-    any_written (text kernel) entries trace before after faults.Full fault t c
-any_facts entries trace text before after fault (ends.Stuck kernel) t h c =
-    any_written (text kernel) entries trace before after faults.Stuck fault t c
-any_facts entries trace text before after fault (ends.Image task errno) t h c =
-    subst (AnyFacts entries trace before after) (sym c.0) (record { empty = t; same_sink = c.1 })
-any_facts entries trace text before after fault ends.HostFault t h c =
-    subst (AnyFacts entries trace before after) (sym c.0) (h refl, record { empty = t; same_sink = c.1 })
-any_facts entries trace text before after fault ends.Grant t h c =
-    subst (AnyFacts entries trace before after) (sym c.0) (refl, record { empty = t; same_sink = c.1 })
-any_facts entries trace text before after fault ends.Memory t h c =
-    subst (AnyFacts entries trace before after) (sym c.0) tt
+pub any_facts : (m : Mounts) (trace : List Entry) (text : Kernel → List ℕ) (before after : Sides) (fault : Fault)
+    (end : End) → TraceOf m.entries end trace → HasCause (is_grant_failed end) before.host.count after.host.count
+    → IsOfMounts (length m.mounts) end → Concludes end text before.sink after.sink fault
+    → AnyFacts m trace before after fault
+any_facts m trace text before after fault (ends.Done kernel) t h n c =
+    any_written (text kernel) m trace before after faults.Done fault tt c
+any_facts m trace text before after fault (ends.Full kernel) t h n c =
+    any_written (text kernel) m trace before after faults.Full fault t c
+any_facts m trace text before after fault (ends.Stuck kernel) t h n c =
+    any_written (text kernel) m trace before after faults.Stuck fault t c
+any_facts m trace text before after fault (ends.Image task errno) t h n c =
+    subst (AnyFacts m trace before after) (sym c.0) (record { empty = t; same_sink = c.1 })
+any_facts m trace text before after fault ends.HostFault t h n c =
+    subst (AnyFacts m trace before after) (sym c.0) (h.failed refl, record { empty = t; same_sink = c.1 })
+any_facts m trace text before after fault (ends.Grant mount) t h n c =
+    subst (AnyFacts m trace before after) (sym c.0) (n.0, n.1, record { empty = t; same_sink = c.1 })
+any_facts m trace text before after fault ends.Memory t h n c =
+    subst (AnyFacts m trace before after) (sym c.0) tt
 
 -- an answer tells of a host fault exactly where the grant failed
 written_host : (text : List ℕ) (whole : Fault) (before after : Side (List ℕ)) (fault : Fault)
@@ -86,7 +93,7 @@ grant_told text before after fault (ends.Stuck kernel) c =
     written_host (text kernel) faults.Stuck before after fault refl c
 grant_told text before after fault (ends.Image task errno) c = sym (ap is_host_fault c.0)
 grant_told text before after fault ends.HostFault c = sym (ap is_host_fault c.0)
-grant_told text before after fault ends.Grant c = sym (ap is_host_fault c.0)
+grant_told text before after fault (ends.Grant mount) c = sym (ap is_host_fault c.0)
 grant_told text before after fault ends.Memory c = sym (ap is_host_fault c.0)
 
 -- ---- where the host tells
@@ -122,7 +129,7 @@ ToldFacts x p faults.SinkFault =
 ToldFacts x p faults.Memory = Short x p
 ToldFacts x p (faults.Image task errno) = Refused x task errno
 ToldFacts x p faults.HostFault = Unopened x
-ToldFacts x p (faults.Grant n) = (n ≡ 1) × Unopened x × (granted x.mounts.mounts x.world ≡ None)
+ToldFacts x p (faults.Grant n) = Unopened x × (first_lacking 1 x.mounts.mounts x.world ≡ Some n)
 ToldFacts x p _ = ⊥
 
 -- nothing taken is a front of any text
@@ -147,11 +154,12 @@ front_of x p state b f =
     subst (λ (k : Option Kernel). Fronts p.before.told p.after.told (text_of k x.outcome.trace p.flag))
     (sym (state_of x state b)) f
 
-kept_of : (x : Session) (tree : Shape) → length x.mounts.mounts ≡ 1 → x.after ≡ Some (world_with x tree)
+kept_of : (x : Session) (tree : Shape) → HasForm x.mounts → x.after ≡ Some (world_with x tree)
     → KeepsOutside x.mounts x.world x.after
-kept_of x tree e put = (world_with x tree, put, outside_one x.mounts.mounts tree x.world e)
+kept_of x tree form put =
+    (world_with x tree, put, outside_root x.mounts.mounts tree x.world form.rooted form.apart)
 
-short_began : (x : Session) (p : Output) (state : Kernel) → length x.mounts.mounts ≡ 1 → Began x state
+short_began : (x : Session) (p : Output) (state : Kernel) → HasForm x.mounts → Began x state
     → Fronts p.before.told p.after.told (text_with x p state) → Short x p
 short_began x p state e b f = record {
   kept = kept_of x b.tree e b.put;
@@ -161,7 +169,7 @@ short_began x p state e b f = record {
 }
 
 -- a run that is over: its text was taken, or the sink failed before its end, or memory ran out
-told_written : (x : Session) (p : Output) (whole fault : Fault) (state : Kernel) → length x.mounts.mounts ≡ 1
+told_written : (x : Session) (p : Output) (whole fault : Fault) (state : Kernel) → HasForm x.mounts
     → Began x state → IsOver x.mounts x.outcome.trace state
     → (p.after.told ≡ with_taken p.before.told (text_with x p state) → ToldFacts x p whole)
     → Writes (text_with x p state) whole p.before p.after fault → ToldFacts x p fault
@@ -171,7 +179,7 @@ told_written x p whole fault state e b over facts (inr (inl w)) =
 told_written x p whole fault state e b over facts (inr (inr w)) =
     subst (ToldFacts x p) (sym w.0) (short_began x p state e b w.1)
 
-pub told_facts : (x : Session) (p : Output) (fault : Fault) → length x.mounts.mounts ≡ 1 → Course x p fault
+pub told_facts : (x : Session) (p : Output) (fault : Fault) → HasForm x.mounts → Course x p fault
     → ToldFacts x p fault
 told_facts x p fault e (Finished state b dead w) =
     told_written x p faults.Done fault state e b (inl dead) (λ taken. (state, b, dead, taken)) w
@@ -200,9 +208,5 @@ told_facts x p fault e (Untaken stands opened empty f same) =
     })
 told_facts x p fault e (Failing stands opened empty f same) =
     subst (ToldFacts x p) (sym f) (record { same = stands; opened = opened })
-told_facts x p fault e (Missing stands opened empty no_folder f same) =
-    subst (ToldFacts x p) (sym f) (
-      refl,
-      record { same = stands; opened = opened },
-      no_folder,
-    )
+told_facts x p fault e (Missing stands opened empty mount no_folder f same) =
+    subst (ToldFacts x p) (sym f) (record { same = stands; opened = opened }, no_folder)

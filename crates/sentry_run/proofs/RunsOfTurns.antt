@@ -46,7 +46,7 @@ ran_from m (Some p) trace (ends.Stuck k) nodes start leaves state whole bound st
 ran_from m (Some p) trace ends.Memory nodes start leaves state whole bound stop fin = absurd fin
 ran_from m (Some p) trace (ends.Image task errno) nodes start leaves state whole bound stop fin = absurd fin
 ran_from m (Some p) trace ends.HostFault nodes start leaves state whole bound stop fin = absurd fin
-ran_from m (Some p) trace ends.Grant nodes start leaves state whole bound stop fin = absurd fin
+ran_from m (Some p) trace (ends.Grant mount) nodes start leaves state whole bound stop fin = absurd fin
 
 pub ran_trace : (m : Mounts) (nodes : Nodes) (start : Kernel) (end : End) (trace : List Entry)
     → RanFrom m nodes start end trace → TraceOf m.entries end trace
@@ -55,5 +55,5 @@ ran_trace m nodes start (ends.Full kernel) trace h = h.3
 ran_trace m nodes start (ends.Stuck kernel) trace h = h.2.short
 ran_trace m nodes start (ends.Image task errno) trace h = absurd h
 ran_trace m nodes start ends.HostFault trace h = absurd h
-ran_trace m nodes start ends.Grant trace h = absurd h
+ran_trace m nodes start (ends.Grant mount) trace h = absurd h
 ran_trace m nodes start ends.Memory trace h = tt

@@ -29,8 +29,8 @@ use Rattle.sentry_run.specs.LeftTasks.{MayBeLeft}
 use Rattle.sentry_run.specs.Sides.{Side, Sides}
 use Rattle.sentry_run.proofs.Courses.{Session, Output, text_with, Began}
 use Rattle.sentry_run.proofs.RunFacts.{AnyFacts, Silent, ToldFacts, FrontOf, front_of, history_of}
-use Rattle.sentry_run.proofs.Ways.{Call, session, output, Over, Way, Misused, Unread, Over_file}
-use Rattle.sentry_run.proofs.Clauses.{any_as, told_as, where_read, where_state}
+use Rattle.sentry_run.proofs.Ways.{Call, session, output, Way, Misused, Unread, Over_file}
+use Rattle.sentry_run.proofs.Clauses.{any_as, told_as, if_read, where_read, where_state}
 
 -- ---- the trace
 
@@ -55,37 +55,30 @@ history_memory s r way h =
     where_read s r (λ m w. (r.trace ≡ []) ⊎ IsHistory m w r.opening r.trace) way
     (λ m o w told. (told_as s m r faults.Memory o h w told).history)
 
--- a fact of the mount file that is shown of each run over an accepted one
-if_read : (s : Call) (r : Outcome) (F : Mounts → Type 0) → Way s r → ((m : Mounts) → Over s m r → F m)
-    → IfSome r.mounts F
-if_read s r F (Misused e n) f = subst (λ (o : Option Mounts). IfSome o F) (sym n.refused.mounts) tt
-if_read s r F (Unread command e w u) f = subst (λ (o : Option Mounts). IfSome o F) (sym u.refused.mounts) tt
-if_read s r F (Over_file command e w m d o) f = subst (λ (o : Option Mounts). IfSome o F) (sym o.read) (f m o)
-
 pub bound : (s : Call) (r : Outcome) → Way s r → IfSome r.mounts (λ m. length r.trace ≤ m.entries)
 bound s r way = if_read s r (λ m. length r.trace ≤ m.entries) way (λ m o. o.bound)
 
 -- an answer without a trace writes nothing
-silent : (entries : ℕ) (trace : List Entry) (before after : Sides) (f : Fault) → HasNoTrace f
-    → AnyFacts entries trace before after f → Silent trace before.sink after.sink
-silent entries trace before after (faults.Image task errno) h a = a
-silent entries trace before after faults.HostFault h a = a.1
-silent entries trace before after (faults.Grant n) h a = a.1
-silent entries trace before after faults.Usage h a = absurd a
-silent entries trace before after (faults.Mounts f) h a = absurd a
-silent entries trace before after faults.SourceFault h a = absurd a
-silent entries trace before after _ h a = cc
+silent : (m : Mounts) (trace : List Entry) (before after : Sides) (f : Fault) → HasNoTrace f
+    → AnyFacts m trace before after f → Silent trace before.sink after.sink
+silent m trace before after (faults.Image task errno) h a = a
+silent m trace before after faults.HostFault h a = a.1
+silent m trace before after (faults.Grant n) h a = a.2
+silent m trace before after faults.Usage h a = absurd a
+silent m trace before after (faults.Mounts f) h a = absurd a
+silent m trace before after faults.SourceFault h a = absurd a
+silent m trace before after _ h a = cc
 
 pub empty : (s : Call) (r : Outcome) → Way s r → HasNoTrace r.fault → r.trace ≡ []
 empty s r (Misused e n) h = n.refused.trace
 empty s r (Unread command e w u) h = u.refused.trace
-empty s r (Over_file command e w m d o) h = (silent m.entries r.trace s.before s.after r.fault h o.any).empty
+empty s r (Over_file command e w m d o) h = (silent m r.trace s.before s.after r.fault h o.any).empty
 
 pub text_none : (s : Call) (r : Outcome) → Way s r → HasNoTrace r.fault → s.after.sink.told ≡ s.before.sink.told
 text_none s r (Misused e n) h = ap (λ (x : Sides). x.sink.told) n.same
 text_none s r (Unread command e w u) h = ap (λ (x : Side (List ℕ)). x.told) u.same_sink
 text_none s r (Over_file command e w m d o) h =
-    (silent m.entries r.trace s.before s.after r.fault h o.any).same_sink
+    (silent m r.trace s.before s.after r.fault h o.any).same_sink
 
 -- ---- how it ended
 
@@ -165,7 +158,7 @@ world s r way h =
 
 unbegun : (x : Session) (p : Output) (f : Fault) → HasNotBegun f → ToldFacts x p f → x.after ≡ Some x.world
 unbegun x p faults.HostFault h t = t.same
-unbegun x p (faults.Grant n) h t = t.1.same
+unbegun x p (faults.Grant n) h t = t.0.same
 unbegun x p faults.Usage h t = absurd t
 unbegun x p (faults.Mounts f) h t = absurd t
 unbegun x p faults.SourceFault h t = absurd t

@@ -39,14 +39,14 @@ pub record Over (s : Call) (m : Mounts) (r : Outcome) : Type 0 where
   pub status : r.status ≡ status_of r.fault
   pub read : r.mounts ≡ Some m
   pub left : r.left ≡ no_left
-  pub one_mount : length m.mounts ≡ 1
+  pub form : HasForm m
   pub drawn : flat_map numbers_in r.trace ≡ []
   pub numbers : IsGapless (numbers_opened r.opening)
   pub bound : length r.trace ≤ m.entries
   pub same_count : s.after.source.count ≡ s.before.source.count
   pub host_cause : HasCause (is_host_fault r.fault) s.before.host.count s.after.host.count
   pub sink_cause : HasCause (is_sink_fault r.fault) s.before.sink.count s.after.sink.count
-  pub any : AnyFacts m.entries r.trace s.before s.after r.fault
+  pub any : AnyFacts m r.trace s.before s.after r.fault
   pub told : (w : Shape) → s.before.host.told ≡ Some w → ToldFacts (session s m r w) (output s) r.fault
   pub untold : s.before.host.told ≡ None → s.after.host.told ≡ None
 
@@ -58,32 +58,29 @@ pub data Way (s : Call) (r : Outcome) : Type 0 where
       → ReadsWithin s.before.source.told s.after.source.told 65537 → (m : Mounts)
       → ReadsAs command s.before.source.told m → Over s m r → Way s r
 
--- a mount file that is read has one mount
-one_mount : (m : Mounts) → HasForm m → length m.mounts ≡ 1
-one_mount m form = ap length form.mounts_are
-
 over_of : (s : Call) (m : Mounts) (r : Outcome) → s.after.source.count ≡ s.before.source.count
     → RanOver m (asks_trace s.words) s.before s.after r → Over s m r
 over_of s m r same ran =
     let text : Kernel → List ℕ = λ k. printed k r.trace (asks_trace s.words) in
-    let one : length m.mounts ≡ 1 = one_mount m ran.one in
     record {
       status = ran.status;
       read = ran.read;
       left = ran.left;
-      one_mount = one;
-      drawn = ran.drawn;
-      numbers = ran.numbers;
-      bound = ran.bound;
+      form = ran.form;
+      drawn = ran.played.drawn;
+      numbers = ran.played.numbers;
+      bound = ran.played.bound;
       same_count = same;
       host_cause =
           subst (λ (b : Bool). HasCause b s.before.host.count s.after.host.count)
-          (grant_told text s.before.sink s.after.sink r.fault ran.end ran.concludes) ran.host_cause;
+          (grant_told text s.before.sink s.after.sink r.fault ran.end ran.concludes) ran.played.cause;
       sink_cause = ran.sink_cause;
-      any = any_facts m.entries r.trace text s.before s.after r.fault ran.end ran.trace ran.host ran.concludes;
+      any =
+          any_facts m r.trace text s.before s.after r.fault ran.end ran.played.trace ran.played.cause
+          ran.played.number ran.concludes;
       told =
-          λ w e. told_facts (session s m r w) (output s) r.fault one
-          (course (session s m r w) (output s) r.fault ran.end one (plays_at (Some w) e) ran.concludes);
+          λ w e. told_facts (session s m r w) (output s) r.fault ran.form
+          (course (session s m r w) (output s) r.fault ran.end ran.form (plays_at (Some w) e) ran.concludes);
       untold = λ e. plays_at None e;
     }
   where

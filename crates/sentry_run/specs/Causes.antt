@@ -102,7 +102,7 @@ MayFailToOpen fault = (fault ≡ SourceFault) ⊎ (fault ≡ Memory)
 abbrev pub MayFailToRead : MountFault → Fault → Type 0
 MayFailToRead reason fault = (fault ≡ Mounts reason) ⊎ (fault ≡ SourceFault) ⊎ (fault ≡ Memory)
 
--- the answers of a run whose folder isn't there
+-- the answers of a run one of whose folders isn't there
 -- profile
 abbrev pub MayFailToGrant : Fault → Type 0
 MayFailToGrant fault = ((mount : ℕ) × (fault ≡ Grant mount)) ⊎ (fault ≡ HostFault) ⊎ (fault ≡ Memory)
@@ -138,7 +138,7 @@ abbrev pub is_host_fault : Fault → Bool
 is_host_fault HostFault = true
 is_host_fault _ = false
 
--- the host failed in the grant
+-- the host failed in a grant
 -- profile
 abbrev pub is_grant_failed : End → Bool
 is_grant_failed ends.HostFault = true

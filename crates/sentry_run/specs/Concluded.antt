@@ -36,5 +36,6 @@ Concludes (ends.Stuck kernel) text_of before after fault = Writes (text_of kerne
 Concludes (ends.Image task errno) text_of before after fault =
     (fault ≡ faults.Image task errno) × (after.told ≡ before.told)
 Concludes ends.HostFault text_of before after fault = (fault ≡ faults.HostFault) × (after.told ≡ before.told)
-Concludes ends.Grant text_of before after fault = (fault ≡ faults.Grant 1) × (after.told ≡ before.told)
+Concludes (ends.Grant mount) text_of before after fault =
+    (fault ≡ faults.Grant mount) × (after.told ≡ before.told)
 Concludes ends.Memory text_of before after fault = (fault ≡ faults.Memory) × (after.told ≡ before.told)

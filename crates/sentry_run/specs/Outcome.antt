@@ -1,6 +1,7 @@
 -- What the clauses of a run speak of: the state that its trace leaves, and the world then.
-use Rattle.std.specs.Prelude.{◌≡◌, ◌⊎◌, ℕ, List, [], ◌∷◌, length, take, Bool, true, false, All, AllPairs, Option, Some}
-use Rattle.std.specs.Prelude.{None, IsSome, IfSome, IsSomeAnd, ⊤, option_and_then, option_map}
+use Rattle.std.specs.Prelude.{◌≡◌, ◌⊎◌, ℕ, ◌+◌, List, [], ◌∷◌, length, take, Bool, true, false, All, AllPairs, Option}
+use Rattle.std.specs.Prelude.{Some, None, IsSome, IfSome, IsSomeAnd, ⊤, is_some, option_and_then, option_map}
+use Rattle.std.specs.Prelude.{if◌then◌else◌}
 use Rattle.host_node.specs.Tree.{Shape}
 use Rattle.host_node.specs.Routes.{directory_at}
 use Rattle.sn_edge.specs.Shelf.{Shelf, content_at}
@@ -86,6 +87,13 @@ abbrev pub granted : List Mount → Shape → Option (List Shape)
 granted [] world = Some []
 granted (m ∷ mounts) world =
     option_and_then (λ t. option_map (λ ts. t ∷ ts) (granted mounts world)) (directory_at m.folder.names world)
+
+-- the number of the first mount whose folder the world lacks, where that is the number of the first of these mounts
+-- profile
+abbrev pub first_lacking : (number : ℕ) → List Mount → Shape → Option ℕ
+first_lacking number [] world = None
+first_lacking number (m ∷ mounts) world =
+    if is_some (directory_at m.folder.names world) then first_lacking (number + 1) mounts world else Some number
 
 -- what the opening over the granted trees comes to
 -- profile
@@ -201,7 +209,7 @@ AreLeft mounts world r state =
 
 -- ---- when a run comes to its end
 
--- the words, the file, the folder and the image are accepted
+-- the words, the file, the folders and the images are accepted
 -- profile
 pub record IsAccepted (words : Option Command) (shelf : Option Shelf) (world : Option Shape)
     (opening : Opening) : Type 0 where

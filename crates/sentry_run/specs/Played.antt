@@ -1,5 +1,5 @@
 -- What the opening and the run of the tasks of a mount file come to.
-use Rattle.std.specs.Prelude.{◌≡◌, ◌⊎◌, ℕ, ◌<◌, List, [], ◌∷◌, length, true, false, Option, Some}
+use Rattle.std.specs.Prelude.{◌≡◌, ◌⊎◌, ℕ, ◌<◌, List, [], length, true, false, Option, Some}
 use Rattle.std.specs.FinMap as map
 use Rattle.host_node.specs.Tree.{Shape}
 use Rattle.sn_errno.specs.declared.errno.Errno.{Errno}
@@ -8,18 +8,18 @@ use Rattle.kernel_model.specs.declared.entry.Entry.{Entry}
 use Rattle.kernel_model.specs.declared.kernel.Kernel.{Kernel}
 use Rattle.kernel_model.specs.declared.opening.Opening.{Opening}
 use Rattle.kernel_model.specs.files.FileTree.{Nodes}
-use Rattle.kernel_model.specs.files.Settled.{tree_now}
+use Rattle.kernel_model.specs.files.Numbers.{count_up}
 use Rattle.kernel_model.specs.opening.Opening.{opening_of, Opens, Refuses}
 use Rattle.kernel_model.specs.entries.Given.{has_any}
 use Rattle.kernel_model.specs.entries.History.{replay, each_whole, any_live}
 use Rattle.kernel_model.specs.entries.Ready.{ready_numbers}
 use Rattle.image_walk.specs.Counts.{HasRisen}
 use Rattle.image_walk.specs.Granted.{Child, GivesBack}
-use Rattle.image_walk.specs.Standing.{no_left}
 use Rattle.call_table.specs.Turns.{Leaves}
 use Rattle.run_opening.specs.declared.opening.OpenErr.{OpenErr}
 use Rattle.run_opening.specs.declared.opening.OpenErr.TheVariants as openings
 use Rattle.run_opening.specs.Openings.{beside_of}
+use Rattle.run_opening.specs.Trees.{HaveTrees, Others, trees_with}
 use Rattle.sentry_run.specs.declared.play.End.{End}
 use Rattle.sentry_run.specs.declared.play.End.TheVariants as ends
 use Rattle.sentry_run.specs.declared.play.Played.{Played}
@@ -29,21 +29,21 @@ use Rattle.sentry_run.specs.declared.play.Played.{Played}
 abbrev pub nothing_opened : Opening
 nothing_opened = record { mounts = []; roots = []; tasks = [] }
 
--- the record of an opening before its first task
+-- the record of an opening before its first task: the roots are numbered 1 up, in order of the mounts
 -- profile
 abbrev pub first_of : Mounts → Opening
-first_of m = record { mounts = m.mounts; roots = 1 ∷ []; tasks = [] }
+first_of m = record { mounts = m.mounts; roots = count_up 1 (length m.mounts); tasks = [] }
 
--- a run from the opening over a tree: the trace is a history that leaves this state, each Run in it whole, and the
--- root's tree is that one then
+-- a run from the opening over the trees of all mounts, that of the mount at `/` among them: the trace is a history that
+-- leaves this state, each Run in it whole; then the root of `/` has another tree, and the others have theirs
 -- profile
-pub record Runs (mounts : Mounts) (tree after : Shape) (opening : Opening) (trace : List Entry)
+pub record Runs (mounts : Mounts) (others : Others) (tree after : Shape) (opening : Opening) (trace : List Entry)
     (state : Kernel) : Type 0 where
   pub start : Kernel
-  pub opens : opening_of mounts (tree ∷ []) opening ≡ Opens start
+  pub opens : opening_of mounts (trees_with others tree) opening ≡ Opens start
   pub replayed : replay start trace ≡ Some state
   pub whole : each_whole start trace ≡ true
-  pub settles : tree_now state no_left 1 ≡ Some after
+  pub settles : HaveTrees state 1 (trees_with others after)
 
 -- two kernels print alike
 -- profile
@@ -58,37 +58,39 @@ pub record IsStuck (mounts : Mounts) (trace : List Entry) (state : Kernel) : Typ
   pub short : length trace < mounts.entries
   pub still : has_any (ready_numbers state) ≡ false
 
--- an execve that failed, and the tree of the root then
+-- an execve that failed, and the trees of the roots then
 -- profile
-pub record Failed (mounts : Mounts) (tree after : Shape) (opening : Opening) (task : ℕ) (errno : Errno) : Type 0 where
+pub record Failed (mounts : Mounts) (others : Others) (tree after : Shape) (opening : Opening) (task : ℕ)
+    (errno : Errno) : Type 0 where
   pub left : Kernel
-  pub refuses : opening_of mounts (tree ∷ []) opening ≡ Refuses left task errno
-  pub settles : tree_now left no_left 1 ≡ Some after
+  pub refuses : opening_of mounts (trees_with others tree) opening ≡ Refuses left task errno
+  pub settles : HaveTrees left 1 (trees_with others after)
 
--- how a run over a tree ended, and what it left
+-- how a run over the tree of the mount at `/`, beside others, ended, and what it left of that tree
 -- profile
-abbrev pub Ended : Mounts → Shape → Shape → Opening → List Entry → End → Type 0
-Ended mounts tree after opening trace (ends.Done kernel) =
-    (state : Kernel) × Runs mounts tree after opening trace state × SameText state kernel × (any_live state ≡ false)
-Ended mounts tree after opening trace (ends.Full kernel) =
-    (state : Kernel) × Runs mounts tree after opening trace state × SameText state kernel × (any_live state ≡ true)
-    × (length trace ≡ mounts.entries)
-Ended mounts tree after opening trace (ends.Stuck kernel) =
-    (state : Kernel) × Runs mounts tree after opening trace state × SameText state kernel
+abbrev pub Ended : Mounts → Others → (tree after : Shape) → Opening → List Entry → End → Type 0
+Ended mounts others tree after opening trace (ends.Done kernel) =
+    (state : Kernel) × Runs mounts others tree after opening trace state × SameText state kernel
+    × (any_live state ≡ false)
+Ended mounts others tree after opening trace (ends.Full kernel) =
+    (state : Kernel) × Runs mounts others tree after opening trace state × SameText state kernel
+    × (any_live state ≡ true) × (length trace ≡ mounts.entries)
+Ended mounts others tree after opening trace (ends.Stuck kernel) =
+    (state : Kernel) × Runs mounts others tree after opening trace state × SameText state kernel
     × IsStuck mounts trace state
-Ended mounts tree after opening trace (ends.Image task errno) =
-    Failed mounts tree after opening task errno × (trace ≡ [])
-Ended mounts tree after opening trace ends.Memory =
-    ((trace ≡ []) × HasRisen tree after) ⊎ ((state : Kernel) × Runs mounts tree after opening trace state)
-Ended mounts tree after opening trace ends.HostFault = ⊥
-Ended mounts tree after opening trace ends.Grant = ⊥
+Ended mounts others tree after opening trace (ends.Image task errno) =
+    Failed mounts others tree after opening task errno × (trace ≡ [])
+Ended mounts others tree after opening trace ends.Memory =
+    ((trace ≡ []) × HasRisen tree after) ⊎ ((state : Kernel) × Runs mounts others tree after opening trace state)
+Ended mounts others tree after opening trace ends.HostFault = ⊥
+Ended mounts others tree after opening trace (ends.Grant mount) = ⊥
 
 -- the same, of a folder whose nodes tell this, once they are back in their places
 -- profile
-abbrev pub EndsOver : Mounts → Shape → (root : Option Shape) → List Child → Played → Type 0
-EndsOver mounts tree root children played =
+abbrev pub EndsOver : Mounts → Others → Shape → (root : Option Shape) → List Child → Played → Type 0
+EndsOver mounts others tree root children played =
     (after : Shape) → GivesBack root children (Some after)
-    → Ended mounts tree after played.opening played.trace played.end
+    → Ended mounts others tree after played.opening played.trace played.end
 
 -- how a run ends whose opening ended so
 -- profile

@@ -1,26 +1,23 @@
 -- How a run went, from the words to the text.
-use Rattle.std.specs.Prelude.{◌≡◌, ◌≢◌, ◌⊎◌, ◌≤◌, [], length, Bool, Option, Some, None, ⊤}
-use Rattle.std.specs.List.{flat_map}
+use Rattle.std.specs.Prelude.{◌≡◌, ◌≢◌, ◌⊎◌, [], Bool, Option, Some, None, ⊤}
 use Rattle.sn_base.specs.Faults.{Rose, HasCause}
 use Rattle.sn_edge.specs.Reading.{ReadsWithin}
 use Rattle.sn_edge.specs.Shelf.{Shelf}
 use Rattle.mount_file.specs.declared.mounts.Mounts.{Mounts}
 use Rattle.mount_file.specs.declared.mounts.MountFault.TheVariants as mount_faults
-use Rattle.kernel_model.specs.files.Numbers.{IsGapless, numbers_opened, numbers_in}
 use Rattle.kernel_model.specs.printed.Printed.{printed}
 use Rattle.kernel_model.specs.Words.{Command}
 use Rattle.sentry_run.specs.declared.outcome.Fault.{Fault}
 use Rattle.sentry_run.specs.declared.outcome.Fault.TheVariants as faults
 use Rattle.sentry_run.specs.declared.outcome.Outcome.{Outcome}
 use Rattle.sentry_run.specs.declared.play.End.{End}
-use Rattle.sentry_run.specs.declared.play.End.TheVariants as ends
 use Rattle.sentry_run.specs.declared.play.Played.{Played}
 use Rattle.mount_file.specs.Form.{HasForm}
-use Rattle.sentry_run.specs.Played.{nothing_opened, TraceOf}
+use Rattle.sentry_run.specs.Played.{nothing_opened}
 use Rattle.image_walk.specs.Standing.{no_left}
-use Rattle.sentry_run.specs.Granted.{PlaysIn}
+use Rattle.sentry_run.specs.Granted.{IsPlayed, PlaysIn}
 use Rattle.sentry_run.specs.Concluded.{Concludes}
-use Rattle.sentry_run.specs.Causes.{status_of, is_source_fault, is_sink_fault, is_grant_failed}
+use Rattle.sentry_run.specs.Causes.{status_of, is_source_fault, is_sink_fault}
 use Rattle.sentry_run.specs.Outcome.{WhereTold, NamesMountFile, NamesFaulty}
 use Rattle.sentry_run.specs.Sides.{Side, Sides}
 
@@ -58,17 +55,12 @@ pub record RanOver (mounts : Mounts) (flag : Bool) (before after : Sides) (r : O
   pub status : r.status ≡ status_of r.fault
   pub read : r.mounts ≡ Some mounts
   pub left : r.left ≡ no_left
-  pub one : HasForm mounts
+  pub form : HasForm mounts
   pub end : End
+  pub played : IsPlayed mounts before.host.count after.host.count (played_by r end)
   pub plays : PlaysIn mounts before.host.told after.host.told (played_by r end)
   pub concludes : Concludes end (λ k. printed k r.trace flag) before.sink after.sink r.fault
-  pub host : end ≡ ends.HostFault → Rose before.host.count after.host.count
-  pub host_cause : HasCause (is_grant_failed end) before.host.count after.host.count
   pub sink_cause : HasCause (is_sink_fault r.fault) before.sink.count after.sink.count
-  pub trace : TraceOf mounts.entries end r.trace
-  pub drawn : flat_map numbers_in r.trace ≡ []
-  pub numbers : IsGapless (numbers_opened r.opening)
-  pub bound : length r.trace ≤ mounts.entries
 
 -- a run of a command whose mount file was not read: host and sink are as they were
 -- profile

@@ -3,7 +3,7 @@ use Rattle.std.specs.Prelude.{◌≡◌, ◌≢◌, ℕ, true, false, Option, So
 use Rattle.task_table.specs.Table.{live_numbers}
 use Rattle.kernel_model.specs.entries.Given.{has_any}
 use Rattle.call_table.specs.declared.processes.Processes.{Processes}
-use Rattle.call_table.specs.Beside.{nothing_beside}
+use Rattle.proc_cells.specs.Beside.{nothing_beside}
 use Rattle.call_table.specs.Processes.{kernel_of}
 use Rattle.sentry_run.specs.declared.play.End.{End}
 use Rattle.sentry_run.specs.declared.play.End.TheVariants as ends
@@ -12,11 +12,11 @@ use Rattle.sentry_run.specs.declared.play.End.TheVariants as ends
 -- profile
 abbrev pub EndsAs : Processes → (made entries : ℕ) → End → Type 0
 EndsAs p made entries (ends.Done kernel) =
-    (has_any (live_numbers p.tasks.tasks) ≡ false) × (kernel ≡ kernel_of p nothing_beside made)
+    (has_any (live_numbers p.cells.tasks.tasks) ≡ false) × (kernel ≡ kernel_of p nothing_beside made)
 EndsAs p made entries (ends.Full kernel) =
-    (has_any (live_numbers p.tasks.tasks) ≡ true) × (made ≡ entries) × (kernel ≡ kernel_of p nothing_beside made)
+    (has_any (live_numbers p.cells.tasks.tasks) ≡ true) × (made ≡ entries) × (kernel ≡ kernel_of p nothing_beside made)
 EndsAs p made entries (ends.Stuck kernel) =
-    (has_any (live_numbers p.tasks.tasks) ≡ true) × (made ≢ entries) × (kernel ≡ kernel_of p nothing_beside made)
+    (has_any (live_numbers p.cells.tasks.tasks) ≡ true) × (made ≢ entries) × (kernel ≡ kernel_of p nothing_beside made)
 EndsAs p made entries _ = ⊥
 
 -- a run ends as its processes do, or for want of memory
@@ -25,9 +25,9 @@ abbrev pub FinishesAs : Option Processes → (made entries : ℕ) → End → Ty
 FinishesAs None made entries end = end ≡ ends.Memory
 FinishesAs (Some p) made entries end = EndsAs p made entries end
 
--- an end after a grant
+-- an end after all grants
 -- profile
 abbrev pub IsInner : End → Type 0
 IsInner ends.HostFault = ⊥
-IsInner ends.Grant = ⊥
+IsInner (ends.Grant mount) = ⊥
 IsInner _ = Unit {0}

@@ -64,7 +64,7 @@ fn concluded<K: Sink>(alloc: Global, end: End, trace: &Trace, flag: bool, out: &
         End::Stuck(kernel) => written(alloc, &kernel, trace, flag, out, Fault::Stuck),
         End::Image { task, errno } => Fault::Image { task, errno },
         End::HostFault => Fault::HostFault,
-        End::Grant => Fault::Grant { mount: 1 },
+        End::Grant { mount } => Fault::Grant { mount },
         End::Memory => Fault::Memory,
     }
 }

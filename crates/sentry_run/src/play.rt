@@ -1,15 +1,16 @@
-//! The opening of a run and its turns, over a granted folder.
+//! The opening of a run and its turns, over the granted folder of the mount at `/`.
 
-ghost use Rattle.std.specs.Prelude.{◌≡◌, ◌≤◌, [], ◌∷◌, length, None, Some, IfOk, IsSome};
+ghost use Rattle.std.specs.Prelude.{◌≡◌, ◌≤◌, [], length, None, Some, IfOk, IsSome};
 ghost use Rattle.std.specs.List.{flat_map};
 ghost use Rattle.host_node.specs.Tree.{Shape};
 ghost use Rattle.mount_file.specs.Form.{HasForm};
 ghost use Rattle.kernel_model.specs.files.FileTree.{Nodes};
-ghost use Rattle.kernel_model.specs.files.Numbers.{IsGapless, numbers_opened, numbers_in};
+ghost use Rattle.kernel_model.specs.files.Numbers.{IsGapless, count_up, numbers_opened, numbers_in};
 ghost use Rattle.image_walk.specs.Granted.{CanGiveBack, told_of};
 ghost use Rattle.image_walk.specs.Standing.{Stands};
 ghost use Rattle.image_walk.specs.Walking.{IsRoot};
 ghost use Rattle.run_opening.specs.Openings.{beside_of, numbering_of};
+ghost use Rattle.run_opening.specs.Trees.{AreOthers, Others};
 ghost use Rattle.call_table.specs.Processes.{kernel_of};
 ghost use Rattle.sentry_run.specs.Played.{EndsOver, end_of, RanFrom, TraceOf, first_of, nothing_opened};
 ghost use Rattle.sentry_run.specs.Stopped.{EndsAs, FinishesAs, IsInner};
@@ -18,17 +19,15 @@ use call_table::{Processes, Ran, run_turns};
 use host_node::HostNode;
 use image_walk::Granted;
 use kernel_model::{Kernel, Opening, Trace};
-use mount_file::{Mounts, copied_mounts};
+use mount_file::{Mount, Mounts, copied_mounts};
 use run_opening::{OpenErr, open_tasks};
 use sn_base::{List, Memory};
 use sn_errno::Errno;
 use std::alloc::Global;
 
-/// The inode number of the root of the one mount.
-const ROOT: u64 = 1;
-
 /// How the opening and the run ended: no task lives, the trace is full, no live task's next step is ready, the opening
-/// execve of a task answers an error, the host failed in a grant, there is no such folder, or memory ran out.
+/// execve of a task answers an error, the host failed in a grant, there is no such folder as that of the mount of that
+/// number, from 1 on, or memory ran out.
 #[derive(Drop)]
 pub enum End {
     Done(Kernel),
@@ -36,7 +35,7 @@ pub enum End {
     Stuck(Kernel),
     Image { task: u32, errno: Errno },
     HostFault,
-    Grant,
+    Grant { mount: u32 },
     Memory,
 }
 
@@ -74,15 +73,24 @@ pub fn stopped(alloc: Global, end: End) -> Played
     }
 }
 
-/// The record of an opening before its first task: the mounts, and the number of their one root.
+/// The inode numbers of the roots of mounts: 1 up, in their order.
+fn root_numbers(alloc: Global, mounts: &[Mount]) -> Result<List<u64>, Memory>
+    ensures { IfOk result (λ roots. roots ≡ count_up 1 (length mounts.now)) }
+{
+    let mut roots = List::new(alloc);
+    for index in 0..mounts.len() {
+        roots.push(index as u64 + 1)?;
+    }
+    Ok(roots)
+}
+
+/// The record of an opening before its first task: the mounts, and the numbers of their roots.
 fn first_record(alloc: Global, mounts: &Mounts) -> Result<Opening, Memory>
     ensures { IfOk result (λ o. o ≡ first_of mounts.now) }
 {
-    let mut roots = List::new(alloc);
-    roots.push(ROOT)?;
     Ok(Opening {
         mounts: copied_mounts(alloc, mounts.mounts.as_slice())?,
-        roots,
+        roots: root_numbers(alloc, mounts.mounts.as_slice())?,
         tasks: List::new(alloc),
     })
 }
@@ -126,8 +134,9 @@ fn ended(alloc: Global, processes: Processes, made: u64, entries: u64) -> End
     ensures as_stands { EndsAs processes made entries result }
     ensures inner { IsInner result }
 {
-    let live = processes.any_live();
-    let kernel = processes.into_kernel(alloc, made);
+    let Processes { cells, .. } = processes;
+    let live = cells.any_live();
+    let kernel = cells.into_kernel(alloc, made);
     if !live {
         End::Done(kernel)
     } else if made == entries {
@@ -155,7 +164,8 @@ fn unbegun(alloc: Global, why: OpenErr, opening: Opening) -> Played
     }
 }
 
-/// Opens and runs the tasks of a mount file over a granted folder. The children that were lent can then go back.
+/// Opens and runs the tasks of a mount file over the granted folder of the mount at `/`, whatever the other mounts'
+/// folders are. The children that were lent can then go back.
 pub fn play_granted<N: HostNode>(alloc: Global, mounts: &Mounts, granted: &mut Granted<N>) -> Played
     requires form { HasForm mounts.now }
     requires root { IsRoot (N.told granted.old.root) }
@@ -163,8 +173,9 @@ pub fn play_granted<N: HostNode>(alloc: Global, mounts: &Mounts, granted: &mut G
     requires stands { (t : Shape) → N.told granted.old.root ≡ Some t →
         Stands granted.old.numbers t [] [] (N.told granted.old.root) (told_of N.told granted.old.lent.items) }
     requires lent { granted.old.lent.items ≡ [] }
-    ensures ended { (t : Shape) → N.told granted.old.root ≡ Some t →
-        EndsOver mounts.now t (N.told granted.new.root) (told_of N.told granted.new.lent.items) result }
+    ensures ended { (others : Others) (t : Shape) → AreOthers mounts.now.mounts others →
+        N.told granted.old.root ≡ Some t →
+        EndsOver mounts.now others t (N.told granted.new.root) (told_of N.told granted.new.lent.items) result }
     ensures silent { N.told granted.old.root ≡ None → N.told granted.new.root ≡ None }
     ensures tells { IsSome (N.told granted.old.root) → IsSome (N.told granted.new.root) }
     ensures can { CanGiveBack (N.told granted.new.root) (told_of N.told granted.new.lent.items) }

@@ -17,7 +17,8 @@ ghost use Rattle.sentry_run.specs.Causes.{MayFailToStart};
 ghost use Rattle.sentry_run.specs.Concluded.{Fronts, StopsShort};
 ghost use Rattle.sentry_run.specs.Granted.{IsUngranted};
 ghost use Rattle.mount_file.specs.Form.{HasForm};
-ghost use Rattle.sentry_run.specs.Outcome.{ReadsMounts, HasMountFault, MeetsFault, granted, begun, state_after};
+ghost use Rattle.sentry_run.specs.Outcome.{ReadsMounts, HasMountFault, MeetsFault, first_lacking, granted, begun};
+ghost use Rattle.sentry_run.specs.Outcome.{state_after};
 ghost use Rattle.sentry_run.specs.Outcome.{WhereRead, WhereState, IsHistory, RefusesAs, refused_kernel, IsOver};
 ghost use Rattle.sentry_run.specs.Outcome.{asks_trace, text_of, LacksFile, ComesTo, AreLeft, LeavesInside};
 ghost use Rattle.sentry_run.specs.Outcome.{IsLeftOver, IsAccepted, world_after, KeepsOutside};
@@ -50,7 +51,7 @@ fn refused(alloc: Global, fault: Fault) -> Outcome
 }
 
 /// Reads and checks the mount file that a command names.
-fn load_mounts<S: Source>(
+pub fn load_mounts<S: Source>(
     alloc: Global,
     command: &Command<'_>,
     files: &mut S,
@@ -120,11 +121,11 @@ fn run_words<S: Source, W: HostWorld, K: Sink>(
     }
 }
 
-/// Runs what the words say: it reads a mount file, grants its folder, runs its tasks and writes the text of the run.
+/// Runs what the words say: it reads a mount file, grants its folders, runs its tasks and writes the text of the run.
 ///
 /// `words` are those after the program's name. The order of work is: the words; the mount file, to its end and then
-/// its rules; the grant; the images; the run; giving all nodes back and settling the folder; the text. The first
-/// refusal in that order is the answer; memory may run out at any point before it.
+/// its rules; the grants in order; the images; the run; giving all nodes back and settling the folders; the text. The
+/// first refusal in that order is the answer; memory may run out at any point before it.
 pub fn run_sentry<S: Source, W: HostWorld, K: Sink>(
     alloc: Global,
     words: &[String],
@@ -154,12 +155,17 @@ pub fn run_sentry<S: Source, W: HostWorld, K: Sink>(
     // The mount file that the outcome holds is what the bytes say.
     ensures read { ReadsMounts (accepted (map string_bytes words.now)) (S.told files.old) result.mounts }
     ensures unread { result.mounts ≡ None → IsUnread result.fault }
+    ensures form { IfSome result.mounts HasForm }
     ensures host_fault { result.fault ≡ Fault.HostFault → Rose (W.count host.old) (W.count host.new) }
     // A settle leaves the count: it rises in a grant alone.
     ensures host_exact { W.count host.old < W.count host.new → result.fault ≡ Fault.HostFault }
     ensures grant { (mount : ℕ) → result.fault ≡ Fault.Grant mount →
         WhereRead result.mounts (W.told host.old) (λ m w. granted m.mounts w ≡ None) }
-    ensures grant_number { (mount : ℕ) → result.fault ≡ Fault.Grant mount → mount ≡ 1 }
+    ensures grant_number { (mount : ℕ) → result.fault ≡ Fault.Grant mount →
+        IfSome result.mounts (λ m. (1 ≤ mount) × (mount ≤ length m.mounts)) }
+    // Folders are granted in the order of their mounts, and the first that isn't there is the answer.
+    ensures grant_first { (mount : ℕ) → result.fault ≡ Fault.Grant mount →
+        WhereRead result.mounts (W.told host.old) (λ m w. first_lacking 1 m.mounts w ≡ Some mount) }
     ensures grant_exact { WhereRead result.mounts (W.told host.old) (λ m w.
         granted m.mounts w ≡ None → MayFailToGrant result.fault) }
     ensures image { (task : ℕ) (errno : Errno) → result.fault ≡ Fault.Image task errno →
@@ -233,7 +239,7 @@ pub fn run_sentry<S: Source, W: HostWorld, K: Sink>(
     ensures unread_world { result.mounts ≡ None → W.told host.new ≡ W.told host.old }
     ensures outside { result.fault ≡ Fault.Memory →
         WhereRead result.mounts (W.told host.old) (λ m w. KeepsOutside m w (W.told host.new)) }
-    // Also where memory runs out, all nodes are given back and the folder is settled.
+    // Also where memory runs out, all nodes are given back and the folders are settled.
     ensures inside { result.fault ≡ Fault.Memory → WhereRead result.mounts (W.told host.old) (λ m w.
         LeavesInside m w result (W.told host.new)) }
     // ---- what is accepted comes to its end

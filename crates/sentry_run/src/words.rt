@@ -4,6 +4,27 @@ ghost use Rattle.std.specs.Prelude.{◌≡◌, option_map, map, string_bytes};
 ghost use Rattle.kernel_model.specs.Words.{accepted, is_option, workers_of, traced, options};
 ghost use Rattle.sentry_run.specs.Command.{command_of};
 
+use crate::outcome::Fault;
+use std::io::ErrorKind;
+use std::{env, io};
+
+/// The words after the program's name, as the system tells them. Words that it can't tell are no command.
+pub fn told_words(rt: HostRuntime) -> Result<Vec<String>, Fault> {
+    match words_from(rt) {
+        Ok(words) => Ok(words),
+        Err(error) if error.kind() == ErrorKind::OutOfMemory => Err(Fault::Memory),
+        Err(_) => Err(Fault::Usage),
+    }
+}
+
+fn words_from(rt: HostRuntime) -> io::Result<Vec<String>> {
+    let mut words = Vec::new(rt.alloc());
+    for word in env::args(&rt)?.skip(1) {
+        words.push(word)?;
+    }
+    Ok(words)
+}
+
 /// The workers of a run whose command line names none.
 const WORKERS: u32 = 4;
 

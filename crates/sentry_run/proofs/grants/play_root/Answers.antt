@@ -1,18 +1,13 @@
 -- The nodes are back, and the root then tells what the run left.
-use Rattle.std.proofs.Common.{subst}
-use Rattle.std.specs.Prelude.{Option}
-use Rattle.host_node.specs.Tree.{Shape}
 use Rattle.image_walk.specs.Granted.{told_of}
-use Rattle.sentry_run.specs.Granted.{PlaysRoot}
-use Rattle.sentry_run.proofs.GivenBack.{plays_back}
+use Rattle.sentry_run.proofs.GrantsBehind.{plays_root}
 use Rattle.sentry_run.proofs.grants.play_root.Goals as goal
 
 pub returns-clause-plays : goal.returns-clause-plays
 returns-clause-plays g c =
-    let told = g.N.HostNode.told in
-    let e = c.play_granted-played.ensures in
-    subst (λ (o : Option Shape). PlaysRoot c.args.mounts.now o (told c.give_back.result) c.play_granted-played.result)
-    c.new-granted.ensures.root
-    (plays_back c.args.mounts.now (told c.new-granted.result.root) (told c.play_granted-played.new.granted.root)
-    (told c.give_back.result) (told_of told c.play_granted-played.new.granted.lent.items) c.play_granted-played.result
-    e.silent e.tells c.give_back.ensures.tells e.ended)
+    let told = g.W.Node.HostNode.told in
+    let run = c.play_behind-played in
+    plays_root c.args.mounts.now c.args.index (g.W.HostWorld.told c.args.host.now) (told c.args.root)
+    (told c.new-granted.result.root) (told run.new.granted.root) (told c.give_back.result)
+    (told_of told run.new.granted.lent.items) run.result c.new-granted.ensures.root run.ensures.tells
+    c.give_back.ensures.tells run.ensures.ended

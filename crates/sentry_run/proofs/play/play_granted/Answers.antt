@@ -8,18 +8,18 @@ use Rattle.image_walk.proofs.OutAgain.{can_give_back}
 use Rattle.run_opening.specs.Openings.{numbering_of}
 use Rattle.sentry_run.specs.declared.play.End.{End}
 use Rattle.sentry_run.specs.Played.{Ended}
-use Rattle.sentry_run.proofs.Endings.{one_mount, ended_lacking, ended_stopped, can_stopped, ended_begun, can_where}
-use Rattle.sentry_run.proofs.Endings.{some_stopped, some_told, tells_where}
+use Rattle.sentry_run.proofs.Endings.{ended_lacking, ended_stopped, can_back, ended_begun, can_where, some_told}
+use Rattle.sentry_run.proofs.Endings.{tells_where}
 use Rattle.sentry_run.proofs.Records.{gapless}
 use Rattle.sentry_run.proofs.play.play_granted.Goals as goal
 
 pub returns-in-Err-clause-ended : goal.returns-in-Err-clause-ended
-returns-in-Err-clause-ended g c = λ t e after gives.
+returns-in-Err-clause-ended g c = λ others t are e after gives.
     let told = g.N.HostNode.told in
-    subst (λ (x : End). Ended c.args.mounts.now t after c.stopped.result.opening c.stopped.result.trace x)
+    subst (λ (x : End). Ended c.args.mounts.now others t after c.stopped.result.opening c.stopped.result.trace x)
     (sym c.stopped.ensures.end)
-    (ended_lacking c.args.mounts.now t (told c.args.granted.now.root) (told_of told c.args.granted.now.lent.items)
-    c.stopped.result.opening c.stopped.result.trace after
+    (ended_lacking c.args.mounts.now others t (told c.args.granted.now.root)
+    (told_of told c.args.granted.now.lent.items) c.stopped.result.opening c.stopped.result.trace after
     (record {
       names = [];
       rises = [];
@@ -30,13 +30,12 @@ returns-in-Err-clause-ended g c = λ t e after gives.
     }) c.stopped.ensures.trace gives)
 
 pub returns-in-Ok-open_tasks-clause-ended : goal.returns-in-Ok-open_tasks-clause-ended
-returns-in-Ok-open_tasks-clause-ended g c = λ t e after gives.
+returns-in-Ok-open_tasks-clause-ended g c = λ others t are e after gives.
     let told = g.N.HostNode.told in
     let m = c.args.mounts.now in
-    let h = c.in-Ok-open_tasks.ensures.begun t e in
-    ended_begun m t c.open_tasks.new.tasks c.in-Ok-open_tasks.processes (told c.open_tasks.new.granted.root)
-    (told_of told c.open_tasks.new.granted.lent.items) c.run_processes.result.opening c.requires.form
-    c.open_tasks.ensures.recorded
+    let h = c.in-Ok-open_tasks.ensures.begun others t are e in
+    ended_begun m others t c.open_tasks.new.tasks c.in-Ok-open_tasks.processes (told c.open_tasks.new.granted.root)
+    (told_of told c.open_tasks.new.granted.lent.items) c.run_processes.result.opening c.open_tasks.ensures.recorded
     (c.run_processes.ensures.opening
     ∙ ap (λ (o : Opening). record o { tasks = c.open_tasks.new.tasks }) c.in-Ok.ensures) h
     c.run_processes.result.trace c.run_processes.result.end
@@ -47,7 +46,7 @@ returns-in-Ok-open_tasks-clause-can g c =
     let told = g.N.HostNode.told in
     can_where (told c.args.granted.now.root) (told c.open_tasks.new.granted.root)
     (told_of told c.open_tasks.new.granted.lent.items) (λ n. (c.open_tasks.ensures.silent n).0)
-    (λ t e. let h = c.in-Ok-open_tasks.ensures.begun t e in
+    (λ t e. let h = c.in-Ok-open_tasks.ensures.stands t e in
     can_give_back (numbering_of c.args.mounts.now.mounts) t h.names [] (told c.open_tasks.new.granted.root)
     (told_of told c.open_tasks.new.granted.lent.items)
     h.stands)
@@ -55,36 +54,34 @@ returns-in-Ok-open_tasks-clause-can g c =
 pub returns-in-Ok-open_tasks-clause-numbers : goal.returns-in-Ok-open_tasks-clause-numbers
 returns-in-Ok-open_tasks-clause-numbers g c =
     gapless c.args.mounts.now c.open_tasks.new.tasks c.run_processes.result.opening
-    (one_mount c.args.mounts.now c.requires.form)
     (c.run_processes.ensures.opening
     ∙ ap (λ (o : Opening). record o { tasks = c.open_tasks.new.tasks }) c.in-Ok.ensures)
     c.open_tasks.ensures.recorded
 
 pub returns-in-Err-open_tasks-clause-ended : goal.returns-in-Err-open_tasks-clause-ended
-returns-in-Err-open_tasks-clause-ended g c = λ t e after gives.
+returns-in-Err-open_tasks-clause-ended g c = λ others t are e after gives.
     let told = g.N.HostNode.told in
     let m = c.args.mounts.now in
-    subst (λ (x : End). Ended m t after c.unbegun.result.opening c.unbegun.result.trace x) (sym c.unbegun.ensures.end)
-    (ended_stopped m t c.in-Err-open_tasks.why c.open_tasks.new.tasks (told c.open_tasks.new.granted.root)
+    subst (λ (x : End). Ended m others t after c.unbegun.result.opening c.unbegun.result.trace x)
+    (sym c.unbegun.ensures.end)
+    (ended_stopped m others t c.in-Err-open_tasks.why c.open_tasks.new.tasks (told c.open_tasks.new.granted.root)
     (told_of told c.open_tasks.new.granted.lent.items) c.unbegun.result.opening c.unbegun.result.trace
-    c.requires.form c.open_tasks.ensures.recorded
+    c.open_tasks.ensures.recorded
     (c.unbegun.ensures.opening
     ∙ ap (λ (o : Opening). record o { tasks = c.open_tasks.new.tasks }) c.in-Ok.ensures) c.unbegun.ensures.trace
-    (c.in-Err-open_tasks.ensures.stopped t e) after gives)
+    (c.in-Err-open_tasks.ensures.stopped others t are e) (c.in-Err-open_tasks.ensures.standing t e) after gives)
 
 pub returns-in-Err-open_tasks-clause-can : goal.returns-in-Err-open_tasks-clause-can
 returns-in-Err-open_tasks-clause-can g c =
     let told = g.N.HostNode.told in
     can_where (told c.args.granted.now.root) (told c.open_tasks.new.granted.root)
     (told_of told c.open_tasks.new.granted.lent.items) (λ n. (c.open_tasks.ensures.silent n).0)
-    (λ t e. can_stopped c.args.mounts.now t c.in-Err-open_tasks.why c.open_tasks.new.tasks
-    (told c.open_tasks.new.granted.root) (told_of told c.open_tasks.new.granted.lent.items)
-    (c.in-Err-open_tasks.ensures.stopped t e))
+    (λ t e. can_back (numbering_of c.args.mounts.now.mounts) t (told c.open_tasks.new.granted.root)
+    (told_of told c.open_tasks.new.granted.lent.items) (c.in-Err-open_tasks.ensures.standing t e))
 
 pub returns-in-Err-open_tasks-clause-numbers : goal.returns-in-Err-open_tasks-clause-numbers
 returns-in-Err-open_tasks-clause-numbers g c =
     gapless c.args.mounts.now c.open_tasks.new.tasks c.unbegun.result.opening
-    (one_mount c.args.mounts.now c.requires.form)
     (c.unbegun.ensures.opening
     ∙ ap (λ (o : Opening). record o { tasks = c.open_tasks.new.tasks }) c.in-Ok.ensures)
     c.open_tasks.ensures.recorded
@@ -93,7 +90,7 @@ pub returns-in-Ok-open_tasks-clause-tells : goal.returns-in-Ok-open_tasks-clause
 returns-in-Ok-open_tasks-clause-tells g c =
     let told = g.N.HostNode.told in
     tells_where (told c.args.granted.now.root) (told c.open_tasks.new.granted.root)
-    (λ t e. let h = c.in-Ok-open_tasks.ensures.begun t e in
+    (λ t e. let h = c.in-Ok-open_tasks.ensures.stands t e in
     some_told (numbering_of c.args.mounts.now.mounts) t (told c.open_tasks.new.granted.root)
     (told_of told c.open_tasks.new.granted.lent.items)
     (record { names = h.names; rises = []; stands = h.stands }))
@@ -102,6 +99,5 @@ pub returns-in-Err-open_tasks-clause-tells : goal.returns-in-Err-open_tasks-clau
 returns-in-Err-open_tasks-clause-tells g c =
     let told = g.N.HostNode.told in
     tells_where (told c.args.granted.now.root) (told c.open_tasks.new.granted.root)
-    (λ t e. some_stopped c.args.mounts.now t c.in-Err-open_tasks.why c.open_tasks.new.tasks
-    (told c.open_tasks.new.granted.root) (told_of told c.open_tasks.new.granted.lent.items)
-    (c.in-Err-open_tasks.ensures.stopped t e))
+    (λ t e. some_told (numbering_of c.args.mounts.now.mounts) t (told c.open_tasks.new.granted.root)
+    (told_of told c.open_tasks.new.granted.lent.items) (c.in-Err-open_tasks.ensures.standing t e))

@@ -8,7 +8,7 @@ use Rattle.kernel_model.specs.declared.kernel.Kernel.{Kernel}
 use Rattle.kernel_model.specs.files.FileTree.{Nodes}
 use Rattle.kernel_model.specs.entries.History.{replay}
 use Rattle.call_table.specs.declared.processes.Processes.{Processes}
-use Rattle.call_table.specs.Beside.{Beside}
+use Rattle.proc_cells.specs.Beside.{Beside}
 use Rattle.call_table.specs.Processes.{kernel_of}
 use Rattle.run_opening.specs.Openings.{beside_of}
 use Rattle.sentry_run.specs.Played.{RanFrom, TraceOf}

@@ -15,17 +15,12 @@ returns-in-Ok g c =
           status = r.ensures.status;
           read = r.ensures.mounts;
           left = r.ensures.left;
-          one = c.in-Ok.ensures.form;
+          form = c.in-Ok.ensures.form;
           end = p.result.end;
+          played = rw (r.ensures.opening, r.ensures.trace) p.ensures.played;
           plays = rw (r.ensures.opening, r.ensures.trace) p.ensures.plays;
           concludes = rw r.ensures.trace r.ensures.concludes;
-          host = p.ensures.fault;
-          host_cause = p.ensures.cause;
           sink_cause = r.ensures.cause;
-          trace = rw r.ensures.trace p.ensures.trace;
-          drawn = rw r.ensures.trace p.ensures.drawn;
-          numbers = rw r.ensures.opening p.ensures.numbers;
-          bound = rw r.ensures.trace p.ensures.bound;
         };
       }),
     )
