@@ -2,7 +2,7 @@
 
 use crate::task_guests::{
     ENDS_BEFORE_ITS_THREAD, FORKS, HAS_A_THREAD_THAT_TRAPS, IS_REFUSED, MAKES_THREADS, SLEEPS,
-    WAITS_FOR_A_SLEEPER, WAITS_FOR_A_THREAD, WAKES, WAKES_ACROSS,
+    WAITS_FOR_A_SLEEPER, WAITS_FOR_A_THREAD, WAITS_ON_A_PAGE_THAT_GOES, WAKES, WAKES_ACROSS,
 };
 use sentry_run::Fault;
 use sentry_run_cases::{
@@ -98,8 +98,19 @@ const WAITS_TEXT: &[u8] = b"group 1 exit 40
 14 1 exit_group 40 0 2 0 274877906752 0 = ?
 ";
 
+/// What is printed of a call that waits and is unmapped: the task is looked at again, and ends its group by a signal.
+const UNMAPPED_TEXT: &[u8] = b"group 1 signal 11
+group 2 live
+2 1 clone 17 0 0 0 0 0 = 2
+6 1 mmap 0 4096 7 34 -1 0 = 274876854272
+8 1 clone 4001536 274877905744 274877906752 274877905784 274877906752 0 = 3
+11 3 sched_yield 0 274877905744 274877906752 274877905784 274877906752 0 = 0
+13 3 munmap 274876854272 4096 274877906752 274877905784 274877906752 0 = 0
+14 1 signal 11
+";
+
 #[rattlefmt::skip]
-const THREADS: [Case; 6] = [
+const THREADS: [Case; 7] = [
     // Nobody wakes a task that sleeps alone.
     Case {
         host: Host::Guest(SLEEPS),
@@ -154,6 +165,15 @@ const THREADS: [Case; 6] = [
         expected: &[
             Expected::Status(0), Expected::Text(b"group 1 exit 255\n"), Expected::Entries(1024),
             Expected::Several(Several::Call(1021, 1, 220, -11)),
+        ],
+        ..QUIET
+    },
+    // A task whose call waits is looked at again where another thread has changed its memory.
+    Case {
+        host: Host::Guest(WAITS_ON_A_PAGE_THAT_GOES),
+        expected: &[
+            Expected::Answer(Fault::Stuck), Expected::Status(7), Expected::Text(UNMAPPED_TEXT), Expected::Entries(14),
+            Expected::Several(Several::Turns(&[1, 1, 2, 1, 2, 1, 1, 1, 3, 1, 3, 3, 3, 1])), Expected::Replays,
         ],
         ..QUIET
     },

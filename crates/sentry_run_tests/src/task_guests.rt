@@ -301,3 +301,56 @@ pub const ENDS_BEFORE_ITS_THREAD: &[u32] = &[
     0x05d0_0893, // li a7, 93
     0x0000_0073, // ecall
 ];
+
+/// Makes a process that sleeps for ever, maps a page, puts an ECALL into it and makes a thread. It jumps there, and
+/// waits by that call for the process; the thread unmaps the page.
+#[rattlefmt::skip]
+pub const WAITS_ON_A_PAGE_THAT_GOES: &[u32] = &[
+    0x0110_0513, // li a0, 17
+    0x0000_0593, // li a1, 0
+    0x0dc0_0893, // li a7, 220
+    0x0000_0073, // ecall
+    0x0805_0a63, // beqz a0, child
+    0x0000_0513, // li a0, 0
+    0x0000_15b7, // lui a1, 1
+    0x0070_0613, // li a2, 7
+    0x0220_0693, // li a3, 0x22
+    0xfff0_0713, // li a4, -1
+    0x0000_0793, // li a5, 0
+    0x0de0_0893, // li a7, 222
+    0x0000_0073, // ecall
+    0x0005_0413, // mv s0, a0
+    0x0730_0293, // li t0, 0x73
+    0x0054_2023, // sw t0, 0(s0)
+    0xff01_0493, // addi s1, sp, -16
+    0x003d_1537, // lui a0, 0x3d1
+    0xf005_0513, // addi a0, a0, -256
+    0xc001_0593, // addi a1, sp, -1024
+    0x0004_8613, // mv a2, s1
+    0x0285_8693, // addi a3, a1, 40
+    0x0004_8713, // mv a4, s1
+    0x0dc0_0893, // li a7, 220
+    0x0000_0073, // ecall
+    0x0005_0e63, // beqz a0, thread
+    0xfff0_0513, // li a0, -1
+    0x0000_0593, // li a1, 0
+    0x0000_0613, // li a2, 0
+    0x0000_0693, // li a3, 0
+    0x1040_0893, // li a7, 260
+    0x0004_0067, // jr s0
+    0x07c0_0893, // thread: li a7, 124
+    0x0000_0073, // ecall
+    0x0004_0513, // mv a0, s0
+    0x0000_15b7, // lui a1, 1
+    0x0d70_0893, // li a7, 215
+    0x0000_0073, // ecall
+    0x07c0_0893, // loop: li a7, 124
+    0x0000_0073, // ecall
+    0xff9f_f06f, // j loop
+    0xff01_0513, // child: addi a0, sp, -16
+    0x0000_0593, // li a1, 0
+    0x0000_0613, // li a2, 0
+    0x0000_0693, // li a3, 0
+    0x0620_0893, // li a7, 98
+    0x0000_0073, // ecall
+];
