@@ -1,139 +1,150 @@
 //! Folders of the machine: what is listed, read, told and opened of their files.
 
-use crate::held::{Held, attr, granted, granted_by};
-use crate::made::{folder, make_folder, name};
 use host_folder::Folders;
-use host_node::{HostErr, HostNode, HostWorld, Kind};
-use std::alloc::Global;
+use host_folder_acts::{
+    Ask, Row, expect_buried, expect_folder, expect_made, expect_no_grant, granted, granted_by,
+    make_folder, settle_at,
+};
+use host_node::{Attr, HostErr, Kind};
 use std::fs;
-use std::process::Abort;
 use std::test::Fail;
+
+#[rattlefmt::skip]
+const LISTED: [Row; 1] = [
+    (None, &[
+        Ask::Lists(Ok(()), &[
+            ("again", Kind::Link), ("below", Kind::Dir), ("hello", Kind::File), ("out", Kind::Link),
+        ]),
+        Ask::Faults(0),
+    ]),
+];
 
 #[test]
 fn a_folder_lists_its_entries_by_name(rt: HostRuntime) -> Result<(), Fail> {
-    make_folder(rt, "folder_lists")?;
-    let mut root = granted_by(rt, "folder_lists")?;
-    let entries = [
-        ("again", Kind::Link),
-        ("below", Kind::Dir),
-        ("hello", Kind::File),
-        ("out", Kind::Link),
-    ];
-    root.expect_list(&rt, Ok(()), &entries);
-    root.expect_faults(&rt, 0);
-    fs::remove_dir_all(&rt, "folder_lists")?;
-    Ok(())
+    expect_folder(rt, "folder_lists", &LISTED)
 }
 
-/// That a file of `twelve bytes` is read from its middle, and not past its end.
-fn expect_reads(rt: &impl Abort, file: &mut Held<HostRuntime>) {
-    let mut buf = [0; 8];
-    file.expect_read(rt, 7, &mut buf, Ok(5));
-    file.expect_read(rt, 13, &mut buf, Ok(0));
-    assert_eq!(rt; buf.as_slice(), b"bytes\0\0\0".as_slice());
-    file.expect_faults(rt, 0);
-}
-
-/// Takes back what was lent under a name.
-fn take_back(root: Held<HostRuntime>, file: Held<HostRuntime>, text: &str) -> Result<(), Fail> {
-    let Held {
-        mut node,
-        alloc,
-        ..
-    } = root;
-    let Held { node: file, .. } = file;
-    let name = name(alloc, text)?;
-    node.take_back(&name, file);
-    Ok(())
-}
+/// A file of `twelve bytes` is read from its middle, and not past its end.
+#[rattlefmt::skip]
+const READ: [Ask; 4] = [
+    Ask::Opens(true, Ok(())),
+    Ask::Reads(7, 8, Ok(b"bytes")),
+    Ask::Reads(13, 8, Ok(b"")),
+    Ask::Faults(0),
+];
 
 #[test]
 fn a_file_is_read_from_its_middle_to_its_end(rt: HostRuntime) -> Result<(), Fail> {
     make_folder(rt, "folder_reads")?;
     let mut root = granted_by(rt, "folder_reads")?;
     let mut file = root.lent("hello")?;
-    file.expect_open(&rt, true, Ok(()));
-    expect_reads(&rt, &mut file);
+    file.expect(&READ)?;
     fs::remove_dir_all(&rt, "folder_reads")?;
-    take_back(root, file, "hello")
+    root.take_back("hello", file)
 }
+
+/// What nodes tell of themselves.
+const FILE: Attr = Attr {
+    kind: Kind::File,
+    mode: 0o755,
+    size: 12,
+};
+
+const FILE_OF_FIVE: Attr = Attr {
+    kind: Kind::File,
+    mode: 0o755,
+    size: 5,
+};
+
+const DIRECTORY: Attr = Attr {
+    kind: Kind::Dir,
+    mode: 0o755,
+    size: 0,
+};
+
+const LINK: Attr = Attr {
+    kind: Kind::Link,
+    mode: 0o777,
+    size: 11,
+};
+
+/// A file that is there, and one that is gone.
+#[rattlefmt::skip]
+const THERE: [Ask; 2] = [
+    Ask::Stats(Ok(FILE)),
+    Ask::Faults(0),
+];
+
+#[rattlefmt::skip]
+const GONE: [Ask; 2] = [
+    Ask::Stats(Err(HostErr::Failed)),
+    Ask::Faults(1),
+];
 
 #[test]
 fn a_file_is_for_all_to_read_and_run(rt: HostRuntime) -> Result<(), Fail> {
     make_folder(rt, "folder_file")?;
     let mut file = granted_by(rt, "folder_file")?.lent("hello")?;
-    file.expect_stat(&rt, Ok(attr(Kind::File, 0o755, 12)));
-    file.expect_faults(&rt, 0);
+    file.expect(&THERE)?;
     fs::remove_dir_all(&rt, "folder_file")?;
-    file.expect_stat(&rt, Err(HostErr::Failed));
-    file.expect_faults(&rt, 1);
-    Ok(())
+    file.expect(&GONE)
 }
+
+#[rattlefmt::skip]
+const BELOW: [Row; 1] = [
+    (Some("below"), &[
+        Ask::Stats(Ok(DIRECTORY)),
+        Ask::Opens(false, Ok(())),
+        Ask::Faults(0),
+        Ask::Opens(true, Err(HostErr::Failed)),
+        Ask::Faults(1),
+    ]),
+];
 
 #[test]
 fn a_directory_is_opened_for_reading_alone(rt: HostRuntime) -> Result<(), Fail> {
-    make_folder(rt, "folder_below")?;
-    let mut below = granted_by(rt, "folder_below")?.lent("below")?;
-    below.expect_stat(&rt, Ok(attr(Kind::Dir, 0o755, 0)));
-    below.expect_open(&rt, false, Ok(()));
-    below.expect_faults(&rt, 0);
-    below.expect_open(&rt, true, Err(HostErr::Failed));
-    below.expect_faults(&rt, 1);
-    fs::remove_dir_all(&rt, "folder_below")?;
-    Ok(())
+    expect_folder(rt, "folder_below", &BELOW)
 }
 
-/// That nothing is granted at a path, and that no call of the host failed.
-fn expect_no_grant(
-    rt: &impl Abort,
-    alloc: Global,
-    world: &mut Folders<HostRuntime>,
-    path: &str,
-) -> Result<(), Fail> {
-    let folder = folder(alloc, path)?;
-    let node = world.grant(&folder)?;
-    assert!(rt; node.is_none());
-    assert_eq!(rt; world.faults(), 0);
-    Ok(())
-}
+#[rattlefmt::skip]
+const OUT: [Ask; 4] = [
+    Ask::Is(Kind::Link),
+    Ask::Stats(Ok(LINK)),
+    Ask::Opens(false, Err(HostErr::Failed)),
+    Ask::Faults(1),
+];
 
 #[test]
 fn a_link_is_not_followed(rt: HostRuntime) -> Result<(), Fail> {
     make_folder(rt, "folder_links")?;
     let mut world = Folders::new(rt);
     let mut link = granted(&mut world, rt.alloc(), "folder_links")?.lent("out")?;
-    link.expect_kind(&rt, Kind::Link);
-    link.expect_stat(&rt, Ok(attr(Kind::Link, 0o777, 11)));
-    link.expect_open(&rt, false, Err(HostErr::Failed));
-    link.expect_faults(&rt, 1);
-    expect_no_grant(&rt, rt.alloc(), &mut world, "folder_links/again")?;
+    link.expect(&OUT)?;
+    expect_no_grant(rt.alloc(), &mut world, "folder_links/again")?;
     fs::remove_dir_all(&rt, "folder_links")?;
     Ok(())
 }
+
+#[rattlefmt::skip]
+const NONE: [Ask; 2] = [
+    Ask::Nothing("none"),
+    Ask::Faults(0),
+];
 
 #[test]
 fn what_is_not_there_is_none(rt: HostRuntime) -> Result<(), Fail> {
     make_folder(rt, "folder_none")?;
     let mut world = Folders::new(rt);
     let mut root = granted(&mut world, rt.alloc(), "folder_none")?;
-    root.expect_nothing(&rt, "none")?;
-    root.expect_faults(&rt, 0);
+    root.expect(&NONE)?;
     for path in [
         "folder_none/none",
         "folder_none/hello",
         "folder_none/hello/under",
     ] {
-        expect_no_grant(&rt, rt.alloc(), &mut world, path)?;
+        expect_no_grant(rt.alloc(), &mut world, path)?;
     }
     fs::remove_dir_all(&rt, "folder_none")?;
-    Ok(())
-}
-
-/// Grants the folder at a path, and settles it.
-fn settle_below(alloc: Global, world: &mut Folders<HostRuntime>, path: &str) -> Result<(), Fail> {
-    let below = folder(alloc, path)?;
-    let inner = world.grant(&below)?.ok_or("the folder below")?;
-    world.settle(&below, inner);
     Ok(())
 }
 
@@ -141,14 +152,11 @@ fn settle_below(alloc: Global, world: &mut Folders<HostRuntime>, path: &str) -> 
 fn a_folder_is_settled_or_its_node_buried(rt: HostRuntime) -> Result<(), Fail> {
     make_folder(rt, "folder_back")?;
     let mut world = Folders::new(rt);
-    let root = granted(&mut world, rt.alloc(), "folder_back")?;
-    root.expect_kind(&rt, Kind::Dir);
-    settle_below(rt.alloc(), &mut world, "folder_back/below")?;
+    let mut root = granted(&mut world, rt.alloc(), "folder_back")?;
+    root.expect(&[Ask::Is(Kind::Dir)])?;
+    settle_at(rt.alloc(), &mut world, "folder_back/below")?;
     fs::remove_dir_all(&rt, "folder_back")?;
-    let Held { node, .. } = root;
-    world.bury(node)?;
-    assert_eq!(rt; world.faults(), 0);
-    Ok(())
+    expect_buried(&mut world, root)
 }
 
 /// A new folder with two files, whose names begin and end with a space.
@@ -160,15 +168,15 @@ fn make_spaces(rt: HostRuntime) -> Result<(), Fail> {
     Ok(())
 }
 
+#[rattlefmt::skip]
+const SPACES: [Row; 3] = [
+    (None, &[Ask::Lists(Ok(()), &[(" f", Kind::File), ("f ", Kind::File)])]),
+    (Some("f "), &[Ask::Stats(Ok(FILE_OF_FIVE))]),
+    (None, &[Ask::Nothing("f")]),
+];
+
 #[test]
 fn names_keep_the_spaces_at_their_ends(rt: HostRuntime) -> Result<(), Fail> {
     make_spaces(rt)?;
-    let mut root = granted_by(rt, " folder spaces ")?;
-    let entries = [(" f", Kind::File), ("f ", Kind::File)];
-    root.expect_list(&rt, Ok(()), &entries);
-    root.lent("f ")?
-        .expect_stat(&rt, Ok(attr(Kind::File, 0o755, 5)));
-    root.expect_nothing(&rt, "f")?;
-    fs::remove_dir_all(&rt, " folder spaces ")?;
-    Ok(())
+    expect_made(rt, " folder spaces ", &SPACES)
 }

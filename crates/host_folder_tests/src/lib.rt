@@ -5,6 +5,8 @@
 //! which calls it is to be asked for, and what it answers, each call looks at its own path, follows no link, and opens
 //! a file as it is; calls of it that fail are answered and counted, and want of memory is not counted.
 //!
+//! What the tables are made of stands in `host_folder_acts`.
+//!
 //! Expected values are worked out by hand from the manual pages of lstat(2), open(2), pread(2) and readdir(3).
 #![tactic(auto)]
 
@@ -14,11 +16,3 @@ mod asked;
 mod failures;
 #[cfg(test)]
 mod folders;
-#[cfg(test)]
-mod held;
-#[cfg(test)]
-mod made;
-#[cfg(test)]
-mod one_byte;
-#[cfg(test)]
-mod scripted;

@@ -1,8 +1,6 @@
 //! brk.
 
-use crate::acts::{Act, expect_acts};
-use crate::asked::{FIXED, PRIVATE};
-use crate::calling::{HEAP, JUMP, STORE, TOP};
+use kernel_calls_acts::{Act, FIXED, HEAP, JUMP, PRIVATE, STORE, TOP, expect_acts};
 use kernel_model::Next;
 use std::test::Fail;
 
@@ -30,7 +28,7 @@ const BREAKS: [Act; 16] = [
 
 #[test]
 fn the_break_moves_between_its_start_and_2_to_the_37(rt: HostRuntime) -> Result<(), Fail> {
-    expect_acts(&rt, rt.alloc(), &BREAKS)
+    expect_acts(rt.alloc(), &BREAKS)
 }
 
 /// The break in the first page of the heap: the whole page may be read and written, not executed, and no byte behind it
@@ -56,7 +54,7 @@ const WHOLE_PAGES: [Act; 15] = [
 
 #[test]
 fn the_heap_has_whole_pages_to_be_read_and_written(rt: HostRuntime) -> Result<(), Fail> {
-    expect_acts(&rt, rt.alloc(), &WHOLE_PAGES)
+    expect_acts(rt.alloc(), &WHOLE_PAGES)
 }
 
 /// Stores in three pages, gives two of them back and takes them again.
@@ -78,7 +76,7 @@ const FRESH: [Act; 12] = [
 
 #[test]
 fn a_page_of_the_heap_that_comes_back_has_zeros(rt: HostRuntime) -> Result<(), Fail> {
-    expect_acts(&rt, rt.alloc(), &FRESH)
+    expect_acts(rt.alloc(), &FRESH)
 }
 
 /// A page behind three free ones.
@@ -100,7 +98,7 @@ const STOPPED: [Act; 9] = [
 
 #[test]
 fn the_break_goes_over_no_mapped_page(rt: HostRuntime) -> Result<(), Fail> {
-    expect_acts(&rt, rt.alloc(), &STOPPED)
+    expect_acts(rt.alloc(), &STOPPED)
 }
 
 /// Pages of the heap that were mapped over, unmapped and protected: the break is where it was, takes all of them out on
@@ -123,5 +121,5 @@ const TAKEN_OUT: [Act; 12] = [
 
 #[test]
 fn the_break_takes_out_what_was_mapped_in_the_heap(rt: HostRuntime) -> Result<(), Fail> {
-    expect_acts(&rt, rt.alloc(), &TAKEN_OUT)
+    expect_acts(rt.alloc(), &TAKEN_OUT)
 }

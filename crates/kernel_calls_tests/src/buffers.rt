@@ -1,10 +1,9 @@
 //! What a call takes from a guest's buffer, and what it comes to.
 
-use crate::asked::{Asked, ask};
-use crate::calling::{Guest, guest_in, taken};
-use crate::guests::{expect_bytes, expect_unreadable, opened, read};
+use crate::guests::{expect_bytes, expect_unreadable};
 use futex_core::Waiters;
 use kernel_calls::{Effect, Prepared, commit};
+use kernel_calls_acts::{Asked, Guest, ask, guest_in, opened, read, taken};
 use kernel_model::GuestSpace;
 use sn_base::{List, Memory};
 use sn_vectors::images::GUEST;

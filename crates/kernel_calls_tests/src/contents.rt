@@ -1,8 +1,9 @@
 //! What pages hold once they are mapped, replaced, unmapped and protected.
 
-use crate::acts::{Act, expect_acts, expect_acts_of};
-use crate::asked::{ENOMEM, FIXED, MPROTECT, PRIVATE, SHARED};
-use crate::calling::{HEAP, LOAD, MAPPINGS_END, STORE, TOP};
+use kernel_calls_acts::{
+    Act, ENOMEM, FIXED, HEAP, LOAD, MAPPINGS_END, MPROTECT, PRIVATE, SHARED, STORE, TOP,
+    expect_acts, expect_acts_of,
+};
 use std::test::Fail;
 
 /// Three pages, which are laid with the kind of the test.
@@ -35,10 +36,7 @@ const AGAIN: [Act; 17] = [
 
 #[test]
 fn what_was_unmapped_comes_back_with_zeros(rt: HostRuntime) -> Result<(), Fail> {
-    for kind in [PRIVATE, SHARED] {
-        expect_acts_of(&rt, rt.alloc(), kind, &AGAIN)?;
-    }
-    Ok(())
+    expect_acts_of(rt.alloc(), &[PRIVATE, SHARED], &AGAIN)
 }
 
 /// The middle of three pages is replaced by a private one, and then by a shared one.
@@ -64,10 +62,7 @@ const MIDDLE: [Act; 16] = [
 
 #[test]
 fn a_fixed_mapping_replaces_its_pages_alone(rt: HostRuntime) -> Result<(), Fail> {
-    for kind in [PRIVATE, SHARED] {
-        expect_acts_of(&rt, rt.alloc(), kind, &MIDDLE)?;
-    }
-    Ok(())
+    expect_acts_of(rt.alloc(), &[PRIVATE, SHARED], &MIDDLE)
 }
 
 /// The image's page and the stack's last are replaced: the ELF letters and the random bytes are gone.
@@ -85,7 +80,7 @@ const IMAGE: [Act; 8] = [
 
 #[test]
 fn a_fixed_mapping_goes_over_image_and_stack(rt: HostRuntime) -> Result<(), Fail> {
-    expect_acts(&rt, rt.alloc(), &IMAGE)
+    expect_acts(rt.alloc(), &IMAGE)
 }
 
 /// The middle of three pages is unmapped by a byte of it, and then the rest with what isn't mapped about it.
@@ -106,10 +101,7 @@ const HOLE: [Act; 11] = [
 
 #[test]
 fn munmap_takes_whole_pages_out_and_holes_among_them(rt: HostRuntime) -> Result<(), Fail> {
-    for kind in [PRIVATE, SHARED] {
-        expect_acts_of(&rt, rt.alloc(), kind, &HOLE)?;
-    }
-    Ok(())
+    expect_acts_of(rt.alloc(), &[PRIVATE, SHARED], &HOLE)
 }
 
 /// A page that was mapped with rights, and one that got them, each with the replies of a write of a byte of it and of a
@@ -137,10 +129,7 @@ const RIGHTS: [Act; 49] = [
 
 #[test]
 fn a_page_has_just_the_rights_that_it_was_given(rt: HostRuntime) -> Result<(), Fail> {
-    for kind in [PRIVATE, SHARED] {
-        expect_acts_of(&rt, rt.alloc(), kind, &RIGHTS)?;
-    }
-    Ok(())
+    expect_acts_of(rt.alloc(), &[PRIVATE, SHARED], &RIGHTS)
 }
 
 /// Three pages lose all rights, and get them again, one before the others: they keep their bytes. Where a page of the
@@ -171,10 +160,7 @@ const PROTECTED: [Act; 20] = [
 
 #[test]
 fn pages_keep_their_bytes_under_other_rights(rt: HostRuntime) -> Result<(), Fail> {
-    for kind in [PRIVATE, SHARED] {
-        expect_acts_of(&rt, rt.alloc(), kind, &PROTECTED)?;
-    }
-    Ok(())
+    expect_acts_of(rt.alloc(), &[PRIVATE, SHARED], &PROTECTED)
 }
 
 /// A hole amid a range, and one behind the image, leave all rights as they are.
@@ -192,5 +178,5 @@ const UNCHANGED: [Act; 8] = [
 
 #[test]
 fn a_hole_in_its_range_has_mprotect_change_no_page(rt: HostRuntime) -> Result<(), Fail> {
-    expect_acts_of(&rt, rt.alloc(), PRIVATE, &UNCHANGED)
+    expect_acts_of(rt.alloc(), &[PRIVATE], &UNCHANGED)
 }

@@ -1,9 +1,9 @@
 //! Where mappings go, and how many pages there may be.
 
-use crate::acts::{Act, expect_acts};
-use crate::asked::{ENOMEM, FIXED, MMAP, PRIVATE, SHARED};
-use crate::calling::{Guest, HEAP, MAPPINGS_END, TOP, new_guest};
-use std::process::Abort;
+use kernel_calls_acts::{
+    Act, ENOMEM, FIXED, Guest, HEAP, MAPPINGS_END, MMAP, PRIVATE, SHARED, TOP, expect_acts,
+    new_guest,
+};
 use std::test::Fail;
 
 /// The highest four pages that mappings find, from the top.
@@ -37,7 +37,7 @@ const PLACES: [Act; 13] = [
 
 #[test]
 fn each_mapping_lies_under_the_last(rt: HostRuntime) -> Result<(), Fail> {
-    expect_acts(&rt, rt.alloc(), &PLACES)
+    expect_acts(rt.alloc(), &PLACES)
 }
 
 /// Four pages one under the other, of which some are unmapped and mapped again.
@@ -62,7 +62,7 @@ const FILLED: [Act; 15] = [
 
 #[test]
 fn a_hole_is_filled_from_above(rt: HostRuntime) -> Result<(), Fail> {
-    expect_acts(&rt, rt.alloc(), &FILLED)
+    expect_acts(rt.alloc(), &FILLED)
 }
 
 /// MAP_PRIVATE with MAP_FIXED.
@@ -85,7 +85,7 @@ const EDGES: [Act; 9] = [
 
 #[test]
 fn fixed_mappings_lie_between_4096_and_2_to_the_38(rt: HostRuntime) -> Result<(), Fail> {
-    expect_acts(&rt, rt.alloc(), &EDGES)
+    expect_acts(rt.alloc(), &EDGES)
 }
 
 /// The end of 1,000 pages of heap.
@@ -118,7 +118,7 @@ const FULL: [Act; 18] = [
 
 #[test]
 fn there_are_16384_pages_of_image_stack_heap_and_mappings(rt: HostRuntime) -> Result<(), Fail> {
-    expect_acts(&rt, rt.alloc(), &FULL)
+    expect_acts(rt.alloc(), &FULL)
 }
 
 /// All pages beside the 65.
@@ -137,15 +137,15 @@ const ALL_LEFT: [Act; 6] = [
 
 #[test]
 fn one_call_takes_all_that_are_left_and_no_more(rt: HostRuntime) -> Result<(), Fail> {
-    expect_acts(&rt, rt.alloc(), &ALL_LEFT)
+    expect_acts(rt.alloc(), &ALL_LEFT)
 }
 
 /// Puts a page at the end of each 4,096 pages of the range, so that 4,095 are free before it: 8,191 pages.
-fn scatter(rt: &impl Abort, guest: &mut Guest) -> Result<(), Fail> {
+fn scatter(guest: &mut Guest) -> Result<(), Fail> {
     for number in 1..8192u64 {
         let end = number.wrapping_mul(1 << 24).wrapping_add(1 << 37);
         let at = end.wrapping_sub(4096);
-        guest.expect_act(rt, Act::Map(at, 4096, 3, AT, at))?;
+        guest.expect(&[Act::Map(at, 4096, 3, AT, at)])?;
     }
     Ok(())
 }
@@ -160,6 +160,6 @@ const LONG: [Act; 2] = [
 #[test]
 fn a_range_longer_than_each_free_one_is_enomem(rt: HostRuntime) -> Result<(), Fail> {
     let mut guest = new_guest(rt.alloc())?;
-    scatter(&rt, &mut guest)?;
-    guest.expect_acts(&rt, &LONG)
+    scatter(&mut guest)?;
+    guest.expect(&LONG)
 }

@@ -1,7 +1,8 @@
 //! The random bytes of opening tasks, against another ChaCha20 with a counter and a stream of 64 bits.
 
-use crate::guests::{expect_bytes, opened};
+use crate::guests::expect_bytes;
 use kernel_calls::opening_random;
+use kernel_calls_acts::opened;
 use sn_vectors::images::GUEST;
 use std::alloc::Global;
 use std::process::Abort;

@@ -1,11 +1,8 @@
 //! The bytes that getrandom puts, against another ChaCha20 with a counter and a stream of 64 bits: some forty lines of
 //! Python after the cipher's public definition, with the seed as its key and the place of the entry as its stream.
 
-use crate::acts::{Act, expect_acts};
-use crate::asked::{PRIVATE, SHARED};
-use crate::calling::{MAPPINGS_END, TOP, new_guest};
+use kernel_calls_acts::{Act, MAPPINGS_END, PRIVATE, SHARED, TOP, expect_acts, new_guest};
 use std::alloc::Global;
-use std::process::Abort;
 use std::test::Fail;
 
 /// The key of the bytes 0 to 31.
@@ -54,17 +51,11 @@ const ZEROS_8: [u8; 16] = [
 const AT: u64 = TOP - 5096;
 
 /// That a guest of a seed, whose next call is of that place, does these.
-fn expect_by(
-    rt: &impl Abort,
-    alloc: Global,
-    seed: [u8; 32],
-    place: u64,
-    acts: &[Act],
-) -> Result<(), Fail> {
+fn expect_by(alloc: Global, seed: [u8; 32], place: u64, acts: &[Act]) -> Result<(), Fail> {
     let mut guest = new_guest(alloc)?;
     guest.seed = seed;
     guest.place = place.wrapping_sub(1);
-    guest.expect_acts(rt, acts)
+    guest.expect(acts)
 }
 
 /// 300 bytes asked for, between two stores: 256 are put, and what stands before them and behind them stays.
@@ -80,7 +71,7 @@ const OF_300: [Act; 6] = [
 
 #[test]
 fn of_300_bytes_256_are_put(rt: HostRuntime) -> Result<(), Fail> {
-    expect_by(&rt, rt.alloc(), COUNTED, 7, &OF_300)
+    expect_by(rt.alloc(), COUNTED, 7, &OF_300)
 }
 
 /// 16 bytes of a seed of zeros.
@@ -108,10 +99,10 @@ const OF_1: [Act; 2] = [
 
 #[test]
 fn the_bytes_are_those_of_the_seeds_and_the_places_stream(rt: HostRuntime) -> Result<(), Fail> {
-    expect_by(&rt, rt.alloc(), ZEROS, 7, &OF_PLACE_7)?;
-    expect_by(&rt, rt.alloc(), ZEROS, 7, &OF_PLACE_7)?;
-    expect_by(&rt, rt.alloc(), ZEROS, 7, &OF_PLACE_8)?;
-    expect_by(&rt, rt.alloc(), COUNTED, 7, &OF_1)
+    expect_by(rt.alloc(), ZEROS, 7, &OF_PLACE_7)?;
+    expect_by(rt.alloc(), ZEROS, 7, &OF_PLACE_7)?;
+    expect_by(rt.alloc(), ZEROS, 7, &OF_PLACE_8)?;
+    expect_by(rt.alloc(), COUNTED, 7, &OF_1)
 }
 
 /// One that is refused puts nothing: the page behind the buffer's first is not there, or the flags are others.
@@ -127,7 +118,7 @@ const NOTHING: [Act; 6] = [
 
 #[test]
 fn a_getrandom_that_is_refused_puts_nothing(rt: HostRuntime) -> Result<(), Fail> {
-    expect_acts(&rt, rt.alloc(), &NOTHING)
+    expect_acts(rt.alloc(), &NOTHING)
 }
 
 /// A private page between two shared ones, three mappings one under the other; and 256 bytes over each border.
@@ -158,16 +149,16 @@ const OVER_LOWER: [Act; 4] = [
 ];
 
 /// That the three pages are laid, and then, from the call of the place 7 on, these are done.
-fn expect_over(rt: &impl Abort, alloc: Global, acts: &[Act]) -> Result<(), Fail> {
+fn expect_over(alloc: Global, acts: &[Act]) -> Result<(), Fail> {
     let mut guest = new_guest(alloc)?;
-    guest.expect_acts(rt, &LAID)?;
+    guest.expect(&LAID)?;
     guest.seed = COUNTED;
     guest.place = 6;
-    guest.expect_acts(rt, acts)
+    guest.expect(acts)
 }
 
 #[test]
 fn bytes_are_put_over_private_and_shared_pages(rt: HostRuntime) -> Result<(), Fail> {
-    expect_over(&rt, rt.alloc(), &OVER_UPPER)?;
-    expect_over(&rt, rt.alloc(), &OVER_LOWER)
+    expect_over(rt.alloc(), &OVER_UPPER)?;
+    expect_over(rt.alloc(), &OVER_LOWER)
 }

@@ -1,11 +1,9 @@
 //! What refuses mmap, munmap, mprotect and getrandom, and of two causes which is told.
 
-use crate::acts::{Act, expect_acts};
-use crate::asked::{
-    EBADF, EFAULT, EINVAL, ENODEV, ENOMEM, FIXED, GETRANDOM, MMAP, MPROTECT, MUNMAP, PRIVATE,
-    SHARED,
+use kernel_calls_acts::{
+    Act, EBADF, EFAULT, EINVAL, ENODEV, ENOMEM, FIXED, GETRANDOM, HEAP, MMAP, MPROTECT, MUNMAP,
+    PRIVATE, SHARED, TOP, expect_acts,
 };
-use crate::calling::{HEAP, TOP};
 use std::test::Fail;
 
 /// A length of 16,385 pages: more than there may be.
@@ -97,7 +95,7 @@ const MMAPS: [Act; 60] = [
 
 #[test]
 fn mmap_is_refused_by_its_first_error(rt: HostRuntime) -> Result<(), Fail> {
-    expect_acts(&rt, rt.alloc(), &MMAPS)
+    expect_acts(rt.alloc(), &MMAPS)
 }
 
 /// Ranges that munmap refuses, or in which nothing is mapped: munmap(2), EINVAL.
@@ -135,7 +133,7 @@ const MUNMAPS: [Act; 28] = [
 
 #[test]
 fn munmap_refuses_what_is_no_range_and_takes_a_hole(rt: HostRuntime) -> Result<(), Fail> {
-    expect_acts(&rt, rt.alloc(), &MUNMAPS)
+    expect_acts(rt.alloc(), &MUNMAPS)
 }
 
 /// Ranges and rights that mprotect refuses or takes: mprotect(2), ERRORS, with the order of docs/GUESTS.md. First each
@@ -184,7 +182,7 @@ const MPROTECTS: [Act; 38] = [
 
 #[test]
 fn mprotect_is_refused_by_its_first_error(rt: HostRuntime) -> Result<(), Fail> {
-    expect_acts(&rt, rt.alloc(), &MPROTECTS)
+    expect_acts(rt.alloc(), &MPROTECTS)
 }
 
 /// Buffers, counts and flags of getrandom: getrandom(2), ERRORS, with the order of docs/GUESTS.md. The image's page may
@@ -230,7 +228,7 @@ const GETRANDOMS: [Act; 33] = [
 fn getrandom_is_refused_by_its_first_error_and_puts_256_bytes_at_most(
     rt: HostRuntime,
 ) -> Result<(), Fail> {
-    expect_acts(&rt, rt.alloc(), &GETRANDOMS)
+    expect_acts(rt.alloc(), &GETRANDOMS)
 }
 
 /// All of a guest's memory is taken out at once, its code too.
@@ -244,5 +242,5 @@ const ALL: [Act; 4] = [
 
 #[test]
 fn munmap_of_all_addresses_takes_every_page_out(rt: HostRuntime) -> Result<(), Fail> {
-    expect_acts(&rt, rt.alloc(), &ALL)
+    expect_acts(rt.alloc(), &ALL)
 }

@@ -1,15 +1,13 @@
 //! Who a guest is told that it is, and which system it runs on.
 
-use crate::acts::{Act, expect_acts};
-use crate::asked::{
-    EFAULT, GETEGID, GETEUID, GETGID, GETPID, GETPPID, GETTID, GETUID, PRIVATE, SET_ROBUST_LIST,
-    SHARED, UNAME,
+use kernel_calls_acts::{
+    Act, EFAULT, GETEGID, GETEUID, GETGID, GETPID, GETPPID, GETTID, GETUID, HEAP, MAPPINGS_END,
+    PRIVATE, SET_ROBUST_LIST, SHARED, TOP, UNAME, expect_acts, expect_acts_among, family,
+    new_guest,
 };
-use crate::calling::{HEAP, MAPPINGS_END, TOP, guest_among, new_guest};
-use crate::families::{end, family};
 use std::alloc::Global;
-use std::process::Abort;
 use std::test::Fail;
+use task_table::Status;
 
 /// What each of them is told: its group, its parent's and its own number.
 #[rattlefmt::skip]
@@ -34,14 +32,13 @@ const FAMILY: [Act; 16] = [
 
 #[test]
 fn a_thread_has_the_number_and_the_parent_of_its_group(rt: HostRuntime) -> Result<(), Fail> {
-    let tasks = family(&rt, rt.alloc())?;
-    let mut guest = guest_among(rt.alloc(), tasks)?;
-    guest.expect_acts(&rt, &FAMILY)
+    expect_acts_among(rt.alloc(), family(rt.alloc())?, &FAMILY)
 }
 
 /// Once the parent has ended.
 #[rattlefmt::skip]
-const ORPHAN: [Act; 4] = [
+const ORPHAN: [Act; 5] = [
+    Act::Ends(2, Status::Exited(0)),
     Act::As(3, 3),
     Act::Calls(GETPID, [0, 0, 0, 0, 0, 0], 3),
     Act::Calls(GETPPID, [0, 0, 0, 0, 0, 0], 0),
@@ -50,10 +47,7 @@ const ORPHAN: [Act; 4] = [
 
 #[test]
 fn a_group_whose_parent_has_ended_has_none(rt: HostRuntime) -> Result<(), Fail> {
-    let mut tasks = family(&rt, rt.alloc())?;
-    let _ = end(&rt, rt.alloc(), &mut tasks, 2)?;
-    let mut guest = guest_among(rt.alloc(), tasks)?;
-    guest.expect_acts(&rt, &ORPHAN)
+    expect_acts_among(rt.alloc(), family(rt.alloc())?, &ORPHAN)
 }
 
 /// The user and the group, the effective ones too; and a list of robust futexes, which may lie anywhere.
@@ -71,7 +65,7 @@ const OWNERS: [Act; 8] = [
 
 #[test]
 fn each_task_is_the_user_and_group_1000(rt: HostRuntime) -> Result<(), Fail> {
-    expect_acts(&rt, rt.alloc(), &OWNERS)
+    expect_acts(rt.alloc(), &OWNERS)
 }
 
 /// Where the system's name is put: 1,000 bytes below the end of the stack's last page but one.
@@ -100,18 +94,18 @@ const NAMES: [Act; 17] = [
 ];
 
 /// That a guest, which has words of ones where the names will be, is told them.
-fn expect_names(rt: &impl Abort, alloc: Global) -> Result<(), Fail> {
+fn expect_names(alloc: Global) -> Result<(), Fail> {
     let mut guest = new_guest(alloc)?;
     for word in 0..49u64 {
         let at = word.wrapping_mul(8).wrapping_add(AT);
-        guest.expect_act(rt, Act::Stores(at, u64::MAX))?;
+        guest.expect(&[Act::Stores(at, u64::MAX)])?;
     }
-    guest.expect_acts(rt, &NAMES)
+    guest.expect(&NAMES)
 }
 
 #[test]
 fn uname_puts_six_fields_of_65_bytes(rt: HostRuntime) -> Result<(), Fail> {
-    expect_names(&rt, rt.alloc())
+    expect_names(rt.alloc())
 }
 
 /// A private page under a shared one, and both under one that may only be read.
@@ -148,5 +142,5 @@ const BUFFERS: [Act; 20] = [
 
 #[test]
 fn uname_puts_nothing_where_a_byte_may_not_be_written(rt: HostRuntime) -> Result<(), Fail> {
-    expect_acts(&rt, rt.alloc(), &BUFFERS)
+    expect_acts(rt.alloc(), &BUFFERS)
 }

@@ -1,47 +1,31 @@
 //! Tasks that end: their statuses, their clear words, and who is woken by these.
 
-use crate::acts::Act;
-use crate::asked::{EXIT, EXIT_GROUP, PRIVATE, SHARED};
-use crate::calling::{Guest, HEAP, MAPPINGS_END, TOP, guest_among};
-use crate::ends::{Ends, Word};
-use crate::families::{end, family};
+use kernel_calls_acts::{
+    Act, EXIT, EXIT_GROUP, Ends, HEAP, MAPPINGS_END, PRIVATE, SHARED, TOP, Word, end,
+    expect_acts_among, family, guest_among,
+};
 use std::alloc::Global;
 use std::process::Abort;
 use std::test::Fail;
 use task_table::{EndedTask, Status};
 
-/// Where the clear words of the tasks 1 to 4 are.
-fn clear_words(guest: &Guest) -> Result<[u64; 4], Fail> {
-    let one = guest.tasks.task(1).ok_or("task 1")?.clear;
-    let two = guest.tasks.task(2).ok_or("task 2")?.clear;
-    let three = guest.tasks.task(3).ok_or("task 3")?.clear;
-    let four = guest.tasks.task(4).ok_or("task 4")?.clear;
-    Ok([one, two, three, four])
-}
-
-/// A task of a group, the address that it sets, and where the clear words of the tasks 1 to 4 are then: that of each
-/// task is where its last call said, wherever that is, and none is where that said 0.
+/// Tasks that set an address, and where the clear words of the tasks 1 to 4 are then: that of each task is where its
+/// last call said, wherever that is, and none is where that said 0.
 #[rattlefmt::skip]
-const SETTINGS: [(u32, u32, u64, [u64; 4]); 6] = [
-    (4, 2, 65_640, [0, 0, 0, 65_640]),
-    (1, 1, u64::MAX, [u64::MAX, 0, 0, 65_640]),
-    (2, 2, 0, [u64::MAX, 0, 0, 65_640]),
-    (4, 2, 3, [u64::MAX, 0, 0, 3]),
-    (2, 2, 3, [u64::MAX, 3, 0, 3]),
-    (1, 1, 0, [0, 3, 0, 3]),
+const SETTINGS: [Act; 18] = [
+    Act::As(4, 2), Act::Clears(65_640), Act::ClearWords([0, 0, 0, 65_640]),
+    Act::As(1, 1), Act::Clears(u64::MAX), Act::ClearWords([u64::MAX, 0, 0, 65_640]),
+    Act::As(2, 2), Act::Clears(0), Act::ClearWords([u64::MAX, 0, 0, 65_640]),
+    Act::As(4, 2), Act::Clears(3), Act::ClearWords([u64::MAX, 0, 0, 3]),
+    Act::As(2, 2), Act::Clears(3), Act::ClearWords([u64::MAX, 3, 0, 3]),
+    Act::As(1, 1), Act::Clears(0), Act::ClearWords([0, 3, 0, 3]),
 ];
 
 /// That these come of one another, and that the group 2 then ends with the words of its two tasks.
 fn expect_settings(rt: &impl Abort, alloc: Global) -> Result<(), Fail> {
-    let tasks = family(rt, alloc)?;
-    let mut guest = guest_among(alloc, tasks)?;
-    for (task, group, address, words) in SETTINGS {
-        guest.task = task;
-        guest.group = group;
-        guest.expect_clears(rt, address)?;
-        assert_eq!(rt; clear_words(&guest)?, words, "task {task}");
-    }
-    let ended = end(rt, alloc, &mut guest.tasks, 2)?;
+    let mut guest = guest_among(alloc, family(alloc)?)?;
+    guest.expect(&SETTINGS)?;
+    let ended = end(alloc, &mut guest.tasks, 2)?;
     let wanted = [
         EndedTask { task: 2, clear: 3 },
         EndedTask { task: 4, clear: 3 },
@@ -56,10 +40,8 @@ fn a_task_has_its_clear_word_where_it_last_said(rt: HostRuntime) -> Result<(), F
 }
 
 /// That the family of tasks 1 to 4 does these: 2 and 4 are of the group 2, and 1 and 3 of their own.
-fn expect_family(rt: &impl Abort, alloc: Global, acts: &[Act]) -> Result<(), Fail> {
-    let tasks = family(rt, alloc)?;
-    let mut guest = guest_among(alloc, tasks)?;
-    guest.expect_acts(rt, acts)
+fn expect_family(alloc: Global, acts: &[Act]) -> Result<(), Fail> {
+    expect_acts_among(alloc, family(alloc)?, acts)
 }
 
 /// Where words lie; the operations of futex, and the value of a word of ones.
@@ -116,7 +98,7 @@ const LAST: [Act; 27] = [
 fn the_end_of_a_thread_clears_its_word_and_wakes_the_first_there(
     rt: HostRuntime,
 ) -> Result<(), Fail> {
-    expect_family(&rt, rt.alloc(), &LAST)
+    expect_family(rt.alloc(), &LAST)
 }
 
 /// Words of which a byte may not be written: none is cleared, and who sleeps there sleeps on.
@@ -149,7 +131,7 @@ const UNWRITTEN: [Act; 23] = [
 
 #[test]
 fn a_word_that_may_not_be_written_stays(rt: HostRuntime) -> Result<(), Fail> {
-    expect_family(&rt, rt.alloc(), &UNWRITTEN)
+    expect_family(rt.alloc(), &UNWRITTEN)
 }
 
 /// A page of an area at two addresses.
@@ -181,7 +163,7 @@ const IN_AN_AREA: [Act; 17] = [
 
 #[test]
 fn a_word_in_a_shared_area_is_cleared(rt: HostRuntime) -> Result<(), Fail> {
-    expect_family(&rt, rt.alloc(), &IN_AN_AREA)
+    expect_family(rt.alloc(), &IN_AN_AREA)
 }
 
 /// Both tasks of the group 2 end at once, the one while it sleeps: it sleeps no more. Each has its word cleared, and
@@ -212,7 +194,7 @@ const BOTH: [Act; 18] = [
 
 #[test]
 fn the_end_of_a_group_clears_the_word_of_each_task(rt: HostRuntime) -> Result<(), Fail> {
-    expect_family(&rt, rt.alloc(), &BOTH)
+    expect_family(rt.alloc(), &BOTH)
 }
 
 /// Both have one word, on which two sleep: both are woken.
@@ -259,7 +241,7 @@ const OTHER_OF_TWO: [Act; 7] = [
 
 #[test]
 fn of_two_words_each_is_cleared_that_may_be_written(rt: HostRuntime) -> Result<(), Fail> {
-    expect_family(&rt, rt.alloc(), &ONE_WORD)?;
-    expect_family(&rt, rt.alloc(), &ONE_OF_TWO)?;
-    expect_family(&rt, rt.alloc(), &OTHER_OF_TWO)
+    expect_family(rt.alloc(), &ONE_WORD)?;
+    expect_family(rt.alloc(), &ONE_OF_TWO)?;
+    expect_family(rt.alloc(), &OTHER_OF_TWO)
 }

@@ -1,13 +1,11 @@
 //! Shared areas: buffers of calls that lie there, and one area at two addresses.
 
-use crate::acts::{Act, expect_acts};
-use crate::asked::{FIXED, PRIVATE, SHARED};
-use crate::calling::{
-    ADD, Guest, HEAP, LOAD, MAPPINGS_END, RESERVE, STORE, STORE_RESERVED, new_guest,
+use kernel_calls_acts::{
+    ADD, Act, FIXED, Guest, HEAP, LOAD, MAPPINGS_END, PRIVATE, RESERVE, SHARED, STORE,
+    STORE_RESERVED, expect_acts, new_guest,
 };
 use kernel_model::Next;
 use rv_table::Area;
-use std::process::Abort;
 use std::test::Fail;
 
 /// The pages of four mappings, from the lowest: private, shared, shared, private.
@@ -60,14 +58,14 @@ const BUFFERS: [Act; 28] = [
 fn a_buffer_over_private_and_shared_pages_is_taken_whole_or_not_at_all(
     rt: HostRuntime,
 ) -> Result<(), Fail> {
-    expect_acts(&rt, rt.alloc(), &BUFFERS)
+    expect_acts(rt.alloc(), &BUFFERS)
 }
 
 /// 17 shared pages, one behind another, each of a call of its own.
-fn lay_seventeen(rt: &impl Abort, guest: &mut Guest) -> Result<(), Fail> {
+fn lay_seventeen(guest: &mut Guest) -> Result<(), Fail> {
     for number in 0..17u64 {
         let at = number.wrapping_mul(4096).wrapping_add(1 << 37);
-        guest.expect_act(rt, Act::Map(at, 4096, 3, SHARED | FIXED, at))?;
+        guest.expect(&[Act::Map(at, 4096, 3, SHARED | FIXED, at)])?;
     }
     Ok(())
 }
@@ -88,8 +86,8 @@ const SEVENTEEN: [Act; 5] = [
 #[test]
 fn a_buffer_may_lie_in_seventeen_areas(rt: HostRuntime) -> Result<(), Fail> {
     let mut guest = new_guest(rt.alloc())?;
-    lay_seventeen(&rt, &mut guest)?;
-    guest.expect_acts(&rt, &SEVENTEEN)
+    lay_seventeen(&mut guest)?;
+    guest.expect(&SEVENTEEN)
 }
 
 /// An area of two pages at two addresses: where the first call puts it, and where its first page is mapped again.
@@ -120,7 +118,7 @@ const TWICE: [Act; 14] = [
 fn what_is_stored_in_an_area_by_one_address_is_read_by_the_other(
     rt: HostRuntime,
 ) -> Result<(), Fail> {
-    expect_acts(&rt, rt.alloc(), &TWICE)
+    expect_acts(rt.alloc(), &TWICE)
 }
 
 /// The area stays while nobody maps it, and is mapped again with its bytes; each mapping with MAP_SHARED has an area of
@@ -145,7 +143,7 @@ const STAYS: [Act; 14] = [
 
 #[test]
 fn an_area_stays_while_nobody_maps_it(rt: HostRuntime) -> Result<(), Fail> {
-    expect_acts(&rt, rt.alloc(), &STAYS)
+    expect_acts(rt.alloc(), &STAYS)
 }
 
 /// What a task does to eight bytes that task 1 has reserved by the address here, and whether the reservation is still
@@ -168,11 +166,14 @@ const MEETINGS: [(u32, u64, u64, bool); 12] = [
 ];
 
 /// That each of them is so.
-fn expect_meetings(rt: &impl Abort, guest: &mut Guest) -> Result<(), Fail> {
-    for (task, instruction, at, is_held) in MEETINGS {
-        guest.expect_act(rt, Act::Does(1, RESERVE, HERE + 16))?;
-        guest.expect_act(rt, Act::Does(task, instruction, at))?;
-        guest.expect_act(rt, Act::Held(1, HERE + 16, is_held))?;
+fn expect_meetings(guest: &mut Guest) -> Result<(), Fail> {
+    for (row, (task, instruction, at, is_held)) in MEETINGS.iter().enumerate() {
+        let acts = [
+            Act::Does(1, RESERVE, HERE + 16),
+            Act::Does(*task, *instruction, *at),
+            Act::Held(1, HERE + 16, *is_held),
+        ];
+        guest.expect_row(row, &acts)?;
     }
     Ok(())
 }
@@ -180,8 +181,8 @@ fn expect_meetings(rt: &impl Abort, guest: &mut Guest) -> Result<(), Fail> {
 #[test]
 fn another_tasks_store_by_either_address_ends_a_reservation(rt: HostRuntime) -> Result<(), Fail> {
     let mut guest = new_guest(rt.alloc())?;
-    guest.expect_acts(&rt, &TWICE)?;
-    expect_meetings(&rt, &mut guest)
+    guest.expect(&TWICE)?;
+    expect_meetings(&mut guest)
 }
 
 /// A reservation is of one address: by the other nothing is stored. It goes with the page that it was made by, and
@@ -205,7 +206,7 @@ const ONE_ADDRESS: [Act; 13] = [
 
 #[test]
 fn a_reservation_in_an_area_is_of_one_address(rt: HostRuntime) -> Result<(), Fail> {
-    expect_acts(&rt, rt.alloc(), &ONE_ADDRESS)
+    expect_acts(rt.alloc(), &ONE_ADDRESS)
 }
 
 /// Both tasks reserve the same eight bytes; the first that stores ends the other's reservation.
@@ -223,7 +224,7 @@ const BOTH: [Act; 8] = [
 
 #[test]
 fn of_two_tasks_that_reserve_one_stores(rt: HostRuntime) -> Result<(), Fail> {
-    expect_acts(&rt, rt.alloc(), &BOTH)
+    expect_acts(rt.alloc(), &BOTH)
 }
 
 /// The heap's first page is shared memory, once that is mapped over it.
@@ -238,7 +239,7 @@ const IN_THE_HEAP: [Act; 5] = [
 
 #[test]
 fn shared_memory_may_lie_in_the_heap(rt: HostRuntime) -> Result<(), Fail> {
-    expect_acts(&rt, rt.alloc(), &IN_THE_HEAP)
+    expect_acts(rt.alloc(), &IN_THE_HEAP)
 }
 
 /// A page of an area that no call has made: neither a call nor an instruction reaches it.
@@ -257,5 +258,5 @@ const LACKING: [Act; 9] = [
 
 #[test]
 fn an_area_that_is_not_there_is_reached_by_nothing(rt: HostRuntime) -> Result<(), Fail> {
-    expect_acts(&rt, rt.alloc(), &LACKING)
+    expect_acts(rt.alloc(), &LACKING)
 }

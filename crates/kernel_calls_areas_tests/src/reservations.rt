@@ -1,12 +1,10 @@
 //! What ends a reservation of the task's own: each change of what is mapped that meets its page.
 
-use crate::acts::{Act, expect_acts, expect_acts_of};
-use crate::asked::{FIXED, PRIVATE, SHARED, ask};
-use crate::calling::{
-    Guest, HEAP, MAPPINGS_END, RESERVE, STORE_RESERVED, STORE_RESERVED_WORD, new_guest,
+use kernel_calls_acts::{
+    Act, FIXED, Guest, HEAP, MAPPINGS_END, PRIVATE, RESERVE, SHARED, STORE_RESERVED,
+    STORE_RESERVED_WORD, ask, expect_acts, expect_acts_of, new_guest,
 };
 use std::alloc::Global;
-use std::process::Abort;
 use std::test::Fail;
 
 /// The middle of three pages, and its last eight bytes, which are reserved.
@@ -56,33 +54,42 @@ const CALLS: [(u64, [u64; 6], u64); 28] = [
     (1000, [0, 0, 0, 0, 0, 0], 0),
 ];
 
+/// Three new pages of the guest's kind, and the reservation.
+#[rattlefmt::skip]
+const RESERVED: [Act; 2] = [
+    Act::Lay(BEFORE, 12_288, 3),
+    Act::Gives(RESERVE, PLACE, 0, 0),
+];
+
 /// That a store-conditional gives that after a call, over three new pages of the guest's kind.
 fn expect_after(
-    rt: &impl Abort,
     guest: &mut Guest,
+    row: usize,
     (number, args, gives): (u64, [u64; 6], u64),
 ) -> Result<(), Fail> {
-    guest.expect_act(rt, Act::Lay(BEFORE, 12_288, 3))?;
-    guest.expect_act(rt, Act::Gives(RESERVE, PLACE, 0, 0))?;
+    guest.expect_row(row, &RESERVED)?;
     let _ = guest.reply(ask(number, args))?;
-    guest.expect_act(rt, Act::Gives(STORE_RESERVED, PLACE, 5, gives))?;
-    guest.expect_act(rt, Act::Gives(STORE_RESERVED, PLACE, 6, 1))
+    let acts = [
+        Act::Gives(STORE_RESERVED, PLACE, 5, gives),
+        Act::Gives(STORE_RESERVED, PLACE, 6, 1),
+    ];
+    guest.expect_row(row, &acts)
 }
 
 /// That it is so after each call, over pages of a kind.
-fn expect_calls(rt: &impl Abort, alloc: Global, kind: u64) -> Result<(), Fail> {
+fn expect_calls(alloc: Global, kind: u64) -> Result<(), Fail> {
     let mut guest = new_guest(alloc)?;
     guest.kind = kind;
-    for row in CALLS {
-        expect_after(rt, &mut guest, row)?;
+    for (row, call) in CALLS.iter().enumerate() {
+        expect_after(&mut guest, row, *call)?;
     }
     Ok(())
 }
 
 #[test]
 fn a_reservation_is_lost_with_a_change_of_its_page_alone(rt: HostRuntime) -> Result<(), Fail> {
-    expect_calls(&rt, rt.alloc(), PRIVATE)?;
-    expect_calls(&rt, rt.alloc(), SHARED)
+    expect_calls(rt.alloc(), PRIVATE)?;
+    expect_calls(rt.alloc(), SHARED)
 }
 
 /// A page of the heap goes and comes back by the break, which keeps a reservation there; so that it is lost where the
@@ -105,7 +112,7 @@ const UNMAPPED: [Act; 12] = [
 
 #[test]
 fn munmap_ends_a_reservation_and_the_break_keeps_it(rt: HostRuntime) -> Result<(), Fail> {
-    expect_acts(&rt, rt.alloc(), &UNMAPPED)
+    expect_acts(rt.alloc(), &UNMAPPED)
 }
 
 /// Calls on other pages, a write of its bytes, and a load and a store of its own.
@@ -137,12 +144,10 @@ const WIDTHS: [Act; 7] = [
 
 #[test]
 fn calls_elsewhere_and_its_own_stores_keep_a_reservation(rt: HostRuntime) -> Result<(), Fail> {
-    expect_acts_of(&rt, rt.alloc(), PRIVATE, &ELSEWHERE)?;
-    expect_acts_of(&rt, rt.alloc(), SHARED, &ELSEWHERE)
+    expect_acts_of(rt.alloc(), &[PRIVATE, SHARED], &ELSEWHERE)
 }
 
 #[test]
 fn a_store_conditional_of_another_width_stores_nothing(rt: HostRuntime) -> Result<(), Fail> {
-    expect_acts_of(&rt, rt.alloc(), PRIVATE, &WIDTHS)?;
-    expect_acts_of(&rt, rt.alloc(), SHARED, &WIDTHS)
+    expect_acts_of(rt.alloc(), &[PRIVATE, SHARED], &WIDTHS)
 }

@@ -9,7 +9,7 @@ use std::sync::atomic::{AtomicU64, Ordering};
 
 /// A call of the system, and what it answers. A look follows no link.
 #[derive(Clone, Copy)]
-pub(crate) enum Call {
+pub enum Call {
     /// A look, which finds a directory.
     Directory,
     /// A look, which finds a file of twelve bytes.
@@ -35,14 +35,14 @@ pub(crate) enum Call {
 }
 
 /// A call, and the path that it is for.
-pub(crate) type Line = (Call, &'static str);
+pub type Line = (Call, &'static str);
 
 /// The number of calls met once a call came that isn't the next line's.
 const ASTRAY: u64 = 1_000_000;
 
 /// Files that answer the calls of a script, in its order. Any other call is refused, as is each one after it.
 #[derive(Clone, Copy)]
-pub(crate) struct Scripted<'a> {
+pub struct Scripted<'a> {
     rt: HostRuntime,
     script: &'a [Line],
     /// How many lines were met so far, or from `ASTRAY` on.
@@ -50,12 +50,12 @@ pub(crate) struct Scripted<'a> {
 }
 
 /// Whether so many lines are all that were met, each in its turn.
-pub(crate) fn are_met(script: &[Line], met: &AtomicU64) -> bool {
+pub fn are_met(script: &[Line], met: &AtomicU64) -> bool {
     met.load(Ordering::SeqCst) == script.len() as u64
 }
 
 impl<'a> Scripted<'a> {
-    pub(crate) fn new(rt: HostRuntime, script: &'a [Line], met: &'a AtomicU64) -> Scripted<'a> {
+    pub fn new(rt: HostRuntime, script: &'a [Line], met: &'a AtomicU64) -> Scripted<'a> {
         Scripted { rt, script, met }
     }
 

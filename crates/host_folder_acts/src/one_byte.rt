@@ -7,7 +7,7 @@ use std::io;
 use std::io::{ErrorKind, Read, Seek, SeekFrom, Write};
 
 /// A call that is refused.
-pub(crate) fn refused<T>() -> io::Result<T>
+pub fn refused<T>() -> io::Result<T>
     ensures { IsErr result }
 {
     Err(io::Error::from(ErrorKind::PermissionDenied))
@@ -15,12 +15,12 @@ pub(crate) fn refused<T>() -> io::Result<T>
 
 /// A file of which one byte is read, and no more.
 #[derive(Drop)]
-pub(crate) struct OneByte {
+pub struct OneByte {
     is_read: bool,
 }
 
 impl OneByte {
-    pub(crate) fn new() -> OneByte {
+    pub fn new() -> OneByte {
         OneByte { is_read: false }
     }
 }

@@ -1,56 +1,14 @@
 //! Calls that make tasks: why some are refused, and what a child begins with.
 
-use crate::acts::{Act, expect_acts};
-use crate::asked::{Asked, CLONE, EAGAIN, EFAULT, EINVAL, EXIT, PRIVATE, SHARED, ask};
-use crate::calling::{Guest, HEAP, MAPPINGS_END, RESERVE, STORE, TOP, guest_among, new_guest};
-use crate::ends::Ends;
-use crate::families::crowd;
-use kernel_calls::{Called, Child, Words};
-use kernel_model::GuestSpace;
+use kernel_calls::Child;
+use kernel_calls_acts::{
+    Act, CLONE, EAGAIN, EFAULT, EINVAL, EXIT, Ends, Guest, HEAP, MAPPINGS_END, PRIVATE, RESERVE,
+    SHARED, STORE, TOP, crowd, expect_acts, guest_among, new_guest,
+};
 use rv_table::Regs;
 use std::alloc::Global;
-use std::mem;
 use std::process::Abort;
 use std::test::Fail;
-
-/// A call of clone.
-fn clone([flags, stack, parent_word, tls, child_word]: [u64; 5]) -> Asked {
-    ask(CLONE, [flags, stack, parent_word, tls, child_word, 7])
-}
-
-impl Guest {
-    /// The child that a clone makes.
-    fn child(&mut self, args: [u64; 5]) -> Result<Child, Fail> {
-        match self.called(clone(args), 0)? {
-            Called::Makes(child) => Ok(child.into_inner()),
-            _ => Err(Fail::new("no child")),
-        }
-    }
-
-    /// Goes on in the memory that the words leave which got a child's number.
-    fn go_on(&mut self, words: Option<Words>) {
-        if let Some(Words { space, areas }) = words {
-            self.space = space;
-            self.areas = areas;
-        }
-    }
-
-    /// That a child does these in its own memory, where it has one, and else in this one.
-    fn expect_child_acts(
-        &mut self,
-        rt: &impl Abort,
-        memory: Option<GuestSpace>,
-        acts: &[Act],
-    ) -> Result<(), Fail> {
-        let Some(memory) = memory else {
-            return self.expect_acts(rt, acts);
-        };
-        let own = mem::replace(&mut self.space, memory);
-        self.expect_acts(rt, acts)?;
-        self.space = own;
-        Ok(())
-    }
-}
 
 /// SIGCHLD, the flags of a process; and those of a thread: CLONE_VM, CLONE_FS, CLONE_FILES, CLONE_SIGHAND and
 /// CLONE_THREAD.
@@ -102,18 +60,21 @@ const SHAPES: [u64; 33] = [
 ];
 
 /// That each of them is refused, with words that may be written and with words that may not.
-fn expect_shapes(rt: &impl Abort, alloc: Global) -> Result<(), Fail> {
+fn expect_shapes(alloc: Global) -> Result<(), Fail> {
     let mut guest = new_guest(alloc)?;
-    for flags in SHAPES {
-        guest.expect_reply(rt, clone([flags, 0, AT, 0, AT]), EINVAL)?;
-        guest.expect_reply(rt, clone([flags, 0, HEAP, 0, HEAP]), EINVAL)?;
+    for (row, flags) in SHAPES.iter().enumerate() {
+        let acts = [
+            Act::Calls(CLONE, [*flags, 0, AT, 0, AT, 7], EINVAL),
+            Act::Calls(CLONE, [*flags, 0, HEAP, 0, HEAP, 7], EINVAL),
+        ];
+        guest.expect_row(row, &acts)?;
     }
     Ok(())
 }
 
 #[test]
 fn flags_of_neither_shape_are_einval(rt: HostRuntime) -> Result<(), Fail> {
-    expect_shapes(&rt, rt.alloc())
+    expect_shapes(rt.alloc())
 }
 
 /// A byte of the parent's word, of the child's, or of either that may not be written: the other word stays as it was.
@@ -149,7 +110,7 @@ const FAULTS: [Act; 26] = [
 
 #[test]
 fn a_word_that_may_not_be_written_is_efault(rt: HostRuntime) -> Result<(), Fail> {
-    expect_acts(&rt, rt.alloc(), &FAULTS)
+    expect_acts(rt.alloc(), &FAULTS)
 }
 
 /// As many tasks live as may: EINVAL goes before that, and EFAULT behind it. Once one has ended, another may be made.
@@ -169,18 +130,18 @@ const CROWDED: [Act; 11] = [
 ];
 
 /// That these come of one another, and that one may be made then.
-fn expect_crowded(rt: &impl Abort, alloc: Global) -> Result<(), Fail> {
-    let tasks = crowd(rt, alloc)?;
+fn expect_crowded(alloc: Global) -> Result<(), Fail> {
+    let tasks = crowd(alloc)?;
     let mut guest = guest_among(alloc, tasks)?;
-    guest.expect_acts(rt, &CROWDED)?;
+    guest.expect(&CROWDED)?;
     let child = guest.child([PROCESS + PARENT, 0, AT, 0, 0])?;
     guest.go_on(child.words);
-    guest.expect_act(rt, Act::Bytes(AT, &[1, 1, 0, 0]))
+    guest.expect(&[Act::Bytes(AT, &[1, 1, 0, 0])])
 }
 
 #[test]
 fn one_task_more_than_256_is_eagain(rt: HostRuntime) -> Result<(), Fail> {
-    expect_crowded(&rt, rt.alloc())
+    expect_crowded(rt.alloc())
 }
 
 /// A clone by its arguments, and what the child begins with: its stack and its thread pointer, the address of its clear
@@ -391,20 +352,20 @@ const CLONES: [Cloned; 11] = [
 ];
 
 /// That one of these comes to what is expected.
-fn expect_cloned(rt: &impl Abort, alloc: Global, cloned: &Cloned) -> Result<(), Fail> {
+fn expect_cloned(alloc: Global, cloned: &Cloned) -> Result<(), Fail> {
     let mut guest = new_guest(alloc)?;
-    guest.expect_acts(rt, &BEFORE)?;
+    guest.expect(&BEFORE)?;
     let Child { memory, words, .. } = guest.child(cloned.args)?;
     guest.go_on(words);
-    guest.expect_acts(rt, cloned.caller)?;
-    guest.expect_child_acts(rt, memory, cloned.child)?;
-    guest.expect_acts(rt, cloned.last)
+    guest.expect(cloned.caller)?;
+    guest.expect_of_child(memory, cloned.child)?;
+    guest.expect(cloned.last)
 }
 
 #[test]
 fn a_process_has_a_copy_of_memory_and_a_thread_the_same(rt: HostRuntime) -> Result<(), Fail> {
     for cloned in &CLONES {
-        expect_cloned(&rt, rt.alloc(), cloned)?;
+        expect_cloned(rt.alloc(), cloned)?;
     }
     Ok(())
 }

@@ -2,14 +2,14 @@
 //! how it came to be, so that no test's proof has its contract before it.
 
 use crate::asked::{Asked, WRITE, args_of, ask};
-use crate::families::lives;
-use crate::guests::opened;
+use crate::families::{alone, lives};
+use crate::opening::opened;
 use futex_core::Waiters;
 use kernel_calls::{Beginning, Called, Context, Effect, Prepared, Ran, call, run, step};
 use kernel_model::{GuestArea, GuestSpace, Named, Next};
 use mm_areas::{AreaErr, Backing, Rights};
 use rv_table::{Area, Regs};
-use sn_base::{List, Memory};
+use sn_base::{List, Map, Memory};
 use sn_vectors::image_of;
 use std::alloc::Global;
 use std::test::Fail;
@@ -61,8 +61,9 @@ pub const JUMP: u64 = 65_688;
 pub const MEMORY: Made = Made { place: 0, index: 1 };
 
 /// A guest: its registers, its memory, the shared areas, the tasks and the sleepers there are, the task and the thread
-/// group that it calls as, the name of its memory, the place of its last call's entry, the seed of its calls, and the
-/// kind of mappings that it makes where a test tries both.
+/// group that it calls as, the name of its memory, the place of its last call's entry, the seed of its calls, the kind
+/// of mappings that it makes where a test tries both, the registers of other tasks, and the memories that aren't its
+/// own.
 #[derive(Drop)]
 pub struct Guest {
     pub alloc: Global,
@@ -77,13 +78,8 @@ pub struct Guest {
     pub place: u64,
     pub seed: [u8; 32],
     pub kind: u64,
-}
-
-/// The first task alone.
-fn first_task(alloc: Global) -> Result<Tasks, Fail> {
-    let mut tasks = Tasks::new(alloc);
-    let _ = tasks.open(MEMORY, MEMORY, 1)?;
-    Ok(tasks)
+    pub others: Map<Regs>,
+    pub spaces: Named<GuestSpace>,
 }
 
 /// One that was opened so, and has not called.
@@ -94,7 +90,7 @@ fn guest_from(alloc: Global, beginning: Beginning) -> Result<Guest, Fail> {
         registers,
         space,
         areas: Named::new(alloc),
-        tasks: first_task(alloc)?,
+        tasks: alone(alloc)?,
         sleepers: Waiters::new(alloc),
         task: 1,
         group: 1,
@@ -102,6 +98,8 @@ fn guest_from(alloc: Global, beginning: Beginning) -> Result<Guest, Fail> {
         place: 0,
         seed: [0; 32],
         kind: 0,
+        others: Map::new(alloc),
+        spaces: Named::new(alloc),
     })
 }
 

@@ -1,60 +1,11 @@
 //! Parents that wait for their children: which is told, and where its status is put.
 
-use crate::acts::{Act, expect_acts};
-use crate::asked::{Asked, ECHILD, EFAULT, EINVAL, PRIVATE, SHARED, WAIT4, ask};
-use crate::calling::{Guest, HEAP, MAPPINGS_END, TOP, guest_among};
-use crate::families::{brood, end_as};
-use kernel_calls::{Called, Effect, commit};
-use sn_base::List;
-use std::alloc::Global;
-use std::process::Abort;
+use kernel_calls_acts::{
+    Act, ECHILD, EFAULT, EINVAL, HEAP, MAPPINGS_END, PRIVATE, SHARED, TOP, WAIT4, brood,
+    expect_acts, expect_acts_among,
+};
 use std::test::Fail;
 use task_table::Status;
-
-/// A call of wait4.
-fn wait4([child, address, options, usage]: [u64; 4]) -> Asked {
-    ask(WAIT4, [child, address, options, usage, u64::MAX, 7])
-}
-
-impl Guest {
-    /// That a wait4 waits.
-    pub fn expect_waits(&mut self, rt: &impl Abort, args: [u64; 4]) -> Result<(), Fail> {
-        match self.called(wait4(args), 0)? {
-            Called::Waits => Ok(()),
-            _ => panic!(rt; "it does not wait: {args:?}"),
-        }
-    }
-
-    /// That a wait4 replies a child, and then that is nobody's child any more.
-    pub fn expect_reaps(
-        &mut self,
-        rt: &impl Abort,
-        args: [u64; 4],
-        child: i64,
-    ) -> Result<(), Fail> {
-        let prepared = self.prepared(wait4(args), 0)?;
-        assert_eq!(rt; prepared.reply, child, "{args:?}");
-        match prepared.effect {
-            Effect::Reaps { which } => self.reap(which),
-            _ => Err(Fail::new("it reaps nobody")),
-        }
-    }
-
-    /// The child that is waited for is nobody's any more.
-    fn reap(&mut self, which: Option<u32>) -> Result<(), Fail> {
-        let effect = Effect::Reaps { which };
-        let mut console = List::new(self.alloc);
-        commit(
-            self.alloc,
-            effect,
-            self.group,
-            &mut self.tasks,
-            &mut self.sleepers,
-            &mut console,
-        )?;
-        Ok(())
-    }
-}
 
 /// -1, any child; WNOHANG; 2^31 and 2^32.
 const ANY: u64 = u64::MAX;
@@ -102,9 +53,7 @@ const ERRORS: [Act; 25] = [
 
 #[test]
 fn wait4_is_refused_by_what_is_wrong(rt: HostRuntime) -> Result<(), Fail> {
-    let tasks = brood(&rt, rt.alloc())?;
-    let mut guest = guest_among(rt.alloc(), tasks)?;
-    guest.expect_acts(&rt, &ERRORS)
+    expect_acts_among(rt.alloc(), brood(rt.alloc())?, &ERRORS)
 }
 
 /// Without children there is nobody to wait for.
@@ -118,13 +67,14 @@ const CHILDLESS: [Act; 4] = [
 
 #[test]
 fn a_task_without_children_is_told_so(rt: HostRuntime) -> Result<(), Fail> {
-    expect_acts(&rt, rt.alloc(), &CHILDLESS)
+    expect_acts(rt.alloc(), &CHILDLESS)
 }
 
 /// Two causes at once, of which the earlier is told: EINVAL before ECHILD and EFAULT, and ECHILD before EFAULT. The
 /// child 3 has ended.
 #[rattlefmt::skip]
-const PAIRS: [Act; 18] = [
+const PAIRS: [Act; 19] = [
+    Act::Ends(3, Status::Exited(0)),
     Act::Calls(WAIT4, [0, HEAP, 0, 0, 0, 0], EINVAL),
     Act::Calls(WAIT4, [P31 + 3, HEAP, 0, 0, 0, 0], EINVAL),
     Act::Calls(WAIT4, [3, HEAP, 2, 0, 0, 0], EINVAL),
@@ -147,10 +97,7 @@ const PAIRS: [Act; 18] = [
 
 #[test]
 fn of_two_causes_wait4_tells_the_first(rt: HostRuntime) -> Result<(), Fail> {
-    let mut tasks = brood(&rt, rt.alloc())?;
-    end_as(&rt, &mut tasks, 3, Status::Exited(0));
-    let mut guest = guest_among(rt.alloc(), tasks)?;
-    guest.expect_acts(&rt, &PAIRS)
+    expect_acts_among(rt.alloc(), brood(rt.alloc())?, &PAIRS)
 }
 
 /// No child has ended: the caller waits, or with WNOHANG is told 0. Nothing is put, so the address is no matter. A
@@ -178,15 +125,16 @@ const ALIVE: [Act; 17] = [
 
 #[test]
 fn a_parent_of_living_children_waits_or_is_told_none(rt: HostRuntime) -> Result<(), Fail> {
-    let tasks = brood(&rt, rt.alloc())?;
-    let mut guest = guest_among(rt.alloc(), tasks)?;
-    guest.expect_acts(&rt, &ALIVE)
+    expect_acts_among(rt.alloc(), brood(rt.alloc())?, &ALIVE)
 }
 
 /// The children 4 and then 3 have ended, by exit with 7 and by signal 9: the one of lower number is told first, with
 /// the signal in the low byte; then the other, with its code in the second. Four bytes are put, and none beside them.
+/// Then the child 2 ends, by exit with 255: its own child is nobody's then. No status is put at 0.
 #[rattlefmt::skip]
-const ENDED: [Act; 15] = [
+const ENDED: [Act; 23] = [
+    Act::Ends(4, Status::Exited(7)),
+    Act::Ends(3, Status::Killed(9)),
     Act::Stores(AT - 8, u64::MAX), Act::Stores(AT, u64::MAX), Act::Stores(AT + 8, u64::MAX),
     Act::Waits([2, AT, 0, 0]),
     Act::Calls(WAIT4, [2, AT, WNOHANG, 0, 0, 0], 0),
@@ -200,11 +148,7 @@ const ENDED: [Act; 15] = [
     Act::Waits([ANY, AT, 0, 0]),
     Act::Calls(WAIT4, [ANY, AT, WNOHANG, 0, 0, 0], 0),
     Act::Loads(AT - 8, u64::MAX),
-];
-
-/// Then the child 2, by exit with 255: its own child is nobody's then. No status is put at 0.
-#[rattlefmt::skip]
-const LAST: [Act; 5] = [
+    Act::Ends(2, Status::Exited(255)),
     Act::Reaps([P32 + 2, 0, P32, 0], 2),
     Act::Calls(WAIT4, [2, 0, 0, 0, 0, 0], ECHILD),
     Act::Calls(WAIT4, [6, 0, 0, 0, 0, 0], ECHILD),
@@ -212,25 +156,18 @@ const LAST: [Act; 5] = [
     Act::Bytes(AT + 6, &[255, 0, 7, 0, 0, 255]),
 ];
 
-/// That these come of one another.
-fn expect_ended(rt: &impl Abort, alloc: Global) -> Result<(), Fail> {
-    let mut guest = guest_among(alloc, brood(rt, alloc)?)?;
-    end_as(rt, &mut guest.tasks, 4, Status::Exited(7));
-    end_as(rt, &mut guest.tasks, 3, Status::Killed(9));
-    guest.expect_acts(rt, &ENDED)?;
-    end_as(rt, &mut guest.tasks, 2, Status::Exited(255));
-    guest.expect_acts(rt, &LAST)
-}
-
 #[test]
 fn a_child_that_ended_is_told_once_and_the_lowest_first(rt: HostRuntime) -> Result<(), Fail> {
-    expect_ended(&rt, rt.alloc())
+    expect_acts_among(rt.alloc(), brood(rt.alloc())?, &ENDED)
 }
 
 /// The child of a number is told before those of lower numbers; codes and signals as wait4(2) has them: 255 in the
 /// second byte, and 127 in the first.
 #[rattlefmt::skip]
-const BY_NUMBER: [Act; 6] = [
+const BY_NUMBER: [Act; 9] = [
+    Act::Ends(2, Status::Exited(0)),
+    Act::Ends(3, Status::Killed(127)),
+    Act::Ends(4, Status::Exited(255)),
     Act::Reaps([4, AT, 0, 0], 4),
     Act::Bytes(AT, &[0, 255, 0, 0]),
     Act::Reaps([3, AT, WNOHANG, 0], 3),
@@ -239,18 +176,9 @@ const BY_NUMBER: [Act; 6] = [
     Act::Bytes(AT, &[0, 0, 0, 0]),
 ];
 
-/// That they are.
-fn expect_by_number(rt: &impl Abort, alloc: Global) -> Result<(), Fail> {
-    let mut guest = guest_among(alloc, brood(rt, alloc)?)?;
-    end_as(rt, &mut guest.tasks, 2, Status::Exited(0));
-    end_as(rt, &mut guest.tasks, 3, Status::Killed(127));
-    end_as(rt, &mut guest.tasks, 4, Status::Exited(255));
-    guest.expect_acts(rt, &BY_NUMBER)
-}
-
 #[test]
 fn a_child_is_told_by_its_number(rt: HostRuntime) -> Result<(), Fail> {
-    expect_by_number(&rt, rt.alloc())
+    expect_acts_among(rt.alloc(), brood(rt.alloc())?, &BY_NUMBER)
 }
 
 /// A private page under a shared one, and both under one that may only be read; and the shared one once more.
@@ -265,7 +193,8 @@ const THERE: u64 = 1 << 37;
 /// Addresses of which a byte may not be written: nothing is put, and the child 3 is still told to the next. It is put
 /// over a border then, and read by the shared page's other address.
 #[rattlefmt::skip]
-const ADDRESSES: [Act; 25] = [
+const ADDRESSES: [Act; 26] = [
+    Act::Ends(3, Status::Exited(7)),
     Act::At(1),
     Act::Map(0, 4096, 1, PRIVATE, READ_ONLY),
     Act::Map(0, 4096, 3, SHARED, SHARED_PAGE),
@@ -293,14 +222,7 @@ const ADDRESSES: [Act; 25] = [
     Act::Bytes(THERE, &[7, 0, 0, 255]),
 ];
 
-/// That these come of one another.
-fn expect_addresses(rt: &impl Abort, alloc: Global) -> Result<(), Fail> {
-    let mut guest = guest_among(alloc, brood(rt, alloc)?)?;
-    end_as(rt, &mut guest.tasks, 3, Status::Exited(7));
-    guest.expect_acts(rt, &ADDRESSES)
-}
-
 #[test]
 fn a_status_that_cannot_be_put_leaves_the_child(rt: HostRuntime) -> Result<(), Fail> {
-    expect_addresses(&rt, rt.alloc())
+    expect_acts_among(rt.alloc(), brood(rt.alloc())?, &ADDRESSES)
 }

@@ -1,8 +1,9 @@
 //! What time it is: 1,000 ns for each place, as clock_gettime(2) stores it.
 
-use crate::acts::{Act, expect_acts};
-use crate::asked::{CLOCK_GETTIME, EFAULT, EINVAL, PRIVATE, SCHED_YIELD, SHARED};
-use crate::calling::{HEAP, MAPPINGS_END, TOP};
+use kernel_calls_acts::{
+    Act, CLOCK_GETTIME, EFAULT, EINVAL, HEAP, MAPPINGS_END, PRIVATE, SCHED_YIELD, SHARED, TOP,
+    expect_acts,
+};
 use std::test::Fail;
 
 /// Where the time is put.
@@ -36,7 +37,7 @@ const TIMES: [Act; 31] = [
 
 #[test]
 fn the_time_is_a_microsecond_for_each_place(rt: HostRuntime) -> Result<(), Fail> {
-    expect_acts(&rt, rt.alloc(), &TIMES)
+    expect_acts(rt.alloc(), &TIMES)
 }
 
 /// A private page under a shared one, and both under one that may only be read.
@@ -83,5 +84,5 @@ const REFUSALS: [Act; 29] = [
 
 #[test]
 fn clock_gettime_is_refused_by_its_first_error(rt: HostRuntime) -> Result<(), Fail> {
-    expect_acts(&rt, rt.alloc(), &REFUSALS)
+    expect_acts(rt.alloc(), &REFUSALS)
 }

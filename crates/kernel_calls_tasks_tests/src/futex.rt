@@ -1,104 +1,12 @@
 //! Tasks that sleep on words, are told why they may not, and are woken.
 
-use crate::acts::{Act, expect_acts};
-use crate::asked::{
-    Asked, EAGAIN, EFAULT, EINVAL, ENOSYS, FIXED, FUTEX, GETTID, PRIVATE, SHARED, ask,
+use kernel_calls_acts::{
+    Act, EAGAIN, EFAULT, EINVAL, ENOSYS, FIXED, FUTEX, GETTID, HEAP, MAPPINGS_END, MEMORY, PRIVATE,
+    SHARED, TOP, expect_acts, expect_acts_among, family, guest_among,
 };
-use crate::calling::{Guest, HEAP, MAPPINGS_END, MEMORY, TOP, guest_among, new_guest};
-use crate::families::family;
-use futex_core::{FutexKey, Owner, Waiters};
-use kernel_calls::{Called, Effect, commit, sleep};
-use sn_base::List;
 use std::alloc::Global;
-use std::process::Abort;
 use std::test::Fail;
 use task_table::Made;
-
-/// A call of futex.
-fn futex([address, operation, value, timeout]: [u64; 4]) -> Asked {
-    ask(FUTEX, [address, operation, value, timeout, u64::MAX, 7])
-}
-
-/// Puts a task to sleep.
-fn put_to_sleep(sleepers: &mut Waiters, task: u32, key: FutexKey) -> Result<(), Fail> {
-    if sleepers.is_asleep(task) || sleepers.is_woken(task) {
-        return Err(Fail::new("it sleeps already"));
-    }
-    Ok(sleep(sleepers, task, key)?)
-}
-
-impl Guest {
-    /// That a FUTEX_WAIT sleeps on the word of that name, and then it does.
-    pub fn expect_sleeps(
-        &mut self,
-        rt: &impl Abort,
-        args: [u64; 4],
-        key: FutexKey,
-    ) -> Result<(), Fail> {
-        match self.called(futex(args), 0)? {
-            Called::Sleeps(found) => assert_eq!(rt; found, key, "{args:?}"),
-            _ => panic!(rt; "it does not sleep: {args:?}"),
-        }
-        put_to_sleep(&mut self.sleepers, self.task, key)
-    }
-
-    /// That a FUTEX_WAKE replies how many it wakes, and then they are woken.
-    pub fn expect_wakes(
-        &mut self,
-        rt: &impl Abort,
-        args: [u64; 4],
-        count: i64,
-    ) -> Result<(), Fail> {
-        let prepared = self.prepared(futex(args), 0)?;
-        assert_eq!(rt; prepared.reply, count, "{args:?}");
-        match prepared.effect {
-            Effect::Wakes { key, most } => self.wake(key, most),
-            _ => Err(Fail::new("it wakes nobody")),
-        }
-    }
-
-    /// Wakes those who sleep on a word, so many at most.
-    fn wake(&mut self, key: FutexKey, most: u32) -> Result<(), Fail> {
-        let effect = Effect::Wakes { key, most };
-        let mut console = List::new(self.alloc);
-        commit(
-            self.alloc,
-            effect,
-            self.group,
-            &mut self.tasks,
-            &mut self.sleepers,
-            &mut console,
-        )?;
-        Ok(())
-    }
-
-    /// Which of the tasks 1 to 4 sleep.
-    fn asleep(&self) -> [bool; 4] {
-        let sleepers = &self.sleepers;
-        [
-            sleepers.is_asleep(1),
-            sleepers.is_asleep(2),
-            sleepers.is_asleep(3),
-            sleepers.is_asleep(4),
-        ]
-    }
-}
-
-/// The word of an address of the guest's own memory.
-pub fn own(address: u64) -> FutexKey {
-    FutexKey {
-        owner: Owner::Memory { place: 0, index: 1 },
-        address,
-    }
-}
-
-/// The word at an offset of the area that the call of a place made.
-pub fn of_area(place: u64, address: u64) -> FutexKey {
-    FutexKey {
-        owner: Owner::Area { place, index: 0 },
-        address,
-    }
-}
 
 /// Two words: 5, and 7 behind it.
 const AT: u64 = TOP - 64;
@@ -176,7 +84,7 @@ const ERRORS: [Act; 45] = [
 
 #[test]
 fn futex_is_refused_by_what_is_wrong(rt: HostRuntime) -> Result<(), Fail> {
-    expect_acts(&rt, rt.alloc(), &ERRORS)
+    expect_acts(rt.alloc(), &ERRORS)
 }
 
 /// Two causes at once, of which the earlier is told: an operation that there isn't before each other cause; an address
@@ -211,7 +119,7 @@ const PAIRS: [Act; 23] = [
 
 #[test]
 fn of_two_causes_futex_tells_the_first(rt: HostRuntime) -> Result<(), Fail> {
-    expect_acts(&rt, rt.alloc(), &PAIRS)
+    expect_acts(rt.alloc(), &PAIRS)
 }
 
 /// A word that is what the task expects, by the low 32 bits of the operation and of the value; it may lie in a page
@@ -243,9 +151,7 @@ const ASLEEP: [Act; 21] = [
 
 #[test]
 fn a_task_sleeps_on_a_word_that_is_what_it_expects(rt: HostRuntime) -> Result<(), Fail> {
-    let tasks = family(&rt, rt.alloc())?;
-    let mut guest = guest_among(rt.alloc(), tasks)?;
-    guest.expect_acts(&rt, &ASLEEP)
+    expect_acts_among(rt.alloc(), family(rt.alloc())?, &ASLEEP)
 }
 
 /// The word at the beginning of the code's page, which begins an ELF file.
@@ -257,7 +163,7 @@ const CODE: [Act; 2] = [
 
 #[test]
 fn a_word_may_lie_in_the_code(rt: HostRuntime) -> Result<(), Fail> {
-    expect_acts(&rt, rt.alloc(), &CODE)
+    expect_acts(rt.alloc(), &CODE)
 }
 
 /// Three tasks sleep on one word, and one on the next.
@@ -277,33 +183,28 @@ const SLEEPERS: [Act; 9] = [
 /// What wakes at most so many of them replies, and which of the tasks 1 to 4 sleep on: those wake first who sleep
 /// longest, on that word alone.
 #[rattlefmt::skip]
-const WAKINGS: [([u64; 4], i64, [bool; 4]); 9] = [
-    ([AT, WAKE, 0, 0], 0, [true, true, true, true]),
-    ([AT, WAKE, P32, 0], 0, [true, true, true, true]),
-    ([AT + 8, WAKE, 5, 0], 0, [true, true, true, true]),
-    ([AT, WAKE, 1, 0], 1, [true, true, false, true]),
-    ([AT, WAKE, P32 + 1, 9], 1, [false, true, false, true]),
-    ([AT, WAKE_PRIVATE, 0xffff_ffff, 0], 1, [false, false, false, true]),
-    ([AT, WAKE, u64::MAX, 0], 0, [false, false, false, true]),
-    ([AT + 4, WAKE, 1 << 31, 0], 1, [false, false, false, false]),
-    ([AT + 4, WAKE, 1, 0], 0, [false, false, false, false]),
+const WAKINGS: [Act; 18] = [
+    Act::Wakes([AT, WAKE, 0, 0], 0), Act::Asleep([true, true, true, true]),
+    Act::Wakes([AT, WAKE, P32, 0], 0), Act::Asleep([true, true, true, true]),
+    Act::Wakes([AT + 8, WAKE, 5, 0], 0), Act::Asleep([true, true, true, true]),
+    Act::Wakes([AT, WAKE, 1, 0], 1), Act::Asleep([true, true, false, true]),
+    Act::Wakes([AT, WAKE, P32 + 1, 9], 1), Act::Asleep([false, true, false, true]),
+    Act::Wakes([AT, WAKE_PRIVATE, 0xffff_ffff, 0], 1), Act::Asleep([false, false, false, true]),
+    Act::Wakes([AT, WAKE, u64::MAX, 0], 0), Act::Asleep([false, false, false, true]),
+    Act::Wakes([AT + 4, WAKE, 1 << 31, 0], 1), Act::Asleep([false, false, false, false]),
+    Act::Wakes([AT + 4, WAKE, 1, 0], 0), Act::Asleep([false, false, false, false]),
 ];
 
-/// That they sleep, and these come of one another.
-fn expect_wakings(rt: &impl Abort, guest: &mut Guest) -> Result<(), Fail> {
-    guest.expect_acts(rt, &SLEEPERS)?;
-    for (args, count, asleep) in WAKINGS {
-        guest.expect_wakes(rt, args, count)?;
-        assert_eq!(rt; guest.asleep(), asleep, "{args:?}");
-    }
-    Ok(())
+/// That the sleepers sleep, and then these come of one another.
+fn expect_of_sleepers(alloc: Global, acts: &[Act]) -> Result<(), Fail> {
+    let mut guest = guest_among(alloc, family(alloc)?)?;
+    guest.expect(&SLEEPERS)?;
+    guest.expect(acts)
 }
 
 #[test]
 fn a_wake_replies_how_many_of_those_on_its_word_it_wakes(rt: HostRuntime) -> Result<(), Fail> {
-    let tasks = family(&rt, rt.alloc())?;
-    let mut guest = guest_among(rt.alloc(), tasks)?;
-    expect_wakings(&rt, &mut guest)
+    expect_of_sleepers(rt.alloc(), &WAKINGS)
 }
 
 /// All who sleep on a word are woken at once, and what lies there then is no matter.
@@ -317,29 +218,32 @@ const AT_ONCE: [Act; 4] = [
 
 #[test]
 fn a_wake_does_not_look_at_what_the_word_is(rt: HostRuntime) -> Result<(), Fail> {
-    let tasks = family(&rt, rt.alloc())?;
-    let mut guest = guest_among(rt.alloc(), tasks)?;
-    guest.expect_acts(&rt, &SLEEPERS)?;
-    guest.expect_acts(&rt, &AT_ONCE)
+    expect_of_sleepers(rt.alloc(), &AT_ONCE)
 }
 
+/// The name of another memory, by its index and by its place.
+const OTHER_INDEX: Made = Made { place: 0, index: 2 };
+
+const OTHER_PLACE: Made = Made { place: 1, index: 1 };
+
 /// The same address of another memory is another word.
-fn expect_apart(rt: &impl Abort, alloc: Global) -> Result<(), Fail> {
-    let mut guest = new_guest(alloc)?;
-    guest.expect_act(rt, Act::Stores(AT, WORDS))?;
-    guest.expect_sleeps(rt, [AT, WAIT, 5, 0], own(AT))?;
-    for memory in [Made { place: 0, index: 2 }, Made { place: 1, index: 1 }] {
-        guest.memory = memory;
-        guest.expect_wakes(rt, [AT, WAKE, 9, 0], 0)?;
-        guest.expect_wakes(rt, [AT, WAKE_PRIVATE, 9, 0], 0)?;
-    }
-    guest.memory = MEMORY;
-    guest.expect_wakes(rt, [AT, WAKE, 9, 0], 1)
-}
+#[rattlefmt::skip]
+const APART: [Act; 10] = [
+    Act::Stores(AT, WORDS),
+    Act::Sleeps([AT, WAIT, 5, 0]),
+    Act::In(OTHER_INDEX),
+    Act::Wakes([AT, WAKE, 9, 0], 0),
+    Act::Wakes([AT, WAKE_PRIVATE, 9, 0], 0),
+    Act::In(OTHER_PLACE),
+    Act::Wakes([AT, WAKE, 9, 0], 0),
+    Act::Wakes([AT, WAKE_PRIVATE, 9, 0], 0),
+    Act::In(MEMORY),
+    Act::Wakes([AT, WAKE, 9, 0], 1),
+];
 
 #[test]
 fn a_private_word_is_of_its_memory_alone(rt: HostRuntime) -> Result<(), Fail> {
-    expect_apart(&rt, rt.alloc())
+    expect_acts(rt.alloc(), &APART)
 }
 
 /// An area of two pages at two addresses: where the first call puts it, and where its first page is mapped again; and
@@ -384,23 +288,21 @@ const TWICE: [Act; 26] = [
 
 #[test]
 fn a_word_in_an_area_is_one_by_both_its_addresses(rt: HostRuntime) -> Result<(), Fail> {
-    let tasks = family(&rt, rt.alloc())?;
-    let mut guest = guest_among(rt.alloc(), tasks)?;
-    guest.expect_acts(&rt, &TWICE)
+    expect_acts_among(rt.alloc(), family(rt.alloc())?, &TWICE)
 }
 
 /// An area seen by another memory: the word is the same there.
-fn expect_shared(rt: &impl Abort, alloc: Global) -> Result<(), Fail> {
-    let mut guest = new_guest(alloc)?;
-    guest.expect_act(rt, Act::Map(0, 8192, 3, SHARED, HERE))?;
-    guest.expect_sleeps(rt, [HERE + 8, WAIT, 0, 0], of_area(1, 8))?;
-    guest.memory = Made { place: 0, index: 2 };
-    guest.expect_wakes(rt, [HERE + 8, WAKE, 9, 0], 1)
-}
+#[rattlefmt::skip]
+const SEEN: [Act; 4] = [
+    Act::Map(0, 8192, 3, SHARED, HERE),
+    Act::SleepsIn([HERE + 8, WAIT, 0, 0], 1, 8),
+    Act::In(OTHER_INDEX),
+    Act::Wakes([HERE + 8, WAKE, 9, 0], 1),
+];
 
 #[test]
 fn a_word_in_an_area_is_that_of_every_memory(rt: HostRuntime) -> Result<(), Fail> {
-    expect_shared(&rt, rt.alloc())
+    expect_acts(rt.alloc(), &SEEN)
 }
 
 /// A word in an area that is not there, or that may not be read.
@@ -416,5 +318,5 @@ const LACKING: [Act; 6] = [
 
 #[test]
 fn a_word_that_no_area_has_is_efault(rt: HostRuntime) -> Result<(), Fail> {
-    expect_acts(&rt, rt.alloc(), &LACKING)
+    expect_acts(rt.alloc(), &LACKING)
 }

@@ -1,10 +1,8 @@
 //! Runs of instructions that end before one that touches a shared area, and that instruction alone.
 
-use crate::acts::{Act, expect_acts};
-use crate::asked::SHARED;
-use crate::calling::{
-    ADD, ADD_WORD, Guest, JUMP, LOAD, MAPPINGS_END, RESERVE, RESERVE_WORD, STORE, STORE_RESERVED,
-    STORE_RESERVED_WORD, guest_of, new_guest,
+use kernel_calls_acts::{
+    ADD, ADD_WORD, Act, Guest, JUMP, LOAD, MAPPINGS_END, RESERVE, RESERVE_WORD, SHARED, STORE,
+    STORE_RESERVED, STORE_RESERVED_WORD, expect_acts, guest_of, new_guest,
 };
 use kernel_model::Next;
 use rv_table::Area;
@@ -62,7 +60,7 @@ fn expect_at_call(rt: &impl Abort, guest: &Guest) {
 #[test]
 fn a_run_ends_before_a_shared_page_and_a_step_goes_over_it(rt: HostRuntime) -> Result<(), Fail> {
     let mut guest = guest_of(rt.alloc(), &COUNTS_UP)?;
-    guest.expect_acts(&rt, &COUNTED)?;
+    guest.expect(&COUNTED)?;
     expect_at_call(&rt, &guest);
     Ok(())
 }
@@ -99,11 +97,14 @@ const TOUCHES: [(u64, u64, u64, Area, u64); 18] = [
 ];
 
 /// That a run at each instruction touches its area, and that the instruction alone goes on, and leaves that in a2.
-fn expect_touches(rt: &impl Abort, guest: &mut Guest) -> Result<(), Fail> {
-    for (instruction, at, value, area, gives) in TOUCHES {
-        guest.expect_act(rt, Act::Stands(instruction, at, value))?;
-        guest.expect_act(rt, Act::Runs(1, 0, Next::Touches(area)))?;
-        guest.expect_act(rt, Act::Gives(instruction, at, value, gives))?;
+fn expect_touches(guest: &mut Guest) -> Result<(), Fail> {
+    for (row, (instruction, at, value, area, gives)) in TOUCHES.iter().enumerate() {
+        let acts = [
+            Act::Stands(*instruction, *at, *value),
+            Act::Runs(1, 0, Next::Touches(*area)),
+            Act::Gives(*instruction, *at, *value, *gives),
+        ];
+        guest.expect_row(row, &acts)?;
     }
     Ok(())
 }
@@ -113,8 +114,8 @@ fn loads_stores_and_atomic_instructions_are_done_in_shared_areas(
     rt: HostRuntime,
 ) -> Result<(), Fail> {
     let mut guest = new_guest(rt.alloc())?;
-    guest.expect_acts(&rt, &BOTH)?;
-    expect_touches(&rt, &mut guest)
+    guest.expect(&BOTH)?;
+    expect_touches(&mut guest)
 }
 
 /// Instructions that trap, with the signal of docs/GUESTS.md: in the upper page, which may be read, in the lower, which
@@ -150,7 +151,7 @@ const TRAPS: [Act; 24] = [
 
 #[test]
 fn an_access_without_the_right_or_off_its_width_traps(rt: HostRuntime) -> Result<(), Fail> {
-    expect_acts(&rt, rt.alloc(), &TRAPS)
+    expect_acts(rt.alloc(), &TRAPS)
 }
 
 /// Pairs of words in the upper page, with what the first of each comes to alone: a load from the page of the other
@@ -187,7 +188,7 @@ fn expect_added(rt: &impl Abort, guest: &Guest) {
 #[test]
 fn instructions_are_fetched_from_a_shared_page(rt: HostRuntime) -> Result<(), Fail> {
     let mut guest = new_guest(rt.alloc())?;
-    guest.expect_acts(&rt, &WORDS)?;
+    guest.expect(&WORDS)?;
     expect_added(&rt, &guest);
     Ok(())
 }
@@ -211,5 +212,5 @@ const NO_FETCH: [Act; 11] = [
 
 #[test]
 fn a_shared_page_may_be_fetched_from_by_its_right_alone(rt: HostRuntime) -> Result<(), Fail> {
-    expect_acts(&rt, rt.alloc(), &NO_FETCH)
+    expect_acts(rt.alloc(), &NO_FETCH)
 }
