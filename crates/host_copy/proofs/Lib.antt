@@ -1,0 +1,2 @@
+-- Lemmas of copies of folders, by subject.
+pub mod Copies

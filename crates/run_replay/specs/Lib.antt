@@ -1,0 +1,3 @@
+-- What contracts of runs that are done again say, by subject.
+pub mod Lines
+pub mod Replays
