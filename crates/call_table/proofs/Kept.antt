@@ -14,6 +14,17 @@ use Rattle.kernel_model.specs.declared.kernel.Kernel.{Kernel}
 use Rattle.kernel_model.specs.entries.Ready.{is_ready}
 use Rattle.call_table.proofs.Steps.{registers_same, space_same}
 
+-- what changed nothing one way changed nothing the other
+pub kept_back : (p q : Cells) → AreKept p q → AreKept q p
+kept_back p q kept = record {
+  tasks = sym kept.tasks;
+  registers = sym kept.registers;
+  spaces = sym kept.spaces;
+  areas = sym kept.areas;
+  sleepers = sym kept.sleepers;
+  console = sym kept.console;
+}
+
 -- a live task is who it was
 pub caller_kept : (p q : Cells) (task : ℕ) → AreKept p q → caller_in q task ≡ caller_in p task
 caller_kept p q task kept =

@@ -1,4 +1,5 @@
 -- Lemmas of processes and their entries, by subject.
+pub mod ByMemory
 pub mod Histories
 pub mod Homes
 pub mod Kept
@@ -7,10 +8,10 @@ pub mod Moving
 pub mod NextTurns
 pub mod OffList
 pub mod Openings
-pub mod Parked
 pub mod ParkingSteps
 pub mod Parkings
 pub mod Parks
 pub mod Results
 pub mod Settling
+pub mod Spots
 pub mod Steps

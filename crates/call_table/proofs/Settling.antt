@@ -1,5 +1,5 @@
 -- After an entry, tasks are looked at and parked as they are to be.
-use Rattle.std.proofs.Common.{◌≡◌, ◌≢◌, ℕ, ◌+◌, ◌<◌, ◌≤◌, Bool, true, false, refl, ap, sym, subst, ◌∙◌, ◌⊎◌, inl, inr, arith}
+use Rattle.std.proofs.Common.{◌≡◌, ◌≢◌, ℕ, ◌<◌, Bool, true, false, refl, ap, sym, ◌∙◌, ◌⊎◌, inl, inr, arith}
 use Rattle.std.specs.Prelude.{Option, Some, None, is_some, nat_lt, ◌==◌, ◌&&◌, ◌||◌, if◌then◌else◌}
 use Rattle.std.specs.Option.{option_map_or}
 use Rattle.std.specs.FinMap as map
@@ -7,18 +7,20 @@ use Rattle.std.proofs.lemmas.Bool.{and_parts, eqb-true, eq-eqb, lt-ltb, ltb-true
 use Rattle.sn_base.proofs.Maps.{get-remove_same, get-remove_other}
 use Rattle.task_table.specs.declared.task.Made.{Made}
 use Rattle.task_table.specs.Table.{TaskTable, is_live}
-use Rattle.kernel_model.specs.entries.Waiting.{Awake, wait_of}
+use Rattle.kernel_model.specs.entries.Waiting.{wait_of}
 use Rattle.kernel_model.proofs.NamedMaps.{same_or_other}
 use Rattle.proc_cells.specs.declared.cells.Cells.{Cells}
 use Rattle.proc_cells.specs.Cells.{IsAwake}
 use Rattle.call_table.specs.Moves.{Moves, puts_to_sleep}
-use Rattle.call_table.specs.Parked.{is_parked, same_made}
-use Rattle.call_table.specs.Parking.{HaveWoken}
+use Rattle.call_table.specs.Parked.{same_made}
+use Rattle.call_table.specs.Parking.{AreAlike, AreWoken, is_parked_by, parked_at}
 use Rattle.call_table.specs.Parks.{Parks}
 use Rattle.call_table.specs.Schedules.{AreParked, AreParkedBut, is_child, is_covered, is_off}
 use Rattle.call_table.specs.declared.entered.Entered.{Entered}
+use Rattle.call_table.specs.declared.parked.Spot.{Spot}
 use Rattle.call_table.specs.declared.parking.Parking.{Parking}
-use Rattle.call_table.proofs.Parkings.{awake_off, off_awake, parks_kept}
+use Rattle.call_table.proofs.Parkings.{awake_off, off_awake}
+use Rattle.call_table.proofs.Parks.{parks_on}
 
 -- ---- truth values
 
@@ -35,57 +37,57 @@ second_of false b e = e
 
 -- ---- a task that is parked or not
 
--- what a parked task's memory passes
-passed : (test : Made → Bool) (o : Option Made) → option_map_or test o false ≡ true
-    → (memory : Made) × (o ≡ Some memory) × (test memory ≡ true)
+-- what a parked task used passes
+passed : (test : Spot → Bool) (o : Option Spot) → option_map_or test o false ≡ true
+    → (spot : Spot) × (o ≡ Some spot) × (test spot ≡ true)
 passed test None e = absurd (cc e)
-passed test (Some memory) e = (memory, refl, e)
+passed test (Some spot) e = (spot, refl, e)
 
 -- one that was passed over has failed it
-failed : (test : Made → Bool) (o : Option Made) (memory : Made)
-    → (if option_map_or test o false then None else o) ≡ Some memory → (o ≡ Some memory) × (test memory ≡ false)
-failed test None memory e = absurd (cc e)
-failed test (Some m) memory e = by (test m) refl e
+failed : (test : Spot → Bool) (o : Option Spot) (spot : Spot)
+    → (if option_map_or test o false then None else o) ≡ Some spot → (o ≡ Some spot) × (test spot ≡ false)
+failed test None spot e = absurd (cc e)
+failed test (Some s) spot e = by (test s) refl e
   where
-    by : (b : Bool) → test m ≡ b → (if b then None else Some m) ≡ Some memory
-        → (Some m ≡ Some memory) × (test memory ≡ false)
+    by : (b : Bool) → test s ≡ b → (if b then None else Some s) ≡ Some spot
+        → (Some s ≡ Some spot) × (test spot ≡ false)
     by true is e = absurd (cc e)
-    by false is e = let same : m ≡ memory = cc e in (e, ap test (sym same) ∙ is)
+    by false is e = let same : s ≡ spot = cc e in (e, ap test (sym same) ∙ is)
 
 -- and where none is parked any more, none is
-none_left : (test : Made → Bool) (o : Option Made) → ((memory : Made) → test memory ≡ true)
+none_left : (test : Spot → Bool) (o : Option Spot) → ((spot : Spot) → test spot ≡ true)
     → (if option_map_or test o false then None else o) ≡ None
 none_left test None all = refl
-none_left test (Some m) all = ap (λ b. if b then None else Some m) (all m)
+none_left test (Some s) all = ap (λ b. if b then None else Some s) (all s)
 
-taken_out : (test : Made → Bool) (o : Option Made) → option_map_or test o false ≡ true
+taken_out : (test : Spot → Bool) (o : Option Spot) → option_map_or test o false ≡ true
     → (if option_map_or test o false then None else o) ≡ None
 taken_out test o e = ap (λ b. if b then None else o) e
 
-stays_none : (test : Made → Bool) (o : Option Made) → o ≡ None
+stays_none : (test : Spot → Bool) (o : Option Spot) → o ≡ None
     → (if option_map_or test o false then None else o) ≡ None
 stays_none test o e = ap (λ x. if option_map_or test x false then None else x) e
 
 -- ---- an entry of a task with a memory
 
--- whether those parked with a memory are looked at again
-abbrev pub is_woken_by : Entered → (own memory : Made) → Bool
-is_woken_by made own memory = made.tasks || same_made memory own
+-- whether one that is parked with what it used is looked at again
+abbrev pub is_woken_by : Entered → (own : Made) → Spot → Bool
+is_woken_by made own spot = made.tasks || ((spot.in_area && made.areas) || same_made spot.memory own)
 
 module _ (task : ℕ) (memory : Made) (made : Entered) (before after : Cells)
     (moves : Moves task memory made before after) (p q : Parking) (but : AreParkedBut task before p)
-    (kept : (t : ℕ) → map.get q.parked t
-    ≡ (if is_parked (is_woken_by made memory) p.parked t then None else map.get p.parked t))
+    (kept : (t : ℕ) → parked_at q t
+    ≡ (if is_parked_by (is_woken_by made memory) p t then None else parked_at p t))
     (between : ℕ → Bool)
     (rests : (t : ℕ) → between t ≡ true → (map.contains_key p.awake t ≡ true)
     × (puts_to_sleep made.entry ≡ true → task ≢ t))
     (stays : (t : ℕ) → map.contains_key p.awake t ≡ true → (puts_to_sleep made.entry ≡ false) ⊎ (task ≢ t)
     → between t ≡ true)
     (looked_at : (t : ℕ) → map.contains_key q.awake t ≡ ((between t || is_child after before.tasks.last t)
-    || is_parked (is_woken_by made memory) p.parked t)) where
+    || is_parked_by (is_woken_by made memory) p t)) where
   -- the task itself isn't parked
-  not_itself : (t : ℕ) (m : Made) → map.get p.parked t ≡ Some m → task ≢ t
-  not_itself t m is same = cc (is, ap (map.get p.parked) (sym same) ∙ but.apart task but.looked_at)
+  not_itself : (t : ℕ) (m : Spot) → parked_at p t ≡ Some m → task ≢ t
+  not_itself t m is same = cc (is, ap (parked_at p) (sym same) ∙ but.apart task but.looked_at)
 
   -- one that was looked at before
   rested_off : (t : ℕ) → between t ≡ true → IsAwake after t
@@ -123,15 +125,15 @@ module _ (task : ℕ) (memory : Made) (made : Entered) (before after : Cells)
           let same : after.tasks.last ≡ before.tasks.last = ap (λ (x : TaskTable). x.last) (moves.tasks is) in
           absurd (omega (arith, same, child.1))
 
-  woken_off : (t : ℕ) → is_parked (is_woken_by made memory) p.parked t ≡ true → IsAwake after t
+  woken_off : (t : ℕ) → is_parked_by (is_woken_by made memory) p t ≡ true → IsAwake after t
   woken_off t e =
-      let m = passed (is_woken_by made memory) (map.get p.parked t) e in
+      let m = passed (is_woken_by made memory) (parked_at p t) e in
       moves.off t (not_itself t m.0 m.1) (but.parked t m.0 m.1).awake
 
   -- of those that are looked at
   settled_awake : (t : ℕ) → map.contains_key q.awake t ≡ true → IsAwake after t
   settled_awake t e =
-      elim (either (between t || is_child after before.tasks.last t) (is_parked (is_woken_by made memory) p.parked t)
+      elim (either (between t || is_child after before.tasks.last t) (is_parked_by (is_woken_by made memory) p t)
       (sym (looked_at t) ∙ e)) [
         | inl f ↦ elim (either (between t) (is_child after before.tasks.last t) f) [
           | inl g ↦ rested_off t g
@@ -140,55 +142,56 @@ module _ (task : ℕ) (memory : Made) (made : Entered) (before after : Cells)
         | inr f ↦ woken_off t f
       ]
 
-  all_woken : made.tasks ≡ true → (m : Made) → is_woken_by made memory m ≡ true
-  all_woken is m = ap (λ b. b || same_made m memory) is
+  all_woken : made.tasks ≡ true → (m : Spot) → is_woken_by made memory m ≡ true
+  all_woken is m = ap (λ b. b || ((m.in_area && made.areas) || same_made m.memory memory)) is
 
-  settled_apart : (t : ℕ) → map.contains_key q.awake t ≡ true → map.get q.parked t ≡ None
+  settled_apart : (t : ℕ) → map.contains_key q.awake t ≡ true → parked_at q t ≡ None
   settled_apart t e =
       kept t
-      ∙ elim (either (between t || is_child after before.tasks.last t) (is_parked (is_woken_by made memory) p.parked t)
+      ∙ elim (either (between t || is_child after before.tasks.last t) (is_parked_by (is_woken_by made memory) p t)
       (sym (looked_at t) ∙ e)) [
         | inl f ↦ elim (either (between t) (is_child after before.tasks.last t) f) [
-          | inl g ↦ stays_none (is_woken_by made memory) (map.get p.parked t) (but.apart t (rests t g).0)
-          | inr g ↦ none_left (is_woken_by made memory) (map.get p.parked t) (all_woken (child_listed t g))
+          | inl g ↦ stays_none (is_woken_by made memory) (parked_at p t) (but.apart t (rests t g).0)
+          | inr g ↦ none_left (is_woken_by made memory) (parked_at p t) (all_woken (child_listed t g))
         ]
-        | inr f ↦ taken_out (is_woken_by made memory) (map.get p.parked t) f
+        | inr f ↦ taken_out (is_woken_by made memory) (parked_at p t) f
       ]
 
   -- of those that are parked
-  settled_parked : (t : ℕ) (m : Made) → map.get q.parked t ≡ Some m → Parks after t m
+  settled_parked : (t : ℕ) (m : Spot) → parked_at q t ≡ Some m → Parks after t m
   settled_parked t m e =
-      let was = failed (is_woken_by made memory) (map.get p.parked t) m (sym (kept t) ∙ e) in
-      let parts = or_parts made.tasks (same_made m memory) was.1 in
-      parks_kept task memory made before after t m moves parts.0 (not_itself t m was.0) parts.1
+      let was = failed (is_woken_by made memory) (parked_at p t) m (sym (kept t) ∙ e) in
+      let parts = or_parts made.tasks ((m.in_area && made.areas) || same_made m.memory memory) was.1 in
+      let others = or_parts (m.in_area && made.areas) (same_made m.memory memory) parts.1 in
+      parks_on task memory made before after t m moves parts.0 (not_itself t m was.0) others.0 others.1
       (but.parked t m was.0)
 
   -- and of all others
   looked_at_again : (t : ℕ) → between t ≡ true → is_covered q t ≡ true
   looked_at_again t e =
-      first_of (map.contains_key q.awake t) (is_some (map.get q.parked t))
+      first_of (map.contains_key q.awake t) (is_some (parked_at q t))
       (looked_at t
-      ∙ first_of (between t || is_child after before.tasks.last t) (is_parked (is_woken_by made memory) p.parked t)
+      ∙ first_of (between t || is_child after before.tasks.last t) (is_parked_by (is_woken_by made memory) p t)
       (first_of (between t) (is_child after before.tasks.last t) e))
 
-  was_parked : (t : ℕ) (m : Made) → map.get p.parked t ≡ Some m → is_covered q t ≡ true
+  was_parked : (t : ℕ) (m : Spot) → parked_at p t ≡ Some m → is_covered q t ≡ true
   was_parked t m is = by (is_woken_by made memory m) refl
     where
-      woken : is_parked (is_woken_by made memory) p.parked t ≡ is_woken_by made memory m
+      woken : is_parked_by (is_woken_by made memory) p t ≡ is_woken_by made memory m
       woken = ap (λ o. option_map_or (is_woken_by made memory) o false) is
 
       by : (b : Bool) → is_woken_by made memory m ≡ b → is_covered q t ≡ true
       by true e =
-          first_of (map.contains_key q.awake t) (is_some (map.get q.parked t))
+          first_of (map.contains_key q.awake t) (is_some (parked_at q t))
           (looked_at t
           ∙ second_of (between t || is_child after before.tasks.last t)
-          (is_parked (is_woken_by made memory) p.parked t) (woken ∙ e))
+          (is_parked_by (is_woken_by made memory) p t) (woken ∙ e))
       by false e =
-          second_of (map.contains_key q.awake t) (is_some (map.get q.parked t))
-          (ap is_some (kept t ∙ ap (λ b. if b then None else map.get p.parked t) (woken ∙ e) ∙ is))
+          second_of (map.contains_key q.awake t) (is_some (parked_at q t))
+          (ap is_some (kept t ∙ ap (λ b. if b then None else parked_at p t) (woken ∙ e) ∙ is))
 
-  covered_before : (t : ℕ) → task ≢ t → (b : Bool) (o : Option Made) → map.contains_key p.awake t ≡ b
-      → map.get p.parked t ≡ o → (b || is_some o) ≡ true → is_covered q t ≡ true
+  covered_before : (t : ℕ) → task ≢ t → (b : Bool) (o : Option Spot) → map.contains_key p.awake t ≡ b
+      → parked_at p t ≡ o → (b || is_some o) ≡ true → is_covered q t ≡ true
   covered_before t apart true o awake parked e = looked_at_again t (stays t awake (inr apart))
   covered_before t apart false None awake parked e = absurd (cc e)
   covered_before t apart false (Some m) awake parked e = was_parked t m parked
@@ -204,9 +207,9 @@ module _ (task : ℕ) (memory : Made) (made : Entered) (before after : Cells)
       ∙ ap (λ b. b && (t == after.tasks.last)) (ap (is_off after.sleepers) (sym child.0)
       ∙ awake_off after.sleepers t off)
       ∙ eq-eqb t after.tasks.last child.0 in
-      first_of (map.contains_key q.awake t) (is_some (map.get q.parked t))
+      first_of (map.contains_key q.awake t) (is_some (parked_at q t))
       (looked_at t
-      ∙ first_of (between t || is_child after before.tasks.last t) (is_parked (is_woken_by made memory) p.parked t)
+      ∙ first_of (between t || is_child after before.tasks.last t) (is_parked_by (is_woken_by made memory) p t)
       (second_of (between t) (is_child after before.tasks.last t) is))
 
   settled_covers : (t : ℕ) → is_live after.tasks.tasks t ≡ true → IsAwake after t → is_covered q t ≡ true
@@ -219,7 +222,7 @@ module _ (task : ℕ) (memory : Made) (made : Entered) (before after : Cells)
 
       other : task ≢ t → (b : Bool) → is_live before.tasks.tasks t ≡ b → is_covered q t ≡ true
       other apart true lived =
-          covered_before t apart (map.contains_key p.awake t) (map.get p.parked t) refl refl
+          covered_before t apart (map.contains_key p.awake t) (parked_at p t) refl refl
           (but.covers t apart lived (moves.was_off t apart live off))
       other apart false dead = new_covered t live dead off
 
@@ -239,8 +242,8 @@ module _ (task : ℕ) (memory : Made) (made : Entered) (before after : Cells)
 
 module _ (task : ℕ) (memory : Made) (made : Entered) (before after : Cells)
     (moves : Moves task memory made before after) (p r s q : Parking) (but : AreParkedBut task before p) (last : ℕ)
-    (same : last ≡ before.tasks.last) (test : Made → Bool) (woken_by : is_woken_by made memory ≡ test)
-    (woken : HaveWoken test s q) (parked : s.parked ≡ p.parked)
+    (same : last ≡ before.tasks.last) (test : Spot → Bool) (woken_by : is_woken_by made memory ≡ test)
+    (woken : AreWoken test s q) (parked : AreAlike p s)
     (rested : r.awake ≡ (if puts_to_sleep made.entry then map.remove p.awake task else p.awake))
     (child : (t : ℕ) → map.contains_key s.awake t ≡ (map.contains_key r.awake t || is_child after last t)) where
   removed : (b : Bool) → puts_to_sleep made.entry ≡ b → r.awake ≡ (if b then map.remove p.awake task else p.awake)
@@ -276,18 +279,18 @@ module _ (task : ℕ) (memory : Made) (made : Entered) (before after : Cells)
       by true is (inr apart) =
           ap (λ m. map.contains_key m t) (removed true is) ∙ ap is_some (get-remove_other p.awake task t apart) ∙ e
 
-  among : (t : ℕ) → is_parked test s.parked t ≡ is_parked (is_woken_by made memory) p.parked t
-  among t = ap (λ m. is_parked test m t) parked ∙ ap (λ f. is_parked f p.parked t) (sym woken_by)
+  among : (t : ℕ) → is_parked_by test s t ≡ is_parked_by (is_woken_by made memory) p t
+  among t = ap (λ o. option_map_or test o false) (parked t) ∙ ap (λ f. is_parked_by f p t) (sym woken_by)
 
   pub settled_by : AreParked after q
   settled_by =
       settled task memory made before after moves p q but
       (λ t. woken.parked t
-      ∙ ap (λ b. if b then None else map.get s.parked t) (among t)
-      ∙ ap (λ m. if is_parked (is_woken_by made memory) p.parked t then None else map.get m t) parked)
+      ∙ ap (λ b. if b then None else parked_at s t) (among t)
+      ∙ ap (λ o. if is_parked_by (is_woken_by made memory) p t then None else o) (parked t))
       (map.contains_key r.awake) rests stays
-      (λ t. woken.awake t
-      ∙ ap (λ b. b || is_parked test s.parked t) (child t)
+      (λ t. woken.looked_at t
+      ∙ ap (λ b. b || is_parked_by test s t) (child t)
       ∙ ap (λ b. (map.contains_key r.awake t || is_child after last t) || b) (among t)
       ∙ ap (λ n. (map.contains_key r.awake t || is_child after n t)
-      || is_parked (is_woken_by made memory) p.parked t) same)
+      || is_parked_by (is_woken_by made memory) p t) same)

@@ -25,7 +25,8 @@ use Rattle.proc_cells.specs.Beside.{Beside}
 use Rattle.proc_cells.specs.Cells.{caller_in, kernel_of}
 use Rattle.call_table.specs.declared.entered.Entered.{Entered}
 use Rattle.call_table.specs.declared.entered.Turn.{Turn}
-use Rattle.call_table.specs.declared.entered.Turn.TheVariants.{Enters, Waits, WaitsInArea}
+use Rattle.call_table.specs.declared.entered.Turn.TheVariants.{Enters, Waits}
+use Rattle.call_table.specs.declared.parked.Spot.{Spot}
 
 -- so many instructions of a task ran over its group's memory, and nothing else changed there
 -- RISC-V Unprivileged ISA 20191213, 1.2
@@ -86,31 +87,21 @@ IfEntered result fact = IfOk result (λ made. IfSome made fact)
 abbrev pub IfParked : {A : Type 0} → Result (Option A) Memory → Type 0 → Type 0
 IfParked result fact = IfOk result (λ made. IfNone made fact)
 
--- the same of what a turn came to: the entry that it made; or its call waits, by its own memory alone or not
+-- the same of what a turn came to: the entry that it made; or its call waits, by what it used
 -- profile
 abbrev pub if_enters : (Entered → Type 0) → Turn → Type 0
 if_enters fact (Enters made) = fact made
-if_enters fact Waits = ⊤
-if_enters fact WaitsInArea = ⊤
+if_enters fact (Waits spot) = ⊤
 
 abbrev pub IfEnters : Result Turn Memory → (Entered → Type 0) → Type 0
 IfEnters result fact = IfOk result (if_enters fact)
 
-abbrev pub if_waits : Type 0 → Turn → Type 0
+abbrev pub if_waits : (Spot → Type 0) → Turn → Type 0
 if_waits fact (Enters made) = ⊤
-if_waits fact Waits = fact
-if_waits fact WaitsInArea = fact
+if_waits fact (Waits spot) = fact spot
 
-abbrev pub IfWaits : Result Turn Memory → Type 0 → Type 0
+abbrev pub IfWaits : Result Turn Memory → (Spot → Type 0) → Type 0
 IfWaits result fact = IfOk result (if_waits fact)
-
-abbrev pub if_waits_alone : Type 0 → Turn → Type 0
-if_waits_alone fact (Enters made) = ⊤
-if_waits_alone fact Waits = fact
-if_waits_alone fact WaitsInArea = ⊤
-
-abbrev pub IfWaitsAlone : Result Turn Memory → Type 0 → Type 0
-IfWaitsAlone result fact = IfOk result (if_waits_alone fact)
 
 -- an entry is the step from cells to those that it left, at a place and by a seed, whatever else stands beside them
 -- profile

@@ -1,5 +1,6 @@
--- Tasks that are looked at and tasks that are parked, by number and by the memory that they used.
-use Rattle.std.specs.Prelude.{◌≡◌, ℕ, ◌<◌, ◌^◌, ◌==◌, ◌&&◌, Bool, false, List, IsTrue, unwrap_or}
+-- Tasks that are parked, by number and by the memory that they used, and what it is that they are looked at again.
+use Rattle.std.specs.Prelude.{◌≡◌, ℕ, ◌<◌, ◌^◌, ◌==◌, ◌&&◌, ◌||◌, Bool, false, List, None, IsTrue, unwrap_or}
+use Rattle.std.specs.Prelude.{if◌then◌else◌}
 use Rattle.std.specs.List.{list_any}
 use Rattle.std.specs.Option.{option_map_or}
 use Rattle.std.specs.Ordering.{nat_cmp, eq_by_cmp}
@@ -47,3 +48,23 @@ abbrev pub AreLinked : {V : Type 0} → (parked : map.FinMap nat_cmp Made) → (
     → Type 0
 AreLinked parked by_memory = (task : ℕ) (memory : Made) →
     is_listed by_memory memory task ≡ is_parked (λ m. same_made m memory) parked task
+
+-- each that is parked was before
+-- profile
+abbrev pub AreFewer : (before after : map.FinMap nat_cmp Made) → Type 0
+AreFewer before after = (task : ℕ) → map.get before task ≡ None → map.get after task ≡ None
+
+-- none is parked in two ways
+-- profile
+abbrev pub AreApart : (these those : map.FinMap nat_cmp Made) → Type 0
+AreApart these those = (task : ℕ) → (map.contains_key these task && map.contains_key those task) ≡ false
+
+-- the tasks that were parked with a memory that passes the test are parked no more and are looked at; each other task
+-- is parked, or looked at, as it was
+-- profile
+pub record HaveWoken {V : Type 0} (test : Made → Bool) (before after : map.FinMap nat_cmp Made)
+    (awake awake' : map.FinMap nat_cmp V) : Type 0 where
+  pub parked : (task : ℕ) → map.get after task
+      ≡ (if is_parked test before task then None else map.get before task)
+  pub looked_at : (task : ℕ) → map.contains_key awake' task
+      ≡ (map.contains_key awake task || is_parked test before task)

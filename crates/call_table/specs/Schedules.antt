@@ -1,13 +1,14 @@
 -- Which tasks may have the next turn, and that no other's next step is ready.
 use Rattle.std.specs.Prelude.{◌≡◌, ◌≢◌, ◌<◌, ◌==◌, ◌&&◌, ◌||◌, not, nat_lt, ℕ, Bool, true, false, Option, Some, None}
-use Rattle.std.specs.Prelude.{IsTrue, is_some}
+use Rattle.std.specs.Prelude.{is_some}
 use Rattle.std.specs.FinMap as map
 use Rattle.futex_core.specs.FutexLists.{FutexList, is_asleep, is_woken}
-use Rattle.task_table.specs.declared.task.Made.{Made}
 use Rattle.task_table.specs.Table.{is_live}
 use Rattle.kernel_model.specs.entries.Waiting.{Woken, wait_of}
 use Rattle.proc_cells.specs.declared.cells.Cells.{Cells}
 use Rattle.proc_cells.specs.Cells.{IsAwake}
+use Rattle.call_table.specs.Parking.{parked_at}
+use Rattle.call_table.specs.declared.parked.Spot.{Spot}
 use Rattle.call_table.specs.declared.parking.Parking.{Parking}
 use Rattle.call_table.specs.declared.schedule.Candidate.{Candidate}
 use Rattle.call_table.specs.Parks.{Parks}
@@ -20,15 +21,15 @@ is_off list task = not (is_asleep list task) && not (is_woken list task)
 -- whether a task is looked at, or parked
 -- profile
 abbrev pub is_covered : Parking → (task : ℕ) → Bool
-is_covered parking task = map.contains_key parking.awake task || is_some (map.get parking.parked task)
+is_covered parking task = map.contains_key parking.awake task || is_some (parked_at parking task)
 
 -- Each task that is looked at is not on the futex list, and is not parked. Each that is parked waits. Each other live
 -- task is on the futex list.
 -- profile
 pub record AreParked (cells : Cells) (parking : Parking) : Type 0 where
   pub awake : (task : ℕ) → map.contains_key parking.awake task ≡ true → IsAwake cells task
-  pub apart : (task : ℕ) → map.contains_key parking.awake task ≡ true → map.get parking.parked task ≡ None
-  pub parked : (task : ℕ) (memory : Made) → map.get parking.parked task ≡ Some memory → Parks cells task memory
+  pub apart : (task : ℕ) → map.contains_key parking.awake task ≡ true → parked_at parking task ≡ None
+  pub parked : (task : ℕ) (spot : Spot) → parked_at parking task ≡ Some spot → Parks cells task spot
   pub covers : (task : ℕ) → is_live cells.tasks.tasks task ≡ true → IsAwake cells task
       → is_covered parking task ≡ true
 
@@ -37,8 +38,8 @@ pub record AreParked (cells : Cells) (parking : Parking) : Type 0 where
 pub record AreParkedBut (one : ℕ) (cells : Cells) (parking : Parking) : Type 0 where
   pub looked_at : map.contains_key parking.awake one ≡ true
   pub awake : (task : ℕ) → one ≢ task → map.contains_key parking.awake task ≡ true → IsAwake cells task
-  pub apart : (task : ℕ) → map.contains_key parking.awake task ≡ true → map.get parking.parked task ≡ None
-  pub parked : (task : ℕ) (memory : Made) → map.get parking.parked task ≡ Some memory → Parks cells task memory
+  pub apart : (task : ℕ) → map.contains_key parking.awake task ≡ true → parked_at parking task ≡ None
+  pub parked : (task : ℕ) (spot : Spot) → parked_at parking task ≡ Some spot → Parks cells task spot
   pub covers : (task : ℕ) → one ≢ task → is_live cells.tasks.tasks task ≡ true → IsAwake cells task
       → is_covered parking task ≡ true
 

@@ -1,6 +1,6 @@
 //! What becomes of the call that a task stands at: it replies, makes a child, or puts the task to sleep; and ends.
 
-ghost use Rattle.std.specs.Prelude.{◌≡◌, ℕ, ◌+◌, [], IsTrue, IfOk, OnErr, pos};
+ghost use Rattle.std.specs.Prelude.{◌≡◌, ℕ, ◌+◌, [], true, IsTrue, IfOk, OnErr, pos};
 ghost use Rattle.std.specs.FinMap as map;
 ghost use Rattle.std.specs.Ordering.{nat_cmp};
 ghost use Rattle.futex_core.specs.FutexLists.{after_sleep};
@@ -62,7 +62,8 @@ pub(crate) fn go_on(cells: &mut Cells, task: u32, registers: Regs, value: i64)
     cells.registers.replace(u64::from(task), after);
 }
 
-/// Does what a call comes to that replies, and lets its task go on. An `Err` changes nothing.
+/// Does what a call comes to that replies, and lets its task go on. Such a call may have stored into a shared area, so
+/// that is told. An `Err` changes nothing.
 pub(crate) fn finish(
     alloc: Global,
     cells: &mut Cells,
@@ -82,6 +83,7 @@ pub(crate) fn finish(
         (record { fresh = []; rises = [] }) prepared.reply) }
     ensures moves { IfOk result (λ made.
         Moves context.now.task context.now.memory made cells.old cells.new) }
+    ensures told { IfOk result (λ made. made.areas ≡ true) }
     ensures registers { IfOk result (λ _. cells.new.registers
         ≡ map.insert cells.old.registers context.now.task (replied registers prepared.reply)) }
     ensures spaces { cells.new.spaces ≡ cells.old.spaces }
@@ -104,7 +106,11 @@ pub(crate) fn finish(
     )?;
     go_on(cells, context.task, registers, value);
     let entry = call_entry(alloc, context.task, &registers, value);
-    Ok(Entered { entry, tasks })
+    Ok(Entered {
+        entry,
+        tasks,
+        areas: true,
+    })
 }
 
 /// Whether an effect changes the task list.
@@ -167,7 +173,11 @@ pub(crate) fn make_child(
     )?;
     go_on(cells, context.task, registers, value);
     let entry = call_entry(alloc, context.task, &registers, value);
-    Ok(Entered { entry, tasks: true })
+    Ok(Entered {
+        entry,
+        tasks: true,
+        areas: true,
+    })
 }
 
 /// Puts a task to sleep. An `Err` changes nothing.
@@ -187,5 +197,6 @@ pub(crate) fn put_to_sleep(cells: &mut Cells, task: u32, key: FutexKey) -> Resul
     Ok(Entered {
         entry: Entry::Sleep { task },
         tasks: false,
+        areas: false,
     })
 }

@@ -14,13 +14,14 @@ ghost use Rattle.kernel_model.specs.declared.kernel.Kernel.{Kernel as AKernel};
 ghost use Rattle.kernel_model.specs.entries.Waiting.{Woken, wait_of};
 ghost use Rattle.proc_cells.specs.Beside.{Beside};
 ghost use Rattle.proc_cells.specs.Cells.{AreKept, IsAwake, StandsAs, kernel_of};
-ghost use Rattle.call_table.specs.Entries.{HasRunPart, IfEntered, IfEnters, IfParked, IfWaits, IfWaitsAlone, IsOf};
+ghost use Rattle.call_table.specs.Entries.{HasRunPart, IfEntered, IfEnters, IfParked, IfWaits, IsOf};
 ghost use Rattle.call_table.specs.Entries.{IsWholeTo, NextIn, ReadyIs, RunsIn, StepsTo, is_touching};
 ghost use Rattle.call_table.specs.Moves.{Moves};
 ghost use Rattle.call_table.specs.Parks.{Parks};
 
 use crate::answers::{call_entry, finish, go_on, make_child, put_to_sleep};
 use crate::entered::{Entered, Turn};
+use crate::parked::Spot;
 use kernel_calls::{
     Called, Context, Effect, Ran, args_of, call, call_of, commit, end_group, run, step,
 };
@@ -81,9 +82,9 @@ pub(crate) fn advance(
     ensures numbers { IfEnters result (λ made. numbers_in made.entry ≡ []) }
     ensures ready { IfEnters result (λ made. ReadyIs cells.old task true) }
     ensures moves { IfEnters result (λ made. Moves task standing.memory made cells.old cells.new) }
-    ensures waits { IfWaits result (ReadyIs cells.old task false) }
-    ensures parks { IfWaitsAlone result (Parks cells.old task standing.memory) }
-    ensures kept { IfWaits result (AreKept cells.old cells.new) }
+    ensures waits { IfWaits result (λ _. ReadyIs cells.old task false) }
+    ensures parks { IfWaits result (Parks cells.old task) }
+    ensures kept { IfWaits result (λ _. AreKept cells.old cells.new) }
     ensures memory { OnErr result (HasRunPart task cells.old cells.new) }
 {
     let ran = run_standing(alloc, cells, task, standing)?;
@@ -91,6 +92,7 @@ pub(crate) fn advance(
         return Ok(Turn::Enters(Entered {
             entry: Entry::Run { task, n: ran.count },
             tasks: false,
+            areas: false,
         }));
     }
     let context = Context {
@@ -104,12 +106,18 @@ pub(crate) fn advance(
         Next::Goes => unreachable!(),
         Next::Calls => match answer(alloc, cells, &context, standing)? {
             Some(made) => Ok(Turn::Enters(made)),
-            None => Ok(Turn::Waits),
+            None => Ok(Turn::Waits(Spot {
+                memory: standing.memory,
+                in_area: false,
+            })),
         },
         Next::Traps(signal) => Ok(Turn::Enters(end(alloc, cells, &context, standing, signal)?)),
         Next::Touches(_) => match touch(alloc, cells, &context, standing)? {
             Some(made) => Ok(Turn::Enters(made)),
-            None => Ok(Turn::WaitsInArea),
+            None => Ok(Turn::Waits(Spot {
+                memory: standing.memory,
+                in_area: true,
+            })),
         },
     }
 }
@@ -137,6 +145,7 @@ pub(crate) fn go_on_woken(
     Entered {
         entry: call_entry(alloc, task, &standing.registers, 0),
         tasks: false,
+        areas: false,
     }
 }
 
@@ -156,7 +165,7 @@ fn run_standing(
     ensures whole { IfOk result (λ r. (beside : Beside) (n m : ℕ) →
         is_whole (Entry.Run task r.count) (kernel_of cells.old beside n) (kernel_of cells.new beside m) ≡ true) }
     ensures moves { IfOk result (λ r. Moves task standing.memory
-        (record { entry = Entry.Run task r.count; tasks = false }) cells.old cells.new) }
+        (record { entry = Entry.Run task r.count; tasks = false; areas = false }) cells.old cells.new) }
     ensures none { IfOk result (λ r. r.count ≡ 0 → AreKept cells.old cells.new) }
     ensures next { IfOk result (λ r. r.count ≡ 0 → touches_area r.next ≡ false → NextIn cells.old task r.next) }
     ensures touching { IfOk result (λ r. r.count ≡ 0 → is_touching cells.old task ≡ touches_area r.next) }
@@ -201,6 +210,8 @@ fn touch(
     ensures moves { IfEntered result (λ made.
         Moves context.now.task standing.memory made cells.old cells.new) }
     ensures waits { IfParked result (ReadyIs cells.old context.now.task false) }
+    ensures parks { IfParked result (Parks cells.old context.now.task
+        (record { memory = standing.memory; in_area = true })) }
     ensures kept { IfParked result (AreKept cells.old cells.new) }
     ensures memory { OnErr result (HasRunPart context.now.task cells.old cells.new) }
 {
@@ -209,6 +220,7 @@ fn touch(
         Next::Goes => Ok(Some(Entered {
             entry: Entry::Run { task, n: 1 },
             tasks: false,
+            areas: true,
         })),
         Next::Calls => answer(alloc, cells, context, standing),
         Next::Traps(signal) => Ok(Some(end(alloc, cells, context, standing, signal)?)),
@@ -232,7 +244,7 @@ fn step_standing(
     ensures step { IfOk result (λ next. next ≡ Next.Goes → (beside : Beside) (n : ℕ) →
         step (kernel_of cells.old beside n) (Entry.Run task 1) ≡ Some (kernel_of cells.new beside (n + 1))) }
     ensures moves { IfOk result (λ next. Moves task standing.memory
-        (record { entry = Entry.Run task 1; tasks = false }) cells.old cells.new) }
+        (record { entry = Entry.Run task 1; tasks = false; areas = true }) cells.old cells.new) }
     ensures next { IfOk result (λ next. NextIn cells.old task next) }
     ensures told { IfOk result (λ next. touches_area next ≡ false) }
     ensures kept { IfOk result (λ next. goes_on next ≡ false → AreKept cells.old cells.new) }
@@ -276,8 +288,8 @@ fn answer(
     ensures moves { IfEntered result (λ made.
         Moves context.now.task standing.memory made cells.old cells.new) }
     ensures waits { IfParked result (ReadyIs cells.old context.now.task false) }
-    ensures parks { IfParked result
-        (is_touching cells.old context.now.task ≡ false → Parks cells.old context.now.task standing.memory) }
+    ensures parks { IfParked result (Parks cells.old context.now.task
+        (record { memory = standing.memory; in_area = is_touching cells.old context.now.task })) }
     ensures kept { IfParked result (AreKept cells.old cells.new) }
     ensures memory { OnErr result (HasRunPart context.now.task cells.old cells.new) }
 {
@@ -365,5 +377,6 @@ fn end(
             signal,
         },
         tasks: true,
+        areas: true,
     })
 }

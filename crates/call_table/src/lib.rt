@@ -8,8 +8,8 @@
 //! host gave stands beside: no entry so far reads or changes a node.
 //!
 //! A task that sleeps on a futex word is not looked at before it was woken, and one whose call waits not before the
-//! list of tasks has changed or another task of its memory made an entry; who that is is found without a walk over all
-//! tasks. A waiting call that lies in a shared area is looked at in each round.
+//! list of tasks has changed, another task of its memory made an entry, or, where the call lies in a shared area, an
+//! area may have changed; who that is is found without a walk over all tasks.
 //!
 //! Proved: with an opening task more the processes are the kernel with that task (`begun`). A run of turns is a history
 //! of the kernel that the processes are with that seed, whatever else stands beside them (`history`), each of whose
@@ -26,6 +26,7 @@
 mod answers;
 mod entered;
 mod entries;
+mod parked;
 mod parking;
 mod processes;
 mod schedule;

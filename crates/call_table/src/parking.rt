@@ -1,11 +1,11 @@
 //! Which tasks are looked at for the next turn, and which are parked until something that they used changes.
 
-ghost use Rattle.std.specs.Prelude.{◌≡◌, ◌||◌, ℕ, None, OnErr, OnOk, false, if◌then◌else◌, true};
+ghost use Rattle.std.specs.Prelude.{◌≡◌, ◌||◌, ◌&&◌, ℕ, None, OnErr, OnOk, true};
 ghost use Rattle.std.specs.FinMap as map;
 ghost use Rattle.sn_base.specs.MapKeys.{IsLeastAbove};
-ghost use Rattle.call_table.specs.Parked.{AreLinked, AreNumbers, is_among, same_made, with_listed};
+ghost use Rattle.call_table.specs.Parked.{AreApart, AreNumbers, same_made};
 
-use kernel_model::Named;
+use crate::parked::{Parked, Spot};
 use sn_base::{Map, Memory};
 use std::alloc::Global;
 use task_table::Made;
@@ -16,28 +16,26 @@ use task_table::Made;
 pub(crate) struct Parking {
     /// The tasks that are looked at, by number.
     pub(crate) awake: Map<()>,
-    /// The parked tasks, by number: the name of the memory that each used.
-    pub(crate) parked: Map<Made>,
-    /// The parked tasks by the memory that they used.
-    by_memory: Named<Map<()>>,
-    // Each parked task is listed with its memory, and each listed task is parked with that memory.
-    ghost linked: { AreLinked parked by_memory },
-    ghost awake_numbers: { AreNumbers awake },
-    ghost parked_numbers: { AreNumbers parked },
+    /// The parked tasks whose call lies in their own memory.
+    pub(crate) alone: Parked,
+    /// The parked tasks whose call lies in a shared area.
+    pub(crate) in_areas: Parked,
+    ghost numbers: { AreNumbers awake },
+    ghost apart: { AreApart alone.tasks in_areas.tasks },
 }
 
 impl Parking {
-    ghost use Rattle.call_table.specs.Parking.{HaveWoken};
+    ghost use Rattle.call_table.specs.Parking.{AreAlike, AreWoken, IsParkedAt, parked_at};
 
     /// No task is looked at, and none is parked. It takes no memory.
     pub(crate) fn new(alloc: Global) -> Parking
         ensures awake { result.awake ≡ map.empty }
-        ensures parked { result.parked ≡ map.empty }
+        ensures parked { (task : ℕ) → parked_at result task ≡ None }
     {
         Parking {
             awake: Map::new(alloc),
-            parked: Map::new(alloc),
-            by_memory: Named::new(alloc),
+            alone: Parked::new(alloc),
+            in_areas: Parked::new(alloc),
         }
     }
 
@@ -55,7 +53,7 @@ impl Parking {
     pub(crate) fn wake(&mut self, task: u32) -> Result<(), Memory>
         ensures ok { OnOk result (self.new.awake ≡ map.insert self.old.awake task tt) }
         ensures err { OnErr result (self.new.awake ≡ self.old.awake) }
-        ensures parked { self.new.parked ≡ self.old.parked }
+        ensures parked { AreAlike self.old self.new }
     {
         self.awake.insert(u64::from(task), ())
     }
@@ -63,98 +61,54 @@ impl Parking {
     /// Has a task be looked at no more. It takes no memory.
     pub(crate) fn rest(&mut self, task: u32)
         ensures awake { self.new.awake ≡ map.remove self.old.awake task }
-        ensures parked { self.new.parked ≡ self.old.parked }
+        ensures parked { AreAlike self.old self.new }
     {
         let _ = self.awake.remove(u64::from(task));
     }
 
-    /// Parks a task with the memory that it used: it is looked at no more.
-    pub(crate) fn park(&mut self, alloc: Global, task: u32, memory: Made) -> Result<(), Memory>
-        requires { map.get self.old.parked task ≡ None }
+    /// Parks a task with what it used: it is looked at no more.
+    pub(crate) fn park(&mut self, alloc: Global, task: u32, spot: Spot) -> Result<(), Memory>
+        requires { parked_at self.old task ≡ None }
         ensures awake { OnOk result (self.new.awake ≡ map.remove self.old.awake task) }
-        ensures parked { OnOk result (self.new.parked ≡ map.insert self.old.parked task memory) }
+        ensures parked { OnOk result (IsParkedAt task spot self.old self.new) }
     {
-        let number = u64::from(task);
-        self.parked.insert(number, memory)?;
-        match enlist(alloc, &mut self.by_memory, memory, number) {
-            Ok(()) => {
-                let _ = self.awake.remove(number);
-                Ok(())
-            }
-            Err(want) => {
-                let _ = self.parked.remove(number);
-                Err(want)
-            }
+        self.list(alloc, task, spot)?;
+        self.rest(task);
+        Ok(())
+    }
+
+    /// Parks a task with what it used, and leaves who is looked at.
+    fn list(&mut self, alloc: Global, task: u32, spot: Spot) -> Result<(), Memory>
+        requires { parked_at self.old task ≡ None }
+        ensures awake { self.new.awake ≡ self.old.awake }
+        ensures parked { OnOk result (IsParkedAt task spot self.old self.new) }
+    {
+        if spot.in_area {
+            self.in_areas.park(alloc, task, spot.memory)
+        } else {
+            self.alone.park(alloc, task, spot.memory)
         }
     }
 
-    /// Has the tasks be looked at again that are parked with a memory. Where there are none, this is one look-up.
-    pub(crate) fn wake_in(&mut self, alloc: Global, memory: Made) -> Result<(), Memory>
-        ensures { OnOk result (HaveWoken (λ m. same_made m memory) self.old self.new) }
+    /// Has the tasks be looked at again that are parked with a memory, and where areas may have changed, those whose
+    /// call lies in one. Where there are none, this is two look-ups.
+    pub(crate) fn wake_in(&mut self, alloc: Global, memory: Made, areas: bool) -> Result<(), Memory>
+        ensures { OnOk result
+            (AreWoken (λ s. (s.in_area && areas) || same_made s.memory memory) self.old self.new) }
     {
-        let Some(listed) = self.by_memory.get(memory.place, memory.index) else {
-            return Ok(());
-        };
-        let keys = listed.keys(alloc)?;
-        let tasks = keys.as_slice();
-        look_at(&mut self.awake, tasks)?;
-        take_out(&mut self.parked, tasks);
-        let _ = self.by_memory.remove(memory.place, memory.index);
-        Ok(())
+        self.alone.wake_in(alloc, memory, &mut self.awake)?;
+        if areas {
+            self.in_areas.wake_all(alloc, &mut self.awake)
+        } else {
+            self.in_areas.wake_in(alloc, memory, &mut self.awake)
+        }
     }
 
     /// Has all parked tasks be looked at again.
     pub(crate) fn wake_all(&mut self, alloc: Global) -> Result<(), Memory>
-        ensures woken { OnOk result (HaveWoken (λ _. true) self.old self.new) }
-        ensures none { OnOk result (self.new.parked ≡ map.empty) }
+        ensures { OnOk result (AreWoken (λ _. true) self.old self.new) }
     {
-        let keys = self.parked.keys(alloc)?;
-        look_at(&mut self.awake, keys.as_slice())?;
-        self.parked = Map::new(alloc);
-        self.by_memory = Named::new(alloc);
-        Ok(())
-    }
-}
-
-/// Lists a task with a memory too. An `Err` leaves the lists as they were.
-fn enlist(
-    alloc: Global,
-    by_memory: &mut Named<Map<()>>,
-    memory: Made,
-    task: u64,
-) -> Result<(), Memory>
-    ensures ok { OnOk result (by_memory.new ≡ with_listed by_memory.old memory task tt) }
-    ensures err { OnErr result (by_memory.new ≡ by_memory.old) }
-{
-    match by_memory.get_mut(memory.place, memory.index) {
-        Some(listed) => listed.insert(task, ()),
-        None => {
-            let mut listed = Map::new(alloc);
-            listed.insert(task, ())?;
-            by_memory.insert(alloc, memory.place, memory.index, listed)
-        }
-    }
-}
-
-/// Adds tasks to those that are looked at. An `Err` may have added some of them.
-fn look_at(awake: &mut Map<()>, tasks: &[u64]) -> Result<(), Memory>
-    ensures ok { OnOk result ((task : ℕ) →
-        map.contains_key awake.new task ≡ (map.contains_key awake.old task || is_among task tasks.now)) }
-    ensures others { (task : ℕ) → is_among task tasks.now ≡ false →
-        map.contains_key awake.new task ≡ map.contains_key awake.old task }
-{
-    for task in tasks {
-        awake.insert(*task, ())?;
-    }
-    Ok(())
-}
-
-/// Takes tasks out of those that are parked. It takes no memory.
-fn take_out(parked: &mut Map<Made>, tasks: &[u64])
-    ensures { (task : ℕ) → map.get parked.new task ≡
-        (if is_among task tasks.now then None else map.get parked.old task) }
-{
-    for task in tasks {
-        let _ = parked.remove(*task);
+        self.alone.wake_all(alloc, &mut self.awake)?;
+        self.in_areas.wake_all(alloc, &mut self.awake)
     }
 }

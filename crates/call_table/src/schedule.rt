@@ -14,6 +14,7 @@ ghost use Rattle.proc_cells.specs.declared.cells.Cells.{Cells as ACells};
 ghost use Rattle.proc_cells.specs.Cells.{AreKept, StandsAs, kernel_of};
 ghost use Rattle.call_table.specs.Entries.{IfEntered, IfParked, IsWholeTo, ReadyIs, StepsTo};
 ghost use Rattle.call_table.specs.Moves.{Moves, puts_to_sleep};
+ghost use Rattle.call_table.specs.Parking.{AreAlike};
 ghost use Rattle.call_table.specs.Schedules.{AreParked, AreParkedBut, IsCandidate, IsNextAbove, is_child, is_off};
 
 use crate::entered::{Entered, Turn};
@@ -158,11 +159,10 @@ impl Schedule {
         let cells = &mut self.cells;
         let made = match advance(alloc, cells, task, standing, seed, place)? {
             Turn::Enters(made) => made,
-            Turn::Waits => {
-                self.parking.park(alloc, task, standing.memory)?;
+            Turn::Waits(spot) => {
+                self.parking.park(alloc, task, spot)?;
                 return Ok(None);
             }
-            Turn::WaitsInArea => return Ok(None),
         };
         settle(
             alloc,
@@ -197,7 +197,7 @@ fn settle(
     if made.tasks {
         parking.wake_all(alloc)
     } else {
-        parking.wake_in(alloc, memory)
+        parking.wake_in(alloc, memory, made.areas)
     }
 }
 
@@ -205,7 +205,7 @@ fn settle(
 fn rest_asleep(parking: &mut Parking, task: u32, entry: &Entry)
     ensures awake { parking.new.awake
         ≡ (if puts_to_sleep entry.now then map.remove parking.old.awake task else parking.old.awake) }
-    ensures parked { parking.new.parked ≡ parking.old.parked }
+    ensures parked { AreAlike parking.old parking.new }
 {
     match entry {
         Entry::Sleep { .. } => parking.rest(task),
@@ -215,7 +215,7 @@ fn rest_asleep(parking: &mut Parking, task: u32, entry: &Entry)
 
 /// Has the last task be looked at, where its number is above one, and it is not on the futex list.
 fn look_at_child(parking: &mut Parking, cells: &Cells, last: u32) -> Result<(), Memory>
-    ensures parked { parking.new.parked ≡ parking.old.parked }
+    ensures parked { AreAlike parking.old parking.new }
     ensures awake { OnOk result ((task : ℕ) → map.contains_key parking.new.awake task ≡
         (map.contains_key parking.old.awake task || is_child cells.now last task)) }
 {
@@ -226,7 +226,7 @@ fn look_at_child(parking: &mut Parking, cells: &Cells, last: u32) -> Result<(), 
 
 /// Has a task be looked at, where that is wanted.
 fn wake_if(parking: &mut Parking, wanted: bool, task: u32) -> Result<(), Memory>
-    ensures parked { parking.new.parked ≡ parking.old.parked }
+    ensures parked { AreAlike parking.old parking.new }
     ensures awake { OnOk result ((other : ℕ) → map.contains_key parking.new.awake other ≡
         (map.contains_key parking.old.awake other || (wanted && (other == task)))) }
 {
@@ -257,7 +257,7 @@ fn is_off(sleepers: &Waiters, task: u32) -> bool
 /// Has each live task be looked at that is not on the futex list.
 fn look_at_live(cells: &Cells, parking: &mut Parking) -> Result<(), Memory>
     requires none { (task : ℕ) → map.contains_key parking.old.awake task ≡ false }
-    ensures parked { OnOk result (parking.new.parked ≡ parking.old.parked) }
+    ensures parked { OnOk result (AreAlike parking.old parking.new) }
     ensures off { OnOk result ((task : ℕ) → map.contains_key parking.new.awake task ≡ true →
         is_off cells.now.sleepers task ≡ true) }
     ensures live { OnOk result ((task : ℕ) → is_live cells.now.tasks.tasks task ≡ true →

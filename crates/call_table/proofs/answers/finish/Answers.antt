@@ -52,7 +52,7 @@ returns-clause-moves c =
     (ap (λ t. record { tasks = t; sleepers = q.sleepers }) c.go_on.ensures.tasks
     ∙ ap (λ w. record { tasks = c.commit.new.tasks; sleepers = w }) c.go_on.ensures.sleepers ∙ did)
     c.requires.own c.requires.ended c.requires.awake (ap puts_to_sleep c.call_entry-entry.ensures)
-    c.changes_list-tasks.ensures (record {
+    c.changes_list-tasks.ensures (λ e. c.go_on.ensures.areas) (record {
       registers = λ other apart.
           others_go_on p.registers q.registers task other _ c.go_on.ensures.registers apart;
       spaces = λ name apart. ap (λ m. get_named m name.place name.index) c.go_on.ensures.spaces;

@@ -106,4 +106,4 @@ returns-clause-moves c =
     moves_child c.args.context.now.task c.args.context.now.memory _ p c.go_on.new.cells
     (subst (λ (t : TaskTable). OneMore p.tasks t) (ap (λ (m : Kernel). m.tasks) is ∙ sym c.go_on.ensures.tasks)
     (more_by_child c.into_inner.result c.args.context.now.place x k))
-    c.go_on.ensures.sleepers c.requires.awake (ap puts_to_sleep c.call_entry-entry.ensures) refl
+    c.go_on.ensures.sleepers c.requires.awake (ap puts_to_sleep c.call_entry-entry.ensures) refl refl

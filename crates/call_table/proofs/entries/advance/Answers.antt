@@ -4,7 +4,7 @@ use Rattle.kernel_model.specs.machine.Instructions.{touches_area}
 use Rattle.call_table.specs.Entries.{ReadyIs, is_touching}
 use Rattle.call_table.specs.Parks.{Parks}
 use Rattle.call_table.proofs.Kept.{stands_kept, part_behind, ready_kept}
-use Rattle.call_table.proofs.Parks.{parks_kept, touching_kept}
+use Rattle.call_table.proofs.Parks.{parks_kept, parks_told, touching_kept}
 use Rattle.call_table.proofs.Results.{err_by, is_none, is_some_of}
 use Rattle.call_table.proofs.entries.advance.Goals as goal
 
@@ -89,9 +89,21 @@ pub returns-in-None-clause-parks : goal.returns-in-None-clause-parks
 returns-in-None-clause-parks c =
     let p = c.args.cells.now in
     let b = c.run_standing.new.cells in
+    let task = c.args.task in
+    let memory = c.args.standing.memory in
     let none : c.in_ok-ran.ran.count ≡ 0 = omega arith in
-    let kept = c.in_ok-ran.ensures.none none in
-    parks_kept p b c.args.task c.args.standing.memory kept
-    (is_none _ (is_touching b c.args.task ≡ false → Parks b c.args.task c.args.standing.memory) c.in-None.is
-    c.in_ok-made-in-Calls.ensures.parks
-    (touching_kept p b c.args.task kept ∙ c.in_ok-ran.ensures.touching none ∙ ap touches_area c.in-Calls.is))
+    parks_kept p b task (record { memory = memory; in_area = false }) (c.in_ok-ran.ensures.none none)
+    (parks_told b task memory (is_touching b task) false
+    (touching_kept p b task (c.in_ok-ran.ensures.none none) ∙ c.in_ok-ran.ensures.touching none
+    ∙ ap touches_area c.in-Calls.is)
+    (is_none _ (Parks b task (record { memory = memory; in_area = is_touching b task })) c.in-None.is
+    c.in_ok-made-in-Calls.ensures.parks))
+
+pub returns-in-None-2-clause-parks : goal.returns-in-None-2-clause-parks
+returns-in-None-2-clause-parks c =
+    let none : c.in_ok-ran.ran.count ≡ 0 = omega arith in
+    parks_kept c.args.cells.now c.run_standing.new.cells c.args.task
+    (record { memory = c.args.standing.memory; in_area = true }) (c.in_ok-ran.ensures.none none)
+    (is_none _ (Parks c.run_standing.new.cells c.args.task
+    (record { memory = c.args.standing.memory; in_area = true })) c.in-None-2.is
+    c.in_ok-made-in-Touches.ensures.parks)

@@ -277,7 +277,8 @@ returns-in-Waits-clause-kept c =
 pub returns-in_ok-finish-in-Replies-clause-moves : goal.returns-in_ok-finish-in-Replies-clause-moves
 returns-in_ok-finish-in-Replies-clause-moves c =
     moves_behind c.args.context.now.task c.args.standing.memory c.args.context.now.memory _ c.args.cells.now _ _
-    c.in_ok-finish-in-Replies.ensures.moves c.requires.known.memory refl refl (record {
+    c.in_ok-finish-in-Replies.ensures.moves c.requires.known.memory refl refl
+    (λ e. absurd (cc (e, c.in_ok-finish-in-Replies.ensures.told))) (record {
       registers = λ other apart. refl;
       spaces = λ name apart.
           others_stay c.args.cells.now.spaces _ c.args.standing.memory name c.call.new.space refl apart;
@@ -286,7 +287,8 @@ returns-in_ok-finish-in-Replies-clause-moves c =
 pub returns-in_ok-make_child-in-Makes-clause-moves : goal.returns-in_ok-make_child-in-Makes-clause-moves
 returns-in_ok-make_child-in-Makes-clause-moves c =
     moves_behind c.args.context.now.task c.args.standing.memory c.args.context.now.memory _ c.args.cells.now _ _
-    c.in_ok-make_child-in-Makes.ensures.moves c.requires.known.memory refl refl (record {
+    c.in_ok-make_child-in-Makes.ensures.moves c.requires.known.memory refl refl
+    (λ e. (c.in_ok-called.ensures.apart (subst IsApart (sym c.in-Makes.is) tt)).1) (record {
       registers = λ other apart. refl;
       spaces = λ name apart.
           others_stay c.args.cells.now.spaces _ c.args.standing.memory name c.call.new.space refl apart;
@@ -295,7 +297,8 @@ returns-in_ok-make_child-in-Makes-clause-moves c =
 pub returns-in_ok-put_to_sleep-in-Sleeps-clause-moves : goal.returns-in_ok-put_to_sleep-in-Sleeps-clause-moves
 returns-in_ok-put_to_sleep-in-Sleeps-clause-moves c =
     moves_behind c.args.context.now.task c.args.standing.memory c.args.standing.memory _ c.args.cells.now _ _
-    (c.in_ok-put_to_sleep-in-Sleeps.ensures.moves c.args.standing.memory) refl refl refl (record {
+    (c.in_ok-put_to_sleep-in-Sleeps.ensures.moves c.args.standing.memory) refl refl refl
+    (λ e. (c.in_ok-called.ensures.apart (subst IsApart (sym c.in-Sleeps.is) tt)).1) (record {
       registers = λ other apart. refl;
       spaces = λ name apart.
           others_stay c.args.cells.now.spaces _ c.args.standing.memory name c.call.new.space refl apart;
@@ -304,9 +307,9 @@ returns-in_ok-put_to_sleep-in-Sleeps-clause-moves c =
 -- ---- why it waits
 
 pub returns-in-Waits-clause-parks : goal.returns-in-Waits-clause-parks
-returns-in-Waits-clause-parks c = λ alone.
+returns-in-Waits-clause-parks c =
     parks_of c.args.cells.now c.args.context.now.task c.args.standing c.call_of.result c.args.context.now.group
-    c.args_of.result c.requires.stands c.requires.awake c.requires.calls alone c.requires.known.group
+    c.args_of.result c.requires.stands c.requires.awake c.requires.calls c.requires.known.group
     c.call_of.ensures c.args_of.ensures
     (subst (λ d. IfWaits d (WaitsWith c.args.context.now.group c.args.cells.now.tasks
     (λ context x. call_row context x c.call_of.result c.args_of.result))) c.in-Waits.is c.in_ok-called.ensures.waits)

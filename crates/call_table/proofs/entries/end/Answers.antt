@@ -97,7 +97,7 @@ returns-clause-moves c =
     (lists_are task group (lists_of p) effect after p.console c.commit.new.console
     (c.in_ok-commit.ensures.ok k refl refl refl)) tt
     (c.in_ok-ending.ensures.ended ∙ ap (λ g. ended_tasks (is_member g) p.tasks.tasks) c.requires.known.group)
-    c.requires.awake refl refl (record {
+    c.requires.awake refl refl (λ e. absurd (cc e)) (record {
       registers = λ other apart. refl;
       spaces = λ name apart.
           others_stay p.spaces _ c.args.standing.memory name c.end_group.new.space refl apart;

@@ -48,7 +48,8 @@ returns-clause-moves c =
     let p = c.args.cells.now in
     let q = c.go_on.new.cells in
     moves_woken c.args.task c.args.standing.memory _ p q c.go_on.ensures.tasks
-    (c.go_on.ensures.sleepers ∙ c.leave.ensures) (ap puts_to_sleep c.call_entry.ensures) (record {
+    (c.go_on.ensures.sleepers ∙ c.leave.ensures) (ap puts_to_sleep c.call_entry.ensures)
+    c.go_on.ensures.areas (record {
       registers = λ other apart.
           others_go_on p.registers q.registers c.args.task other (replied c.args.standing.registers (pos 0))
           c.go_on.ensures.registers apart;

@@ -73,8 +73,9 @@ returns-clause-whole c =
 pub returns-clause-moves : goal.returns-clause-moves
 returns-clause-moves c =
     with_ok _ _ _ c.run_in-ran.result (λ r runs within.
-    moves_alone c.args.task c.args.standing.memory (record { entry = Run c.args.task r.count; tasks = false })
-    c.args.cells.now _ refl refl c.requires.awake refl (record {
+    moves_alone c.args.task c.args.standing.memory
+    (record { entry = Run c.args.task r.count; tasks = false; areas = false }) c.args.cells.now _ refl refl
+    c.requires.awake refl (λ e. refl) (record {
       registers = λ other apart.
           others_go_on c.args.cells.now.registers c.replace.new.self c.args.task other c.run_in-ran.new.registers
           (c.replace.ensures

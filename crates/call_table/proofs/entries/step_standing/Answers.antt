@@ -80,7 +80,8 @@ returns-clause-ready c = λ goes beside n.
 
 pub returns-clause-moves : goal.returns-clause-moves
 returns-clause-moves c =
-    moves_alone c.args.task c.args.standing.memory _ c.args.cells.now _ refl refl c.requires.awake refl (record {
+    moves_alone c.args.task c.args.standing.memory _ c.args.cells.now _ refl refl c.requires.awake refl
+    (λ e. absurd (cc e)) (record {
       registers = λ other apart.
           others_go_on c.args.cells.now.registers c.replace.new.self c.args.task other c.step.new.registers
           (c.replace.ensures

@@ -1,8 +1,11 @@
 -- An instruction that touches a shared area is an entry of its own, or the task calls or traps by it.
-use Rattle.std.proofs.Common.{ap, true, false}
+use Rattle.std.proofs.Common.{ap, true, false, ◌∙◌}
 use Rattle.kernel_model.specs.machine.Instructions.{goes_on}
-use Rattle.call_table.specs.Entries.{ReadyIs}
+use Rattle.call_table.specs.Entries.{ReadyIs, is_touching}
+use Rattle.call_table.specs.Moves.{Moves}
 use Rattle.call_table.proofs.Kept.{stands_kept, part_kept, part_behind, ready_kept}
+use Rattle.call_table.proofs.Moves.{moves_kept}
+use Rattle.call_table.proofs.Parks.{parks_kept, parks_told, touching_kept}
 use Rattle.call_table.proofs.Results.{entered_behind, parked_behind, on_err, err_by}
 use Rattle.call_table.proofs.entries.touch.Goals as goal
 
@@ -54,3 +57,29 @@ pub returns-in_ok-end-in-Traps-clause-ready : goal.returns-in_ok-end-in-Traps-cl
 returns-in_ok-end-in-Traps-clause-ready c =
     ready_kept c.args.cells.now c.step_standing.new.cells c.args.context.now.task true
     (c.in_ok-step_standing.ensures.kept (ap goes_on c.in-Traps.is)) c.in_ok-end-in-Traps.ensures.ready
+
+-- ---- what it leaves as it was
+
+pub returns-in-Calls-clause-moves : goal.returns-in-Calls-clause-moves
+returns-in-Calls-clause-moves c =
+    let p = c.args.cells.now in
+    let b = c.step_standing.new.cells in
+    let q = c.answer.new.cells in
+    let task = c.args.context.now.task in
+    let memory = c.args.standing.memory in
+    entered_behind c.answer.result (λ made. Moves task memory made b q) (λ made. Moves task memory made p q)
+    (λ made. moves_kept task memory made p b q (c.in_ok-step_standing.ensures.kept (ap goes_on c.in-Calls.is)))
+    c.answer.ensures.moves
+
+-- ---- why it was not
+
+pub returns-in-Calls-clause-parks : goal.returns-in-Calls-clause-parks
+returns-in-Calls-clause-parks c =
+    let p = c.args.cells.now in
+    let b = c.step_standing.new.cells in
+    let task = c.args.context.now.task in
+    let kept = c.in_ok-step_standing.ensures.kept (ap goes_on c.in-Calls.is) in
+    parked_behind c.answer.result (λ parks.
+    parks_kept p b task (record { memory = c.args.standing.memory; in_area = true }) kept
+    (parks_told b task c.args.standing.memory (is_touching b task) true
+    (touching_kept p b task kept ∙ c.requires.touches) parks)) c.answer.ensures.parks

@@ -1,5 +1,5 @@
 -- No live task has a number above the last.
-use Rattle.std.proofs.Common.{◌≡◌, ◌<◌, ◌≤◌, true, false, refl, arith}
+use Rattle.std.proofs.Common.{◌≡◌, ◌≤◌, true, false, refl, arith}
 use Rattle.std.specs.Prelude.{Option, Some, None, is_some}
 use Rattle.std.specs.Option.{option_map_or}
 use Rattle.std.specs.FinMap as map

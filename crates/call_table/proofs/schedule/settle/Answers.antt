@@ -1,8 +1,8 @@
 -- After an entry the tasks that it concerns are looked at again.
-use Rattle.std.proofs.Common.{◌≡◌, ap, sym, ◌∙◌}
-use Rattle.std.specs.Prelude.{Result, Ok, Err, OnOk, ◌||◌}
-use Rattle.task_table.specs.declared.task.Made.{Made}
+use Rattle.std.proofs.Common.{ap, ◌∙◌}
+use Rattle.std.specs.Prelude.{Result, Ok, Err, OnOk, ◌||◌, ◌&&◌}
 use Rattle.call_table.specs.Parked.{same_made}
+use Rattle.call_table.specs.declared.parked.Spot.{Spot}
 use Rattle.call_table.proofs.Settling.{settled_by}
 use Rattle.call_table.proofs.schedule.settle.Goals as goal
 
@@ -15,15 +15,15 @@ returns-then-made c =
     by_ok c.wake_all.result (λ woken before same moves but.
     settled_by c.args.task c.args.memory c.args.made.now before c.args.cells.now moves c.args.parking.now
     c.rest_asleep.new.parking c.look_at_child.new.parking c.wake_all.new.self but c.args.last same _
-    (ap (λ b. λ (m : Made). b || same_made m c.args.memory) c.if-made.true) woken
-    (c.look_at_child.ensures.parked ∙ c.rest_asleep.ensures.parked) c.rest_asleep.ensures.awake
-    c.in_ok-look_at_child.ensures.awake) c.wake_all.ensures.woken
+    (ap (λ b. λ (s : Spot). b || ((s.in_area && c.args.made.now.areas) || same_made s.memory c.args.memory))
+    c.if-made.true) woken (λ t. c.look_at_child.ensures.parked t ∙ c.rest_asleep.ensures.parked t)
+    c.rest_asleep.ensures.awake c.in_ok-look_at_child.ensures.awake) c.wake_all.ensures
 
 pub returns-else-made : goal.returns-else-made
 returns-else-made c =
     by_ok c.wake_in.result (λ woken before same moves but.
     settled_by c.args.task c.args.memory c.args.made.now before c.args.cells.now moves c.args.parking.now
     c.rest_asleep.new.parking c.look_at_child.new.parking c.wake_in.new.self but c.args.last same _
-    (ap (λ b. λ (m : Made). b || same_made m c.args.memory) c.if-made.false) woken
-    (c.look_at_child.ensures.parked ∙ c.rest_asleep.ensures.parked) c.rest_asleep.ensures.awake
-    c.in_ok-look_at_child.ensures.awake) c.wake_in.ensures
+    (ap (λ b. λ (s : Spot). b || ((s.in_area && c.args.made.now.areas) || same_made s.memory c.args.memory))
+    c.if-made.false) woken (λ t. c.look_at_child.ensures.parked t ∙ c.rest_asleep.ensures.parked t)
+    c.rest_asleep.ensures.awake c.in_ok-look_at_child.ensures.awake) c.wake_in.ensures

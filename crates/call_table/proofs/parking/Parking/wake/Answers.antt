@@ -3,7 +3,7 @@ use Rattle.std.specs.Prelude.{Result, Ok, Err, OnOk, OnErr}
 use Rattle.std.specs.Ordering.{nat_cmp}
 use Rattle.std.specs.FinMap as map
 use Rattle.call_table.specs.Parked.{AreNumbers}
-use Rattle.call_table.proofs.Parked.{numbers_more}
+use Rattle.call_table.proofs.ByMemory.{numbers_more}
 use Rattle.call_table.proofs.parking.Parking.wake.Goals as goal
 
 either : {A E V : Type 0} (r : Result A E) (before after : map.FinMap nat_cmp V) (k : ℕ) (v : V) → k < 2 ^ 32
@@ -12,7 +12,7 @@ either (Ok _) before after k v small numbers ok err = numbers_more before after 
 either {V = V} (Err _) before after k v small numbers ok err =
     let P : map.FinMap nat_cmp V → Type 0 = λ m. AreNumbers m in subst P (sym err) numbers
 
-pub invariant_of-self-clause-awake_numbers : goal.invariant_of-self-clause-awake_numbers
-invariant_of-self-clause-awake_numbers c =
+pub invariant_of-self-clause-numbers : goal.invariant_of-self-clause-numbers
+invariant_of-self-clause-numbers c =
     either c.insert.result c.args.self.now.awake c.insert.new.self c.from.result tt (omega arith)
-    c.args.self.now.awake_numbers c.insert.ensures.ok c.insert.ensures.err
+    c.args.self.now.numbers c.insert.ensures.ok c.insert.ensures.err

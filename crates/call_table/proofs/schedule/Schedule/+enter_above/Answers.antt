@@ -1,8 +1,7 @@
 -- Of those that may have a turn, the first above another whose step is ready makes an entry.
-use Rattle.std.proofs.Common.{◌≡◌, ◌≢◌, ℕ, ◌<◌, ◌≤◌, ◌⊎◌, inl, inr, arith, Bool, refl, ap, sym, subst, ◌∙◌, true, false}
-use Rattle.std.specs.Prelude.{nat_lt, find, Option, Some, None, IfSome, IfNone}
+use Rattle.std.proofs.Common.{◌≡◌, ◌≢◌, ℕ, ◌<◌, ◌≤◌, inl, inr, arith, Bool, refl, ap, sym, subst, ◌∙◌, true, false}
+use Rattle.std.specs.Prelude.{nat_lt, find, Some}
 use Rattle.std.proofs.lemmas.Bool.{ltb-true, ltb-false}
-use Rattle.kernel_model.specs.declared.entry.Entry.{Entry}
 use Rattle.kernel_model.specs.declared.kernel.Kernel.{Kernel}
 use Rattle.kernel_model.specs.entries.Ready.{is_ready, ready_numbers}
 use Rattle.kernel_model.specs.entries.Steps.{task_of}
@@ -11,7 +10,7 @@ use Rattle.proc_cells.specs.Beside.{Beside}
 use Rattle.proc_cells.specs.Cells.{AreKept, kernel_of}
 use Rattle.task_table.specs.Table.{is_live}
 use Rattle.call_table.specs.Entries.{ReadyIs}
-use Rattle.call_table.specs.Schedules.{IsNextAbove, MayNotTurn}
+use Rattle.call_table.specs.Schedules.{IsNextAbove}
 use Rattle.call_table.proofs.Kept.{kernel_kept}
 use Rattle.call_table.proofs.NextTurns.{first_ready, none_ready, ready_behind}
 use Rattle.call_table.proofs.Parkings.{not_ready}

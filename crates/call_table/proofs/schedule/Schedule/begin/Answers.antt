@@ -1,8 +1,9 @@
 -- Each live task is looked at that is not on the futex list, and none is parked.
-use Rattle.std.proofs.Common.{◌≡◌, ap, sym, subst, ◌∙◌}
-use Rattle.std.specs.Prelude.{is_some, ◌||◌}
+use Rattle.std.proofs.Common.{◌≡◌, ℕ, ap, ◌∙◌}
+use Rattle.std.specs.Prelude.{None, is_some, ◌||◌}
 use Rattle.std.specs.FinMap as map
 use Rattle.sn_base.proofs.Maps.{get_of_empty}
+use Rattle.call_table.specs.Parking.{parked_at}
 use Rattle.call_table.proofs.Parkings.{awake_off, off_awake}
 use Rattle.call_table.proofs.schedule.Schedule.begin.Goals as goal
 
@@ -14,12 +15,13 @@ look_at_live-requires c = record {
 pub returns-clause-parked : goal.returns-clause-parked
 returns-clause-parked c =
     let ok = c.in_ok-look_at_live.ensures in
-    let none = ok.parked ∙ c.new-parking.ensures.parked in
+    let none : (task : ℕ) → parked_at c.look_at_live.new.parking task ≡ None = λ task.
+    ok.parked task ∙ c.new-parking.ensures.parked task in
     record {
       awake = λ task among. off_awake c.args.cells.sleepers task (ok.off task among);
-      apart = λ task among. ap (λ m. map.get m task) none ∙ get_of_empty task;
-      parked = λ task memory is. absurd (cc (is, ap (λ m. map.get m task) none ∙ get_of_empty task));
+      apart = λ task among. none task;
+      parked = λ task spot is. absurd (cc (is, none task));
       covers = λ task live awake.
-          ap (λ b. b || is_some (map.get c.look_at_live.new.parking.parked task))
+          ap (λ b. b || is_some (parked_at c.look_at_live.new.parking task))
           (ok.live task live (awake_off c.args.cells.sleepers task awake));
     }

@@ -1,10 +1,9 @@
 -- The least of those that are looked at and of those that were woken.
-use Rattle.std.proofs.Common.{◌≡◌, ℕ, ◌<◌, Bool, true, false, cond, ap, sym, subst, ◌∙◌, arith}
-use Rattle.std.specs.Prelude.{Option, Some, None, is_some}
-use Rattle.std.specs.Ordering.{nat_cmp}
+use Rattle.std.proofs.Common.{◌≡◌, ℕ, true, false, cond, ap, subst, ◌∙◌, arith}
+use Rattle.std.specs.Prelude.{None, is_some}
 use Rattle.std.specs.FinMap as map
 use Rattle.sn_base.specs.MapKeys as keys
-use Rattle.futex_core.specs.FutexLists.{EachOnce, FutexList, is_asleep, is_woken}
+use Rattle.futex_core.specs.FutexLists.{EachOnce, FutexList, is_woken}
 use Rattle.futex_core.specs.Least as least
 use Rattle.futex_core.proofs.OnList.{woken_once}
 use Rattle.kernel_model.specs.entries.Waiting.{Asleep, Awake, Woken, wait_of}

@@ -1,7 +1,7 @@
 use Rattle.std.proofs.Common.{◌∙◌, ap}
 use Rattle.std.specs.FinMap as map
-use Rattle.call_table.proofs.Parked.{out_step}
-use Rattle.call_table.proofs.parking.take_out.Goals as goal
+use Rattle.call_table.proofs.ByMemory.{out_step}
+use Rattle.call_table.proofs.parked.take_out.Goals as goal
 
 pub loop-task-preserved : goal.loop-task-preserved
 loop-task-preserved c = λ task.

@@ -2,7 +2,7 @@ use Rattle.std.proofs.Common.{◌≡◌, ap, sym, ◌∙◌}
 use Rattle.std.specs.Prelude.{Result, Ok, Err, OnErr}
 use Rattle.kernel_model.specs.Names.{with_named}
 use Rattle.kernel_model.proofs.NamedMaps.{with_same}
-use Rattle.call_table.proofs.parking.enlist.Goals as goal
+use Rattle.call_table.proofs.parked.enlist.Goals as goal
 
 on_err : {A E P Q : Type 0} (r : Result A E) → (P → Q) → OnErr r P → OnErr r Q
 on_err (Ok _) f p = p

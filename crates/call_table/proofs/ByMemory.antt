@@ -1,4 +1,4 @@
--- Laws of tasks that are looked at, of tasks that are parked, and of the lists by memory.
+-- Laws of tasks that are parked with a memory, of those among them that are looked at again, and of the lists by memory.
 use Rattle.std.proofs.Common.{◌≡◌, ◌≢◌, ℕ, ◌<◌, ◌+◌, ◌^◌, ◌||◌, ◌⊎◌, Bool, true, false, cond, List, length, get_or}
 use Rattle.std.proofs.Common.{refl, ap, sym, ◌∙◌, subst, inl, inr, arith, take, drop}
 use Rattle.std.specs.Prelude.{Option, Some, None, is_some, unwrap_or}
@@ -16,7 +16,7 @@ use Rattle.task_table.specs.declared.task.Made.{Made}
 use Rattle.kernel_model.specs.Names.{NamedMap, get_named, without_named}
 use Rattle.kernel_model.proofs.NamedMaps.{same_or_other, one_name_or_two, get-no_names, get-with_same, get-with_other}
 use Rattle.kernel_model.proofs.NamedMaps.{get-without_same, get-without_other}
-use Rattle.call_table.specs.Parked.{AreLinked, AreNumbers, is_among, is_listed, is_parked, same_made, with_listed}
+use Rattle.call_table.specs.Parked.{AreFewer, AreLinked, AreNumbers, is_among, is_listed, is_parked, same_made, with_listed}
 
 -- whether a list that may be there has a task, and whether a memory that may be there passes a test
 abbrev has : {V : Type 0} → (task : ℕ) → (list : Option (map.FinMap nat_cmp V)) → Bool
@@ -81,6 +81,14 @@ numbers_left test before after numbers left task there =
       | inr stays ↦ numbers task (sym (ap is_some (left task
           ∙ ap (λ b. cond b None (map.get before task)) stays)) ∙ there)
     ]
+
+pub fewer_left : (test : ℕ → Bool) (before after : map.FinMap nat_cmp Made)
+    → ((task : ℕ) → map.get after task ≡ cond (test task) None (map.get before task)) → AreFewer before after
+fewer_left test before after left task gone = left task ∙ ap (cond (test task) None) gone ∙ by (test task)
+  where
+    by : (b : Bool) → cond {A = Option Made} b None None ≡ None
+    by true = refl
+    by false = refl
 
 -- ---- one task after another
 

@@ -1,7 +1,7 @@
 use Rattle.std.proofs.Common.{◌≡◌, ◌||◌, ℕ, take}
 use Rattle.std.specs.FinMap as map
 use Rattle.call_table.specs.Parked.{is_among}
-use Rattle.call_table.proofs.parking.look_at.Given as goal
+use Rattle.call_table.proofs.parked.look_at.Given as goal
 
 abbrev pub invariant-loop-task : goal.invariant-loop-task
 invariant-loop-task l = (task : ℕ) → map.contains_key l.awake task

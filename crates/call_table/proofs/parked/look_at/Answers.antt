@@ -1,8 +1,8 @@
 use Rattle.std.proofs.Common.{◌∙◌, ap, ◌||◌}
 use Rattle.std.proofs.Math.Bool.{or-false}
 use Rattle.std.specs.FinMap as map
-use Rattle.call_table.proofs.Parked.{added_step, none_of_first}
-use Rattle.call_table.proofs.parking.look_at.Goals as goal
+use Rattle.call_table.proofs.ByMemory.{added_step, none_of_first}
+use Rattle.call_table.proofs.parked.look_at.Goals as goal
 
 pub returns-in_err-insert-clause-others : goal.returns-in_err-insert-clause-others
 returns-in_err-insert-clause-others c = λ task none.
