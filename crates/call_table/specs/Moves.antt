@@ -25,6 +25,17 @@ changes_list (SetsClear task address) = true
 changes_list (Wakes key most) = false
 changes_list (Reaps which) = true
 
+-- whether a call that replies may have changed a shared area, by what it is to do: what takes bytes has only read them
+-- write(2)
+abbrev pub may_store : Effect → Bool
+may_store Nothing = true
+may_store (TakesBytes bytes) = false
+may_store (EndsGroup ending) = true
+may_store (EndsTask task ending) = true
+may_store (SetsClear task address) = true
+may_store (Wakes key most) = true
+may_store (Reaps which) = true
+
 -- whether an entry puts its task to sleep
 -- futex(2), FUTEX_WAIT
 abbrev pub puts_to_sleep : Entry → Bool

@@ -1,6 +1,6 @@
 //! What becomes of the call that a task stands at: it replies, makes a child, or puts the task to sleep; and ends.
 
-ghost use Rattle.std.specs.Prelude.{◌≡◌, ℕ, ◌+◌, [], true, IsTrue, IfOk, OnErr, pos};
+ghost use Rattle.std.specs.Prelude.{◌≡◌, ℕ, ◌+◌, [], IsTrue, IfOk, OnErr, pos};
 ghost use Rattle.std.specs.FinMap as map;
 ghost use Rattle.std.specs.Ordering.{nat_cmp};
 ghost use Rattle.futex_core.specs.FutexLists.{after_sleep};
@@ -16,7 +16,7 @@ ghost use Rattle.kernel_model.specs.entries.Parts.{changed, parts};
 ghost use Rattle.kernel_calls.specs.Children.{with_child};
 ghost use Rattle.kernel_calls.specs.Prepared.{EndsEach, EndsLive, EndsOnly, MayLack, changes_of};
 ghost use Rattle.proc_cells.specs.Cells.{AreKept, IsAwake};
-ghost use Rattle.call_table.specs.Moves.{Moves, changes_list};
+ghost use Rattle.call_table.specs.Moves.{Moves, changes_list, may_store};
 ghost use Rattle.task_table.specs.declared.task.Made.{Made as AMade};
 
 use crate::entered::Entered;
@@ -62,8 +62,8 @@ pub(crate) fn go_on(cells: &mut Cells, task: u32, registers: Regs, value: i64)
     cells.registers.replace(u64::from(task), after);
 }
 
-/// Does what a call comes to that replies, and lets its task go on. Such a call may have stored into a shared area, so
-/// that is told. An `Err` changes nothing.
+/// Does what a call comes to that replies, and lets its task go on. It tells too whether the call may have stored into a
+/// shared area, which was done before. An `Err` changes nothing.
 pub(crate) fn finish(
     alloc: Global,
     cells: &mut Cells,
@@ -83,7 +83,7 @@ pub(crate) fn finish(
         (record { fresh = []; rises = [] }) prepared.reply) }
     ensures moves { IfOk result (λ made.
         Moves context.now.task context.now.memory made cells.old cells.new) }
-    ensures told { IfOk result (λ made. made.areas ≡ true) }
+    ensures told { IfOk result (λ made. made.areas ≡ may_store prepared.effect) }
     ensures registers { IfOk result (λ _. cells.new.registers
         ≡ map.insert cells.old.registers context.now.task (replied registers prepared.reply)) }
     ensures spaces { cells.new.spaces ≡ cells.old.spaces }
@@ -96,6 +96,7 @@ pub(crate) fn finish(
         effect,
     } = prepared;
     let tasks = changes_list(&effect);
+    let areas = may_store(&effect);
     commit(
         alloc,
         effect,
@@ -109,7 +110,7 @@ pub(crate) fn finish(
     Ok(Entered {
         entry,
         tasks,
-        areas: true,
+        areas,
     })
 }
 
@@ -125,6 +126,21 @@ fn changes_list(effect: &Effect) -> bool
         Effect::SetsClear { .. } => true,
         Effect::Wakes { .. } => false,
         Effect::Reaps { .. } => true,
+    }
+}
+
+/// Whether a call with this effect may have changed a shared area.
+fn may_store(effect: &Effect) -> bool
+    ensures { result ≡ may_store effect.now }
+{
+    match effect {
+        Effect::TakesBytes(_) => false,
+        Effect::Nothing
+        | Effect::EndsGroup(_)
+        | Effect::EndsTask { .. }
+        | Effect::SetsClear { .. }
+        | Effect::Wakes { .. }
+        | Effect::Reaps { .. } => true,
     }
 }
 

@@ -18,7 +18,7 @@ use Rattle.proc_cells.specs.Cells.{held_by, kernel_of, caller_with}
 use Rattle.proc_cells.proofs.Homes.{home_reached}
 use Rattle.call_table.specs.Entries.{ReadyIs}
 use Rattle.call_table.proofs.Kept.{part_none}
-use Rattle.call_table.proofs.Moves.{moves_behind, others_stay}
+use Rattle.call_table.proofs.Moves.{moves_behind, others_stay, takes_bytes}
 use Rattle.call_table.proofs.Parks.{parks_of}
 use Rattle.call_table.proofs.Results.{err_by}
 use Rattle.call_table.proofs.Steps.{at_registers, calling_here, effect_alike, has_entry, own_space, ready_called}
@@ -278,7 +278,8 @@ pub returns-in_ok-finish-in-Replies-clause-moves : goal.returns-in_ok-finish-in-
 returns-in_ok-finish-in-Replies-clause-moves c =
     moves_behind c.args.context.now.task c.args.standing.memory c.args.context.now.memory _ c.args.cells.now _ _
     c.in_ok-finish-in-Replies.ensures.moves c.requires.known.memory refl refl
-    (λ e. absurd (cc (e, c.in_ok-finish-in-Replies.ensures.told))) (record {
+    (λ e. (c.in_ok-called.ensures.apart (subst IsApart (sym c.in-Replies.is) (takes_bytes c.in-Replies.prepared.effect
+    (sym c.in_ok-finish-in-Replies.ensures.told ∙ e)))).1) (record {
       registers = λ other apart. refl;
       spaces = λ name apart.
           others_stay c.args.cells.now.spaces _ c.args.standing.memory name c.call.new.space refl apart;
