@@ -1,15 +1,13 @@
 -- Laws of where tasks are parked: with their own memory alone, or in a shared area.
-use Rattle.std.proofs.Common.{◌≡◌, ◌≢◌, ◌⊎◌, inl, inr, ℕ, ◌||◌, Bool, true, false, refl, ap, sym, ◌∙◌}
-use Rattle.std.proofs.Math.Bool.{or-false}
-use Rattle.std.specs.Prelude.{Option, Some, None, is_some, ◌&&◌, if◌then◌else◌}
-use Rattle.std.specs.Option.{option_map_or}
+use Rattle.std.proofs.Common.{◌≡◌, ◌≢◌, ◌⊎◌, inl, inr, ℕ, true, false, refl, ap, sym, ◌∙◌}
+use Rattle.std.specs.Prelude.{Option, Some, None, is_some, ◌&&◌}
 use Rattle.std.specs.Ordering.{nat_cmp}
 use Rattle.std.specs.FinMap as map
 use Rattle.sn_base.proofs.Maps.{get_of_empty, get-insert_same, get-insert_other}
 use Rattle.task_table.specs.declared.task.Made.{Made}
 use Rattle.kernel_model.proofs.NamedMaps.{same_or_other}
-use Rattle.call_table.specs.Parked.{AreApart, AreFewer, HaveWoken, is_parked}
-use Rattle.call_table.specs.Parking.{AreWoken, IsParkedAt, parked_at, spot_of}
+use Rattle.call_table.specs.Parked.{AreApart}
+use Rattle.call_table.specs.Parking.{IsParkedAt, parked_at, spot_of}
 use Rattle.call_table.specs.declared.parked.Spot.{Spot}
 use Rattle.call_table.specs.declared.parking.Parking.{Parking}
 
@@ -38,15 +36,6 @@ apart_by (Some m) (Some n) (inr e) = absurd (cc e)
 pub apart_none : (a b : map.FinMap nat_cmp Made) → a ≡ map.empty → AreApart a b
 apart_none a b empty task =
     apart_by (map.get a task) (map.get b task) (inl (ap (λ m. map.get m task) empty ∙ get_of_empty task))
-
-pub apart_fewer : (a b a' b' : map.FinMap nat_cmp Made) → AreApart a b → AreFewer a a' → AreFewer b b'
-    → AreApart a' b'
-apart_fewer a b a' b' apart fewer fewer' task = by (one_gone (map.get a task) (map.get b task) (apart task))
-  where
-    by : (map.get a task ≡ None) ⊎ (map.get b task ≡ None)
-        → (map.contains_key a' task && map.contains_key b' task) ≡ false
-    by (inl gone) = apart_by (map.get a' task) (map.get b' task) (inl (fewer task gone))
-    by (inr gone) = apart_by (map.get a' task) (map.get b' task) (inr (fewer' task gone))
 
 pub apart_back : (a b : map.FinMap nat_cmp Made) → AreApart a b → AreApart b a
 apart_back a b apart task = by (one_gone (map.get a task) (map.get b task) (apart task))
@@ -101,60 +90,3 @@ module _ (p q : Parking) (task : ℕ) (spot : Spot) (free : parked_at p task ≡
         ∙ ap (spot_of (map.get p.alone.tasks other))
         (ap (λ m. map.get m other) more ∙ get-insert_other p.in_areas.tasks task other spot.memory apart);
   }
-
--- ---- some are looked at again
-
-module _ (f g : Made → Bool) (h : Spot → Bool) (alone : (m : Made) → h (record { memory = m; in_area = false }) ≡ f m)
-    (in_area : (m : Made) → h (record { memory = m; in_area = true }) ≡ g m) where
-  spot_left : (a b : Option Made) → (a ≡ None) ⊎ (b ≡ None)
-      → spot_of (if option_map_or f a false then None else a) (if option_map_or g b false then None else b)
-      ≡ (if option_map_or h (spot_of a b) false then None else spot_of a b)
-  spot_left None None apart = refl
-  spot_left None (Some m) apart = by (g m) ∙ ap (λ b. if b then None else Some spot) (sym (in_area m))
-    where
-      spot : Spot
-      spot = record { memory = m; in_area = true }
-
-      by : (b : Bool) → spot_of None (if b then None else Some m) ≡ (if b then None else Some spot)
-      by true = refl
-      by false = refl
-  spot_left (Some m) None apart = by (f m) ∙ ap (λ b. if b then None else Some spot) (sym (alone m))
-    where
-      spot : Spot
-      spot = record { memory = m; in_area = false }
-
-      by : (b : Bool) → spot_of (if b then None else Some m) None ≡ (if b then None else Some spot)
-      by true = refl
-      by false = refl
-  spot_left (Some m) (Some n) (inl e) = absurd (cc e)
-  spot_left (Some m) (Some n) (inr e) = absurd (cc e)
-
-  spot_passes : (a b : Option Made) → (a ≡ None) ⊎ (b ≡ None) → (w : Bool)
-      → ((w || option_map_or f a false) || option_map_or g b false) ≡ (w || option_map_or h (spot_of a b) false)
-  spot_passes None None apart true = refl
-  spot_passes None None apart false = refl
-  spot_passes None (Some m) apart true = refl
-  spot_passes None (Some m) apart false = sym (in_area m)
-  spot_passes (Some m) None apart true = refl
-  spot_passes (Some m) None apart false = or-false (f m) ∙ sym (alone m)
-  spot_passes (Some m) (Some n) (inl e) w = absurd (cc e)
-  spot_passes (Some m) (Some n) (inr e) w = absurd (cc e)
-
-  -- those of both ways, one after another
-  pub both_woken : (p q : Parking) (between : map.FinMap nat_cmp (Unit {0}))
-      → HaveWoken f p.alone.tasks q.alone.tasks p.awake between
-      → HaveWoken g p.in_areas.tasks q.in_areas.tasks between q.awake → AreWoken h p q
-  both_woken p q between first second = record {
-    parked = λ task.
-        ap (λ o. spot_of o (map.get q.in_areas.tasks task)) (first.parked task)
-        ∙ ap (spot_of (if is_parked f p.alone.tasks task then None else map.get p.alone.tasks task))
-        (second.parked task)
-        ∙ spot_left (map.get p.alone.tasks task) (map.get p.in_areas.tasks task) (way task);
-    looked_at = λ task.
-        second.looked_at task ∙ ap (λ b. b || is_parked g p.in_areas.tasks task) (first.looked_at task)
-        ∙ spot_passes (map.get p.alone.tasks task) (map.get p.in_areas.tasks task) (way task)
-        (map.contains_key p.awake task);
-  }
-    where
-      way : (task : ℕ) → (map.get p.alone.tasks task ≡ None) ⊎ (map.get p.in_areas.tasks task ≡ None)
-      way task = one_gone (map.get p.alone.tasks task) (map.get p.in_areas.tasks task) (p.apart task)

@@ -1,3 +1,4 @@
+-- A list that lacked memory is as it was.
 use Rattle.std.proofs.Common.{◌≡◌, ap, sym, ◌∙◌}
 use Rattle.std.specs.Prelude.{Result, Ok, Err, OnErr}
 use Rattle.kernel_model.specs.Names.{with_named}

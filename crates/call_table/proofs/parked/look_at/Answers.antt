@@ -1,3 +1,4 @@
+-- One task after another is looked at.
 use Rattle.std.proofs.Common.{◌∙◌, ap, ◌||◌}
 use Rattle.std.proofs.Math.Bool.{or-false}
 use Rattle.std.specs.FinMap as map

@@ -1,3 +1,4 @@
+-- So far the first of the tasks are looked at.
 use Rattle.std.proofs.Common.{◌≡◌, ◌||◌, ℕ, take}
 use Rattle.std.specs.FinMap as map
 use Rattle.call_table.specs.Parked.{is_among}

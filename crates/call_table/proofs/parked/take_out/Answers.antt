@@ -1,3 +1,4 @@
+-- One task after another is taken out.
 use Rattle.std.proofs.Common.{◌∙◌, ap}
 use Rattle.std.specs.FinMap as map
 use Rattle.call_table.proofs.ByMemory.{out_step}

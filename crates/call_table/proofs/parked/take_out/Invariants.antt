@@ -1,3 +1,4 @@
+-- So far the first of the tasks are out.
 use Rattle.std.proofs.Common.{◌≡◌, ℕ, take, cond}
 use Rattle.std.specs.Prelude.{None}
 use Rattle.std.specs.FinMap as map

@@ -1,3 +1,4 @@
+-- Where none is parked, none is listed.
 use Rattle.call_table.proofs.ByMemory.{linked_none, numbers_of_none}
 use Rattle.call_table.proofs.parked.Parked.new.Goals as goal
 

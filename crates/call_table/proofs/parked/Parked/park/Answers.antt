@@ -1,3 +1,4 @@
+-- A task that is parked is listed with its memory, or neither.
 use Rattle.std.proofs.Common.{◌≡◌, ◌∙◌, ℕ, ap, sym, subst, arith}
 use Rattle.std.specs.Prelude.{None}
 use Rattle.std.specs.Ordering.{nat_cmp}

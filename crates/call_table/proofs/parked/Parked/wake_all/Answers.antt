@@ -1,3 +1,4 @@
+-- Those that are parked are looked at, and none is parked any more.
 use Rattle.std.proofs.Common.{◌∙◌, true, ap}
 use Rattle.std.specs.FinMap as map
 use Rattle.sn_base.proofs.Maps.{get_of_empty}

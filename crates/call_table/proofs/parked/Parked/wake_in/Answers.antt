@@ -1,3 +1,4 @@
+-- Those that are listed with a memory are looked at, and parked no more.
 use Rattle.std.proofs.Common.{◌∙◌, ◌||◌, ap, sym, cond}
 use Rattle.std.proofs.Math.Bool.{or-false}
 use Rattle.std.specs.Prelude.{None}

@@ -1,3 +1,4 @@
+-- None is parked in either way.
 use Rattle.std.proofs.Common.{◌∙◌, ap}
 use Rattle.std.specs.Prelude.{None}
 use Rattle.std.specs.FinMap as map

@@ -1,3 +1,4 @@
+-- One number less.
 use Rattle.call_table.proofs.ByMemory.{numbers_less}
 use Rattle.call_table.proofs.parking.Parking.rest.Goals as goal
 
