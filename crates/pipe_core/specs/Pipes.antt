@@ -1,7 +1,9 @@
 -- A pipe: its bytes and its ends, when a read or a write waits, and the pipe after each.
 use Rattle.std.specs.Prelude.{◌≡◌, ℕ, ◌-◌, ◌<◌, nat_le, if◌then◌else◌, List, [], ◌++◌, length, drop}
+use Rattle.pipe_core.specs.declared.pipe.TheConstants.{ATOMIC}
 use Rattle.pipe_core.specs.declared.pipe.PipeWrite.{PipeWrite}
 use Rattle.pipe_core.specs.declared.pipe.PipeWrite.TheVariants.{Put, Wait, Broken}
+use Rattle.pipe_core.specs.declared.ring.TheConstants.{CAPACITY}
 
 -- the bytes that were written and not yet read, oldest first, and how many read and write ends are open
 -- pipe(7), I/O on pipes and FIFOs
@@ -16,14 +18,14 @@ abbrev pub new_pipe : PipeState
 new_pipe = record { bytes = []; readers = 1; writers = 1 }
 
 -- how many bytes the pipe takes until it is full
--- pipe(7), Pipe capacity: 65,536 bytes
+-- pipe(7), Pipe capacity
 abbrev pub room_in : PipeState → ℕ
-room_in pipe = 65536 - length pipe.bytes
+room_in pipe = CAPACITY - length pipe.bytes
 
 -- the room without which a write of so many bytes waits: for all of up to PIPE_BUF, and for one byte of more
--- pipe(7), PIPE_BUF: 4,096 bytes; that a longer write puts what fits now: profile
+-- pipe(7), PIPE_BUF; that a longer write puts what fits now: profile
 abbrev pub room_wanted : (count : ℕ) → ℕ
-room_wanted count = if nat_le count 4096 then count else 1
+room_wanted count = if nat_le count ATOMIC then count else 1
 
 -- a read of so many bytes waits: it wants some, none are there, and some write end could bring them
 -- pipe(7), I/O on pipes and FIFOs; read(2), DESCRIPTION: a count of zero

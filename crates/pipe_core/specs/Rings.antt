@@ -1,5 +1,6 @@
 -- The bytes of a ring: slots of which some are in use, from one on, and past the last slot from the first on.
 use Rattle.std.specs.Prelude.{ℕ, ◌+◌, ◌%◌, List, ◌++◌, take, drop, slice_index}
+use Rattle.pipe_core.specs.declared.ring.TheConstants.{CAPACITY}
 
 -- the slots in the order in which they are gone round from one of them on
 -- profile
@@ -14,4 +15,4 @@ bytes_from start count slots = take count (slots_from start slots)
 -- the byte so many slots on from one, going round
 -- profile
 abbrev pub byte_at : (start i : ℕ) → List ℕ → ℕ
-byte_at start i slots = slice_index slots ((start + i) % 65536)
+byte_at start i slots = slice_index slots ((start + i) % CAPACITY)

@@ -24,4 +24,5 @@
 mod pipe;
 mod ring;
 
-pub use pipe::{Pipe, PipeRead, PipeWrite};
+pub use pipe::{ATOMIC, Pipe, PipeRead, PipeWrite};
+pub use ring::CAPACITY;

@@ -9,7 +9,7 @@ use std::alloc::Global;
 use std::marker::Model;
 
 /// How many bytes a write puts all at once or not at all: PIPE_BUF.
-const ATOMIC: usize = 4_096;
+pub const ATOMIC: usize = 4_096;
 
 /// What a read of a pipe did.
 #[derive(Clone, Copy, Debug, PartialEq, Eq)]
@@ -81,7 +81,7 @@ impl Pipe {
         ensures broken { (result ≡ PipeWrite.Broken) ↔ (self.old.readers ≡ 0) }
         ensures wait { (result ≡ PipeWrite.Wait) ↔ WriteWaits self.old (length bytes.now) }
         ensures put { (n : ℕ) → result ≡ PipeWrite.Put n → n ≡ min (length bytes.now) (room_in self.old) }
-        ensures atomic { length bytes.now ≤ 4096 → (n : ℕ) → result ≡ PipeWrite.Put n → n ≡ length bytes.now }
+        ensures atomic { length bytes.now ≤ ATOMIC → (n : ℕ) → result ≡ PipeWrite.Put n → n ≡ length bytes.now }
         ensures after { self.new ≡ after_write self.old (take (put_by result) bytes.now) }
         ensures unchanged { put_by result ≡ 0 → self.new ≡ self.old }
     {
@@ -105,7 +105,7 @@ impl Pipe {
     /// How many bytes are in the pipe.
     pub fn len(&self) -> usize
         ensures len { result ≡ length self.now.bytes }
-        ensures within { length self.now.bytes ≤ 65536 }
+        ensures within { length self.now.bytes ≤ CAPACITY }
     {
         self.ring.len()
     }

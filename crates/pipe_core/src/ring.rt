@@ -7,8 +7,8 @@ use sn_base::Memory;
 use std::alloc::Global;
 use std::marker::Model;
 
-/// How many bytes a ring has room for.
-pub(crate) const CAPACITY: usize = 65_536;
+/// How many bytes a pipe has room for: pipe(7), Pipe capacity.
+pub const CAPACITY: usize = 65_536;
 
 /// A queue of at most 65,536 bytes. Contracts see them in order, oldest first.
 #[derive(Debug, Drop)]
@@ -22,12 +22,13 @@ pub(crate) struct Ring {
 impl Model for Ring {
     ghost use Rattle.std.specs.Prelude.{ℕ, ◌≡◌, ◌<◌, ◌≤◌, List, length};
     ghost use Rattle.pipe_core.specs.Rings.{bytes_from};
+    ghost use Rattle.pipe_core.specs.declared.ring.TheConstants.{CAPACITY};
 
     ghost Value = { List ℕ };
 
     ghost view = { λ a. bytes_from a.start a.len a.slots.items };
 
-    ghost invariant = { λ a. (length a.slots.items ≡ 65536) × (a.start < 65536) × (a.len ≤ 65536) };
+    ghost invariant = { λ a. (length a.slots.items ≡ CAPACITY) × (a.start < CAPACITY) × (a.len ≤ CAPACITY) };
 }
 
 impl Ring {
@@ -46,7 +47,7 @@ impl Ring {
     /// How many bytes are in it.
     pub(crate) fn len(&self) -> usize
         ensures len { result ≡ length self.now }
-        ensures within { length self.now ≤ 65536 }
+        ensures within { length self.now ≤ CAPACITY }
     {
         self.len
     }
@@ -64,7 +65,7 @@ impl Ring {
 
     /// Puts bytes behind the others.
     pub(crate) fn append(&mut self, bytes: &[u8])
-        requires { length self.old + length bytes.now ≤ 65536 }
+        requires { length self.old + length bytes.now ≤ CAPACITY }
         ensures { self.new ≡ self.old ++ bytes.now }
     {
         let end = (self.start + self.len) % CAPACITY;
@@ -75,9 +76,9 @@ impl Ring {
 
 /// Copies the bytes from a slot on, going round.
 fn copy_out(slots: &[u8], start: usize, to: &mut [u8])
-    requires slots { length slots.now ≡ 65536 }
-    requires start { start < 65536 }
-    requires within { length to.old ≤ 65536 }
+    requires slots { length slots.now ≡ CAPACITY }
+    requires start { start < CAPACITY }
+    requires within { length to.old ≤ CAPACITY }
     ensures { to.new ≡ bytes_from start (length to.old) slots.now }
 {
     let len = to.len();
@@ -88,12 +89,13 @@ fn copy_out(slots: &[u8], start: usize, to: &mut [u8])
 
 /// Copies bytes into the slots from one on, going round.
 fn copy_in(slots: &mut [u8], start: usize, bytes: &[u8])
-    requires slots { length slots.old ≡ 65536 }
-    requires start { start < 65536 }
-    requires within { length bytes.now ≤ 65536 }
-    ensures len { length slots.new ≡ 65536 }
+    requires slots { length slots.old ≡ CAPACITY }
+    requires start { start < CAPACITY }
+    requires within { length bytes.now ≤ CAPACITY }
+    ensures len { length slots.new ≡ CAPACITY }
     ensures put { (i : ℕ) → i < length bytes.now → byte_at start i slots.new ≡ slice_index bytes.now i }
-    ensures kept { (i : ℕ) → length bytes.now ≤ i → i < 65536 → byte_at start i slots.new ≡ byte_at start i slots.old }
+    ensures kept { (i : ℕ) → length bytes.now ≤ i → i < CAPACITY →
+        byte_at start i slots.new ≡ byte_at start i slots.old }
 {
     let first = bytes.len().min(CAPACITY - start);
     slots[start..start + first].copy_from_slice(&bytes[..first]);
