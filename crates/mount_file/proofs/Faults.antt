@@ -11,6 +11,7 @@ use Rattle.mount_file.specs.Rules.{has_root, has_clash, has_too_many}
 use Rattle.mount_file.specs.MountFile.{ruled, document_read, IsDocument, IsMountFile, IsFaultyDocument, IsNoDocument}
 use Rattle.mount_file.specs.MountFile.{IsNoText, IsFaultOf}
 use Rattle.mount_file.specs.Read.{Reads}
+use Rattle.mount_file.specs.declared.read.TheConstants.{LONGEST_MOUNT_FILE}
 use Rattle.mount_file.specs.declared.mounts.Mounts.{Mounts}
 use Rattle.mount_file.specs.declared.mounts.MountFault.{MountFault}
 use Rattle.mount_file.specs.declared.mounts.MountFault.TheVariants.{Long, Utf8, Toml, Field, Range, NoRoot, Twice}
@@ -62,7 +63,7 @@ faulty_told bytes TooMany faulty = faulty
 
 -- the four kinds of fault
 abbrev Kind : List ℕ → MountFault → Type 0
-Kind bytes f = ((f ≡ Long) × (65536 < length bytes))
+Kind bytes f = ((f ≡ Long) × (LONGEST_MOUNT_FILE < length bytes))
     ⊎ (((f ≡ Utf8) × IsNoText bytes) ⊎ (((f ≡ Toml) × IsNoDocument bytes) ⊎ IsFaultyDocument bytes f))
 
 kind_of : (bytes : List ℕ) (f : MountFault) → IsFaultOf bytes f → Kind bytes f

@@ -1,5 +1,5 @@
--- A mount file that is read has a mount at `/`, as many mounts as may be, no two of which clash, and at most 64 tasks,
--- each with a path of `/` and a name.
+-- A mount file that is read has a mount at `/`, as many mounts as may be, no two of which clash, and no more tasks than
+-- may be, each with a path of `/` and a name.
 use Rattle.std.proofs.Common.{◌≡◌, ℕ, ℤ, pos, negsuc, ◌≤◌, nat_le, List, [], ◌∷◌, length, Bool, true}
 use Rattle.std.proofs.Common.{false, ◌&&◌, ◌==◌, not, Option, Some, None, option_map, option_and_then, is_none}
 use Rattle.std.proofs.Common.{inl, inr, Result, Ok, Err, IfOk, refl, ap, sym, subst, ◌∙◌, arith}
@@ -15,13 +15,15 @@ use Rattle.mount_file.specs.Form.{HasForm, IsNamed, AreNamed}
 use Rattle.mount_file.specs.Keys.{has_keys}
 use Rattle.mount_file.specs.MountFile.{ruled, document_read, IsMountFile}
 use Rattle.mount_file.specs.Read.{Reads}
-use Rattle.mount_file.specs.Rules.{has_root, has_clash, has_too_many, most_mounts, most_tasks, rule_broken}
+use Rattle.mount_file.specs.Rules.{has_root, has_clash, has_too_many, most_mounts, rule_broken}
 use Rattle.mount_file.specs.Tables.{each_in, some_tasks, texts_at, mount_in, task_in, mounts_in}
 use Rattle.mount_file.specs.Values.{entries_in, seed_in, hex_bytes, path_in, is_name}
 use Rattle.mount_file.specs.declared.mounts.MountFault.{MountFault}
 use Rattle.mount_file.specs.declared.mounts.MountFault.TheVariants.{Field, Range, NoRoot, Twice, TooMany}
 use Rattle.mount_file.specs.declared.mounts.Mounts.{Mounts}
 use Rattle.mount_file.specs.declared.mounts.Program.{Program}
+use Rattle.mount_file.specs.declared.rules.TheConstants.{MOST_TASKS}
+use Rattle.mount_file.specs.declared.values.TheConstants.{MOST_ENTRIES}
 use Rattle.mount_file.proofs.Hex.{hex_bytes_length}
 
 -- the value of a choice that may be none
@@ -35,12 +37,12 @@ mapped : {A B P : Type 0} (f : A → B) (o : Option A) (y : B) → option_map f 
 mapped f None y is next = cc
 mapped f (Some x) y is next = next x refl (same_Some _ _ is)
 
-entries_few : (z : ℤ) (n : ℕ) → entries_in z ≡ Some n → (1 ≤ n) × (n ≤ 1048576)
+entries_few : (z : ℤ) (n : ℕ) → entries_in z ≡ Some n → (1 ≤ n) × (n ≤ MOST_ENTRIES)
 entries_few (negsuc k) n is = cc
 entries_few (pos k) n is =
-    let (tests, same) = chosen (nat_le 1 k && nat_le k 1048576) (Some k) n is in
-    let (low, high) = and_parts (nat_le 1 k) (nat_le k 1048576) tests in
-    rw (← same_Some _ _ same) (leb-true 1 k low, leb-true k 1048576 high)
+    let (tests, same) = chosen (nat_le 1 k && nat_le k MOST_ENTRIES) (Some k) n is in
+    let (low, high) = and_parts (nat_le 1 k) (nat_le k MOST_ENTRIES) tests in
+    rw (← same_Some _ _ same) (leb-true 1 k low, leb-true k MOST_ENTRIES high)
 
 seed_long : (digits bytes : List ℕ) → seed_in digits ≡ Some bytes → length bytes ≡ 32
 seed_long digits bytes is =
@@ -85,7 +87,7 @@ some_long (t ∷ ts) us is = let same : (t ∷ ts) ≡ us = same_Some _ _ is in 
 
 -- what a document says, part by part
 record Parts (m : Mounts) : Type 0 where
-  pub entries : (1 ≤ m.entries) × (m.entries ≤ 1048576)
+  pub entries : (1 ≤ m.entries) × (m.entries ≤ MOST_ENTRIES)
   pub seed : length m.seed ≡ 32
   pub some : 1 ≤ length m.tasks
   pub named : AreNamed m.tasks
@@ -136,7 +138,7 @@ unbroken true true many is = cc
 unbroken true false true is = cc
 unbroken true false false is = (refl, refl, refl)
 
-few : (m : Mounts) → has_too_many m ≡ false → (length m.mounts ≤ most_mounts) × (length m.tasks ≤ most_tasks)
+few : (m : Mounts) → has_too_many m ≡ false → (length m.mounts ≤ most_mounts) × (length m.tasks ≤ MOST_TASKS)
 few m is = grind (arith, nat_tests)
 
 form_in : (d : Members) (m : Mounts) → document_read d ≡ Ok m → HasForm m

@@ -10,6 +10,7 @@ use Rattle.mount_file.specs.Rules.{rule_broken}
 use Rattle.mount_file.specs.declared.mounts.Mounts.{Mounts}
 use Rattle.mount_file.specs.declared.mounts.MountFault.{MountFault}
 use Rattle.mount_file.specs.declared.mounts.MountFault.TheVariants.{Long, Utf8, Toml, Field, Range, Memory}
+use Rattle.mount_file.specs.declared.read.TheConstants.{LONGEST_MOUNT_FILE}
 
 -- mounts that break no rule, or the rule that they break first
 -- profile
@@ -21,10 +22,10 @@ ruled mounts = option_map_or Err (rule_broken mounts) (Ok mounts)
 abbrev pub document_read : Members → Result Mounts MountFault
 document_read document = if has_keys document then option_map_or ruled (mounts_in document) (Err Range) else Err Field
 
--- the bytes are a document: UTF-8 of at most 65,536 bytes, and TOML
+-- the bytes are a document: UTF-8, no longer than a mount file may be, and TOML
 -- TOML 1.1; the length: profile
 pub record IsDocument (bytes : List ℕ) (document : Members) : Type 0 where
-  pub short : length bytes ≤ 65536
+  pub short : length bytes ≤ LONGEST_MOUNT_FILE
   pub text : IsUtf8 bytes
   pub parsed : parse_document bytes ≡ Some document
 
@@ -45,20 +46,20 @@ pub record IsFaultyDocument (bytes : List ℕ) (fault : MountFault) : Type 0 whe
 -- the bytes are no TOML, but text
 -- TOML 1.1, Spec
 pub record IsNoDocument (bytes : List ℕ) : Type 0 where
-  pub short : length bytes ≤ 65536
+  pub short : length bytes ≤ LONGEST_MOUNT_FILE
   pub text : IsUtf8 bytes
   pub refused : parse_document bytes ≡ None
 
 -- the bytes are no text
 -- TOML 1.1, Spec: a file is UTF-8
 pub record IsNoText (bytes : List ℕ) : Type 0 where
-  pub short : length bytes ≤ 65536
+  pub short : length bytes ≤ LONGEST_MOUNT_FILE
   pub refused : ¬ IsUtf8 bytes
 
 -- this is the first fault of bytes that are no mount file; want of memory is none
 -- order of the faults: profile
 abbrev pub IsFaultOf : List ℕ → MountFault → Type 0
-IsFaultOf bytes Long = 65536 < length bytes
+IsFaultOf bytes Long = LONGEST_MOUNT_FILE < length bytes
 IsFaultOf bytes Utf8 = IsNoText bytes
 IsFaultOf bytes Toml = IsNoDocument bytes
 IsFaultOf bytes Memory = ⊥

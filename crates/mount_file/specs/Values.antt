@@ -6,11 +6,12 @@ use Rattle.std.specs.List.{list_all, slice_split}
 use Rattle.toml.specs.Data.{Data, string, Items, no_items, item}
 use Rattle.sn_text.specs.Names.{name_fault_of, has_byte}
 use Rattle.sn_text.specs.Folders.{FolderPath}
+use Rattle.mount_file.specs.declared.values.TheConstants.{MOST_ENTRIES}
 
--- how many entries a run may have: 1 to 1,048,576
+-- how many entries a run may have: from 1 on
 -- profile
 abbrev pub entries_in : ℤ → Option ℕ
-entries_in (pos n) = if nat_le 1 n && nat_le n 1048576 then Some n else None
+entries_in (pos n) = if nat_le 1 n && nat_le n MOST_ENTRIES then Some n else None
 entries_in (negsuc n) = None
 
 -- the value of a hexadecimal digit

@@ -26,4 +26,6 @@ mod tests;
 mod values;
 
 pub use mounts::{Mount, MountFault, Mounts, Program, copied_mounts};
-pub use read::read_mounts;
+pub use read::{LONGEST_MOUNT_FILE, read_mounts};
+pub use rules::MOST_TASKS;
+pub use values::MOST_ENTRIES;

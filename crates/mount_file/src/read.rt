@@ -16,7 +16,7 @@ use std::alloc::Global;
 use toml::Table;
 
 /// The longest mount file, in bytes.
-const LONGEST: usize = 65536;
+pub const LONGEST_MOUNT_FILE: usize = 65_536;
 
 /// What a mount file's bytes say, or their first fault, in the order of `MountFault`. Want of memory is told where
 /// there is no room to read them in, whatever they say.
@@ -27,7 +27,7 @@ pub fn read_mounts(alloc: Global, bytes: &[u8]) -> Result<Mounts, MountFault>
     ensures fault { IfErr result (λ f. (f ≡ Memory) ⊎ IsFaultOf bytes.now f) }
     ensures faulty { (f : Fault) → IsFaultOf bytes.now f → (result ≡ Err f) ⊎ (result ≡ Err Memory) }
 {
-    if bytes.len() > LONGEST {
+    if bytes.len() > LONGEST_MOUNT_FILE {
         return Err(MountFault::Long);
     }
     let Ok(text) = std::str::from_utf8(bytes) else {

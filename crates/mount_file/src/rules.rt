@@ -12,7 +12,7 @@ use sn_text::Name;
 const MOST_MOUNTS: usize = 1;
 
 /// How many tasks there may be.
-const MOST_TASKS: usize = 64;
+pub const MOST_TASKS: usize = 64;
 
 /// The first rule that mounts and tasks together break.
 pub(crate) fn rule_broken(mounts: &Mounts) -> Option<MountFault>

@@ -14,7 +14,7 @@ use std::alloc::Global;
 use toml::Value;
 
 /// The longest trace that a mount file may ask for, in entries.
-const MOST_ENTRIES: u64 = 1_048_576;
+pub const MOST_ENTRIES: u64 = 1_048_576;
 
 /// How many hexadecimal digits a seed has.
 const SEED_DIGITS: usize = 64;
