@@ -1,11 +1,12 @@
 -- What holds of the table at all times.
 use Rattle.std.specs.Prelude.{◌≡◌, ℕ, ◌<◌, ◌≤◌, ◌^◌, List, IsTrue, IsFalse}
 use Rattle.std.specs.FinMap.{contains_key}
+use Rattle.task_table.specs.declared.table.TheConstants.{MOST_LIVE}
 use Rattle.task_table.specs.Entries.{numbers_where}
 use Rattle.task_table.specs.Table.{TaskTable, is_live, live_numbers, live_count, group_of, has_ended, has_parent}
 
 -- numbers, groups and limits of a table
--- clone(2); credentials(7); profile: 256 live tasks, numbers below 2 ^ 31
+-- clone(2); credentials(7); profile: the number of live tasks, numbers below 2 ^ 31
 pub record IsKept (t : TaskTable) : Type 0 where
   -- a number isn't 0, and is at most the greatest used
   pub task_numbers : (n : ℕ) → IsTrue (contains_key t.tasks n) → (0 < n) × (n ≤ t.last)
@@ -14,7 +15,7 @@ pub record IsKept (t : TaskTable) : Type 0 where
   -- each task's group is there, and while the task lives it hasn't ended
   pub task_groups : (n : ℕ) → IsTrue (contains_key t.tasks n) → IsTrue (contains_key t.groups (group_of t.tasks n))
   pub live_groups : (n : ℕ) → IsTrue (is_live t.tasks n) → IsFalse (has_ended t.groups (group_of t.tasks n))
-  pub few_live : live_count t ≤ 256
+  pub few_live : live_count t ≤ MOST_LIVE
 
 -- the list of live tasks and that of groups with a parent are those of the table
 -- profile

@@ -30,5 +30,5 @@ mod reaps;
 mod table;
 mod task;
 
-pub use table::Tasks;
+pub use table::{MOST_LIVE, Tasks};
 pub use task::{CloneErr, Ended, EndedTask, Group, Made, ReapEnd, Status, Task};

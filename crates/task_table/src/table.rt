@@ -22,7 +22,7 @@ use std::alloc::Global;
 use std::marker::Model;
 
 /// How many tasks may live at once.
-const MOST_LIVE: usize = 256;
+pub const MOST_LIVE: usize = 256;
 
 /// The tasks and thread groups. Contracts see the table of them.
 #[derive(Debug, Drop)]
@@ -80,7 +80,7 @@ impl Tasks {
         requires { self.old.last < 2 ^ 31 - 1 }
         ensures number { IfOk result (λ n. n ≡ self.old.last + 1) }
         ensures ok { OnOk result (self.new ≡ opened self.old memory table cwd) }
-        ensures full { (result ≡ Err CloneErr.Full) ↔ (live_count self.old ≡ 256) }
+        ensures full { (result ≡ Err CloneErr.Full) ↔ (live_count self.old ≡ MOST_LIVE) }
         ensures err { OnErr result (self.new ≡ self.old) }
         ensures kept { IsKept self.old }
         ensures made { OnOk result (MadeFrom self.old self.new) }
@@ -107,7 +107,7 @@ impl Tasks {
         requires next { self.old.last < 2 ^ 31 - 1 }
         ensures number { IfOk result (λ n. n ≡ self.old.last + 1) }
         ensures ok { OnOk result (self.new ≡ forked self.old task memory table clear) }
-        ensures full { (result ≡ Err CloneErr.Full) ↔ (live_count self.old ≡ 256) }
+        ensures full { (result ≡ Err CloneErr.Full) ↔ (live_count self.old ≡ MOST_LIVE) }
         ensures err { OnErr result (self.new ≡ self.old) }
         ensures kept { IsKept self.old }
         ensures made { OnOk result (MadeFrom self.old self.new) }
@@ -129,7 +129,7 @@ impl Tasks {
         requires next { self.old.last < 2 ^ 31 - 1 }
         ensures number { IfOk result (λ n. n ≡ self.old.last + 1) }
         ensures ok { OnOk result (self.new ≡ threaded self.old task clear) }
-        ensures full { (result ≡ Err CloneErr.Full) ↔ (live_count self.old ≡ 256) }
+        ensures full { (result ≡ Err CloneErr.Full) ↔ (live_count self.old ≡ MOST_LIVE) }
         ensures err { OnErr result (self.new ≡ self.old) }
         ensures kept { IsKept self.old }
         ensures made { OnOk result (MadeFrom self.old self.new) }
@@ -336,7 +336,7 @@ impl Tasks {
 
     /// Whether as many tasks live as may live at once, so that no more may be made.
     pub fn is_full(&self) -> bool
-        ensures { result ≡ nat_le 256 (live_count self.now) }
+        ensures { result ≡ nat_le MOST_LIVE (live_count self.now) }
     {
         self.live.len() >= MOST_LIVE
     }
@@ -362,7 +362,7 @@ impl Tasks {
         requires lives { group.ended ≡ None }
         ensures number { IfOk result (λ n. n ≡ self.old.last + 1) }
         ensures ok { OnOk result (self.new ≡ with_group self.old group clear) }
-        ensures full { (result ≡ Err CloneErr.Full) ↔ (live_count self.old ≡ 256) }
+        ensures full { (result ≡ Err CloneErr.Full) ↔ (live_count self.old ≡ MOST_LIVE) }
         ensures err { OnErr result (self.new ≡ self.old) }
         ensures kept { IsKept self.old }
         ensures made { OnOk result (MadeFrom self.old self.new) }
