@@ -6,12 +6,12 @@
 //! instruction that touches a shared area is done where the area is handed in: with none in hand a run ends before it,
 //! and a run of one instruction with that area goes on behind.
 //!
-//! Proved of `run_quantum`, for 10,000, and of `run_at_most`, for any number: as many instructions as the answer tells
-//! lead from the state before to the state after, each by `rv_exec`'s `exec` (`ran`). A run that nothing stops has as
-//! many as there may be, and any other has fewer (`few`). What stops it is what the next instruction does (`stopped`).
-//! Where memory was wanting, registers and address space are as after some whole instructions, fewer than there may be
-//! (`memory`). `Acting`, private, is the memory that instructions see: after each write, bytes and reservations are
-//! what the write says (specs/laws).
+//! Proved of `run_quantum`, for `QUANTUM`, and of `run_at_most`, for any number: as many instructions as the answer
+//! tells lead from the state before to the state after, each by `rv_exec`'s `exec` (`ran`). A run that nothing stops
+//! has as many as there may be, and any other has fewer (`few`). What stops it is what the next instruction does
+//! (`stopped`). Where memory was wanting, registers and address space are as after some whole instructions, fewer than
+//! there may be (`memory`). `Acting`, private, is the memory that instructions see: after each write, bytes and
+//! reservations are what the write says (specs/laws).
 //!
 //! Pages that run have their words decoded, and what is at hand is reached by guesses at where pages lie. The clauses
 //! don't know of it.

@@ -33,8 +33,8 @@ pub enum QuantumEnd {
     Memory,
 }
 
-/// Runs a task's instructions over its address space, and the shared areas that are handed in, until 10,000 ran or one
-/// calls the system, traps or touches another shared area.
+/// Runs a task's instructions over its address space, and the shared areas that are handed in, until `QUANTUM` ran or
+/// one calls the system, traps or touches another shared area.
 pub fn run_quantum(
     alloc: Global,
     regs: &mut Regs,
@@ -44,11 +44,11 @@ pub fn run_quantum(
 ) -> QuantumEnd
     ensures ran { Ran (record { acting = acting_on task (reach space.old shared.old); registers = regs.old })
         (record { acting = acting_on task (reach space.new shared.new); registers = regs.new }) result }
-    ensures few { Few 10000 result }
+    ensures few { Few QUANTUM result }
     ensures stopped { Stopped (record { acting = acting_on task (reach space.new shared.new); registers = regs.new })
         result }
     ensures memory { LacksMemory (record { acting = acting_on task (reach space.old shared.old); registers = regs.old })
-        (record { acting = acting_on task (reach space.new shared.new); registers = regs.new }) 10000 result }
+        (record { acting = acting_on task (reach space.new shared.new); registers = regs.new }) QUANTUM result }
 {
     run_at_most(alloc, regs, space, task, shared, QUANTUM)
 }
