@@ -4,7 +4,8 @@ use Rattle.std.specs.Prelude.{All}
 use Rattle.std.specs.FinMap.{len}
 use Rattle.elf_image.specs.declared.image.Segment.{Segment}
 use Rattle.elf_image.specs.Loadable.{Loadable, IsPlaced}
-use Rattle.mm_areas.specs.Mappings.{Mapping, most_pages, pages_in, unmapped_from, with_pages}
+use Rattle.mm_areas.specs.declared.places.TheConstants.{MOST_PAGES}
+use Rattle.mm_areas.specs.Mappings.{Mapping, pages_in, unmapped_from, with_pages}
 use Rattle.mm_areas.specs.Pages.{Mapped, Pages, laid}
 use Rattle.mm_areas.proofs.PageLaws.{len-laid_free}
 use Rattle.mm_areas.proofs.PlaceLaws.{len_laid_few}
@@ -16,14 +17,14 @@ use Rattle.image_load.proofs.Runs.{length-run}
 use Rattle.image_load.proofs.PageCounts.{none_above}
 
 -- without the stack's pages there's room for them
-pub few_pages : (image : Loadable) (ss : List Segment) → ss ≡ image.segments → pages_mapped image ≤ most_pages
+pub few_pages : (image : Loadable) (ss : List Segment) → ss ≡ image.segments → pages_mapped image ≤ MOST_PAGES
     → len (segments_laid ss ss) ≤ 16320
 unfolding pages_mapped
 few_pages image ss same few = omega (arith, few, ap (λ xs. len (segments_laid xs xs)) same)
 
 -- and with them they're no more than there may be
 pub few_with_stack : (ms : List Mapped) (pages : Pages) → length ms ≡ 64 → len pages ≤ 16320
-    → len (laid stack_first ms pages) ≤ most_pages
+    → len (laid stack_first ms pages) ≤ MOST_PAGES
 few_with_stack ms pages long few = omega (arith, long, few, len_laid_few stack_first ms pages)
 
 -- the pages are those of the image, and the stack's

@@ -11,7 +11,7 @@ use Rattle.std.proofs.lemmas.Bool.Decides.{nat_tests}
 use Rattle.sn_base.proofs.Maps.{get_of_empty}
 use Rattle.elf_image.specs.declared.image.Segment.{Segment}
 use Rattle.elf_image.specs.Loadable.{Loadable, first_page, page_count, IsPlaced}
-use Rattle.mm_areas.specs.Mappings.{most_pages}
+use Rattle.mm_areas.specs.declared.places.TheConstants.{MOST_PAGES}
 use Rattle.mm_areas.specs.Pages.{Mapped, Pages, laid}
 use Rattle.mm_areas.proofs.PageLaws.{where_page, get-laid_at, get-laid_below, get-laid_apart, len-laid}
 use Rattle.image_load.specs.Pages.{is_met_by, image_page, run_of, segments_laid, image_pages, pages_mapped}
@@ -149,7 +149,7 @@ over_with_one all rest s many is over =
 
 -- with the stack's they're too many
 pub over_most : (image : Loadable) (count : ℕ) → count ≡ min (len (image_pages image)) 16321
-    → nat_lt 16320 count ≡ nat_lt most_pages (pages_mapped image)
+    → nat_lt 16320 count ≡ nat_lt MOST_PAGES (pages_mapped image)
 unfolding pages_mapped
 over_most image count is = by (len (image_pages image)) is
   where

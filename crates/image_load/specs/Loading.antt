@@ -2,7 +2,8 @@
 use Rattle.std.specs.Prelude.{ℕ, ◌+◌, ◌*◌, ◌<◌, ◌≤◌, max, List, [], ◌∷◌, replicate}
 use Rattle.elf_image.specs.declared.image.Segment.{Segment}
 use Rattle.elf_image.specs.Loadable.{Loadable}
-use Rattle.mm_areas.specs.Mappings.{most_pages, pages_in}
+use Rattle.mm_areas.specs.declared.places.TheConstants.{MOST_PAGES}
+use Rattle.mm_areas.specs.Mappings.{pages_in}
 use Rattle.mm_space.specs.Spaces.{AddressSpace, unreserved}
 use Rattle.rv_table.specs.declared.regs.Regs.{Regs}
 use Rattle.image_load.specs.declared.stack.Auxiliary.{Auxiliary}
@@ -54,5 +55,5 @@ opening_registers image args env random =
 -- execve(2), E2BIG and ENOMEM; order of the errors: profile
 abbrev pub IsLoadFaultOf : Loadable → (args env : List (List ℕ)) → LoadErr → Type 0
 IsLoadFaultOf image args env TooBig = IsTooBig args env
-IsLoadFaultOf image args env Limit = AreShort args env × (most_pages < pages_mapped image)
-IsLoadFaultOf image args env Memory = AreShort args env × (pages_mapped image ≤ most_pages)
+IsLoadFaultOf image args env Limit = AreShort args env × (MOST_PAGES < pages_mapped image)
+IsLoadFaultOf image args env Memory = AreShort args env × (pages_mapped image ≤ MOST_PAGES)

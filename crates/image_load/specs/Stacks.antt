@@ -7,6 +7,7 @@ use Rattle.image_load.specs.declared.stack.Auxiliary.{Auxiliary}
 use Rattle.image_load.specs.declared.stack.OpeningStack.{OpeningStack}
 use Rattle.image_load.specs.declared.stack.LoadErr.{LoadErr}
 use Rattle.image_load.specs.declared.stack.LoadErr.TheVariants.{TooBig, Limit, Memory}
+use Rattle.image_load.specs.declared.strings.TheConstants.{MOST_STRINGS, MOST_STRING_BYTES}
 
 -- what a program is started with: its strings, sixteen random bytes, and what the auxiliary vector tells of its image
 -- execve(2); getauxval(3)
@@ -44,15 +45,17 @@ strings_length strings = sum_by (λ string. length string + 1) strings
 abbrev pub strings_room : List (List ℕ) → ℕ
 strings_room strings = strings_length strings + 8 * length strings
 
--- there are more strings than 1,024, or they take more than 65,536 bytes with their pointers
+-- there are more strings than there may be, or they take more bytes with their pointers than they may
 -- execve(2), E2BIG; the two numbers: profile
 abbrev pub IsTooBig : (args env : List (List ℕ)) → Type 0
-IsTooBig args env = (1024 < length args + length env) ⊎ (65536 < strings_room args + strings_room env)
+IsTooBig args env =
+    (MOST_STRINGS < length args + length env) ⊎ (MOST_STRING_BYTES < strings_room args + strings_room env)
 
 -- they are few enough, and short enough
 -- execve(2), E2BIG; the two numbers: profile
 abbrev pub AreShort : (args env : List (List ℕ)) → Type 0
-AreShort args env = (length args + length env ≤ 1024) × (strings_room args + strings_room env ≤ 65536)
+AreShort args env =
+    (length args + length env ≤ MOST_STRINGS) × (strings_room args + strings_room env ≤ MOST_STRING_BYTES)
 
 -- what a refusal may tell of strings: that they are too big, or want of memory where they aren't
 -- execve(2), E2BIG and ENOMEM; order of the errors: profile

@@ -1,28 +1,30 @@
 //! How many pages an image has, counted as far as a program may have them.
 
-ghost use Rattle.std.specs.Prelude.{◌≡◌, List, ◌≤◌, ◌∷◌, min, nat_lt, if◌then◌else◌};
+ghost use Rattle.std.specs.Prelude.{◌≡◌, List, ◌+◌, ◌≤◌, ◌∷◌, min, nat_lt, if◌then◌else◌};
 ghost use Rattle.std.specs.FinMap as map_of;
 ghost use Rattle.elf_image.specs.declared.image.Segment.{Segment as SegmentSeen};
-ghost use Rattle.mm_areas.specs.Mappings.{most_pages};
 ghost use Rattle.image_load.specs.Pages.{is_met_by, pages_mapped, segments_laid};
 
+use crate::pages::STACK_COUNT;
 use crate::places::{first_page, is_met_by, page_count};
 use elf_image::{Image, Segment};
+use mm_areas::MOST_PAGES;
 
-/// The most pages that an image may have: 16,384, without the 64 of the stack.
-const MOST_PAGES: u64 = 16_320;
+/// The most pages that an image may have: those that may be mapped, without those of the stack.
+pub(crate) const MOST_IMAGE_PAGES: u64 = MOST_PAGES - STACK_COUNT;
 
 /// Whether an image and a stack have more pages than may be mapped. It takes no memory, and goes over no more pages
 /// than may be mapped for each segment.
 pub fn has_too_many_pages(image: &Image) -> bool
-    ensures { result ≡ nat_lt most_pages (pages_mapped image.now) }
+    ensures { result ≡ nat_lt MOST_PAGES (pages_mapped image.now) }
 {
-    MOST_PAGES < capped_pages(image.segments.as_slice())
+    MOST_IMAGE_PAGES < capped_pages(image.segments.as_slice())
 }
 
 /// How many pages segments meet, or one more than an image may have where it's more.
 fn capped_pages(segments: &[Segment]) -> u64
-    ensures { (all : List SegmentSeen) → result ≡ min (map_of.len (segments_laid all segments.now)) 16321 }
+    ensures { (all : List SegmentSeen) →
+        result ≡ min (map_of.len (segments_laid all segments.now)) (MOST_IMAGE_PAGES + 1) }
 {
     match segments {
         [] => 0,
@@ -32,23 +34,24 @@ fn capped_pages(segments: &[Segment]) -> u64
 
 /// The same of segments with one more, of which the others are counted.
 fn capped_with(first: &Segment, rest: &[Segment], counted: u64) -> u64
-    requires { (all : List SegmentSeen) → counted ≡ min (map_of.len (segments_laid all rest.now)) 16321 }
+    requires { (all : List SegmentSeen) →
+        counted ≡ min (map_of.len (segments_laid all rest.now)) (MOST_IMAGE_PAGES + 1) }
     ensures { (all : List SegmentSeen) →
-        result ≡ min (map_of.len (segments_laid all (first.now ∷ rest.now))) 16321 }
+        result ≡ min (map_of.len (segments_laid all (first.now ∷ rest.now))) (MOST_IMAGE_PAGES + 1) }
 {
-    if MOST_PAGES < counted {
+    if MOST_IMAGE_PAGES < counted {
         return counted;
     }
     let many = page_count(first);
-    if MOST_PAGES < many {
-        return MOST_PAGES + 1;
+    if MOST_IMAGE_PAGES < many {
+        return MOST_IMAGE_PAGES + 1;
     }
     let start = first_page(first);
     let mut count = counted;
     let mut page = start + many;
     while start < page {
         page -= 1;
-        count = (count + fresh(rest, page)).min(MOST_PAGES + 1);
+        count = (count + fresh(rest, page)).min(MOST_IMAGE_PAGES + 1);
     }
     count
 }

@@ -37,3 +37,4 @@ pub use counts::has_too_many_pages;
 pub use loading::{Loaded, load};
 pub use rights::{joined, page_rights};
 pub use stack::{Auxiliary, LoadErr, OpeningStack, Program, opening_stack};
+pub use strings::{MOST_STRING_BYTES, MOST_STRINGS, is_too_big};

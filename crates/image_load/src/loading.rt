@@ -2,7 +2,7 @@
 
 ghost use Rattle.std.specs.Prelude.{◌≡◌, ◌+◌, ◌*◌, ◌<◌, ◌≤◌, [], ◌∷◌, All, length, replicate, IfOk, IfErr};
 ghost use Rattle.std.specs.FinMap as map_of;
-ghost use Rattle.mm_areas.specs.Mappings.{most_pages, pages_in};
+ghost use Rattle.mm_areas.specs.Mappings.{pages_in};
 ghost use Rattle.elf_image.specs.Loadable.{IsPlaced};
 ghost use Rattle.mm_space.specs.Spaces.{space_of};
 ghost use Rattle.image_load.specs.Stacks.{IsTooBig, AreShort, strings_room};
@@ -13,8 +13,9 @@ use crate::counts::has_too_many_pages;
 use crate::pages::{STACK_FIRST, laid_segments, stack_pages};
 use crate::places::{PAGE, highest_end};
 use crate::stack::{Auxiliary, LoadErr, Program, laid_out};
-use crate::strings::is_too_big;
+use crate::strings::{MOST_STRING_BYTES, MOST_STRINGS, is_too_big};
 use elf_image::{Image, Segment};
+use mm_areas::MOST_PAGES;
 use mm_space::Space;
 use rv_table::Regs;
 use sn_base::Memory;
@@ -45,7 +46,7 @@ pub fn load(alloc: Global, image: &Image, program: &Program<'_>) -> Result<Loade
         map_of.len (space_of loaded.space).mapping.pages ≡ pages_mapped image.now) }
     ensures fault { IfErr result (IsLoadFaultOf image.now program.now.args program.now.env) }
     ensures faulty { IsTooBig program.now.args program.now.env → result ≡ Err LoadErr.TooBig }
-    ensures limited { AreShort program.now.args program.now.env → most_pages < pages_mapped image.now →
+    ensures limited { AreShort program.now.args program.now.env → MOST_PAGES < pages_mapped image.now →
         result ≡ Err LoadErr.Limit }
 {
     if is_too_big(program.args, program.env) {
@@ -60,9 +61,9 @@ pub fn load(alloc: Global, image: &Image, program: &Program<'_>) -> Result<Loade
 
 /// The memory and the registers of a program whose strings aren't too big, and whose pages aren't too many.
 fn mapped(alloc: Global, image: &Image, program: &Program<'_>) -> Result<Loaded, Memory>
-    requires strings { length program.now.args + length program.now.env ≤ 1024 }
-    requires room { strings_room program.now.args + strings_room program.now.env ≤ 65536 }
-    requires limit { pages_mapped image.now ≤ most_pages }
+    requires strings { length program.now.args + length program.now.env ≤ MOST_STRINGS }
+    requires room { strings_room program.now.args + strings_room program.now.env ≤ MOST_STRING_BYTES }
+    requires limit { pages_mapped image.now ≤ MOST_PAGES }
     ensures space { let start = program.now in IfOk result (λ loaded.
         space_of loaded.space ≡ opening_space image.now start.args start.env start.random) }
     ensures registers { let start = program.now in IfOk result (λ loaded.

@@ -9,6 +9,7 @@ ghost use Rattle.mm_areas.specs.Mappings.{mapping, unmapped_from, with_pages};
 ghost use Rattle.image_load.specs.Pages.{byte_over, image_byte, image_page, page_bytes, run_of, segments_laid};
 ghost use Rattle.image_load.specs.Pages.{stack_byte, stack_count, stack_first, stack_page};
 
+use crate::counts::MOST_IMAGE_PAGES;
 use crate::places::{first_page, page_count, rights_at};
 use crate::rights::page_rights;
 use crate::stack::OpeningStack;
@@ -22,7 +23,7 @@ use std::alloc::Global;
 const PAGE: u128 = 4_096;
 
 /// How many pages the stack has.
-const STACK_COUNT: u64 = 64;
+pub(crate) const STACK_COUNT: u64 = 64;
 
 /// The number of the first page of the stack.
 pub(crate) const STACK_FIRST: u64 = (1 << 26) - STACK_COUNT;
@@ -133,7 +134,7 @@ pub(crate) fn laid_segments(
     start: u64,
 ) -> Result<Areas, Memory>
     requires placed { All IsPlaced segments.now }
-    requires limit { map_of.len (segments_laid all.now segments.now) ≤ 16320 }
+    requires limit { map_of.len (segments_laid all.now segments.now) ≤ MOST_IMAGE_PAGES }
     ensures { IfOk result (λ areas.
         mapping areas ≡ with_pages (unmapped_from start) (segments_laid all.now segments.now)) }
 {

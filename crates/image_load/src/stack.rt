@@ -5,7 +5,7 @@ ghost use Rattle.image_load.specs.Stacks.{IsFaultOf, IsStackOf, IsTooBig, Progra
 ghost use Rattle.image_load.specs.Stacks.{started, stack_pointer, strings_room, words_length};
 ghost use Rattle.image_load.specs.declared.stack.LoadErr.TheVariants.{Memory as WantOfMemory};
 
-use crate::strings::{is_too_big, put_strings, strings_length};
+use crate::strings::{MOST_STRING_BYTES, MOST_STRINGS, is_too_big, put_strings, strings_length};
 use crate::words::{put_auxiliary, put_pointers};
 use sn_base::{List, Memory};
 use sn_text::Text;
@@ -113,8 +113,8 @@ pub(crate) fn laid_out(
     random: &[u8; 16],
     auxiliary: &Auxiliary,
 ) -> Result<OpeningStack, Memory>
-    requires strings { length args.now + length env.now ≤ 1024 }
-    requires room { strings_room args.now + strings_room env.now ≤ 65536 }
+    requires strings { length args.now + length env.now ≤ MOST_STRINGS }
+    requires room { strings_room args.now + strings_room env.now ≤ MOST_STRING_BYTES }
     ensures sp { let start : ProgramStart =
         record { args = args.now; env = env.now; random = random.now; auxiliary = auxiliary.now } in
         IfOk result (λ stack. stack.sp ≡ stack_pointer start) }

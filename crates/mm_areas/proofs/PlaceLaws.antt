@@ -9,7 +9,8 @@ use Rattle.mm_areas.specs.declared.rights.Rights.{Rights}
 use Rattle.mm_areas.specs.declared.page.Page.{Page}
 use Rattle.mm_areas.specs.declared.page.Backing.{Backing}
 use Rattle.mm_areas.specs.declared.page.Backing.TheVariants.{Zeros}
-use Rattle.mm_areas.specs.Mappings.{Mapping, highest_of, highest_free, most_pages, pages_in, is_break}
+use Rattle.mm_areas.specs.declared.places.TheConstants.{MOST_PAGES}
+use Rattle.mm_areas.specs.Mappings.{Mapping, highest_of, highest_free, pages_in, is_break}
 use Rattle.mm_areas.proofs.PageLaws.{where_page, get-unmapped_in, is_free_at, unmapped_absent, len-laid}
 use Rattle.mm_areas.proofs.NewPageLaws.{length-new_pages}
 use Rattle.mm_areas.proofs.CountLaws.{len-held}
@@ -30,7 +31,7 @@ highest_at pages count (suc n) page is =
     first_of pages count page n (is_free pages (2 ^ 25 + n) count) (highest_of pages count n)
     (λ at. highest_at pages count n page at) refl is
 
-pub highest_ends : (pages : Pages) (count page : ℕ) → 0 < count → count ≤ 16384
+pub highest_ends : (pages : Pages) (count page : ℕ) → 0 < count → count ≤ MOST_PAGES
     → highest_free pages count ≡ Some page → page + count ≤ 2 ^ 26
 highest_ends pages count page some most is = let at =
     highest_at pages count (2 ^ 26 - 256 + 1 - (2 ^ 25 + count)) page is in omega (arith, at.1)
@@ -52,14 +53,14 @@ len_laid_new first count backing rights new pages is =
 -- how many pages are mapped once the break is put higher
 pub grown_limit : (m : Mapping) (to broken count : ℕ) (rights : Rights) (new : List Page) → is_break m to ≡ true
     → broken ≡ pages_in m.program_break → count ≡ pages_in to - pages_in m.program_break
-    → map mapped_by new ≡ new_pages Zeros rights count → len (laid broken (map mapped_by new) m.pages) ≤ most_pages
+    → map mapped_by new ≡ new_pages Zeros rights count → len (laid broken (map mapped_by new) m.pages) ≤ MOST_PAGES
 grown_limit m to broken count rights new is at more made =
     let first = pages_in m.program_break in
     let wanted = pages_in to - first in
     let front = nat_le m.start to && nat_lt to (2 ^ 37) in
-    let parts = and_parts (front && is_free m.pages first wanted) (nat_le (len m.pages + wanted) most_pages) is in
+    let parts = and_parts (front && is_free m.pages first wanted) (nat_le (len m.pages + wanted) MOST_PAGES) is in
     let free = (and_parts front (is_free m.pages first wanted) parts.0).1 in
-    let few = leb-true (len m.pages + wanted) most_pages parts.1 in
+    let few = leb-true (len m.pages + wanted) MOST_PAGES parts.1 in
     let absent : unmapped first wanted m.pages ≡ m.pages =
     unmapped_absent first wanted m.pages (λ q low high. is_free_at m.pages first wanted q free low high) in
     let same : unmapped broken count m.pages ≡ m.pages =
@@ -80,7 +81,7 @@ grown_apart m to broken count page is at more mapped =
     let first = pages_in m.program_break in
     let wanted = pages_in to - first in
     let front = nat_le m.start to && nat_lt to (2 ^ 37) in
-    let parts = and_parts (front && is_free m.pages first wanted) (nat_le (len m.pages + wanted) most_pages) is in
+    let parts = and_parts (front && is_free m.pages first wanted) (nat_le (len m.pages + wanted) MOST_PAGES) is in
     let free = (and_parts front (is_free m.pages first wanted) parts.0).1 in
     elim (where_page broken count page) [
       | inl w ↦ absurd

@@ -8,6 +8,7 @@ use Rattle.mm_areas.specs.declared.page.Backing.{Backing}
 use Rattle.mm_areas.specs.declared.page.Backing.TheVariants.{Zeros}
 use Rattle.mm_areas.specs.declared.page.Page.{Page}
 use Rattle.mm_areas.specs.declared.areas.Areas.{Areas}
+use Rattle.mm_areas.specs.declared.places.TheConstants.{MOST_PAGES}
 use Rattle.mm_areas.specs.Pages.{Mapped, Pages, mapped_by, laid, unmapped, protected, is_free, is_covered, new_pages}
 use Rattle.mm_areas.specs.Regions.{pages_of}
 
@@ -48,11 +49,6 @@ taken_from m first count = with_pages m (unmapped first count m.pages)
 -- getpagesize(2)
 abbrev pub pages_in : ℕ → ℕ
 pages_in length = (length + 4095) / 4096
-
--- the most pages that are mapped at once
--- getrlimit(2), RLIMIT_AS; 16,384: profile
-abbrev pub most_pages : ℕ
-most_pages = 16384
 
 -- an address or a length that a call doesn't take: an address that is no multiple of 4,096, an end above 2^38
 -- mmap(2), munmap(2), mprotect(2), EINVAL
@@ -113,7 +109,7 @@ or_no_range (Some page) = None
 abbrev pub map_fault : Mapping → Option ℕ → (length : ℕ) → Option AreaErr
 map_fault m at length =
     if is_no_place at length then Some Invalid
-    else if nat_lt most_pages (pages_after m.pages at (pages_in length)) then Some Limit
+    else if nat_lt MOST_PAGES (pages_after m.pages at (pages_in length)) then Some Limit
     else or_no_range (place_in m.pages at (pages_in length))
 
 -- a mapping with new pages from a page on, in the places of those that are there
@@ -160,7 +156,7 @@ abbrev pub is_break : Mapping → ℕ → Bool
 is_break m to =
     let more = pages_in to - pages_in m.program_break in
     nat_le m.start to && nat_lt to (2 ^ 37)
-    && is_free m.pages (pages_in m.program_break) more && nat_le (map.len m.pages + more) most_pages
+    && is_free m.pages (pages_in m.program_break) more && nat_le (map.len m.pages + more) MOST_PAGES
 
 -- the break moved: new pages up to it, or none behind it
 -- brk(2)

@@ -4,6 +4,7 @@ ghost use Rattle.std.specs.Prelude.{◌≡◌, ℕ, ◌+◌, ◌-◌, ◌≤◌,
 ghost use Rattle.std.specs.FinMap as map_of;
 ghost use Rattle.mm_areas.specs.Order.{are_from};
 ghost use Rattle.mm_areas.specs.Regions.{pages_of};
+ghost use Rattle.mm_areas.specs.declared.places.TheConstants.{MOST_PAGES};
 
 use crate::Page;
 use crate::free::mapped_within;
@@ -27,7 +28,7 @@ pub struct Areas {
     pub(crate) program_break: u64,
     ghost in_order: { are_from 0 regions.items ≡ true },
     ghost counted: { count ≡ map_of.len (pages_of regions.items) },
-    ghost limited: { count ≤ 16384 },
+    ghost limited: { count ≤ MOST_PAGES },
 }
 
 impl Areas {
@@ -35,7 +36,7 @@ impl Areas {
     ghost use Rattle.std.specs.Option.{option_copied};
     ghost use Rattle.mm_areas.specs.Pages.{mapped_by, is_within};
     ghost use Rattle.mm_areas.specs.Own.{page_of};
-    ghost use Rattle.mm_areas.specs.Mappings.{mapping, unmapped_from, laid_in, taken_from, most_pages};
+    ghost use Rattle.mm_areas.specs.Mappings.{mapping, unmapped_from, laid_in, taken_from};
 
     /// Nothing mapped, with the break at its start. It takes no memory.
     #[tactic(auto, using(crate::proofs::RegionLaws::len_of_none))]
@@ -84,7 +85,7 @@ impl Areas {
     #[tactic(auto, using(crate::proofs::RegionLaws::order_from_test, crate::proofs::RegionLaws::test_from_order))]
     pub fn lay(&mut self, first: u64, pages: Vec<Page>) -> Result<(), Memory>
         requires end { first + length pages.items ≤ 2 ^ 26 }
-        requires limit { map_of.len (laid_in (mapping self.old) first pages.items).pages ≤ most_pages }
+        requires limit { map_of.len (laid_in (mapping self.old) first pages.items).pages ≤ MOST_PAGES }
         ensures ok { OnOk result (mapping self.new ≡ laid_in (mapping self.old) first pages.items) }
         ensures err { OnErr result (mapping self.new ≡ mapping self.old) }
         ensures kept { (page : ℕ) → is_within first (length pages.items) page ≡ false →

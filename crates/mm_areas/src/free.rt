@@ -8,6 +8,7 @@ ghost use Rattle.mm_areas.specs.Mappings.{highest_free};
 ghost use Rattle.mm_areas.specs.Regions.{pages_of};
 
 use crate::areas::Region;
+use crate::places::MOST_PAGES;
 use crate::regions::first_behind;
 
 /// The page behind the last that a mapping may be given without an asked address.
@@ -20,7 +21,7 @@ const BOTTOM: u64 = 1 << 25;
 fn highest_gap(regions: &[Region], count: u64) -> u64
     requires order { AreFrom 0 regions.now }
     requires some { 0 < count }
-    requires few { count ≤ 16384 }
+    requires few { count ≤ MOST_PAGES }
     ensures top { result ≤ 2 ^ 26 - 256 }
     ensures free { count ≤ result → is_free (pages_of regions.now) (result - count) count ≡ true }
     ensures above { (f : ℕ) → result < f + count → f + count ≤ 2 ^ 26 - 256 →
@@ -41,7 +42,7 @@ fn highest_gap(regions: &[Region], count: u64) -> u64
 pub(crate) fn highest_free(regions: &[Region], count: u64) -> Option<u64>
     requires order { AreFrom 0 regions.now }
     requires some { 0 < count }
-    requires few { count ≤ 16384 }
+    requires few { count ≤ MOST_PAGES }
     ensures { result ≡ highest_free (pages_of regions.now) count }
 {
     let end = highest_gap(regions, count);

@@ -44,4 +44,5 @@ mod runs;
 pub use areas::Areas;
 pub use fault::AreaErr;
 pub use page::{Backing, Content, Page, SharedPage};
+pub use places::MOST_PAGES;
 pub use rights::Rights;

@@ -2,14 +2,14 @@
 
 ghost use Rattle.std.specs.Prelude.{◌≡◌, ◌+◌, ◌<◌, ◌≤◌, ◌^◌, None, Some, IfOk, IfErr, OnOk};
 ghost use Rattle.std.specs.FinMap as map_of;
-ghost use Rattle.mm_areas.specs.Mappings.{mapping, taken_from, pages_in, pages_after, place_in, map_fault, is_no_place, is_break, most_pages};
+ghost use Rattle.mm_areas.specs.Mappings.{mapping, taken_from, pages_in, pages_after, place_in, map_fault, is_no_place, is_break};
 
 use crate::free::{highest_free, is_free, mapped_within};
 use crate::lengths::{PAGE, is_misplaced, is_no_length, pages_in};
 use crate::{AreaErr, Areas};
 
-/// The most pages that are mapped at once.
-pub(crate) const MOST: u64 = 16384;
+/// The most pages that are mapped at once: getrlimit(2), `RLIMIT_AS`.
+pub const MOST_PAGES: u64 = 16_384;
 
 /// Whether no mapping begins there or has that length.
 fn is_no_place(at: Option<u64>, length: u64) -> bool
@@ -45,14 +45,14 @@ pub(crate) fn place(areas: &Areas, at: Option<u64>, length: u64) -> Result<u64, 
     ensures some { OnOk result (0 < length) }
     ensures end { IfOk result (λ page. page + pages_in length ≤ 2 ^ 26) }
     ensures limit { IfOk result (λ page.
-        map_of.len (taken_from (mapping areas.now) page (pages_in length)).pages + pages_in length ≤ most_pages) }
+        map_of.len (taken_from (mapping areas.now) page (pages_in length)).pages + pages_in length ≤ MOST_PAGES) }
     ensures fault { IfErr result (λ e. map_fault (mapping areas.now) at length ≡ Some e) }
 {
     if is_no_place(at, length) {
         return Err(AreaErr::Invalid);
     }
     let count = pages_in(length);
-    if pages_after(areas, at, count) > MOST {
+    if pages_after(areas, at, count) > MOST_PAGES {
         return Err(AreaErr::Limit);
     }
     match at {
@@ -69,7 +69,7 @@ impl Areas {
         ensures place { IfOk result (λ page. place_in (mapping self.now).pages at (pages_in length) ≡ Some page) }
         ensures ok { OnOk result (map_fault (mapping self.now) at length ≡ None) }
         ensures end { IfOk result (λ page. page + pages_in length ≤ 2 ^ 26) }
-        ensures few { OnOk result (pages_in length ≤ most_pages) }
+        ensures few { OnOk result (pages_in length ≤ MOST_PAGES) }
         ensures fault { IfErr result (λ e. map_fault (mapping self.now) at length ≡ Some e) }
     {
         place(self, at, length)
@@ -86,5 +86,5 @@ pub(crate) fn is_break(areas: &Areas, to: u64) -> bool
     areas.start <= to
         && to < 1 << 37
         && is_free(areas.regions.as_slice(), broken, more)
-        && areas.count + more <= MOST
+        && areas.count + more <= MOST_PAGES
 }

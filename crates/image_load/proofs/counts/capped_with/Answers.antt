@@ -4,14 +4,15 @@ use Rattle.std.specs.FinMap.{len}
 use Rattle.image_load.proofs.PageCounts.{none_counted, one_counted, over_with_one, over_with_rest}
 use Rattle.image_load.proofs.counts.capped_with.Goals as goal
 
-pub returns-then-counted-gt-MOST_PAGES : goal.returns-then-counted-gt-MOST_PAGES
-returns-then-counted-gt-MOST_PAGES c all =
-    over_with_rest all c.args.rest.now c.args.first.now c.args.counted (c.requires all) c.if-counted-gt-MOST_PAGES.true
+pub returns-then-counted-gt-MOST_IMAGE_PAGES : goal.returns-then-counted-gt-MOST_IMAGE_PAGES
+returns-then-counted-gt-MOST_IMAGE_PAGES c all =
+    over_with_rest all c.args.rest.now c.args.first.now c.args.counted (c.requires all)
+    c.if-counted-gt-MOST_IMAGE_PAGES.true
 
-pub returns-then-many-gt-MOST_PAGES : goal.returns-then-many-gt-MOST_PAGES
-returns-then-many-gt-MOST_PAGES c all =
+pub returns-then-many-gt-MOST_IMAGE_PAGES : goal.returns-then-many-gt-MOST_IMAGE_PAGES
+returns-then-many-gt-MOST_IMAGE_PAGES c all =
     over_with_one all c.args.rest.now c.args.first.now c.page_count-many.result c.page_count-many.ensures.value
-    c.if-many-gt-MOST_PAGES.true
+    c.if-many-gt-MOST_IMAGE_PAGES.true
 
 pub loop-page-init : goal.loop-page-init
 loop-page-init c =
