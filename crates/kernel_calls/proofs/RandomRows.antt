@@ -14,7 +14,8 @@ use Rattle.kernel_model.specs.machine.Random.{random_at}
 use Rattle.kernel_model.specs.calls.Answers.{refuses}
 use Rattle.kernel_model.specs.calls.Buffers.{fills}
 use Rattle.kernel_model.specs.calls.Callers.{Context as RowContext, context_of}
-use Rattle.kernel_model.specs.calls.RandomBytes.{getrandom_row, most_random}
+use Rattle.kernel_model.specs.declared.limits.TheConstants.{MOST_RANDOM}
+use Rattle.kernel_model.specs.calls.RandomBytes.{getrandom_row}
 use Rattle.kernel_model.specs.entries.Parts.{done}
 use Rattle.kernel_calls.specs.Prepared.{Answers, IsCalling}
 use Rattle.kernel_calls.specs.declared.context.Context.{Context}
@@ -28,7 +29,7 @@ row_refused context buffer count flags c more =
 
 row_taken : (context : RowContext) (buffer count flags : ℕ) (c : Caller) → flags % 2 ^ 32 ≤ 7
     → getrandom_row context buffer count flags c
-    ≡ fills c buffer (random_at context.seed context.place (min count most_random)) (min count most_random)
+    ≡ fills c buffer (random_at context.seed context.place (min count MOST_RANDOM)) (min count MOST_RANDOM)
 row_taken context buffer count flags c few =
     let is : nat_lt 7 (flags % 2 ^ 32) ≡ false = le-ltb 7 (flags % 2 ^ 32) few in rw is refl
 
@@ -36,7 +37,7 @@ row_taken context buffer count flags c few =
 pub random_filled : (p : Prepared) (c : Caller) (k : Kernel) (context : Context) (own space : AddressSpace)
     (shared areas : NamedMap AreaState) (list : TaskTable) (waiting : FutexList) (console buffer count flags : ℕ)
     → IsCalling c k context own shared list waiting console → flags % 2 ^ 32 ≤ 7 → (n reply : ℕ) (bytes : List ℕ)
-    → n ≡ min count most_random → reply ≡ n → bytes ≡ random_at context.seed.now context.place n
+    → n ≡ min count MOST_RANDOM → reply ≡ n → bytes ≡ random_at context.seed.now context.place n
     → Answers (fills c buffer bytes reply) p c k space areas
     → Answers (getrandom_row (context_of k) buffer count flags c) p c k space areas
 random_filled p c k context own space shared areas list waiting console buffer count flags calling few n reply bytes

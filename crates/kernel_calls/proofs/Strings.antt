@@ -1,36 +1,39 @@
 -- The strings that an image is started with.
-use Rattle.std.proofs.Common.{◌≡◌, ℕ, ◌+◌, ◌<◌, ◌≤◌, nat_lt, List, [], ◌∷◌, length, Bool, true, false, ◌||◌, min, refl}
-use Rattle.std.proofs.Common.{ap, inl, inr, arith}
-use Rattle.std.proofs.lemmas.Bool.{lt-ltb}
-use Rattle.std.proofs.lemmas.List.Sums.{sum_by-cons}
+use Rattle.std.proofs.Common.{◌≡◌, ◌⊎◌, ◌↔◌, ℕ, ◌+◌, ◌<◌, nat_lt, List, length, Bool, true, false, ◌||◌, refl, sym}
+use Rattle.std.proofs.Common.{inl, inr}
+use Rattle.std.proofs.lemmas.Bool.{lt-ltb, ltb-true}
+use Rattle.std.specs.Bool.{IsTrue}
 use Rattle.image_load.specs.Stacks.{IsTooBig, strings_room}
-use Rattle.kernel_model.specs.opening.Arguments.{strings_size, is_too_long}
+use Rattle.kernel_model.specs.opening.Arguments.{is_too_long}
 
--- more strings than there may be
-pub too_many : (args env : List (List ℕ)) → 1024 < length args + length env → is_too_long args env ≡ true
-too_many args env many =
-    ap (λ b. b || nat_lt 65536 (strings_size args + strings_size env)) (lt-ltb 1024 (length args + length env) many)
+-- two tests, of which one is met
+one_met : (a b c d : ℕ) → (a < b) ⊎ (c < d) → (nat_lt a b || nat_lt c d) ≡ true
+one_met a b c d (inl less) = rw (lt-ltb a b less) refl
+one_met a b c d (inr less) = rw (lt-ltb c d less) (either (nat_lt a b))
+  where
+    either : (test : Bool) → (test || true) ≡ true
+    either true = refl
+    either false = refl
 
--- the room that they take is that of strings behind one another with the pointers to them
-size_is_room : (strings : List (List ℕ)) → strings_size strings ≡ strings_room strings
-size_is_room [] = refl
-size_is_room (s ∷ ss) =
-    let sum = sum_by-cons (λ string. length string + 1) s ss in omega (arith, size_is_room ss, sum)
+-- and of which none is
+none_met : (a b c d : ℕ) → ((a < b) ⊎ (c < d) → ⊥) → (nat_lt a b || nat_lt c d) ≡ false
+none_met a b c d none = by (nat_lt a b) refl (nat_lt c d) refl
+  where
+    by : (p : Bool) → nat_lt a b ≡ p → (q : Bool) → nat_lt c d ≡ q → (p || q) ≡ false
+    by true p_is q q_is = absurd (none (inl (ltb-true a b p_is)))
+    by false p_is true q_is = absurd (none (inr (ltb-true c d q_is)))
+    by false p_is false q_is = refl
+
+-- strings that are too big for a program are too long for an execve
+big_is_long : (args env : List (List ℕ)) → IsTooBig args env → is_too_long args env ≡ true
+big_is_long args env big = one_met _ _ _ _ big
 
 -- strings that an execve takes are not too big for a program
 pub not_too_big : (args env : List (List ℕ)) → is_too_long args env ≡ false → IsTooBig args env → ⊥
-not_too_big args env short (inl many) = let long : is_too_long args env ≡ true = too_many args env many in cc
-not_too_big args env short (inr long) =
-    let more : 65536 < strings_size args + strings_size env = omega (arith, size_is_room args, size_is_room env) in
-    let is : is_too_long args env ≡ true =
-    either (nat_lt 1024 (length args + length env)) _ (lt-ltb 65536 (strings_size args + strings_size env) more) in
-    cc
-  where
-    either : (a b : Bool) → b ≡ true → (a || b) ≡ true
-    either true b h = refl
-    either false b h = h
+not_too_big args env short big = let long : is_too_long args env ≡ true = big_is_long args env big in cc
 
--- the rooms, each counted to one byte more than there is, are together too much as the strings are
-pub too_long : (args env : List (List ℕ)) (a b : ℕ) → length args + length env ≤ 1024
-    → a ≡ min (strings_size args) 65537 → b ≡ min (strings_size env) 65537 → nat_lt 65536 (a + b) ≡ is_too_long args env
-too_long args env a b few a_is b_is = grind (arith, few, a_is, b_is)
+-- what tells whether they are too big tells whether they are too long
+pub too_long : (args env : List (List ℕ)) (told : Bool) → (IsTrue told ↔ IsTooBig args env)
+    → told ≡ is_too_long args env
+too_long args env true told = sym (big_is_long args env (told.0 refl))
+too_long args env false told = sym (none_met _ _ _ _ (λ big. let no : false ≡ true = told.1 big in cc))

@@ -13,6 +13,7 @@ use Rattle.kernel_model.specs.Names.{NamedMap, get_named}
 use Rattle.kernel_model.specs.declared.caller.Caller.{Caller}
 use Rattle.kernel_model.specs.declared.kernel.Kernel.{Kernel}
 use Rattle.kernel_model.specs.declared.kernel.Part.TheVariants.{OfTasks, OfSleepers, OfConsole}
+use Rattle.kernel_model.specs.declared.limits.TheConstants.{MOST_WRITTEN}
 use Rattle.kernel_model.specs.calls.Answers.{Answer, replies, sleeps, not_ready}
 use Rattle.kernel_model.specs.calls.Callers.{Context as RowContext}
 use Rattle.kernel_model.specs.calls.Ending.{clear_set, group_end, left_by, woken_on}
@@ -136,7 +137,7 @@ IsApart Waits = ⊤
 -- write(2); the number: profile
 abbrev pub TakesFew : Effect → Type 0
 TakesFew Nothing = ⊤
-TakesFew (TakesBytes bytes) = length bytes ≤ 65536
+TakesFew (TakesBytes bytes) = length bytes ≤ MOST_WRITTEN
 TakesFew (EndsGroup ending) = ⊤
 TakesFew (EndsTask task ending) = ⊤
 TakesFew (SetsClear task address) = ⊤

@@ -11,16 +11,10 @@ ghost use Rattle.kernel_calls.specs.Prepared.{EndsEach, EndsOnly, TakesFew, answ
 use crate::buffers::read;
 use crate::calls::refused;
 use crate::prepared::{Effect, Prepared};
-use kernel_model::{GuestArea, GuestSpace, Named};
+use kernel_model::{CONSOLE_ROOM, GuestArea, GuestSpace, MOST_WRITTEN, Named};
 use sn_base::{List, Memory};
 use sn_errno::Errno;
 use std::alloc::Global;
-
-/// The most bytes of one write.
-const MOST_WRITTEN: u64 = 65_536;
-
-/// The most bytes of the console.
-const CONSOLE_ROOM: usize = 1_048_576;
 
 /// write(fd, buffer, count). It reads guest memory, and of the console only how many bytes that has. The areas stay as
 /// they are.
@@ -64,7 +58,7 @@ fn is_written_to(descriptor: u64) -> bool
 
 /// What bytes behind those of a console come to, by how many it has.
 fn appended(bytes: List<u8>, console: usize) -> Prepared
-    requires { length bytes ≤ 65536 }
+    requires { length bytes ≤ MOST_WRITTEN }
     ensures row { (s : Parts) (group : ℕ) → length (s OfConsole) ≡ console →
         appended bytes (s OfConsole) ≡ answer_of result group s }
     ensures few { TakesFew result.effect }

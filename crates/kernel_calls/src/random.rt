@@ -14,7 +14,7 @@ ghost use Rattle.kernel_calls.specs.declared.prepared.Effect.TheVariants.{Nothin
 use crate::buffers::fill;
 use crate::calls::refused;
 use crate::{Context, Prepared};
-use kernel_model::{GuestArea, GuestSpace, Named};
+use kernel_model::{GuestArea, GuestSpace, MOST_RANDOM, Named};
 use rand_chacha::ChaCha20Rng;
 use rand_core::SeedableRng;
 use rand_core::utils::NextWord;
@@ -22,11 +22,8 @@ use sn_base::{List, Memory};
 use sn_errno::Errno;
 use std::alloc::Global;
 
-/// The most bytes of a call.
-const MOST_BYTES: u64 = 256;
-
-/// getrandom(buffer, count, flags): the first of the random bytes of the entry's place, at most 256 of them. Flags are
-/// the low 32 bits of their register.
+/// getrandom(buffer, count, flags): the first of the random bytes of the entry's place, at most as many as one
+/// call gives. Flags are the low 32 bits of their register.
 ///
 /// EINVAL: flags above 7; EFAULT: a byte of the buffer that may not be written.
 pub(crate) fn getrandom(
@@ -47,7 +44,7 @@ pub(crate) fn getrandom(
     if flags % (1 << 32) > 7 {
         return Ok(refused(Errno::EINVAL));
     }
-    let count = count.min(MOST_BYTES);
+    let count = count.min(MOST_RANDOM);
     let bytes = random_at(alloc, context.seed, context.place, count)?;
     fill(
         alloc,
@@ -63,7 +60,7 @@ pub(crate) fn getrandom(
 /// So many random bytes for the entry of a place.
 #[tactic(auto, using(crate::proofs::RandomWords::random_by_words))]
 fn random_at(alloc: Global, seed: &[u8], place: u64, count: u64) -> Result<List<u8>, Memory>
-    requires { count ≤ 256 }
+    requires { count ≤ MOST_RANDOM }
     ensures { IfOk result (λ bytes. bytes ≡ random_at seed.now place count) }
 {
     let words = words_of(alloc, &key_of(seed), place, count.div_ceil(4))?;

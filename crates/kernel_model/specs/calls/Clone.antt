@@ -8,6 +8,7 @@ use Rattle.rv_table.specs.Registers.{with_reg}
 use Rattle.mm_space.specs.Handing.{InHand}
 use Rattle.mm_space.specs.Spaces.{AddressSpace, Reach, unreserved}
 use Rattle.task_table.specs.declared.task.Made.{Made}
+use Rattle.task_table.specs.declared.table.TheConstants.{MOST_LIVE}
 use Rattle.task_table.specs.Clones.{forked, threaded}
 use Rattle.task_table.specs.Table.{TaskTable, live_count}
 use Rattle.kernel_model.specs.declared.caller.Caller.{Caller}
@@ -72,7 +73,7 @@ is_thread flags = flags == thread_flags + free_flags flags
 -- no task more may be made: as many live as may live at once, or there is no number left
 -- clone(2), EAGAIN; the number of tasks: profile
 abbrev pub is_full : TaskTable → Bool
-is_full list = nat_le 256 (live_count list) || nat_le (2 ^ 31 - 1) list.last
+is_full list = nat_le MOST_LIVE (live_count list) || nat_le (2 ^ 31 - 1) list.last
 
 -- the child's registers: those of the caller behind its call, where the call replied 0; with a stack of its own, where
 -- one is given, and with a thread pointer, with CLONE_SETTLS

@@ -2,6 +2,7 @@
 use Rattle.std.specs.Prelude.{ℕ, ◌==◌, List, [], ◌∷◌, Bool, true, false, ◌&&◌, ◌||◌, not, Option, Some, None}
 use Rattle.std.specs.Prelude.{option_and_then}
 use Rattle.task_table.specs.Table.{live_numbers}
+use Rattle.quantum.specs.declared.run.TheConstants.{QUANTUM}
 use Rattle.kernel_model.specs.declared.caller.Caller.{Caller}
 use Rattle.kernel_model.specs.declared.entry.Entry.{Entry}
 use Rattle.kernel_model.specs.declared.entry.Entry.TheVariants.{Run, Call, Sleep, End}
@@ -36,11 +37,11 @@ touches_next (Some c) = touches_area (next_in c)
 abbrev pub has_touching : Kernel → (task : ℕ) → Bool
 has_touching k task = touches_next (outcome_in (parts k) (caller_of task))
 
--- a Run is whole between two states: it has 10,000 instructions, or the next one calls, traps or touches a shared area,
--- or it is one that touches a shared area
+-- a Run is whole between two states: it has as many instructions as it may have, or the next one calls, traps or
+-- touches a shared area, or it is one that touches a shared area
 -- profile
 abbrev pub is_whole : Entry → (before after : Kernel) → Bool
-is_whole (Run task n) before after = (n == 10000) || not (has_next after task) || has_touching before task
+is_whole (Run task n) before after = (n == QUANTUM) || not (has_next after task) || has_touching before task
 is_whole (Call task call args given reply) before after = true
 is_whole (Sleep task) before after = true
 is_whole (End task signal) before after = true

@@ -13,6 +13,7 @@ use Rattle.rv_table.specs.declared.regs.Regs.{Regs}
 use Rattle.futex_core.specs.FutexLists.{after_leave}
 use Rattle.mm_space.specs.Handing.{InHand}
 use Rattle.task_table.specs.declared.task.Status.TheVariants.{Killed}
+use Rattle.quantum.specs.declared.run.TheConstants.{QUANTUM}
 use Rattle.quantum.specs.Instructions.{Going, ran}
 use Rattle.kernel_model.specs.declared.caller.Caller.{Caller}
 use Rattle.kernel_model.specs.declared.entry.Args.{Args}
@@ -56,11 +57,12 @@ abbrev pub run_changes : Caller → Going → List Change
 run_changes c g =
     (OfSpace c.memory, Some g.acting.reach.space) ∷ task_change c.task g.registers ∷ area_changes g.acting.reach.hand
 
--- the next n instructions, 1 to 10,000, none of which traps, calls or touches a shared area
+-- the next n instructions, at least one and no more than a run may have, none of which traps, calls or touches a shared
+-- area
 -- profile
 abbrev pub run_alone : ℕ → Caller → Option (List Change)
 run_alone n c =
-    if nat_le 1 n && nat_le n 10000
+    if nat_le 1 n && nat_le n QUANTUM
     then option_map (run_changes c) (ran n (going_in c.task c.space c.registers))
     else None
 

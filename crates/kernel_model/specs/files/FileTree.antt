@@ -7,6 +7,7 @@ use Rattle.std.specs.FinMap as map
 use Rattle.host_node.specs.Tree.{Shape, mode_of, faults_of, with_faults, child_of, with_child, lend_child}
 use Rattle.kernel_model.specs.declared.kernel.Node.{Node}
 use Rattle.kernel_model.specs.declared.kernel.Numbered.{Numbered}
+use Rattle.kernel_model.specs.declared.limits.TheConstants.{LAST_NUMBER}
 
 -- the nodes that have a number
 -- inode(7), st_ino
@@ -16,7 +17,7 @@ Nodes = map.FinMap nat_cmp Node
 -- the greatest inode number that a node may have
 -- profile
 abbrev pub last_number : ℕ
-last_number = 65536
+last_number = LAST_NUMBER
 
 -- the number that a directory's list has for a name
 -- readdir(3), d_ino

@@ -2,6 +2,7 @@
 use Rattle.std.specs.Prelude.{◌≡◌, ◌<◌, ◌-◌, ◌^◌, Bool, true, Result, Ok, Err}
 use Rattle.sn_errno.specs.declared.errno.Errno.{Errno}
 use Rattle.elf_image.specs.declared.image.Image.{Image as AnImage}
+use Rattle.task_table.specs.declared.table.TheConstants.{MOST_LIVE}
 use Rattle.task_table.specs.Table.{TaskTable, live_count}
 use Rattle.kernel_model.specs.opening.Opening.{has_room}
 
@@ -17,5 +18,5 @@ fits (Err errno) = true
 -- a task more may be made: fewer live than may live at once, and there is a number for it
 -- profile
 pub record IsRoomFor (list : TaskTable) : Type 0 where
-  pub few : live_count list < 256
+  pub few : live_count list < MOST_LIVE
   pub next : list.last < 2 ^ 31 - 1

@@ -15,11 +15,13 @@ use Rattle.kernel_model.specs.Names.{with_named}
 use Rattle.task_table.specs.declared.task.Made.{Made}
 use Rattle.task_table.specs.Clones.{opened}
 use Rattle.task_table.specs.Table.{no_tasks}
+use Rattle.mm_areas.specs.declared.places.TheConstants.{MOST_PAGES}
 use Rattle.mm_space.specs.Spaces.{AddressSpace}
 use Rattle.kernel_model.specs.declared.kernel.Part.TheVariants.{OfNode}
 use Rattle.mount_file.specs.declared.mounts.Mounts.{Mounts}
 use Rattle.mount_file.specs.declared.mounts.Mount.{Mount}
 use Rattle.mount_file.specs.declared.mounts.Program.{Program}
+use Rattle.kernel_model.specs.declared.limits.TheConstants.{LONGEST_IMAGE}
 use Rattle.kernel_model.specs.declared.opening.Opening.{Opening}
 use Rattle.kernel_model.specs.declared.opening.Opened.{Opened}
 use Rattle.kernel_model.specs.declared.opening.Given.{Given}
@@ -36,19 +38,19 @@ use Rattle.kernel_model.specs.entries.Given.{has_any, is_in_order, above_last, N
 use Rattle.kernel_model.specs.entries.Given.{faulted, may_meet}
 use Rattle.kernel_model.specs.entries.Parts.{parts, Prog, done, look, outcome_in, ◌>>=◌, Change, changed}
 
--- whether an image has at most 16,384 pages
+-- whether an image has no more pages than may be mapped
 -- execve(2), ERRORS, ENOMEM; the number: profile
 abbrev pub has_room : Image → Bool
-has_room image = nat_le (pages_mapped image) 16384
+has_room image = nat_le (pages_mapped image) MOST_PAGES
 
--- an image as execve takes it: of an executable regular file of at most 67,108,864 bytes, with at most 16,384 pages
+-- an image as execve takes it: of an executable regular file that is no longer than one may be, with room for its pages
 -- execve(2), ERRORS: EACCES, ENOEXEC, ENOMEM; a link answers ELOOP so far; the numbers and the order: profile
 abbrev pub image_within : Option Image → Result Image Errno
 image_within None = Err ENOEXEC
 image_within (Some image) = if has_room image then Ok image else Err ENOMEM
 
 abbrev pub image_in : List ℕ → Result Image Errno
-image_in bytes = if nat_lt 67108864 (length bytes) then Err ENOEXEC else image_within (image_of bytes)
+image_in bytes = if nat_lt LONGEST_IMAGE (length bytes) then Err ENOEXEC else image_within (image_of bytes)
 
 abbrev pub executed : Shape → Result Image Errno
 executed (file bytes mode faults) = if owner_executes (file bytes mode faults) then image_in bytes else Err EACCES
