@@ -11,8 +11,9 @@ use Rattle.kernel_model.specs.calls.Clone.{word_set}
 use Rattle.kernel_model.specs.entries.Areas.{bytes_written, bytes_written_over, over, reach_over}
 use Rattle.kernel_model.specs.entries.Parts.{Parts, parts, done, outcome_in, ◌>>=◌}
 use Rattle.kernel_model.proofs.Trees.{outcome-bind}
-use Rattle.kernel_calls.specs.Cloning.{HasSet, SetsWord}
+use Rattle.kernel_calls.specs.Cloning.{HasSet, LeavesWords, SetsWord}
 use Rattle.kernel_calls.specs.Lending.{with_hand, AreThose}
+use Rattle.kernel_calls.specs.declared.clone.Words.{Words}
 use Rattle.kernel_calls.specs.Trying.{Wrote}
 use Rattle.kernel_calls.proofs.Answering.{are_those}
 use Rattle.kernel_calls.proofs.Overlays.{overlay, outcome-over, those_over, with_hand-append}
@@ -62,6 +63,30 @@ word_unasked task asked space areas at number is = record {
       subst (λ o. HasSet o true space areas all)
       (sym (ap (λ b. outcome_in s (word_set task b space hand at number)) is)) (refl, refl, same);
 }
+
+-- a word that was set is the same for equal data
+pub sets_same : {task : ℕ} {asked due : Bool} {space own space' : AddressSpace} {areas shared areas' : NamedMap AreaState}
+    {at number : ℕ} {set told : Bool} → SetsWord task asked space space' areas areas' at number set
+    → asked ≡ due → space ≡ own → areas ≡ shared → set ≡ told
+    → SetsWord task due own space' shared areas' at number told
+sets_same {task} {asked} {due} {space} {own} {space'} {areas} {shared} {areas'} {at} {number} {set} {told} sets is there lies so =
+    subst (λ b. SetsWord task b own space' shared areas' at number told) is
+    (subst (λ m. SetsWord task asked m space' shared areas' at number told) there
+    (subst (λ a. SetsWord task asked space space' a areas' at number told) lies
+    (subst (λ s. SetsWord task asked space space' areas areas' at number s) so sets)))
+
+-- what is left of a memory whose word was set, and where it can't be written
+pub words_left : {task : ℕ} {asked : Bool} {space : AddressSpace} {areas : NamedMap AreaState} {at number : ℕ}
+    {o : Option Words} {words : Words} → LeavesWords task asked space areas at number o → o ≡ Some words
+    → SetsWord task asked space words.space areas words.areas at number true
+words_left {task} {asked} {space} {areas} {at} {number} left is =
+    subst (LeavesWords task asked space areas at number) is left
+
+pub words_lost : {task : ℕ} {asked : Bool} {space : AddressSpace} {areas : NamedMap AreaState} {at number : ℕ}
+    {o : Option Words} → LeavesWords task asked space areas at number o → o ≡ None
+    → LeavesWords task asked space areas at number None
+words_lost {task} {asked} {space} {areas} {at} {number} left is =
+    subst (LeavesWords task asked space areas at number) is left
 
 -- a word of a row
 module _ (c : Caller) (k : Kernel) (task number : ℕ) (same : c.task ≡ task) (next : number ≡ k.tasks.last + 1) where

@@ -1,9 +1,9 @@
 -- The strings that an image is started with.
-use Rattle.std.proofs.Common.{◌≡◌, ◌⊎◌, ◌↔◌, ℕ, ◌+◌, ◌<◌, nat_lt, List, length, Bool, true, false, ◌||◌, refl, sym}
+use Rattle.std.proofs.Common.{◌≡◌, ◌⊎◌, ◌↔◌, ℕ, ◌<◌, nat_lt, List, Bool, true, false, ◌||◌, refl, sym}
 use Rattle.std.proofs.Common.{inl, inr}
 use Rattle.std.proofs.lemmas.Bool.{lt-ltb, ltb-true}
 use Rattle.std.specs.Bool.{IsTrue}
-use Rattle.image_load.specs.Stacks.{IsTooBig, strings_room}
+use Rattle.image_load.specs.Stacks.{IsTooBig}
 use Rattle.kernel_model.specs.opening.Arguments.{is_too_long}
 
 -- two tests, of which one is met

@@ -1,9 +1,8 @@
 -- Children that a call makes, and the kernel with them.
-use Rattle.std.specs.Prelude.{ℕ, ◌+◌, ⊤, Option, Some, None}
+use Rattle.std.specs.Prelude.{ℕ, ◌+◌, Option, Some, None}
 use Rattle.std.specs.FinMap as map
 use Rattle.mm_space.specs.Spaces.{AddressSpace}
 use Rattle.task_table.specs.Clones.{forked, threaded}
-use Rattle.task_table.specs.Table.{TaskTable}
 use Rattle.kernel_model.specs.Names.{with_named}
 use Rattle.kernel_model.specs.declared.caller.Caller.{Caller}
 use Rattle.kernel_model.specs.declared.kernel.Kernel.{Kernel}

@@ -12,6 +12,7 @@ use Rattle.kernel_model.specs.entries.Parts.{Parts, parts, Prog, outcome_in}
 use Rattle.kernel_calls.specs.Lending.{with_hand, AreThose}
 use Rattle.kernel_calls.specs.Prepared.{MakesChild}
 use Rattle.kernel_calls.specs.declared.clone.Child.{Child}
+use Rattle.kernel_calls.specs.declared.clone.Words.{Words}
 
 -- flags are those of a new process, or those of a new thread
 -- clone(2), ERRORS, EINVAL; which they are: profile
@@ -30,6 +31,16 @@ pub record SetsWord (task : ℕ) (asked : Bool) (space space' : AddressSpace) (a
     (address number : ℕ) (set : Bool) : Type 0 where
   pub over : (s : Parts) (hand : List InHand) (all : NamedMap AreaState) → AreThose s all → areas ≡ with_hand hand all
       → HasSet (outcome_in s (word_set task asked space hand address number)) set space' areas' all
+
+-- the same, where this is left of the memory, or nothing where the word can't be written
+-- clone(2), CLONE_PARENT_SETTID
+abbrev pub LeavesWords : (task : ℕ) (asked : Bool) → AddressSpace → NamedMap AreaState → (address number : ℕ)
+    → Option Words → Type 0
+LeavesWords task asked space areas address number None =
+    (space' : AddressSpace) × (areas' : NamedMap AreaState)
+    × SetsWord task asked space space' areas areas' address number false
+LeavesWords task asked space areas address number (Some words) =
+    SetsWord task asked space words.space areas words.areas address number true
 
 -- a row comes to a child that is made, or to the error of a word that can't be written
 -- clone(2), ERRORS

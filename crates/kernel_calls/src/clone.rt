@@ -10,7 +10,7 @@ ghost use Rattle.kernel_model.specs.calls.Callers.{context_of};
 ghost use Rattle.kernel_model.specs.calls.Clone.{bit, child_clear, child_registers, clears_child_word, clone_row};
 ghost use Rattle.kernel_model.specs.calls.Clone.{cloning_of, free_flags, is_full, is_process, is_set, is_thread};
 ghost use Rattle.kernel_model.specs.calls.Clone.{process_row, sets_child_word, sets_parent_word, sets_tls, thread_row};
-ghost use Rattle.kernel_calls.specs.Cloning.{MakesIf, SetsWord, is_shape};
+ghost use Rattle.kernel_calls.specs.Cloning.{LeavesWords, MakesIf, SetsWord, is_shape};
 ghost use Rattle.kernel_calls.specs.Prepared.{Comes, EndsCaller, EndsTheirs, HasRoomFor, IfWaits, IsCalling};
 ghost use Rattle.kernel_calls.specs.Prepared.{RepliesFew};
 
@@ -146,27 +146,10 @@ fn process(
         return Ok(Some(new_child(registers, args, Some(memory), None)));
     }
     let task = context.task;
-    let mut words = copies(alloc, space, areas)?;
-    if !set_word(
-        alloc,
-        task,
-        sets_parent_word(flags),
-        &mut words.space,
-        &mut words.areas,
-        args.a2,
-        number,
-    )? {
+    let Some(mut words) = with_parent_word(alloc, task, args, number, space, areas)? else {
         return Ok(None);
-    }
-    if !set_word(
-        alloc,
-        task,
-        sets_child_word(flags),
-        &mut memory,
-        &mut words.areas,
-        args.a4,
-        number,
-    )? {
+    };
+    if !set_child_word(alloc, task, args, number, &mut memory, &mut words.areas)? {
         return Ok(None);
     }
     Ok(Some(new_child(registers, args, Some(memory), Some(words))))
@@ -195,26 +178,16 @@ fn thread(
         return Ok(Some(new_child(registers, args, None, None)));
     }
     let task = context.task;
-    let mut words = copies(alloc, space, areas)?;
-    if !set_word(
-        alloc,
-        task,
-        sets_parent_word(flags),
-        &mut words.space,
-        &mut words.areas,
-        args.a2,
-        number,
-    )? {
+    let Some(mut words) = with_parent_word(alloc, task, args, number, space, areas)? else {
         return Ok(None);
-    }
-    if !set_word(
+    };
+    if !set_child_word(
         alloc,
         task,
-        sets_child_word(flags),
+        args,
+        number,
         &mut words.space,
         &mut words.areas,
-        args.a4,
-        number,
     )? {
         return Ok(None);
     }
@@ -295,6 +268,54 @@ fn copies(
     let space = space.copy(alloc)?;
     let areas = areas.copy(alloc)?;
     Ok(Words { space, areas })
+}
+
+/// The caller's address space and the shared areas once more, with a child's number in the caller's word, where that is
+/// asked for, or `None` where the word can't be written.
+fn with_parent_word(
+    alloc: Global,
+    task: u32,
+    args: &Args,
+    number: u32,
+    space: &mut GuestSpace,
+    areas: &mut Named<GuestArea>,
+) -> Result<Option<Words>, Memory>
+    ensures words { IfOk result (λ words. LeavesWords task (sets_parent_word (cloning_of args.now).flags) space.old
+        areas.old args.now.a2 number words) }
+    ensures kept { space.new ≡ space.old }
+    ensures kept_areas { areas.new ≡ areas.old }
+{
+    let mut words = copies(alloc, space, areas)?;
+    let asked = sets_parent_word(flags_of(args));
+    let set = set_word(
+        alloc,
+        task,
+        asked,
+        &mut words.space,
+        &mut words.areas,
+        args.a2,
+        number,
+    )?;
+    if !set {
+        return Ok(None);
+    }
+    Ok(Some(words))
+}
+
+/// Puts a child's number into its word, where that is asked for, and answers whether the word could be written.
+fn set_child_word(
+    alloc: Global,
+    task: u32,
+    args: &Args,
+    number: u32,
+    space: &mut GuestSpace,
+    areas: &mut Named<GuestArea>,
+) -> Result<bool, Memory>
+    ensures { IfOk result (λ set. SetsWord task (sets_child_word (cloning_of args.now).flags) space.old space.new
+        areas.old areas.new args.now.a4 number set) }
+{
+    let asked = sets_child_word(flags_of(args));
+    set_word(alloc, task, asked, space, areas, args.a4, number)
 }
 
 /// Puts a number into a word for a task, where that is asked for, and answers whether the word could be written.

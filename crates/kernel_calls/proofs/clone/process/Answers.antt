@@ -1,7 +1,7 @@
 -- What a new process begins with, by what was put into its words.
 use Rattle.std.proofs.Common.{Some, refl, ap, ◌∙◌}
 use Rattle.kernel_model.specs.calls.Clone.{sets_child_word, sets_parent_word}
-use Rattle.kernel_calls.proofs.ClonedWords.{word_unasked}
+use Rattle.kernel_calls.proofs.ClonedWords.{word_unasked, words_left, words_lost}
 use Rattle.kernel_calls.proofs.Clones.{child_alone, child_with, process_barred, process_makes, process_unset}
 use Rattle.kernel_calls.proofs.clone.process.Goals as goal
 
@@ -19,32 +19,24 @@ returns-then-not-sets_child_word-clause-made c caller k list waiting console cal
     (child_alone c.new_child.result a.args.now (Some c.in_ok-memory.memory) a.registers.now calling registers
     c.new_child.ensures.registers c.new_child.ensures.clear c.new_child.ensures.memory c.new_child.ensures.words)
 
+pub returns-in_default-clause-made : goal.returns-in_default-clause-made
+returns-in_default-clause-made c caller k list waiting console calling registers next free =
+    let a = c.args in
+    let lost = words_lost c.in_ok-words.ensures.words c.in_default.is in
+    process_unset a.args.now a.number calling next free lost.2 refl c.fork.ensures.kept refl refl
+
 pub returns-then-not-branch-clause-made : goal.returns-then-not-branch-clause-made
 returns-then-not-branch-clause-made c caller k list waiting console calling registers next free =
     let a = c.args in
-    process_unset a.args.now a.number calling next free c.in_ok-set_word.ensures
-    (c.sets_parent_word-2.ensures ∙ ap sets_parent_word c.flags_of-flags.ensures)
-    (c.in_ok-words.ensures.space ∙ c.fork.ensures.kept) c.in_ok-words.ensures.areas c.if-not-branch.true
-
-pub returns-then-not-branch-2-clause-made : goal.returns-then-not-branch-2-clause-made
-returns-then-not-branch-2-clause-made c caller k list waiting console calling registers next free =
-    let a = c.args in
-    process_barred a.args.now a.number calling next free c.in_ok-set_word.ensures
-    (c.sets_parent_word-2.ensures ∙ ap sets_parent_word c.flags_of-flags.ensures)
-    (c.in_ok-words.ensures.space ∙ c.fork.ensures.kept) c.in_ok-words.ensures.areas c.if-not-branch.false
-    c.in_ok-set_word-2.ensures
-    (c.sets_child_word-2.ensures ∙ ap sets_child_word c.flags_of-flags.ensures) c.in_ok-memory.ensures.child
-    c.if-not-branch-2.true
+    process_barred a.args.now a.number calling next free (words_left c.in_ok-words.ensures.words c.in-Some.is) refl
+    c.fork.ensures.kept refl refl c.in_ok-set_child_word.ensures refl c.in_ok-memory.ensures.child c.if-not-branch.true
 
 pub returns-clause-made : goal.returns-clause-made
 returns-clause-made c caller k list waiting console calling registers next free =
     let a = c.args in
-    process_makes a.args.now a.number calling next free c.in_ok-set_word.ensures
-    (c.sets_parent_word-2.ensures ∙ ap sets_parent_word c.flags_of-flags.ensures)
-    (c.in_ok-words.ensures.space ∙ c.fork.ensures.kept) c.in_ok-words.ensures.areas c.if-not-branch.false
-    c.in_ok-set_word-2.ensures
-    (c.sets_child_word-2.ensures ∙ ap sets_child_word c.flags_of-flags.ensures) c.in_ok-memory.ensures.child
-    c.new_child-2.result c.if-not-branch-2.false
-    (child_with c.new_child-2.result a.args.now (Some c.set_word-2.new.space) a.registers.now calling registers
+    process_makes a.args.now a.number calling next free (words_left c.in_ok-words.ensures.words c.in-Some.is) refl
+    c.fork.ensures.kept refl refl c.in_ok-set_child_word.ensures refl c.in_ok-memory.ensures.child c.new_child-2.result
+    c.if-not-branch.false
+    (child_with c.new_child-2.result a.args.now (Some c.set_child_word.new.space) a.registers.now calling registers
     c.new_child-2.ensures.registers c.new_child-2.ensures.clear c.new_child-2.ensures.memory
-    (record { space = c.set_word.new.space; areas = c.set_word-2.new.areas }) c.new_child-2.ensures.words)
+    (record { space = c.in-Some.words.space; areas = c.set_child_word.new.areas }) c.new_child-2.ensures.words)
