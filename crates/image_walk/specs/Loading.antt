@@ -7,6 +7,7 @@ use Rattle.host_node.specs.declared.kind.Attr.{Attr}
 use Rattle.sn_base.specs.Sums.{capped}
 use Rattle.sn_errno.specs.declared.errno.Errno.{Errno}
 use Rattle.sn_errno.specs.declared.errno.Errno.TheVariants.{EIO, EACCES, ENOEXEC}
+use Rattle.kernel_model.specs.declared.limits.TheConstants.{LONGEST_IMAGE}
 use Rattle.kernel_model.specs.machine.Image.{image_of}
 use Rattle.kernel_model.specs.opening.Opening.{has_room, executed, image_within}
 use Rattle.image_walk.specs.declared.loading.Answer.{Answer}
@@ -25,8 +26,8 @@ Refusal attr refusal = (s : Shape) → attr ≡ attr_of s → is_lent s ≡ fals
 -- execve(2), ERRORS: EACCES, ENOEXEC
 abbrev pub FileRefusal : ℕ → ℕ → Option Errno → Type 0
 FileRefusal mode size (Some errno) =
-    ((mode / 64 % 2 ≡ 0) × (errno ≡ EACCES)) ⊎ ((mode / 64 % 2 ≡ 1) × (67108864 < size) × (errno ≡ ENOEXEC))
-FileRefusal mode size None = (mode / 64 % 2 ≡ 1) × (size ≤ 67108864)
+    ((mode / 64 % 2 ≡ 0) × (errno ≡ EACCES)) ⊎ ((mode / 64 % 2 ≡ 1) × (LONGEST_IMAGE < size) × (errno ≡ ENOEXEC))
+FileRefusal mode size None = (mode / 64 % 2 ≡ 1) × (size ≤ LONGEST_IMAGE)
 
 -- a node that is told stands here, and not with a borrower
 -- profile

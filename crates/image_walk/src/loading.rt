@@ -12,13 +12,11 @@ ghost use Rattle.image_walk.specs.Loading.{FailedBy};
 use elf_image::Image;
 use host_node::{Attr, HostErr, HostNode, Kind};
 use kernel_calls::read_executable;
+use kernel_model::LONGEST_IMAGE;
 use sn_base::Memory;
 use sn_errno::Errno;
 use sn_text::Route;
 use std::alloc::Global;
-
-/// The greatest size of an image's file, in bytes.
-const LONGEST_IMAGE: u64 = 67_108_864;
 
 /// What an opening execve answers: an image to begin with, an error, or want of memory.
 #[derive(Drop)]
