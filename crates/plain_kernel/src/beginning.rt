@@ -21,7 +21,7 @@ use futex_core::Waiters;
 use host_node::Tree;
 use kernel_calls::{Beginning, open_task, opened};
 use kernel_model::{Given, Kernel, Named, Node, Opened};
-use mount_file::{Mounts, Program, copied_mounts};
+use mount_file::{MOST_TASKS, Mounts, Program, copied_mounts};
 use sn_base::{List, Map, Memory};
 use std::alloc::Global;
 use task_table::Tasks;
@@ -68,7 +68,7 @@ pub(crate) fn begin_tasks(
     programs: &[Program],
     opened: &[Opened],
 ) -> Result<(), OpeningErr>
-    requires few { length programs.now ≤ 64 }
+    requires few { length programs.now ≤ MOST_TASKS }
     requires none { kernel.old.tasks ≡ no_tasks }
     ensures ok { OnOk result (tasks_begun 1 programs.now opened.now kernel.old ≡ Opens kernel.new) }
     ensures refused { IfErr result (IsRefusedBy (tasks_begun 1 programs.now opened.now kernel.old)) }

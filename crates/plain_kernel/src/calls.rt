@@ -26,6 +26,7 @@ use crate::effects::{go_on, settle};
 use crate::faults::{faulted, is_in_order};
 use kernel_calls::{Called, Child, Prepared, args_of, call, call_of, make, step};
 use kernel_model::{Args, Caller, Given, GuestArea, Kernel, Named, Next};
+use mount_file::MOST_ENTRIES;
 use rv_table::Regs;
 use sn_base::{Boxed, Memory};
 use sn_errno::{Errno, Reply};
@@ -43,7 +44,7 @@ pub(crate) fn call_task(
     reply: i64,
     given: &Given,
 ) -> Result<bool, Memory>
-    requires few { kernel.old.entries < 1048576 }
+    requires few { kernel.old.entries < MOST_ENTRIES }
     requires may { may_meet kernel.old.nodes given.now ≡ true }
     requires there { IsThere caller kernel.old }
     requires space { get_named kernel.old.spaces caller.memory.place caller.memory.index ≡ Some caller.space }
@@ -118,7 +119,7 @@ pub(crate) fn prepare(
     no: u64,
     args: &Args,
 ) -> Result<Called, Memory>
-    requires few { kernel.now.entries < 1048576 }
+    requires few { kernel.now.entries < MOST_ENTRIES }
     requires there { IsThere caller.old kernel.now }
     requires space { get_named kernel.now.spaces caller.old.memory.place caller.old.memory.index
         ≡ Some caller.old.space }
@@ -155,7 +156,7 @@ fn finish(
     reply: i64,
     called: Called,
 ) -> Result<bool, Memory>
-    requires few { kernel.old.entries < 1048576 }
+    requires few { kernel.old.entries < MOST_ENTRIES }
     requires there { IsThere caller kernel.old }
     requires own { EndsCaller called caller.task }
     requires room { HasRoomFor called kernel.old.tasks }
@@ -205,7 +206,7 @@ fn make_child(
     reply: i64,
     child: Boxed<Child>,
 ) -> Result<bool, Memory>
-    requires few { kernel.old.entries < 1048576 }
+    requires few { kernel.old.entries < MOST_ENTRIES }
     requires there { IsThere caller kernel.old }
     requires room { IsRoomFor kernel.old.tasks }
     ensures { (changes : Items Change) →

@@ -12,6 +12,7 @@ use crate::callers::{context, copied_areas};
 use crate::effects::settle;
 use kernel_calls::{Effect, end_group, run, step};
 use kernel_model::{Caller, GuestArea, Kernel, Named, Next};
+use mount_file::MOST_ENTRIES;
 use quantum::QUANTUM;
 use sn_base::Memory;
 use std::alloc::Global;
@@ -98,7 +99,7 @@ pub(crate) fn end_task(
     mut caller: Caller,
     signal: u8,
 ) -> Result<bool, Memory>
-    requires few { kernel.old.entries < 1048576 }
+    requires few { kernel.old.entries < MOST_ENTRIES }
     requires there { IsThere caller kernel.old }
     requires space { get_named kernel.old.spaces caller.memory.place caller.memory.index ≡ Some caller.space }
     ensures { Does (outcome_in (parts kernel.old) (end_row signal caller)) kernel.old kernel.new result }
@@ -132,7 +133,7 @@ fn kill(
     mut areas: Named<GuestArea>,
     signal: u8,
 ) -> Result<bool, Memory>
-    requires few { kernel.old.entries < 1048576 }
+    requires few { kernel.old.entries < MOST_ENTRIES }
     requires there { IsThere caller kernel.old }
     requires space { get_named kernel.old.spaces caller.memory.place caller.memory.index ≡ Some caller.space }
     requires areas { kernel.old.areas ≡ areas }

@@ -5,8 +5,7 @@ ghost use Rattle.std.specs.List.{list_all, list_any};
 ghost use Rattle.kernel_model.specs.entries.Given.{is_unused, gives_number, is_numbered, may_meet};
 ghost use Rattle.kernel_model.specs.entries.Steps.{may_enter};
 
-use crate::numbering::LAST_NUMBER;
-use kernel_model::{Entry, Fresh, Given, Node, Rise};
+use kernel_model::{Entry, Fresh, Given, LAST_NUMBER, Node, Rise};
 use sn_base::Map;
 
 /// Whether an entry may be made where these nodes have numbers. Only a call draws or meets anything.

@@ -8,12 +8,9 @@ ghost use Rattle.kernel_model.specs.laws.InPlace.{numbered, Waits};
 
 use crate::nodes::{child_node, number_child, number_of, take_back};
 use host_node::{Kind, Tree};
-use kernel_model::{Fresh, Kernel};
+use kernel_model::{Fresh, Kernel, LAST_NUMBER};
 use sn_base::Memory;
 use std::alloc::Global;
-
-/// The greatest inode number that a node may have.
-pub(crate) const LAST_NUMBER: u64 = 65_536;
 
 /// Gives each fresh number in turn, and answers whether each fits. A refusal or want of memory leaves the kernel as
 /// it was.
@@ -85,7 +82,7 @@ fn is_waiting(kernel: &Kernel, fresh: &Fresh) -> bool
 
 /// Moves a child out of its directory into a node of its own.
 fn place_child(alloc: Global, kernel: &mut Kernel, fresh: &Fresh) -> Result<(), Memory>
-    requires small { fresh.now.ino ≤ 65536 }
+    requires small { fresh.now.ino ≤ LAST_NUMBER }
     requires waits { Waits fresh.now kernel.old }
     ensures ok { OnOk result (numbered (fresh.now ∷ []) kernel.old ≡ Some kernel.new) }
     ensures err { OnErr result (kernel.new ≡ kernel.old) }

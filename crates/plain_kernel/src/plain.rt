@@ -11,7 +11,7 @@ use crate::opened::is_of;
 use crate::step::change;
 use host_node::Tree;
 use kernel_model::{Entry, Kernel, Opening};
-use mount_file::Mounts;
+use mount_file::{MOST_ENTRIES, MOST_TASKS, Mounts};
 use sn_base::{List, Memory};
 use sn_errno::Errno;
 use std::alloc::Global;
@@ -52,7 +52,7 @@ impl Plain {
         trees: &List<Tree>,
         opened: &Opening,
     ) -> Result<Plain, OpeningErr>
-        requires { length mounts.now.tasks ≤ 64 }
+        requires { length mounts.now.tasks ≤ MOST_TASKS }
         ensures ok { IfOk result (λ p. opening_of mounts.now trees.now opened.now ≡ Opens p.kernel) }
         ensures refused { IfErr result (IsRefusedBy (opening_of mounts.now trees.now opened.now)) }
     {
@@ -71,7 +71,7 @@ impl Plain {
 
     /// Does an entry, and answers whether it fits. A refusal or want of memory leaves the kernel as it was.
     pub fn step(&mut self, alloc: Global, entry: &Entry) -> Result<bool, Memory>
-        requires { self.old.kernel.entries < 1048576 }
+        requires { self.old.kernel.entries < MOST_ENTRIES }
         ensures fits { IfOk result (λ b. b ≡ is_some (step self.old.kernel entry.now)) }
         ensures ok { OnOk result (self.new.kernel ≡ unwrap_or (step self.old.kernel entry.now) self.old.kernel) }
         ensures err { OnErr result (self.new.kernel ≡ self.old.kernel) }

@@ -13,13 +13,14 @@ use crate::calls::call_task;
 use crate::entries::{end_task, run_task};
 use crate::waiting::{sleep_task, woken};
 use kernel_model::{Caller, Entry, Kernel};
+use mount_file::MOST_ENTRIES;
 use sn_base::Memory;
 use std::alloc::Global;
 
 /// Does what an entry does, but for the count of entries, and answers whether the entry fits. It works on copies of the
 /// caller's address space and of the shared areas, so that a refusal or want of memory leaves the kernel as it was.
 pub(crate) fn change(alloc: Global, kernel: &mut Kernel, entry: &Entry) -> Result<bool, Memory>
-    requires few { kernel.old.entries < 1048576 }
+    requires few { kernel.old.entries < MOST_ENTRIES }
     requires may { may_enter kernel.old.nodes entry.now ≡ true }
     ensures { Does (outcome_in (parts kernel.old) (entry_row (context_of kernel.old) entry.now))
         kernel.old kernel.new result }
@@ -39,7 +40,7 @@ pub(crate) fn change(alloc: Global, kernel: &mut Kernel, entry: &Entry) -> Resul
 
 /// Does what an entry of a task does that is not on the futex list.
 fn awake(alloc: Global, kernel: &mut Kernel, caller: Caller, entry: &Entry) -> Result<bool, Memory>
-    requires few { kernel.old.entries < 1048576 }
+    requires few { kernel.old.entries < MOST_ENTRIES }
     requires may { may_enter kernel.old.nodes entry.now ≡ true }
     requires there { IsThere caller kernel.old }
     requires space { get_named kernel.old.spaces caller.memory.place caller.memory.index ≡ Some caller.space }

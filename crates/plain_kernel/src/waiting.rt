@@ -15,6 +15,7 @@ use crate::calls::{is_call, prepare};
 use crate::effects::go_on;
 use kernel_calls::{Called, args_of, call_of, sleep, step};
 use kernel_model::{Args, Caller, Entry, Given, GuestArea, Kernel, Named, Next};
+use mount_file::MOST_ENTRIES;
 use sn_base::Memory;
 use std::alloc::Global;
 
@@ -24,7 +25,7 @@ pub(crate) fn sleep_task(
     kernel: &mut Kernel,
     mut caller: Caller,
 ) -> Result<bool, Memory>
-    requires few { kernel.old.entries < 1048576 }
+    requires few { kernel.old.entries < MOST_ENTRIES }
     requires there { IsThere caller kernel.old }
     requires space { get_named kernel.old.spaces caller.memory.place caller.memory.index ≡ Some caller.space }
     requires waits { wait_of kernel.old.sleepers caller.task ≡ Awake }
@@ -53,7 +54,7 @@ fn sleep_in(
     mut caller: Caller,
     mut areas: Named<GuestArea>,
 ) -> Result<bool, Memory>
-    requires few { kernel.old.entries < 1048576 }
+    requires few { kernel.old.entries < MOST_ENTRIES }
     requires there { IsThere caller kernel.old }
     requires space { get_named kernel.old.spaces caller.memory.place caller.memory.index ≡ Some caller.space }
     requires areas { kernel.old.areas ≡ areas }

@@ -13,19 +13,16 @@ ghost use Rattle.plain_kernel.specs.Beginnings.{Executes, IsFrom, MayStart};
 
 use crate::faults::{faulted, is_in_order};
 use crate::nodes::number_of;
-use crate::numbering::{LAST_NUMBER, number_all};
+use crate::numbering::number_all;
 use elf_image::Image;
 use host_node::{Kind, Tree};
 use kernel_calls::{is_too_long, read_executable, root_of};
-use kernel_model::{Fresh, Given, Kernel};
+use kernel_model::{Fresh, Given, Kernel, LAST_NUMBER, LONGEST_IMAGE};
 use mount_file::Program;
 use sn_base::Memory;
 use sn_errno::Errno;
 use sn_text::Text;
 use std::alloc::Global;
-
-/// The greatest size of an image's file, in bytes.
-const LONGEST_IMAGE: usize = 67_108_864;
 
 /// What a walk comes to: whether it is to a child without a number, and its image or error.
 #[derive(Drop)]
@@ -73,7 +70,7 @@ fn image_in(alloc: Global, bytes: &[u8]) -> Result<Result<Image, Errno>, Memory>
     ensures image { IfOk result (λ image. image ≡ image_in bytes.now) }
     ensures pages { IfOk result (λ image. fits image ≡ true) }
 {
-    if LONGEST_IMAGE < bytes.len() {
+    if LONGEST_IMAGE < bytes.len() as u64 {
         return Ok(Err(Errno::ENOEXEC));
     }
     read_executable(alloc, bytes)
