@@ -5,6 +5,7 @@ use Rattle.rv_table.specs.declared.regs.Regs.{Regs}
 use Rattle.mm_space.specs.Handing.{AreaState}
 use Rattle.mm_space.specs.Spaces.{AddressSpace}
 use Rattle.task_table.specs.declared.task.Made.{Made}
+use Rattle.quantum.specs.declared.run.TheConstants.{QUANTUM}
 use Rattle.quantum.specs.Instructions.{ran}
 use Rattle.kernel_model.specs.Names.{NamedMap, get_named, with_named}
 use Rattle.kernel_model.specs.declared.caller.Caller.{Caller}
@@ -45,7 +46,7 @@ pub record HasRunPart (task : ℕ) (before after : Cells) : Type 0 where
   pub caller : Caller
   pub found : caller_in before task ≡ Some caller
   pub count : ℕ
-  pub few : count < 10000
+  pub few : count < QUANTUM
   pub registers : Regs
   pub runs : RunsIn task caller.memory count caller.registers registers before.spaces after.spaces
   pub kept_registers : after.registers ≡ set_at task (Some registers) before.registers

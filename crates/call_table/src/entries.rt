@@ -45,11 +45,11 @@ fn run_in(
     requires { IsTrue (has_named spaces.old memory.place memory.index) }
     ensures runs { IfOk result (λ r.
         RunsIn task memory r.count registers.old registers.new spaces.old spaces.new) }
-    ensures within { IfOk result (λ r. r.count ≤ 10000) }
+    ensures within { IfOk result (λ r. r.count ≤ QUANTUM) }
     ensures stopped { IfOk result (λ r. (space : AddressSpace) →
         get_named spaces.new memory.place memory.index ≡ Some space →
-        StopsAt 10000 r.count r.next (next_of (acting_in task space) registers.new)) }
-    ensures memory { OnErr result ((n : ℕ) × (n < 10000)
+        StopsAt QUANTUM r.count r.next (next_of (acting_in task space) registers.new)) }
+    ensures memory { OnErr result ((n : ℕ) × (n < QUANTUM)
         × RunsIn task memory n registers.old registers.new spaces.old spaces.new) }
 {
     match spaces.get_mut(memory.place, memory.index) {
