@@ -34,14 +34,11 @@ use crate::play::no_opening;
 use crate::words::{Command, read_words};
 use host_node::HostWorld;
 use kernel_model::Kernel;
-use mount_file::{MountFault, Mounts, read_mounts};
+use mount_file::{LONGEST_MOUNT_FILE, MountFault, Mounts, read_mounts};
 use sn_base::List;
 use sn_edge::{EdgeErr, Sink, Source, read_all};
 use sn_errno::Errno;
 use std::alloc::Global;
-
-/// The longest mount file, in bytes.
-const LONGEST_MOUNT_FILE: usize = 65_536;
 
 /// The outcome of a run that did not begin.
 fn refused(alloc: Global, fault: Fault) -> Outcome
