@@ -9,6 +9,8 @@ use Rattle.kernel_model.specs.entries.History.{replay}
 use Rattle.kernel_model.specs.opening.Opening.{opening_of}
 use Rattle.kernel_model.specs.printed.Printed.{printed}
 use Rattle.mount_file.specs.declared.mounts.Mounts.{Mounts}
+use Rattle.mount_file.specs.declared.rules.TheConstants.{MOST_TASKS}
+use Rattle.mount_file.specs.declared.values.TheConstants.{MOST_ENTRIES}
 use Rattle.run_replay.specs.declared.replays.Replayed.{Replayed}
 use Rattle.run_replay.specs.declared.replays.Replayed.TheVariants.{Same, Unopened, Step, Text, Beyond}
 use Rattle.sentry_run.specs.Outcome.{started_kernel}
@@ -58,8 +60,8 @@ pub record IsApartFrom (same : ℕ) (one other : List ℕ) : Type 0 where
 -- profile
 abbrev pub IsBeyond : Option Mounts → Course → Type 0
 IsBeyond mounts course =
-    IsSomeAnd mounts (λ m. 64 < length m.tasks)
-    ⊎ IsSomeAnd course.start (λ k. 1048576 < k.entries + length course.trace)
+    IsSomeAnd mounts (λ m. MOST_TASKS < length m.tasks)
+    ⊎ IsSomeAnd course.start (λ k. MOST_ENTRIES < k.entries + length course.trace)
 
 -- what an answer says: all entries are steps and lead to the text; or there is no kernel to begin with; or so many are
 -- steps and the next is none; or all are, and lead to another text

@@ -7,16 +7,11 @@ ghost use Rattle.run_replay.specs.Replays.{Fits, Says, course_of};
 
 use host_node::Tree;
 use kernel_model::{Entry, Trace};
+use mount_file::{MOST_ENTRIES, MOST_TASKS};
 use plain_kernel::{OpeningErr, Plain};
 use sentry_run::{Outcome, printed_text};
 use sn_base::{List, Memory};
 use std::alloc::Global;
-
-/// The most tasks of a mount file.
-const MOST_TASKS: usize = 64;
-
-/// The most entries that a kernel makes.
-const MOST_ENTRIES: u64 = 1_048_576;
 
 /// What doing a trace again came to.
 ///
@@ -52,7 +47,7 @@ impl Replayed {
 
 /// Does entries one after another until one is no step, and answers how many were.
 fn fitting(alloc: Global, plain: &mut Plain, trace: &[Entry]) -> Result<usize, Memory>
-    requires room { plain.old.kernel.entries + length trace.now ≤ 1048576 }
+    requires room { plain.old.kernel.entries + length trace.now ≤ MOST_ENTRIES }
     ensures { IfOk result (λ count. Fits plain.old.kernel trace.now count plain.new.kernel) }
 {
     for (index, entry) in trace.iter().enumerate() {
@@ -77,7 +72,7 @@ fn alike(one: &[u8], other: &[u8]) -> usize
 
 /// Whether a kernel would make more entries than one makes, with so many more.
 fn is_beyond(entries: u64, more: usize) -> bool
-    ensures { result ≡ nat_lt 1048576 (entries + more) }
+    ensures { result ≡ nat_lt MOST_ENTRIES (entries + more) }
 {
     entries > MOST_ENTRIES || more as u64 > MOST_ENTRIES - entries
 }
