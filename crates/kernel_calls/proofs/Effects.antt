@@ -1,9 +1,8 @@
 -- What a call leaves of a kernel's parts, by its effect.
-use Rattle.std.proofs.Common.{◌≡◌, ℕ, List, [], ◌∷◌, ap, sym, ◌∙◌}
+use Rattle.std.proofs.Common.{◌≡◌, ℕ, List, ap, ◌∙◌}
 use Rattle.futex_core.specs.FutexLists.{FutexList}
 use Rattle.task_table.specs.Table.{TaskTable}
 use Rattle.kernel_model.specs.declared.kernel.Kernel.{Kernel}
-use Rattle.kernel_model.specs.declared.kernel.Part.TheVariants.{OfTasks, OfSleepers, OfConsole}
 use Rattle.kernel_model.specs.entries.Parts.{parts, changed}
 use Rattle.kernel_calls.specs.Prepared.{changes_of}
 use Rattle.kernel_calls.specs.declared.prepared.Effect.{Effect}

@@ -7,7 +7,7 @@ ghost use Rattle.task_table.specs.Table.{is_live};
 ghost use Rattle.kernel_model.specs.declared.caller.Caller.{Caller as ACaller};
 ghost use Rattle.kernel_model.specs.declared.kernel.Kernel.{Kernel as AKernel};
 ghost use Rattle.kernel_model.specs.calls.Callers.{context_of};
-ghost use Rattle.kernel_model.specs.calls.Table.{call_row, row_of_call};
+ghost use Rattle.kernel_model.specs.calls.Table.{call_row};
 ghost use Rattle.kernel_calls.specs.Lending.{AreAlike};
 ghost use Rattle.kernel_calls.specs.Prepared.{Comes, EndsCaller, EndsTheirs, HasRoomFor, IfWaits, IsApart, IsCalling};
 ghost use Rattle.kernel_calls.specs.Prepared.{RepliesFew, WaitsWith};
@@ -39,6 +39,7 @@ use task_table::Tasks;
 /// and what lies in memory is changed at once; what is to be done to the console, the task list or the futex list is
 /// told, and where that may lack memory nothing has changed so far. Of the console it reads only how many bytes that
 /// has. An `Err` changes nothing.
+#[rattlefmt::skip]
 #[tactic(auto, using(crate::proofs::Answering::answers_lacking))]
 pub fn call(
     alloc: Global,
@@ -68,97 +69,60 @@ pub fn call(
     ensures err_areas { OnErr result (AreAlike areas.new areas.old) }
 {
     match CallNo::of(number) {
-        Some(call) => known(
-            alloc, context, call, registers, args, space, areas, tasks, sleepers, console,
-        ),
         None => lacking(),
-    }
-}
-
-/// A call of the table, a row a call.
-#[rattlefmt::skip]
-#[tactic(auto, using(crate::proofs::Answering::answers_lacking))]
-fn known(
-    alloc: Global,
-    context: &Context<'_>,
-    call: CallNo,
-    registers: &Regs,
-    args: &Args,
-    space: &mut GuestSpace,
-    areas: &mut Named<GuestArea>,
-    tasks: &Tasks,
-    sleepers: &Waiters,
-    console: usize,
-) -> Result<Called, Memory>
-    requires { IsTrue (is_live tasks.now.tasks context.now.task) }
-    ensures row { IfOk result (λ d. (c : ACaller) (k : AKernel) →
-        IsCalling c k context.now space.old areas.old tasks.now sleepers.now console →
-        c.registers ≡ registers.now →
-        Comes (row_of_call (context_of k) c args.now call) d c k space.new areas.new) }
-    ensures apart { IfOk result (λ d. IsApart d → (space.new ≡ space.old) × (areas.new ≡ areas.old)) }
-    ensures few { IfOk result (λ d. RepliesFew d) }
-    ensures own { IfOk result (λ d. EndsCaller d context.now.task) }
-    ensures ended { IfOk result (λ d. EndsTheirs d context.now.task context.now.group tasks.now) }
-    ensures waits { IfOk result (λ d. IfWaits d
-        (WaitsWith context.now.group tasks.now (λ context c. row_of_call context c args.now call))) }
-    ensures room { IfOk result (λ d. HasRoomFor d tasks.now) }
-    ensures err { OnErr result (space.new ≡ space.old) }
-    ensures err_areas { OnErr result (AreAlike areas.new areas.old) }
-{
-    match call {
-        CallNo::Getcwd => lacking(),
-        CallNo::Dup => lacking(),
-        CallNo::Dup3 => lacking(),
-        CallNo::Fcntl => lacking(),
-        CallNo::Ioctl => lacking(),
-        CallNo::Mkdirat => lacking(),
-        CallNo::Unlinkat => lacking(),
-        CallNo::Symlinkat => lacking(),
-        CallNo::Linkat => lacking(),
-        CallNo::Ftruncate => lacking(),
-        CallNo::Faccessat => lacking(),
-        CallNo::Chdir => lacking(),
-        CallNo::Openat => lacking(),
-        CallNo::Close => lacking(),
-        CallNo::Pipe2 => lacking(),
-        CallNo::Getdents64 => lacking(),
-        CallNo::Lseek => lacking(),
-        CallNo::Read => lacking(),
-        CallNo::Write => Ok(Called::Replies(write(alloc, args.a0, args.a1, args.a2, space, areas, console)?)),
-        CallNo::Readv => lacking(),
-        CallNo::Writev => lacking(),
-        CallNo::Pread64 => lacking(),
-        CallNo::Pwrite64 => lacking(),
-        CallNo::Readlinkat => lacking(),
-        CallNo::Newfstatat => lacking(),
-        CallNo::Fstat => lacking(),
-        CallNo::Exit => Ok(Called::Replies(exit(alloc, context, args.a0, space, areas, tasks)?)),
-        CallNo::ExitGroup => Ok(Called::Replies(exit_group(alloc, context, args.a0, space, areas, tasks)?)),
-        CallNo::SetTidAddress => Ok(Called::Replies(set_tid_address(context, args.a0))),
-        CallNo::Futex => futex(alloc, context, args, space, areas, sleepers),
-        CallNo::SetRobustList => Ok(Called::Replies(set_robust_list())),
-        CallNo::ClockGettime => Ok(Called::Replies(clock_gettime(alloc, context, args.a0, args.a1, space, areas)?)),
-        CallNo::SchedYield => Ok(Called::Replies(sched_yield())),
-        CallNo::Kill => lacking(),
-        CallNo::RtSigaction => lacking(),
-        CallNo::RtSigprocmask => lacking(),
-        CallNo::Uname => Ok(Called::Replies(uname(alloc, context, args.a0, space, areas)?)),
-        CallNo::Getpid => Ok(Called::Replies(getpid(context))),
-        CallNo::Getppid => Ok(Called::Replies(getppid(context, tasks))),
-        CallNo::Getuid => Ok(Called::Replies(owner())),
-        CallNo::Geteuid => Ok(Called::Replies(owner())),
-        CallNo::Getgid => Ok(Called::Replies(owner())),
-        CallNo::Getegid => Ok(Called::Replies(owner())),
-        CallNo::Gettid => Ok(Called::Replies(gettid(context))),
-        CallNo::Brk => Ok(Called::Replies(brk(alloc, args.a0, space)?)),
-        CallNo::Munmap => Ok(Called::Replies(munmap(args.a0, args.a1, space)?)),
-        CallNo::Clone => clone(alloc, context, registers, args, space, areas, tasks),
-        CallNo::Execve => lacking(),
-        CallNo::Mmap => Ok(Called::Replies(mmap(alloc, context.place, args, space, areas)?)),
-        CallNo::Mprotect => Ok(Called::Replies(mprotect(args.a0, args.a1, args.a2, space))),
-        CallNo::Wait4 => wait4(alloc, context, args, space, areas, tasks),
-        CallNo::Renameat2 => lacking(),
-        CallNo::Getrandom => Ok(Called::Replies(getrandom(alloc, context, args.a0, args.a1, args.a2, space, areas)?)),
+        Some(CallNo::Getcwd) => lacking(),
+        Some(CallNo::Dup) => lacking(),
+        Some(CallNo::Dup3) => lacking(),
+        Some(CallNo::Fcntl) => lacking(),
+        Some(CallNo::Ioctl) => lacking(),
+        Some(CallNo::Mkdirat) => lacking(),
+        Some(CallNo::Unlinkat) => lacking(),
+        Some(CallNo::Symlinkat) => lacking(),
+        Some(CallNo::Linkat) => lacking(),
+        Some(CallNo::Ftruncate) => lacking(),
+        Some(CallNo::Faccessat) => lacking(),
+        Some(CallNo::Chdir) => lacking(),
+        Some(CallNo::Openat) => lacking(),
+        Some(CallNo::Close) => lacking(),
+        Some(CallNo::Pipe2) => lacking(),
+        Some(CallNo::Getdents64) => lacking(),
+        Some(CallNo::Lseek) => lacking(),
+        Some(CallNo::Read) => lacking(),
+        Some(CallNo::Write) => Ok(Called::Replies(write(alloc, args.a0, args.a1, args.a2, space, areas, console)?)),
+        Some(CallNo::Readv) => lacking(),
+        Some(CallNo::Writev) => lacking(),
+        Some(CallNo::Pread64) => lacking(),
+        Some(CallNo::Pwrite64) => lacking(),
+        Some(CallNo::Readlinkat) => lacking(),
+        Some(CallNo::Newfstatat) => lacking(),
+        Some(CallNo::Fstat) => lacking(),
+        Some(CallNo::Exit) => Ok(Called::Replies(exit(alloc, context, args.a0, space, areas, tasks)?)),
+        Some(CallNo::ExitGroup) => Ok(Called::Replies(exit_group(alloc, context, args.a0, space, areas, tasks)?)),
+        Some(CallNo::SetTidAddress) => Ok(Called::Replies(set_tid_address(context, args.a0))),
+        Some(CallNo::Futex) => futex(alloc, context, args, space, areas, sleepers),
+        Some(CallNo::SetRobustList) => Ok(Called::Replies(set_robust_list())),
+        Some(CallNo::ClockGettime) => Ok(Called::Replies(clock_gettime(alloc, context, args.a0, args.a1, space, areas)?)),
+        Some(CallNo::SchedYield) => Ok(Called::Replies(sched_yield())),
+        Some(CallNo::Kill) => lacking(),
+        Some(CallNo::RtSigaction) => lacking(),
+        Some(CallNo::RtSigprocmask) => lacking(),
+        Some(CallNo::Uname) => Ok(Called::Replies(uname(alloc, context, args.a0, space, areas)?)),
+        Some(CallNo::Getpid) => Ok(Called::Replies(getpid(context))),
+        Some(CallNo::Getppid) => Ok(Called::Replies(getppid(context, tasks))),
+        Some(CallNo::Getuid) => Ok(Called::Replies(owner())),
+        Some(CallNo::Geteuid) => Ok(Called::Replies(owner())),
+        Some(CallNo::Getgid) => Ok(Called::Replies(owner())),
+        Some(CallNo::Getegid) => Ok(Called::Replies(owner())),
+        Some(CallNo::Gettid) => Ok(Called::Replies(gettid(context))),
+        Some(CallNo::Brk) => Ok(Called::Replies(brk(alloc, args.a0, space)?)),
+        Some(CallNo::Munmap) => Ok(Called::Replies(munmap(args.a0, args.a1, space)?)),
+        Some(CallNo::Clone) => clone(alloc, context, registers, args, space, areas, tasks),
+        Some(CallNo::Execve) => lacking(),
+        Some(CallNo::Mmap) => Ok(Called::Replies(mmap(alloc, context.place, args, space, areas)?)),
+        Some(CallNo::Mprotect) => Ok(Called::Replies(mprotect(args.a0, args.a1, args.a2, space))),
+        Some(CallNo::Wait4) => wait4(alloc, context, args, space, areas, tasks),
+        Some(CallNo::Renameat2) => lacking(),
+        Some(CallNo::Getrandom) => Ok(Called::Replies(getrandom(alloc, context, args.a0, args.a1, args.a2, space, areas)?)),
     }
 }
 
