@@ -1,9 +1,9 @@
 -- One opening task more begins, or its execve refuses the opening.
-use Rattle.std.proofs.Common.{◌≡◌, ℕ, ◌+◌, ◌<◌, ◌≤◌, Bool, true, false, List, [], ◌∷◌, ◌++◌, length, drop, refl, ap}
-use Rattle.std.proofs.Common.{sym, ◌∙◌}
+use Rattle.std.proofs.Common.{◌≡◌, ℕ, suc, ◌+◌, ◌<◌, ◌≤◌, Bool, true, false, List, [], ◌∷◌, ◌++◌, length, drop, refl}
+use Rattle.std.proofs.Common.{ap, sym, ◌∙◌, ◌⊎◌, inl, inr}
 use Rattle.std.proofs.Common.{subst, arith, length-append}
-use Rattle.std.specs.Prelude.{Option, Some, None, Result, Ok, Err, IfOk, IfErr, IsErrAnd, OnErr, slice_get}
-use Rattle.std.specs.Prelude.{if◌then◌else◌}
+use Rattle.std.specs.Prelude.{Option, Some, None, Result, Ok, Err, IfOk, IfErr, IsErrAnd, OnErr, slice_get, ⊤}
+use Rattle.std.specs.Prelude.{IfSome, IsSomeAnd, if◌then◌else◌, option_map}
 use Rattle.std.proofs.lemmas.List.{append_assoc, append-nil, drop_more}
 use Rattle.std.proofs.lemmas.Option.{get_or_from_slice_get, slice_get_within}
 use Rattle.host_node.specs.Tree.{Shape}
@@ -17,6 +17,7 @@ use Rattle.task_table.specs.Table.{TaskTable}
 use Rattle.kernel_model.specs.declared.kernel.Kernel.{Kernel}
 use Rattle.kernel_model.specs.declared.opening.Given.{Given}
 use Rattle.kernel_model.specs.declared.opening.Opened.{Opened}
+use Rattle.kernel_model.specs.declared.opening.Rise.{Rise}
 use Rattle.kernel_model.specs.entries.Given.{may_meet}
 use Rattle.kernel_model.specs.entries.Parts.{parts, outcome_in, changed}
 use Rattle.kernel_model.specs.files.FileTree.{Nodes, last_number}
@@ -30,7 +31,7 @@ use Rattle.image_walk.specs.declared.loading.Answer.{Answer}
 use Rattle.image_walk.specs.declared.loading.Answer.TheVariants as answers
 use Rattle.image_walk.specs.Executing.{Executes, named_then}
 use Rattle.image_walk.specs.Granted.{Child}
-use Rattle.image_walk.specs.Standing.{IsNumbering, Stands}
+use Rattle.image_walk.specs.Standing.{IsNumbering, Stands, lent_from}
 use Rattle.image_walk.specs.Walking.{IsGrant, IsRoot, IsSilent}
 use Rattle.image_walk.proofs.KernelAnswers.{Started, Failed, execve_starts, execve_fails, stands_on}
 use Rattle.image_walk.proofs.Places.{root_is}
@@ -39,10 +40,12 @@ use Rattle.proc_cells.specs.Beside.{Beside}
 use Rattle.call_table.specs.Processes.{kernel_of}
 use Rattle.run_opening.specs.declared.opening.OpenErr.{OpenErr}
 use Rattle.run_opening.specs.declared.opening.OpenErr.TheVariants.{Image, Memory}
-use Rattle.run_opening.specs.Openings.{Begins, HasBegun, IsRefused, IsStanding, StandsStill, Stops, beside_of}
-use Rattle.run_opening.specs.Openings.{numbering_of}
+use Rattle.run_opening.specs.Begun.{GoesOn, HasBegun, IsRefused, Stops}
+use Rattle.run_opening.specs.Openings.{Begins, IsStanding, StandsStill, beside_of, numbering_of}
+use Rattle.run_opening.specs.Told.{Folders, folders, kernel_told}
 use Rattle.run_opening.specs.Trees.{AreOthers, Others, trees_with}
 use Rattle.run_opening.proofs.Roots.{are_nodes, have_trees, root_within}
+use Rattle.run_opening.proofs.Telling.{Tells, tells, told_nodes}
 
 -- ---- the numbers
 
@@ -51,6 +54,21 @@ are_numbering m form =
     let within = root_within 1 m.mounts form.rooted in
     let few : length m.mounts ≤ most_mounts = form.few_mounts in
     (omega arith, omega arith, omega arith)
+
+-- a granted tree has a child for each name
+lent_each : (n : ℕ) (t : Shape) (names : List (List ℕ)) (rises : List Rise)
+    → length (lent_from n t names rises) ≡ length names
+lent_each n t [] rises = refl
+lent_each n t (name ∷ names) rises = ap suc (lent_each (n + 1) t names rises)
+
+length_standing : (num : Numbering) (t : Shape) (names : List (List ℕ)) (root : Option Shape) (children : List Child)
+    → Stands num t names [] root children → length children ≡ length names
+length_standing num t names root children s = ap length s.children_tell ∙ lent_each num.first t names []
+
+-- nothing is asked of what may be told
+if_any : {A : Type 0} (o : Option A) → IfSome o (λ _. ⊤)
+if_any None = tt
+if_any (Some a) = tt
 
 -- ---- an execve
 
@@ -74,33 +92,43 @@ next_programs programs i p e =
     drop_more programs i p (slice_get_within programs i p e)
     ∙ ap (λ q. q ∷ drop (i + 1) programs) (get_or_from_slice_get programs i p p e)
 
-module _ (m : Mounts) (others : Others) (t : Shape) (i : ℕ) (tasks tasks' : List Opened) (p : Processes)
-    (program : Program) (name : List ℕ) (o : Opened) (root root' : Option Shape) (children children' : List Child)
-    (h : HasBegun m others t i tasks p root children) (at : slice_get m.tasks i ≡ Some program)
-    (path : program.path ≡ 47 ∷ name) (few : i < 64) (pushed : tasks' ≡ tasks ++ o ∷ [])
+-- where nothing is told of a state, nothing is said of what comes after it
+none_told : (m : Mounts) (others : Others) (p : Processes) (root : Option Shape) (children : List Child)
+    (fact : Kernel → Type 0) → root ≡ None → IfSome (kernel_told m (folders others root children) p 0) fact
+none_told m others p root children fact e =
+    subst (λ (o : Option Shape). IfSome (kernel_told m (folders others o children) p 0) fact) (sym e) tt
+
+module _ (m : Mounts) (others : Others) (is : AreOthers m.mounts others) (t : Shape) (names : List (List ℕ)) (i : ℕ)
+    (tasks tasks' : List Opened) (p : Processes) (program : Program) (name : List ℕ) (o : Opened)
+    (root root' : Option Shape) (children children' : List Child)
+    (s : Stands (numbering_of m.mounts) t names [] root children) (at : slice_get m.tasks i ≡ Some program)
+    (path : program.path ≡ 47 ∷ name) (drawn : length children ≤ i) (few : i < 64) (pushed : tasks' ≡ tasks ++ o ∷ [])
     (facts : IsNumbering (numbering_of m.mounts)) where
   abbrev num : Numbering
   num = numbering_of m.mounts
 
+  h : Tells num others t names root children
+  h = tells m.mounts others is t names root children s
+
   abbrev k : Kernel
   k = kernel_of p (beside_of m h.nodes) 0
 
-  room : length h.names + num.first ≤ last_number
+  tells_k : kernel_told m (folders others root children) p 0 ≡ Some k
+  tells_k = ap (option_map (λ nodes. kernel_of p (beside_of m nodes) 0)) h.told
+
+  room : length names + num.first ≤ last_number
   room =
-      let named : length h.names ≤ i = h.few in
+      let named : length names ≤ i = subst (λ (n : ℕ). n ≤ i) (length_standing num t names root children s) drawn in
       let low : num.first ≤ 17 = facts.2 in
       omega arith
 
   -- what is left comes to what the next execve does, where what it drew and met may be
   next : (rest : List Opened) → may_meet h.nodes o.given ≡ true
-      → tasks_begun 1 m.tasks (tasks' ++ rest) (bare m (trees_with others t))
+      → tasks_begun (i + 1) (drop i m.tasks) (o ∷ rest) k
       ≡ task_begun (tasks_begun (i + 1 + 1) (drop (i + 1) m.tasks) rest) (with_task (i + 1) program) (i + 1) k
       (outcome_in (parts k) (execve_of num.root program o.given))
   next rest may =
-      ap (λ os. tasks_begun 1 m.tasks os (bare m (trees_with others t)))
-      (ap (λ os. os ++ rest) pushed ∙ append_assoc tasks (o ∷ []) rest)
-      ∙ h.begun (o ∷ rest)
-      ∙ ap (λ ps. tasks_begun (i + 1) ps (o ∷ rest) k) (next_programs m.tasks i program at)
+      ap (λ ps. tasks_begun (i + 1) ps (o ∷ rest) k) (next_programs m.tasks i program at)
       ∙ ap (λ b. if b
       then task_begun (tasks_begun (i + 1 + 1) (drop (i + 1) m.tasks) rest) (with_task (i + 1) program) (i + 1) k
       (outcome_in (parts k) (execve_of num.root program o.given))
@@ -109,38 +137,40 @@ module _ (m : Mounts) (others : Others) (t : Shape) (i : ℕ) (tasks tasks' : Li
   -- ---- it starts an image
 
   module _ (image : Executable) (more : Processes)
-      (e : Executes num (is_too_long program.args program.env) t h.names name o.given (answers.Starts image) root'
+      (e : Executes num (is_too_long program.args program.env) t names name o.given (answers.Starts image) root'
       children')
       (last : p.cells.tasks.last ≡ i)
       (begun : (beside : Beside) (n : ℕ) → beside.seed ≡ m.seed → root_of beside.mounts ≡ root_of m.mounts
       → kernel_of more beside n ≡ with_task (p.cells.tasks.last + 1) program image (kernel_of p beside n)) where
-    started : Started num k t (named_then e.drawn h.names name) program o.given image
+    started : Started num k t (named_then e.drawn names name) program o.given image
     started =
-        execve_starts num facts k t h.names name o.given
+        execve_starts num facts k t names name o.given
         (answers.Starts image) root' children' program path h.are refl room e
         image refl
 
     abbrev nodes' : Nodes
     nodes' = (changed started.changes k).nodes
 
-    after : with_task (i + 1) program image (changed started.changes k) ≡ kernel_of more (beside_of m nodes') 0
+    abbrev k' : Kernel
+    k' = kernel_of more (beside_of m nodes') 0
+
+    after : with_task (i + 1) program image (changed started.changes k) ≡ k'
     after =
         ap (with_task (i + 1) program image) started.rest
         ∙ ap (λ n. with_task (n + 1) program image (kernel_of p (beside_of m nodes') 0)) (sym last)
         ∙ sym (begun (beside_of m nodes') 0 refl refl)
 
-    pub task_begins : HasBegun m others t (i + 1) tasks' more root' children'
-    task_begins = record {
-      beside = h.beside;
-      names = named_then e.drawn h.names name;
-      nodes = nodes';
-      stands = stands_on num (is_too_long program.args program.env) t h.names name o.given image root' children' e;
-      are = started.nodes;
-      kept = λ ino differs low. started.others ino differs low ∙ h.kept ino differs low;
-      few =
-          let named : length (named_then e.drawn h.names name) ≤ length h.names + 1 = named_few e.drawn h.names name in
-          let before : length h.names ≤ i = h.few in
-          omega arith;
+    tells_after : kernel_told m (folders others root' children') more 0 ≡ Some k'
+    tells_after =
+        ap (option_map (λ nodes. kernel_of more (beside_of m nodes) 0))
+        (told_nodes m.mounts others is t (named_then e.drawn names name) nodes' root' children'
+        (stands_on num (is_too_long program.args program.env) t names name o.given image root' children' e)
+        started.nodes (λ ino differs low. started.others ino differs low ∙ h.kept ino differs low))
+
+    begins : HasBegun m i (i + 1) tasks tasks' k k'
+    begins = record {
+      opened = o ∷ [];
+      added = pushed;
       begun = λ rest.
           next rest started.may
           ∙ ap (task_begun (tasks_begun (i + 1 + 1) (drop (i + 1) m.tasks) rest) (with_task (i + 1) program) (i + 1) k)
@@ -148,31 +178,46 @@ module _ (m : Mounts) (others : Others) (t : Shape) (i : ℕ) (tasks tasks' : Li
           ∙ ap (tasks_begun (i + 1 + 1) (drop (i + 1) m.tasks) rest) after;
     }
 
+    pub task_begins : GoesOn m i (i + 1) tasks tasks' (kernel_told m (folders others root children) p 0)
+        (kernel_told m (folders others root' children') more 0)
+    task_begins =
+        subst (λ (x : Option Kernel). GoesOn m i (i + 1) tasks tasks' x
+        (kernel_told m (folders others root' children') more 0)) (sym tells_k)
+        (subst (λ (x : Option Kernel). IsSomeAnd x (HasBegun m i (i + 1) tasks tasks' k)) (sym tells_after) begins)
+
   -- ---- it fails
 
   module _ (errno : Errno)
-      (e : Executes num (is_too_long program.args program.env) t h.names name o.given (answers.Refuses errno) root'
+      (e : Executes num (is_too_long program.args program.env) t names name o.given (answers.Refuses errno) root'
       children') where
     failed : Failed num k program o.given errno root' children'
     failed =
-        execve_fails num facts k t h.names name o.given
+        execve_fails num facts k t names name o.given
         (answers.Refuses errno) root' children' program path h.are refl room e
         errno refl
 
-    pub task_refused : (task : ℕ) → task ≡ i + 1 → IsRefused m others t tasks' task errno root' children'
-    task_refused task is = record {
+    refused : (task : ℕ) → task ≡ i + 1
+        → IsRefused m i tasks tasks' task errno (folders others root' children') k
+    refused task same = record {
+      opened = o ∷ [];
+      added = pushed;
       left = changed failed.changes k;
       refuses =
-          ap (λ os. tasks_begun 1 m.tasks os (bare m (trees_with others t))) (sym (append-nil tasks'))
-          ∙ next [] failed.may
+          next [] failed.may
           ∙ ap (task_begun (tasks_begun (i + 1 + 1) (drop (i + 1) m.tasks) []) (with_task (i + 1) program) (i + 1) k)
           failed.comes
-          ∙ ap (λ n. Refuses (changed failed.changes k) n errno) (sym is);
+          ∙ ap (λ n. Refuses (changed failed.changes k) n errno) (sym same);
       settles = failed.settles;
       others_keep = λ after tree.
-          have_trees m.mounts others t after (changed failed.changes k) h.beside
+          have_trees m.mounts others t after (changed failed.changes k) is
           (λ ino differs low. failed.others ino differs low ∙ h.kept ino differs low) failed.still tree;
     }
+
+    pub task_refused : (task : ℕ) → task ≡ i + 1 → IfSome (kernel_told m (folders others root children) p 0)
+        (IsRefused m i tasks tasks' task errno (folders others root' children'))
+    task_refused task same =
+        subst (λ (x : Option Kernel). IfSome x
+        (IsRefused m i tasks tasks' task errno (folders others root' children'))) (sym tells_k) (refused task same)
 
 -- the folder stands, whatever an execve answers,
 pub standing : (num : Numbering) (long : Bool) (t : Shape) (names : List (List ℕ)) (name : List ℕ) (given : Given)
@@ -211,43 +256,73 @@ begins_as m num seed program answer p result numbered same b =
     subst (λ (s : List ℕ). Begins s (root_of m.mounts) program answer p result) same
     (subst (λ (x : Numbering). Begins seed x.root program answer p result) numbered b)
 
-module _ (m : Mounts) (i : ℕ) (tasks tasks' : List Opened) (p : Processes) (program : Program) (name : List ℕ)
-    (o : Opened) (root root' : Option Shape) (children children' : List Child) (answer : Answer)
-    (executes : ExecutesFor (numbering_of m.mounts) program name o.given answer root root' children children')
-    (at : slice_get m.tasks i ≡ Some program) (path : program.path ≡ 47 ∷ name) (few : i < 64)
-    (pushed : tasks' ≡ tasks ++ o ∷ []) (last : p.cells.tasks.last ≡ i)
-    (facts : IsNumbering (numbering_of m.mounts)) where
+-- the folder before an execve tells nothing, or it stands
+before : (num : Numbering) (root : Option Shape) (children : List Child) → IsGrant num root children
+    → (root ≡ None) ⊎ ((t : Shape) × (names : List (List ℕ)) × Stands num t names [] root children)
+before num None children g = inl refl
+before num (Some r) children g = inr (g.0, g.1, g.3)
+
+-- an execve of the program of an index, and what came of its answer
+pub record Deed (m : Mounts) (i : ℕ) (tasks tasks' : List Opened) (p : Processes) (root root' : Option Shape)
+    (children children' : List Child) (result : Result Processes OpenErr) : Type 0 where
+  pub program : Program
+  pub at : slice_get m.tasks i ≡ Some program
+  pub name : List ℕ
+  pub path : program.path ≡ 47 ∷ name
+  pub opened : Opened
+  pub pushed : tasks' ≡ tasks ++ opened ∷ []
+  pub answer : Answer
+  pub executes : ExecutesFor (numbering_of m.mounts) program name opened.given answer root root' children children'
+  pub begins : Begins m.seed (root_of m.mounts) program answer p result
+  pub last : p.cells.tasks.last ≡ i
+  pub few : i < 64
+  pub drawn : length children ≤ i
+  pub facts : IsNumbering (numbering_of m.mounts)
+  pub grant : IsGrant (numbering_of m.mounts) root children
+
+module _ (m : Mounts) (i : ℕ) (tasks tasks' : List Opened) (p : Processes) (root root' : Option Shape)
+    (children children' : List Child) where
   abbrev numbers : Numbering
   numbers = numbering_of m.mounts
 
-  abbrev too_long : Bool
-  too_long = is_too_long program.args program.env
+  pub begun_then : (result : Result Processes OpenErr)
+      → Deed m i tasks tasks' p root root' children children' result
+      → IfOk result (λ q. (others : Others) → AreOthers m.mounts others
+      → GoesOn m i (i + 1) tasks tasks' (kernel_told m (folders others root children) p 0)
+      (kernel_told m (folders others root' children') q 0))
+  begun_then (Err e) d = tt
+  begun_then (Ok q) d = λ others is. elim (before numbers root children d.grant) [
+    | inl none ↦ none_told m others p root children _ none
+    | inr g ↦
+        task_begins m others is g.0 g.1 i tasks tasks' p d.program d.name d.opened root root' children children' g.2
+        d.at d.path d.drawn d.few d.pushed d.facts d.begins.0 q
+        (subst (λ (x : Answer). Executes numbers (is_too_long d.program.args d.program.env) g.0 g.1 d.name
+        d.opened.given x root' children') d.begins.1 (d.executes g.0 g.1 g.2)) d.last d.begins.3
+  ]
 
-  pub begun_then : (result : Result Processes OpenErr) → Begins m.seed (root_of m.mounts) program answer p result
-      → IfOk result (λ q. (others : Others) (t : Shape) → HasBegun m others t i tasks p root children
-      → HasBegun m others t (i + 1) tasks' q root' children')
-  begun_then (Err e) b = tt
-  begun_then (Ok q) b = λ others t h.
-      task_begins m others t i tasks tasks' p program name o root root' children children' h at path few pushed facts
-      b.0 q (subst (λ (x : Answer). Executes numbers too_long t h.names name o.given x root' children')
-      b.1 (executes t h.names h.stands)) last b.3
+  pub stopped_then : (result : Result Processes OpenErr)
+      → Deed m i tasks tasks' p root root' children children' result
+      → IfErr result (λ e. (others : Others) → AreOthers m.mounts others
+      → IfSome (kernel_told m (folders others root children) p 0)
+      (Stops m i tasks tasks' e (folders others root' children')))
+  stopped_then (Ok q) d = tt
+  stopped_then (Err (Image task errno)) d = λ others is. elim (before numbers root children d.grant) [
+    | inl none ↦ none_told m others p root children _ none
+    | inr g ↦
+        task_refused m others is g.0 g.1 i tasks tasks' p d.program d.name d.opened root root' children children' g.2
+        d.at d.path d.drawn d.few d.pushed d.facts errno
+        (subst (λ (x : Answer). Executes numbers (is_too_long d.program.args d.program.env) g.0 g.1 d.name
+        d.opened.given x root' children') d.begins.1 (d.executes g.0 g.1 g.2)) task (d.begins.0 ∙ ap (λ n. n + 1) d.last)
+  ]
+  stopped_then (Err Memory) d = λ others is. if_any _
 
-  pub stands_still : (result : Result Processes OpenErr) → Begins m.seed (root_of m.mounts) program answer p result
+  pub stands_still : (result : Result Processes OpenErr)
+      → Deed m i tasks tasks' p root root' children children' result
       → IfOk result (λ q. (t : Shape) → StandsStill numbers t root children → StandsStill numbers t root' children')
-  stands_still (Err e) b = tt
-  stands_still (Ok q) b = λ t s.
-      stands_then numbers too_long t s.names name o.given b.0 answer root' children' b.1 (executes t s.names s.stands)
-
-  pub stopped_then : (result : Result Processes OpenErr) → Begins m.seed (root_of m.mounts) program answer p result
-      → IfErr result (λ e. (others : Others) (t : Shape) → HasBegun m others t i tasks p root children
-      → Stops m others t e tasks' root' children')
-  stopped_then (Ok q) b = tt
-  stopped_then (Err (Image task errno)) b = λ others t h.
-      let e = executes t h.names h.stands in
-      task_refused m others t i tasks tasks' p program name o root root' children children' h at path few pushed facts
-      errno (subst (λ (x : Answer). Executes numbers too_long t h.names name o.given x root' children') b.1 e)
-      task (b.0 ∙ ap (λ n. n + 1) last)
-  stopped_then (Err Memory) b = λ others t h. tt
+  stands_still (Err e) d = tt
+  stands_still (Ok q) d = λ t s.
+      stands_then numbers (is_too_long d.program.args d.program.env) t s.names d.name d.opened.given d.begins.0 d.answer
+      root' children' d.begins.1 (d.executes t s.names s.stands)
 
 -- whatever an execve answers, the folder can be put together again
 pub stands_err : (m : Mounts) (program : Program) (name : List ℕ) (given : Given) (answer : Answer)
@@ -272,25 +347,72 @@ opened_then seed root program answer i p (Ok q) o few b =
 
 -- ---- before the first task, and between two
 
+-- before the first task the state tells the kernel that the definitions begin with
 pub begun_none : (m : Mounts) (others : Others) (t : Shape) (p : Processes) (root : Option Shape)
     (children : List Child) (tasks : List Opened) → AreOthers m.mounts others
-    → Stands (numbering_of m.mounts) t [] [] root children → tasks ≡ []
+    → Stands (numbering_of m.mounts) t [] [] root children
     → ((nodes : Nodes) → kernel_of p (beside_of m nodes) 0 ≡ record (bare m (trees_with others t)) { nodes = nodes })
-    → HasBegun m others t 0 tasks p root children
-begun_none m others t p root children tasks are st none is =
-    let first : length m.mounts + 1 ≡ length others.before + length others.behind + 2 = omega (arith, are.long) in
-    record {
-      beside = are;
-      names = [];
-      nodes = rooted 1 (trees_with others t);
-      stands = st;
-      are = are_nodes (numbering_of m.mounts) others t are.place first;
-      kept = λ ino differs low. refl;
-      few = omega arith;
-      begun = λ rest.
-          ap (λ os. tasks_begun 1 m.tasks (os ++ rest) (bare m (trees_with others t))) none
-          ∙ ap (tasks_begun 1 m.tasks rest) (sym (is (rooted 1 (trees_with others t))));
-    }
+    → IsSomeAnd (kernel_told m (folders others root children) p 0)
+    (HasBegun m 0 0 tasks tasks (bare m (trees_with others t)))
+begun_none m others t p root children tasks is s same =
+    let first : length m.mounts + 1 ≡ length others.before + length others.behind + 2 = omega (arith, is.long) in
+    let nodes : Nodes = rooted 1 (trees_with others t) in
+    let tells_bare : kernel_told m (folders others root children) p 0 ≡ Some (bare m (trees_with others t)) =
+    ap (option_map (λ ns. kernel_of p (beside_of m ns) 0))
+    (told_nodes m.mounts others is t [] nodes root children s
+    (are_nodes (numbering_of m.mounts) others t is.place first) (λ ino differs low. refl))
+    ∙ ap Some (same nodes) in
+    subst (λ (x : Option Kernel). IsSomeAnd x (HasBegun m 0 0 tasks tasks (bare m (trees_with others t))))
+    (sym tells_bare)
+    (record { opened = []; added = sym (append-nil tasks); begun = λ rest. refl })
+
+-- one task more, behind those that began
+pub goes_on : (m : Mounts) (i j : ℕ) (first tasks tasks' : List Opened) (k : Kernel) (here there : Option Kernel)
+    → IsSomeAnd here (HasBegun m 0 i first tasks k) → GoesOn m i j tasks tasks' here there
+    → IsSomeAnd there (HasBegun m 0 j first tasks' k)
+goes_on m i j first tasks tasks' k None there h g = absurd h
+goes_on m i j first tasks tasks' k (Some a) None h g = absurd g
+goes_on m i j first tasks tasks' k (Some a) (Some b) h g = record {
+  opened = h.opened ++ g.opened;
+  added = g.added ∙ ap (λ os. os ++ g.opened) h.added ∙ append_assoc first h.opened g.opened;
+  begun = λ rest.
+      ap (λ os. tasks_begun 1 m.tasks os k) (append_assoc h.opened g.opened rest) ∙ h.begun (g.opened ++ rest)
+      ∙ g.begun rest;
+}
+
+-- one that is refused, behind those that began
+stops_behind : (m : Mounts) (i : ℕ) (first tasks tasks' : List Opened) (why : OpenErr) (f : Folders) (k : Kernel)
+    (before : Option Kernel) → IsSomeAnd before (HasBegun m 0 i first tasks k)
+    → IfSome before (Stops m i tasks tasks' why f) → Stops m 0 first tasks' why f k
+stops_behind m i first tasks tasks' why f k None h r = absurd h
+stops_behind m i first tasks tasks' Memory f k (Some b) h r = tt
+stops_behind m i first tasks tasks' (Image task errno) f k (Some b) h r = record {
+  opened = h.opened ++ r.opened;
+  added = r.added ∙ ap (λ os. os ++ r.opened) h.added ∙ append_assoc first h.opened r.opened;
+  left = r.left;
+  refuses = h.begun r.opened ∙ r.refuses;
+  settles = r.settles;
+  others_keep = r.others_keep;
+}
+
+-- the error of the task that was refused is that of the whole opening
+pub stops_then : (m : Mounts) (i : ℕ) (first tasks tasks' : List Opened) (p : Processes) (told root root' : Option Shape)
+    (children children' : List Child) (result : Result Processes OpenErr) (why : OpenErr)
+    → IsErrAnd result (λ e. e ≡ why)
+    → ((others : Others) (t : Shape) → AreOthers m.mounts others → told ≡ Some t
+    → IsSomeAnd (kernel_told m (folders others root children) p 0)
+    (HasBegun m 0 i first tasks (bare m (trees_with others t))))
+    → ((others : Others) → AreOthers m.mounts others → IfSome (kernel_told m (folders others root children) p 0)
+    (Stops m i tasks tasks' why (folders others root' children')))
+    → IfErr result (λ e. (others : Others) (t : Shape) → AreOthers m.mounts others → told ≡ Some t
+    → Stops m 0 first tasks' e (folders others root' children') (bare m (trees_with others t)))
+stops_then m i first tasks tasks' p told root root' children children' (Ok q) why is begun stopped = tt
+stops_then m i first tasks tasks' p told root root' children children' (Err e) why is begun stopped =
+    λ others t are tells.
+    subst (λ (x : OpenErr). Stops m 0 first tasks' x (folders others root' children') (bare m (trees_with others t)))
+    (sym is)
+    (stops_behind m i first tasks tasks' why (folders others root' children') (bare m (trees_with others t))
+    (kernel_told m (folders others root children) p 0) (begun others t are tells) (stopped others are))
 
 pub still_grant : (num : Numbering) (told root : Option Shape) (children : List Child) → IsRoot told
     → (told ≡ None → IsSilent root children)
@@ -308,8 +430,10 @@ still_grant num (Some t) root children is silent tells =
 pub err_stops : (m : Mounts) (i : ℕ) (tasks tasks' : List Opened) (p : Processes) (root root' : Option Shape)
     (children children' : List Child) (result : Result Processes OpenErr)
     → IsErrAnd result (λ e. e ≡ Memory)
-    → IfErr result (λ e. (others : Others) (t : Shape) → HasBegun m others t i tasks p root children
-    → Stops m others t e tasks' root' children')
+    → IfErr result (λ e. (others : Others) → AreOthers m.mounts others
+    → IfSome (kernel_told m (folders others root children) p 0)
+    (Stops m i tasks tasks' e (folders others root' children')))
 err_stops m i tasks tasks' p root root' children children' (Ok q) is = tt
-err_stops m i tasks tasks' p root root' children children' (Err e) is = λ others t h.
-    subst (λ (x : OpenErr). Stops m others t x tasks' root' children') (sym is) tt
+err_stops m i tasks tasks' p root root' children children' (Err e) is = λ others _.
+    subst (λ (x : OpenErr). IfSome (kernel_told m (folders others root children) p 0)
+    (Stops m i tasks tasks' x (folders others root' children'))) (sym is) (if_any _)

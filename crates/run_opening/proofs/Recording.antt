@@ -1,5 +1,5 @@
 -- The record of an opening grows by one task.
-use Rattle.std.proofs.Common.{◌≡◌, ℕ, zero, suc, ◌+◌, ◌<◌, List, [], ◌∷◌, ◌++◌, map, take, length, refl}
+use Rattle.std.proofs.Common.{◌≡◌, ℕ, zero, suc, ◌+◌, ◌<◌, ◌≤◌, List, [], ◌∷◌, ◌++◌, map, take, length, refl}
 use Rattle.std.proofs.Common.{ap, sym, ◌∙◌}
 use Rattle.std.proofs.Common.{subst, arith}
 use Rattle.std.specs.Prelude.{Some, Result, Ok, Err, IfOk, slice_get}
@@ -46,6 +46,12 @@ counted num (n ∷ []) drawn drawn' h =
     ∙ ap (count_up num.first) (sym h.1)
 counted num (n ∷ m ∷ numbers) drawn drawn' h = absurd h
 
+one_more : (num : Numbering) (numbers : List ℕ) (drawn drawn' : ℕ) → NumbersNext num numbers drawn drawn'
+    → drawn' ≤ drawn + 1
+one_more num [] drawn drawn' h = omega (arith, h)
+one_more num (n ∷ []) drawn drawn' h = omega (arith, h.1)
+one_more num (n ∷ m ∷ numbers) drawn drawn' h = absurd h
+
 pub record_more : (m : Mounts) (num : Numbering) (tasks tasks' : List Opened) (i drawn drawn' : ℕ) (p : Program)
     (o : Opened)
     → num ≡ numbering_of m.mounts → IsRecord m tasks i drawn → slice_get m.tasks i ≡ Some p → o.words ≡ p.args
@@ -62,6 +68,10 @@ record_more m num tasks tasks' i drawn drawn' p o numbered r e w n pushed = reco
       ap numbers_of_tasks pushed ∙ numbers_more tasks o ∙ ap (λ ns. ns ++ numbers_of o.given.fresh) r.numbers
       ∙ counted (numbering_of m.mounts) (numbers_of o.given.fresh) drawn drawn'
       (subst (λ (x : Numbering). NumbersNext x (numbers_of o.given.fresh) drawn drawn') numbered n);
+  one_each =
+      let next : drawn' ≤ drawn + 1 = one_more num (numbers_of o.given.fresh) drawn drawn' n in
+      let before : drawn ≤ i = r.one_each in
+      omega arith;
 }
 
 pub recorded : (m : Mounts) (tasks : List Opened) (count drawn : ℕ) → IsRecord m tasks count drawn
@@ -75,7 +85,7 @@ unfolding count_up
 record_none m tasks n e z =
     subst (λ (ts : List Opened). IsRecord m ts 0 n) (sym e)
     (subst (λ (x : ℕ). IsRecord m [] 0 x) (sym z)
-    (record { words = refl; few = omega arith; numbers = refl }))
+    (record { words = refl; few = omega arith; numbers = refl; one_each = omega arith }))
 
 -- what holds in any case holds on an `Ok`
 pub any_ok : {A E P : Type 0} (result : Result A E) → P → IfOk result (λ _. P)

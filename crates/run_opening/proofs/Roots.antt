@@ -1,8 +1,9 @@
 -- The roots of all mounts: their nodes as they are granted, and their trees in a later state.
 use Rattle.std.proofs.Common.{◌≡◌, ◌≢◌, ℕ, suc, ◌+◌, ◌-◌, ◌<◌, ◌≤◌, ◌^◌, true, List, [], ◌∷◌, ◌++◌, length, ap}
-use Rattle.std.proofs.Common.{sym, ◌∙◌, ◌||◌, arith, length-append}
+use Rattle.std.proofs.Common.{sym, ◌∙◌, ◌||◌, arith, inl, inr, length-append}
 use Rattle.std.specs.Prelude.{Option, Some, None, if◌then◌else◌, is_none, is_some, min, option_map, unwrap_or}
 use Rattle.std.specs.FinMap as map
+use Rattle.std.proofs.lemmas.Bool.{cases_eq}
 use Rattle.sn_base.specs.Sums.{capped}
 use Rattle.sn_base.proofs.Maps.{get_of_empty, get-insert_same, get-insert_other}
 use Rattle.host_node.specs.Tree.{Shape, faults_of, with_faults}
@@ -55,8 +56,31 @@ rooted_from first (b ∷ before) trees ino h =
     ∙ rooted_from (first + 1) before trees ino next
     ∙ ap (λ n. map.get (rooted n trees) ino) same
 
+-- they are the same whatever the tree of one root
+pub rooted_but : (first : ℕ) (before behind : List Shape) (a b : Shape) (ino : ℕ) → ino ≢ first + length before
+    → map.get (rooted first (before ++ a ∷ behind)) ino ≡ map.get (rooted first (before ++ b ∷ behind)) ino
+rooted_but first [] behind a b ino differs =
+    let d : ino ≢ first + 0 = differs in
+    let apart : first ≢ ino = λ e. d (omega arith) in
+    get-insert_other (rooted (first + 1) behind) first ino (root_node first a) apart
+    ∙ sym (get-insert_other (rooted (first + 1) behind) first ino (root_node first b) apart)
+rooted_but first (x ∷ before) behind a b ino differs =
+    let with_a = rooted (first + 1) (before ++ a ∷ behind) in
+    let with_b = rooted (first + 1) (before ++ b ∷ behind) in
+    let node = root_node first x in
+    elim (cases_eq first ino) [
+      | inl e ↦ ap (map.get (map.insert with_a first node)) (sym e) ∙ get-insert_same with_a first node
+          ∙ sym (get-insert_same with_b first node) ∙ ap (map.get (map.insert with_b first node)) e
+      | inr apart ↦ get-insert_other with_a first ino node apart
+          ∙ rooted_but (first + 1) before behind a b ino (λ e.
+          let d : ino ≢ first + suc (length before) = differs in
+          let same : ino ≡ first + suc (length before) = omega arith in
+          d same)
+          ∙ sym (get-insert_other with_b first ino node apart)
+    ]
+
 -- above them there is none
-rooted_above : (first : ℕ) (trees : List Shape) (ino : ℕ) → first + length trees ≤ ino
+pub rooted_above : (first : ℕ) (trees : List Shape) (ino : ℕ) → first + length trees ≤ ino
     → map.get (rooted first trees) ino ≡ None
 rooted_above first [] ino h = get_of_empty ino
 rooted_above first (t ∷ trees) ino h =

@@ -2,3 +2,5 @@
 pub mod Records
 pub mod Trees
 pub mod Openings
+pub mod Told
+pub mod Begun

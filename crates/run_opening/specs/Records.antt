@@ -12,12 +12,14 @@ use Rattle.kernel_model.specs.files.Numbers.{count_up}
 abbrev pub numbers_of_tasks : List Opened → List ℕ
 numbers_of_tasks tasks = flat_map (λ (o : Opened). numbers_of o.given.fresh) tasks
 
--- a record has the words of the first so many programs, and so many numbers, without a gap from the one behind roots
+-- a record has the words of the first so many programs, and so many numbers, at most one of each program, without a gap
+-- from the one behind roots
 -- profile
 pub record IsRecord (m : Mounts) (tasks : List Opened) (count drawn : ℕ) : Type 0 where
   pub words : map (λ (o : Opened). o.words) tasks ≡ map (λ (p : Program). p.args) (take count m.tasks)
   pub few : count ≤ length m.tasks
   pub numbers : numbers_of_tasks tasks ≡ count_up (length m.mounts + 1) drawn
+  pub one_each : drawn ≤ count
 
 -- a record of some of the programs, with some numbers
 -- profile

@@ -1,19 +1,23 @@
 //! The tasks of a mount file, opened in order.
 
-ghost use Rattle.std.specs.Prelude.{◌≡◌, ◌+◌, ◌<◌, ◌≤◌, ℕ, [], length, None, Some, true, IfOk, IfErr, OnErr, slice_get};
+ghost use Rattle.std.specs.Prelude.{◌≡◌, ◌+◌, ◌<◌, ◌≤◌, ℕ, [], length, None, Some, true, IfOk, IfErr, IfSome, IsSomeAnd};
+ghost use Rattle.std.specs.Prelude.{OnErr};
 ghost use Rattle.host_node.specs.Tree.{Shape};
 ghost use Rattle.sn_errno.specs.declared.errno.Errno.TheVariants.{E2BIG};
 ghost use Rattle.kernel_model.proofs.OpenedTasks.{AreOpened};
 ghost use Rattle.kernel_model.specs.laws.Beginnings.{IsRoomFor};
 ghost use Rattle.kernel_model.specs.opening.Arguments.{is_too_long};
+ghost use Rattle.kernel_model.specs.opening.Opening.{bare};
 ghost use Rattle.mount_file.specs.Form.{AreNamed, HasForm};
 ghost use Rattle.image_walk.specs.Granted.{told_of};
 ghost use Rattle.image_walk.specs.Loading.{is_roomy};
 ghost use Rattle.image_walk.specs.Standing.{IsNumbering, Stands};
 ghost use Rattle.image_walk.specs.Walking.{IsGrant, IsRoot, IsSilent};
-ghost use Rattle.run_opening.specs.Openings.{Begins, HasBegun, IsStanding, StandsStill, Stops, numbering_of};
+ghost use Rattle.run_opening.specs.Begun.{GoesOn, HasBegun, Stops};
+ghost use Rattle.run_opening.specs.Openings.{Begins, IsStanding, StandsStill, numbering_of};
 ghost use Rattle.run_opening.specs.Records.{IsRecord, IsRecorded};
-ghost use Rattle.run_opening.specs.Trees.{AreOthers, Others};
+ghost use Rattle.run_opening.specs.Told.{folders, kernel_told};
+ghost use Rattle.run_opening.specs.Trees.{AreOthers, Others, trees_with};
 
 use crate::executing::{Done, execute};
 use call_table::Processes;
@@ -101,15 +105,17 @@ fn open_task<N: HostNode>(
         (told_of N.told granted.old.lent.items) →
         StandsStill (numbering_of mounts.now.mounts) t (N.told granted.new.root)
         (told_of N.told granted.new.lent.items)) }
-    ensures begun { IfOk result (λ p. (others : Others) (t : Shape) →
-        HasBegun mounts.now others t index tasks.old processes (N.told granted.old.root)
-        (told_of N.told granted.old.lent.items) →
-        HasBegun mounts.now others t (index + 1) tasks.new p (N.told granted.new.root)
-        (told_of N.told granted.new.lent.items)) }
-    ensures stopped { IfErr result (λ e. (others : Others) (t : Shape) →
-        HasBegun mounts.now others t index tasks.old processes (N.told granted.old.root)
-        (told_of N.told granted.old.lent.items) →
-        Stops mounts.now others t e tasks.new (N.told granted.new.root) (told_of N.told granted.new.lent.items)) }
+    ensures begun { IfOk result (λ p. (others : Others) → AreOthers mounts.now.mounts others →
+        GoesOn mounts.now index (index + 1) tasks.old tasks.new
+        (kernel_told mounts.now (folders others (N.told granted.old.root) (told_of N.told granted.old.lent.items))
+        processes 0)
+        (kernel_told mounts.now (folders others (N.told granted.new.root) (told_of N.told granted.new.lent.items))
+        p 0)) }
+    ensures stopped { IfErr result (λ e. (others : Others) → AreOthers mounts.now.mounts others →
+        IfSome (kernel_told mounts.now
+        (folders others (N.told granted.old.root) (told_of N.told granted.old.lent.items)) processes 0)
+        (Stops mounts.now index tasks.old tasks.new e
+        (folders others (N.told granted.new.root) (told_of N.told granted.new.lent.items)))) }
     ensures standing { OnErr result ((t : Shape) →
         StandsStill (numbering_of mounts.now.mounts) t (N.told granted.old.root)
         (told_of N.told granted.old.lent.items) →
@@ -157,11 +163,15 @@ pub fn open_tasks<N: HostNode>(
         (told_of N.told granted.new.lent.items)) }
     ensures begun { IfOk result (λ p. (others : Others) (t : Shape) → AreOthers mounts.now.mounts others →
         N.told granted.old.root ≡ Some t →
-        HasBegun mounts.now others t (length mounts.now.tasks) tasks.new p (N.told granted.new.root)
-        (told_of N.told granted.new.lent.items)) }
+        IsSomeAnd (kernel_told mounts.now
+        (folders others (N.told granted.new.root) (told_of N.told granted.new.lent.items)) p 0)
+        (HasBegun mounts.now 0 (length mounts.now.tasks) tasks.old tasks.new
+        (bare mounts.now (trees_with others t)))) }
     ensures stopped { IfErr result (λ e. (others : Others) (t : Shape) → AreOthers mounts.now.mounts others →
         N.told granted.old.root ≡ Some t →
-        Stops mounts.now others t e tasks.new (N.told granted.new.root) (told_of N.told granted.new.lent.items)) }
+        Stops mounts.now 0 tasks.old tasks.new e
+        (folders others (N.told granted.new.root) (told_of N.told granted.new.lent.items))
+        (bare mounts.now (trees_with others t))) }
     ensures standing { OnErr result ((t : Shape) → N.told granted.old.root ≡ Some t →
         IsStanding (numbering_of mounts.now.mounts) t (N.told granted.new.root)
         (told_of N.told granted.new.lent.items)) }

@@ -1,6 +1,8 @@
 -- What a run of turns is to a kernel's history.
-use Rattle.std.proofs.Common.{◌≡◌, ◌⊎◌, inl, inr, ◌≤◌, true, List, length, ap, sym, ◌∙◌, subst, arith}
-use Rattle.std.specs.Prelude.{Option, Some, None, IfSome}
+use Rattle.std.proofs.Common.{◌≡◌, ◌⊎◌, inl, inr, ℕ, ◌≤◌, true, List, length, refl, ap, sym, ◌∙◌, subst, arith}
+use Rattle.std.specs.Prelude.{Option, Some, None, IfSome, IsSomeAnd, option_map}
+use Rattle.std.specs.FinMap as map
+use Rattle.std.specs.Ordering.{nat_cmp}
 use Rattle.mount_file.specs.declared.mounts.Mounts.{Mounts}
 use Rattle.kernel_model.specs.declared.entry.Entry.{Entry}
 use Rattle.kernel_model.specs.declared.kernel.Kernel.{Kernel}
@@ -13,47 +15,102 @@ use Rattle.call_table.specs.Processes.{kernel_of}
 use Rattle.call_table.specs.Turns.{AreStill, Leaves}
 use Rattle.sentry_run.specs.declared.play.End.{End}
 use Rattle.sentry_run.specs.declared.play.End.TheVariants as ends
-use Rattle.run_opening.specs.Openings.{beside_of}
-use Rattle.sentry_run.specs.Played.{RanFrom, TraceOf, over}
+use Rattle.proc_cells.specs.Beside.{Beside}
+use Rattle.run_opening.specs.Openings.{beside_of, numbering_of}
+use Rattle.run_opening.specs.Told.{Folders, kernel_told, nodes_told}
+use Rattle.sentry_run.specs.Played.{RanFrom, TraceOf, over, over_told}
 use Rattle.sentry_run.specs.Stopped.{FinishesAs}
 
-pub ran_from : (m : Mounts) (o : Option Processes) (trace : List Entry) (end : End) (nodes : Nodes) (start : Kernel)
-    → Leaves (beside_of m nodes) (replay start trace)
-    → IfSome o (λ p. replay start trace ≡ Some (kernel_of p (beside_of m nodes) (length trace)))
-    → each_whole start trace ≡ true
-    → length trace ≤ m.entries → IfSome o (λ p. AreStill p ⊎ (length trace ≡ m.entries))
-    → FinishesAs o (length trace) m.entries end → RanFrom m nodes start end trace
-ran_from m None trace end nodes start leaves state whole bound stop fin =
-    subst (λ (x : End). RanFrom m nodes start x trace) (sym fin) (leaves, whole)
-ran_from m (Some p) trace (ends.Done k) nodes start leaves state whole bound stop fin =
-    let same : over m nodes k ≡ kernel_of p (beside_of m nodes) (length trace) = ap (over m nodes) fin.1 in
-    (state ∙ ap Some (sym same), whole, ap any_live same ∙ fin.0)
-ran_from m (Some p) trace (ends.Full k) nodes start leaves state whole bound stop fin =
-    let same : over m nodes k ≡ kernel_of p (beside_of m nodes) (length trace) = ap (over m nodes) fin.2 in
-    (state ∙ ap Some (sym same), whole, ap any_live same ∙ fin.0, fin.1)
-ran_from m (Some p) trace (ends.Stuck k) nodes start leaves state whole bound stop fin =
-    let same : over m nodes k ≡ kernel_of p (beside_of m nodes) (length trace) = ap (over m nodes) fin.2 in (
-      state ∙ ap Some (sym same),
-      whole,
-      record {
-        lives = ap any_live same ∙ fin.0;
-        short = omega (arith, bound, fin.1);
-        still =
-            ap (λ x. has_any (ready_numbers x)) same
-            ∙ elim stop [ inl h ↦ h (beside_of m nodes) (length trace) | inr h ↦ absurd (fin.1 h) ];
-      },
-    )
-ran_from m (Some p) trace ends.Memory nodes start leaves state whole bound stop fin = absurd fin
-ran_from m (Some p) trace (ends.Image task errno) nodes start leaves state whole bound stop fin = absurd fin
-ran_from m (Some p) trace ends.HostFault nodes start leaves state whole bound stop fin = absurd fin
-ran_from m (Some p) trace (ends.Grant mount) nodes start leaves state whole bound stop fin = absurd fin
+-- the same nodes beside a kernel that has them
+over_itself : (m : Mounts) (nodes : Nodes) (state : Kernel) → Leaves (beside_of m nodes) (Some state)
+    → over m nodes state ≡ state
+over_itself m nodes state l =
+    ap (λ ns. record state { nodes = ns; failed = map.empty; mounts = m.mounts; seed = m.seed }) (sym l.0)
+    ∙ ap (λ (f : map.FinMap nat_cmp ℕ). record state { failed = f; mounts = m.mounts; seed = m.seed }) (sym l.1)
+    ∙ ap (λ ms. record state { mounts = ms; seed = m.seed }) (sym l.2)
+    ∙ ap (λ seed. record state { seed = seed }) (sym l.3)
 
-pub ran_trace : (m : Mounts) (nodes : Nodes) (start : Kernel) (end : End) (trace : List Entry)
-    → RanFrom m nodes start end trace → TraceOf m.entries end trace
-ran_trace m nodes start (ends.Done kernel) trace h = tt
-ran_trace m nodes start (ends.Full kernel) trace h = h.3
-ran_trace m nodes start (ends.Stuck kernel) trace h = h.2.short
-ran_trace m nodes start (ends.Image task errno) trace h = absurd h
-ran_trace m nodes start ends.HostFault trace h = absurd h
-ran_trace m nodes start (ends.Grant mount) trace h = absurd h
-ran_trace m nodes start ends.Memory trace h = tt
+module _ (m : Mounts) (f : Folders) (nodes : Nodes) (are : nodes_told (numbering_of m.mounts) f ≡ Some nodes) where
+  -- the kernel that is told, of processes that ended so
+  tells_over : (k : Kernel) → over_told m f k ≡ Some (over m nodes k)
+  tells_over k = ap (option_map (λ ns. over m ns k)) are
+
+  left : (start : Kernel) (trace : List Entry) (found : Option Kernel) → replay start trace ≡ found
+      → Leaves (beside_of m nodes) found → each_whole start trace ≡ true → RanFrom m f start ends.Memory trace
+  left start trace None e l whole = absurd l
+  left start trace (Some state) e l whole =
+      (state, (e, whole), tells_over state ∙ ap Some (over_itself m nodes state l))
+
+  ended : (k : Kernel) (fact : Kernel → Type 0) → fact (over m nodes k) → IsSomeAnd (over_told m f k) fact
+  ended k fact h = subst (λ (o : Option Kernel). IsSomeAnd o fact) (sym (tells_over k)) h
+
+  ran_from : (o : Option Processes) (trace : List Entry) (end : End) (start : Kernel)
+      → Leaves (beside_of m nodes) (replay start trace)
+      → IfSome o (λ p. replay start trace ≡ Some (kernel_of p (beside_of m nodes) (length trace)))
+      → each_whole start trace ≡ true
+      → length trace ≤ m.entries → IfSome o (λ p. AreStill p ⊎ (length trace ≡ m.entries))
+      → FinishesAs o (length trace) m.entries end → RanFrom m f start end trace
+  ran_from None trace end start leaves state whole bound stop fin =
+      subst (λ (x : End). RanFrom m f start x trace) (sym fin) (left start trace (replay start trace) refl leaves whole)
+  ran_from (Some p) trace (ends.Done k) start leaves state whole bound stop fin =
+      let same : over m nodes k ≡ kernel_of p (beside_of m nodes) (length trace) = ap (over m nodes) fin.1 in
+      ended k _ ((state ∙ ap Some (sym same), whole), ap any_live same ∙ fin.0)
+  ran_from (Some p) trace (ends.Full k) start leaves state whole bound stop fin =
+      let same : over m nodes k ≡ kernel_of p (beside_of m nodes) (length trace) = ap (over m nodes) fin.2 in
+      ended k _ ((state ∙ ap Some (sym same), whole), ap any_live same ∙ fin.0, fin.1)
+  ran_from (Some p) trace (ends.Stuck k) start leaves state whole bound stop fin =
+      let same : over m nodes k ≡ kernel_of p (beside_of m nodes) (length trace) = ap (over m nodes) fin.2 in
+      ended k _ (
+        (state ∙ ap Some (sym same), whole),
+        record {
+          lives = ap any_live same ∙ fin.0;
+          short = omega (arith, bound, fin.1);
+          still =
+              ap (λ x. has_any (ready_numbers x)) same
+              ∙ elim stop [ inl h ↦ h (beside_of m nodes) (length trace) | inr h ↦ absurd (fin.1 h) ];
+        },
+      )
+  ran_from (Some p) trace ends.Memory start leaves state whole bound stop fin = absurd fin
+  ran_from (Some p) trace (ends.Image task errno) start leaves state whole bound stop fin = absurd fin
+  ran_from (Some p) trace ends.HostFault start leaves state whole bound stop fin = absurd fin
+  ran_from (Some p) trace (ends.Grant mount) start leaves state whole bound stop fin = absurd fin
+
+-- what a run left, with these nodes beside it
+state_with : (m : Mounts) (o : Option Processes) (first : Processes) (trace : List Entry) (nodes : Nodes)
+    → IfSome o (λ p. (beside : Beside) → beside.seed ≡ m.seed
+    → replay (kernel_of first beside 0) trace ≡ Some (kernel_of p beside (length trace)))
+    → IfSome o (λ p. replay (kernel_of first (beside_of m nodes) 0) trace
+    ≡ Some (kernel_of p (beside_of m nodes) (length trace)))
+state_with m None first trace nodes h = tt
+state_with m (Some p) first trace nodes h = h (beside_of m nodes) refl
+
+-- a run of turns, from the kernel that is told before it
+pub ran_told : (m : Mounts) (f : Folders) (first : Processes) (o : Option Processes) (trace : List Entry) (end : End)
+    → ((beside : Beside) → beside.seed ≡ m.seed → Leaves beside (replay (kernel_of first beside 0) trace))
+    → IfSome o (λ p. (beside : Beside) → beside.seed ≡ m.seed
+    → replay (kernel_of first beside 0) trace ≡ Some (kernel_of p beside (length trace)))
+    → ((beside : Beside) → beside.seed ≡ m.seed → each_whole (kernel_of first beside 0) trace ≡ true)
+    → length trace ≤ m.entries → IfSome o (λ p. AreStill p ⊎ (length trace ≡ m.entries))
+    → FinishesAs o (length trace) m.entries end
+    → IfSome (kernel_told m f first 0) (λ k. RanFrom m f k end trace)
+ran_told m f first o trace end history state whole bound stop fin =
+    by (nodes_told (numbering_of m.mounts) f) refl
+  where
+    by : (ns : Option Nodes) → nodes_told (numbering_of m.mounts) f ≡ ns
+        → IfSome (option_map (λ nodes. kernel_of first (beside_of m nodes) 0) ns) (λ k. RanFrom m f k end trace)
+    by None e = tt
+    by (Some nodes) e =
+        ran_from m f nodes e o trace end (kernel_of first (beside_of m nodes) 0) (history (beside_of m nodes) refl)
+        (state_with m o first trace nodes state) (whole (beside_of m nodes) refl) bound stop fin
+
+-- what its end says of the trace, whatever is told
+pub ended_trace : (entries : ℕ) (o : Option Processes) (trace : List Entry) (end : End) → length trace ≤ entries
+    → FinishesAs o (length trace) entries end → TraceOf entries end trace
+ended_trace entries None trace end bound fin = subst (λ (x : End). TraceOf entries x trace) (sym fin) tt
+ended_trace entries (Some p) trace (ends.Done k) bound fin = tt
+ended_trace entries (Some p) trace (ends.Full k) bound fin = fin.1
+ended_trace entries (Some p) trace (ends.Stuck k) bound fin = omega (arith, bound, fin.1)
+ended_trace entries (Some p) trace ends.Memory bound fin = absurd fin
+ended_trace entries (Some p) trace (ends.Image task errno) bound fin = absurd fin
+ended_trace entries (Some p) trace ends.HostFault bound fin = absurd fin
+ended_trace entries (Some p) trace (ends.Grant mount) bound fin = absurd fin

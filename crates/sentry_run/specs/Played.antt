@@ -1,5 +1,6 @@
 -- What the opening and the run of the tasks of a mount file come to.
-use Rattle.std.specs.Prelude.{◌≡◌, ◌⊎◌, ℕ, ◌<◌, List, [], length, true, false, Option, Some}
+use Rattle.std.specs.Prelude.{◌≡◌, ◌⊎◌, ℕ, ◌<◌, List, [], length, true, false, Option, Some, IsSomeAnd}
+use Rattle.std.specs.Prelude.{option_map}
 use Rattle.std.specs.FinMap as map
 use Rattle.host_node.specs.Tree.{Shape}
 use Rattle.sn_errno.specs.declared.errno.Errno.{Errno}
@@ -14,11 +15,11 @@ use Rattle.kernel_model.specs.entries.Given.{has_any}
 use Rattle.kernel_model.specs.entries.History.{replay, each_whole, any_live}
 use Rattle.kernel_model.specs.entries.Ready.{ready_numbers}
 use Rattle.image_walk.specs.Counts.{HasRisen}
-use Rattle.image_walk.specs.Granted.{Child, GivesBack}
-use Rattle.call_table.specs.Turns.{Leaves}
+use Rattle.image_walk.specs.Granted.{GivesBack}
 use Rattle.run_opening.specs.declared.opening.OpenErr.{OpenErr}
 use Rattle.run_opening.specs.declared.opening.OpenErr.TheVariants as openings
-use Rattle.run_opening.specs.Openings.{beside_of}
+use Rattle.run_opening.specs.Openings.{numbering_of}
+use Rattle.run_opening.specs.Told.{Folders, nodes_told}
 use Rattle.run_opening.specs.Trees.{HaveTrees, Others, trees_with}
 use Rattle.sentry_run.specs.declared.play.End.{End}
 use Rattle.sentry_run.specs.declared.play.End.TheVariants as ends
@@ -85,12 +86,63 @@ Ended mounts others tree after opening trace ends.Memory =
 Ended mounts others tree after opening trace ends.HostFault = ⊥
 Ended mounts others tree after opening trace (ends.Grant mount) = ⊥
 
--- the same, of a folder whose nodes tell this, once they are back in their places
+-- ---- by the kernel that the run's state tells
+
+-- a kernel with that beside its processes
 -- profile
-abbrev pub EndsOver : Mounts → Others → Shape → (root : Option Shape) → List Child → Played → Type 0
-EndsOver mounts others tree root children played =
-    (after : Shape) → GivesBack root children (Some after)
-    → Ended mounts others tree after played.opening played.trace played.end
+abbrev pub over : Mounts → Nodes → Kernel → Kernel
+over m nodes k = record k { nodes = nodes; failed = map.empty; mounts = m.mounts; seed = m.seed }
+
+-- the kernel that a run's state tells where its processes are that kernel: none where the folders tell no nodes
+-- profile
+abbrev pub over_told : Mounts → Folders → Kernel → Option Kernel
+over_told m f k = option_map (λ nodes. over m nodes k) (nodes_told (numbering_of m.mounts) f)
+
+-- a trace is a history from a kernel, each Run in it whole, and leaves that state
+-- profile
+abbrev pub ReplaysTo : Kernel → List Entry → Kernel → Type 0
+ReplaysTo start trace state = (replay start trace ≡ Some state) × (each_whole start trace ≡ true)
+
+-- how a run from a kernel ended: its trace leaves the kernel that its state then tells
+-- profile
+abbrev pub RanFrom : Mounts → Folders → Kernel → End → List Entry → Type 0
+RanFrom m f start (ends.Done kernel) trace =
+    IsSomeAnd (over_told m f kernel) (λ state. ReplaysTo start trace state × (any_live state ≡ false))
+RanFrom m f start (ends.Full kernel) trace =
+    IsSomeAnd (over_told m f kernel)
+    (λ state. ReplaysTo start trace state × (any_live state ≡ true) × (length trace ≡ m.entries))
+RanFrom m f start (ends.Stuck kernel) trace =
+    IsSomeAnd (over_told m f kernel) (λ state. ReplaysTo start trace state × IsStuck m trace state)
+RanFrom m f start ends.Memory trace =
+    (state : Kernel) × ReplaysTo start trace state × (over_told m f state ≡ Some state)
+RanFrom m f start _ trace = ⊥
+
+-- how a run over the tree of the mount at `/` ended, and what it left of that tree: the state of its trace is the
+-- kernel that is told then
+-- profile
+abbrev pub EndsTold : Mounts → Folders → (tree after : Shape) → Opening → List Entry → End → Type 0
+EndsTold m f tree after opening trace (ends.Done kernel) =
+    IsSomeAnd (over_told m f kernel)
+    (λ state. Runs m f.others tree after opening trace state × (any_live state ≡ false))
+EndsTold m f tree after opening trace (ends.Full kernel) =
+    IsSomeAnd (over_told m f kernel)
+    (λ state. Runs m f.others tree after opening trace state × (any_live state ≡ true) × (length trace ≡ m.entries))
+EndsTold m f tree after opening trace (ends.Stuck kernel) =
+    IsSomeAnd (over_told m f kernel)
+    (λ state. Runs m f.others tree after opening trace state × IsStuck m trace state)
+EndsTold m f tree after opening trace (ends.Image task errno) =
+    Failed m f.others tree after opening task errno × (trace ≡ [])
+EndsTold m f tree after opening trace ends.Memory =
+    ((trace ≡ []) × HasRisen tree after)
+    ⊎ ((state : Kernel) × Runs m f.others tree after opening trace state × (over_told m f state ≡ Some state))
+EndsTold m f tree after opening trace _ = ⊥
+
+-- the same, once the children that were lent are back in their places
+-- profile
+abbrev pub EndsOver : Mounts → Folders → Shape → Played → Type 0
+EndsOver m f tree played =
+    (after : Shape) → GivesBack f.root f.children (Some after)
+    → EndsTold m f tree after played.opening played.trace played.end
 
 -- how a run ends whose opening ended so
 -- profile
@@ -106,24 +158,3 @@ TraceOf entries (ends.Stuck kernel) trace = length trace < entries
 TraceOf entries (ends.Done kernel) trace = Unit {0}
 TraceOf entries ends.Memory trace = Unit {0}
 TraceOf entries _ trace = trace ≡ []
-
--- a kernel with that beside its processes
--- profile
-abbrev pub over : Mounts → Nodes → Kernel → Kernel
-over m nodes k = record k { nodes = nodes; failed = map.empty; mounts = m.mounts; seed = m.seed }
-
--- how a run from a kernel ended, with these nodes beside it
--- profile
-abbrev pub RanFrom : Mounts → Nodes → Kernel → End → List Entry → Type 0
-RanFrom m nodes start (ends.Done kernel) trace =
-    (replay start trace ≡ Some (over m nodes kernel)) × (each_whole start trace ≡ true)
-    × (any_live (over m nodes kernel) ≡ false)
-RanFrom m nodes start (ends.Full kernel) trace =
-    (replay start trace ≡ Some (over m nodes kernel)) × (each_whole start trace ≡ true)
-    × (any_live (over m nodes kernel) ≡ true) × (length trace ≡ m.entries)
-RanFrom m nodes start (ends.Stuck kernel) trace =
-    (replay start trace ≡ Some (over m nodes kernel)) × (each_whole start trace ≡ true)
-    × IsStuck m trace (over m nodes kernel)
-RanFrom m nodes start ends.Memory trace =
-    Leaves (beside_of m nodes) (replay start trace) × (each_whole start trace ≡ true)
-RanFrom m nodes start _ trace = ⊥

@@ -1,17 +1,16 @@
 //! The opening of a run and its turns, over the granted folder of the mount at `/`.
 
-ghost use Rattle.std.specs.Prelude.{◌≡◌, ◌≤◌, [], length, None, Some, IfOk, IsSome};
+ghost use Rattle.std.specs.Prelude.{◌≡◌, ◌≤◌, [], length, None, Some, IfOk, IfSome, IsSome};
 ghost use Rattle.std.specs.List.{flat_map};
 ghost use Rattle.host_node.specs.Tree.{Shape};
 ghost use Rattle.mount_file.specs.Form.{HasForm};
-ghost use Rattle.kernel_model.specs.files.FileTree.{Nodes};
 ghost use Rattle.kernel_model.specs.files.Numbers.{IsGapless, count_up, numbers_opened, numbers_in};
 ghost use Rattle.image_walk.specs.Granted.{CanGiveBack, told_of};
 ghost use Rattle.image_walk.specs.Standing.{Stands};
 ghost use Rattle.image_walk.specs.Walking.{IsRoot};
-ghost use Rattle.run_opening.specs.Openings.{beside_of, numbering_of};
+ghost use Rattle.run_opening.specs.Openings.{numbering_of};
+ghost use Rattle.run_opening.specs.Told.{folders, kernel_told};
 ghost use Rattle.run_opening.specs.Trees.{AreOthers, Others};
-ghost use Rattle.call_table.specs.Processes.{kernel_of};
 ghost use Rattle.sentry_run.specs.Played.{EndsOver, end_of, RanFrom, TraceOf, first_of, nothing_opened};
 ghost use Rattle.sentry_run.specs.Stopped.{EndsAs, FinishesAs, IsInner};
 
@@ -95,10 +94,19 @@ fn first_record(alloc: Global, mounts: &Mounts) -> Result<Opening, Memory>
     })
 }
 
-/// Runs processes, from their opening on.
-fn run_processes(alloc: Global, mounts: &Mounts, processes: Processes, opening: Opening) -> Played
-    ensures ran { (nodes : Nodes) → RanFrom mounts.now nodes
-        (kernel_of processes (beside_of mounts.now nodes) 0) result.end result.trace }
+/// Runs processes, from their opening on, beside the granted folder of the mount at `/`, into which no turn goes.
+fn run_processes<N: HostNode>(
+    alloc: Global,
+    mounts: &Mounts,
+    granted: &Granted<N>,
+    processes: Processes,
+    opening: Opening,
+) -> Played
+    ensures ran { (others : Others) →
+        IfSome (kernel_told mounts.now
+        (folders others (N.told granted.now.root) (told_of N.told granted.now.lent.items)) processes 0)
+        (λ k. RanFrom mounts.now (folders others (N.told granted.now.root) (told_of N.told granted.now.lent.items)) k
+        result.end result.trace) }
     ensures opening { result.opening ≡ opening }
     ensures drawn { flat_map numbers_in result.trace ≡ [] }
     ensures inner { IsInner result.end }
@@ -175,7 +183,8 @@ pub fn play_granted<N: HostNode>(alloc: Global, mounts: &Mounts, granted: &mut G
     requires lent { granted.old.lent.items ≡ [] }
     ensures ended { (others : Others) (t : Shape) → AreOthers mounts.now.mounts others →
         N.told granted.old.root ≡ Some t →
-        EndsOver mounts.now others t (N.told granted.new.root) (told_of N.told granted.new.lent.items) result }
+        EndsOver mounts.now (folders others (N.told granted.new.root) (told_of N.told granted.new.lent.items)) t
+        result }
     ensures silent { N.told granted.old.root ≡ None → N.told granted.new.root ≡ None }
     ensures tells { IsSome (N.told granted.old.root) → IsSome (N.told granted.new.root) }
     ensures can { CanGiveBack (N.told granted.new.root) (told_of N.told granted.new.lent.items) }
@@ -190,7 +199,7 @@ pub fn play_granted<N: HostNode>(alloc: Global, mounts: &Mounts, granted: &mut G
         Err(Memory) => return stopped(alloc, End::Memory),
     };
     match open_tasks(alloc, mounts, granted, &mut opening.tasks) {
-        Ok(processes) => run_processes(alloc, mounts, processes, opening),
+        Ok(processes) => run_processes(alloc, mounts, granted, processes, opening),
         Err(why) => unbegun(alloc, why, opening),
     }
 }

@@ -1,15 +1,17 @@
 -- Before the first task nothing has begun, and each task finds the folder as a grant.
-use Rattle.std.proofs.Common.{◌≡◌, [], ap, sym, ◌∙◌, subst, length, refl}
+use Rattle.std.proofs.Common.{◌≡◌, ◌+◌, [], ap, sym, ◌∙◌, subst, length, refl}
 use Rattle.std.specs.Prelude.{Some}
 use Rattle.host_node.specs.Tree.{Shape}
 use Rattle.task_table.specs.Table.{TaskTable}
 use Rattle.kernel_model.proofs.OpenedTasks.{AreOpened, opened_none}
+use Rattle.kernel_model.specs.opening.Opening.{bare}
 use Rattle.image_walk.specs.declared.granted.Numbering.{Numbering}
 use Rattle.image_walk.specs.Granted.{told_of}
 use Rattle.image_walk.specs.Standing.{IsNumbering, Stands}
 use Rattle.image_walk.specs.Walking.{TellNothing}
 use Rattle.run_opening.specs.Openings.{beside_of}
-use Rattle.run_opening.proofs.Beginning.{are_numbering, begun_none, still_grant}
+use Rattle.run_opening.specs.Trees.{trees_with}
+use Rattle.run_opening.proofs.Beginning.{are_numbering, begun_none, goes_on, still_grant, stops_then}
 use Rattle.run_opening.proofs.Recording.{record_none}
 use Rattle.run_opening.proofs.opening.open_tasks.Goals as goal
 
@@ -29,7 +31,7 @@ loop-index-init g c =
       stands = λ t e. record { names = []; stands = stands t e };
       begun = λ others t are e.
           begun_none c.args.mounts.now others t c.new-processes.result (told c.args.granted.now.root)
-          (told_of told c.args.granted.now.lent.items) c.args.tasks.now are (stands t e) c.requires.none
+          (told_of told c.args.granted.now.lent.items) c.args.tasks.now are (stands t e)
           (λ nodes. c.new-processes.ensures.begun (beside_of c.args.mounts.now nodes) 0);
     }
 
@@ -52,3 +54,29 @@ pub open_task-requires-clause-known : goal.open_task-requires-clause-known
 open_task-requires-clause-known g c κs within =
     subst IsNumbering (sym (c.loop-index.invariant.same ∙ c.requires.numbers))
     (are_numbering c.args.mounts.now c.requires.form)
+
+pub loop-index-preserved : goal.loop-index-preserved
+loop-index-preserved g c =
+    let told = g.N.HostNode.told in
+    let e = c.in_ok-more.ensures in
+    let before = c.loop-index.invariant in
+    record {
+      same = e.same ∙ before.same;
+      opened = e.opened;
+      record_so_far = e.record;
+      silent = λ n. e.silent (before.silent n);
+      stands = λ t tells. e.stands t (before.stands t tells);
+      begun = λ others t are tells.
+          goes_on c.args.mounts.now c.loop-index.index (c.loop-index.index + 1) c.args.tasks.now c.loop-index.tasks
+          c.open_task.new.tasks (bare c.args.mounts.now (trees_with others t)) _ _ (before.begun others t are tells)
+          (e.begun others are);
+    }
+
+pub returns-in_err-more-clause-stopped : goal.returns-in_err-more-clause-stopped
+returns-in_err-more-clause-stopped g c =
+    let told = g.N.HostNode.told in
+    stops_then c.args.mounts.now c.loop-index.index c.args.tasks.now c.loop-index.tasks c.open_task.new.tasks
+    c.loop-index.processes (told c.args.granted.now.root) (told c.loop-index.granted.root)
+    (told c.open_task.new.granted.root) (told_of told c.loop-index.granted.lent.items)
+    (told_of told c.open_task.new.granted.lent.items) c.from_residual.result c.in_err-more.field-0.0
+    c.from_residual.ensures.1 c.loop-index.invariant.begun c.in_err-more.ensures.stopped

@@ -1,54 +1,31 @@
--- Processes run from the kernel that they are at their opening.
-use Rattle.std.proofs.Common.{◌≡◌, ℕ, List, length, sym, subst}
-use Rattle.std.specs.Prelude.{Option, Some, None, IfSome}
-use Rattle.std.specs.FinMap as map
-use Rattle.mount_file.specs.declared.mounts.Mounts.{Mounts}
+-- Processes run from the kernel that is told at their opening.
+use Rattle.std.proofs.Common.{◌≡◌, List, length, sym, subst, ◌≤◌}
+use Rattle.std.specs.Prelude.{IfSome}
+use Rattle.image_walk.specs.Granted.{told_of}
 use Rattle.kernel_model.specs.declared.entry.Entry.{Entry}
-use Rattle.kernel_model.specs.declared.kernel.Kernel.{Kernel}
-use Rattle.kernel_model.specs.files.FileTree.{Nodes}
-use Rattle.kernel_model.specs.entries.History.{replay}
-use Rattle.call_table.specs.declared.processes.Processes.{Processes}
-use Rattle.proc_cells.specs.Beside.{Beside}
-use Rattle.call_table.specs.Processes.{kernel_of}
-use Rattle.run_opening.specs.Openings.{beside_of}
+use Rattle.run_opening.specs.Told.{folders, kernel_told}
 use Rattle.sentry_run.specs.Played.{RanFrom, TraceOf}
-use Rattle.sentry_run.proofs.RunsOfTurns.{ran_from, ran_trace}
+use Rattle.sentry_run.proofs.RunsOfTurns.{ended_trace, ran_told}
 use Rattle.sentry_run.proofs.play.run_processes.Goals as goal
 
--- what a run left, with these nodes beside it
-state_with : (m : Mounts) (o : Option Processes) (first : Processes) (trace : List Entry) (nodes : Nodes)
-    (seed : List ℕ) → m.seed ≡ seed → IfSome o (λ p. (beside : Beside) → beside.seed ≡ seed
-    → replay (kernel_of first beside 0) trace ≡ Some (kernel_of p beside (length trace)))
-    → IfSome o (λ p. replay (kernel_of first (beside_of m nodes) 0) trace
-    ≡ Some (kernel_of p (beside_of m nodes) (length trace)))
-state_with m None first trace nodes seed same h = tt
-state_with m (Some p) first trace nodes seed same h = h (beside_of m nodes) same
-
 pub returns-clause-ran : goal.returns-clause-ran
-returns-clause-ran c = λ nodes.
-    let m : Mounts = c.args.mounts.now in
+returns-clause-ran g c = λ others.
+    let m = c.args.mounts.now in
     let e = c.run_turns-ran.ensures in
-    let first = c.args.processes in
-    let ran =
-    ran_from m c.run_turns-ran.result.processes c.run_turns-ran.result.trace c.finished.result.end nodes
-    (kernel_of first (beside_of m nodes) 0) (e.history (beside_of m nodes) (sym c.as_slice.ensures))
-    (state_with m c.run_turns-ran.result.processes first c.run_turns-ran.result.trace nodes c.as_slice.result.now
-    (sym c.as_slice.ensures) e.state)
-    (e.whole (beside_of m nodes) (sym c.as_slice.ensures)) e.bound e.ended c.finished.ensures.end in
-    subst (λ (es : List Entry). RanFrom m nodes (kernel_of first (beside_of m nodes) 0) c.finished.result.end es)
-    (sym c.finished.ensures.trace) ran
+    let told = g.N.HostNode.told in
+    let f = folders others (told c.args.granted.now.root) (told_of told c.args.granted.now.lent.items) in
+    subst (λ (es : List Entry). IfSome (kernel_told m f c.args.processes 0)
+    (λ k. RanFrom m f k c.finished.result.end es)) (sym c.finished.ensures.trace)
+    (ran_told m f c.args.processes c.run_turns-ran.result.processes c.run_turns-ran.result.trace
+    c.finished.result.end
+    (λ beside same. e.history beside (same ∙ sym c.as_slice.ensures))
+    (seeded m c.run_turns-ran.result.processes c.args.processes c.run_turns-ran.result.trace c.as_slice.result.now
+    c.as_slice.ensures e.state)
+    (λ beside same. e.whole beside (same ∙ sym c.as_slice.ensures)) e.bound e.ended c.finished.ensures.end)
 
 pub returns-clause-trace : goal.returns-clause-trace
-returns-clause-trace c =
-    let m : Mounts = c.args.mounts.now in
-    let e = c.run_turns-ran.ensures in
-    let first = c.args.processes in
-    let start : Kernel = kernel_of first (beside_of m map.empty) 0 in
-    let ran =
-    ran_from m c.run_turns-ran.result.processes c.run_turns-ran.result.trace c.finished.result.end map.empty start
-    (e.history (beside_of m map.empty) (sym c.as_slice.ensures))
-    (state_with m c.run_turns-ran.result.processes first c.run_turns-ran.result.trace map.empty
-    c.as_slice.result.now (sym c.as_slice.ensures) e.state)
-    (e.whole (beside_of m map.empty) (sym c.as_slice.ensures)) e.bound e.ended c.finished.ensures.end in
-    subst (λ (es : List Entry). TraceOf m.entries c.finished.result.end es) (sym c.finished.ensures.trace)
-    (ran_trace m map.empty start c.finished.result.end c.run_turns-ran.result.trace ran)
+returns-clause-trace g c =
+    subst (λ (es : List Entry). TraceOf c.args.mounts.now.entries c.finished.result.end es)
+    (sym c.finished.ensures.trace)
+    (ended_trace c.args.mounts.now.entries c.run_turns-ran.result.processes c.run_turns-ran.result.trace
+    c.finished.result.end c.run_turns-ran.ensures.bound c.finished.ensures.end)
