@@ -1,7 +1,7 @@
 -- How the opening and the run of the tasks end, from what the opening came to.
-use Rattle.std.proofs.Common.{◌≡◌, inl, inr, ℕ, ◌+◌, true, List, [], length, refl, ap, sym, ◌∙◌, subst}
+use Rattle.std.proofs.Common.{◌≡◌, inl, inr, ℕ, ◌+◌, List, [], length, refl, ap, sym, ◌∙◌, subst}
 use Rattle.std.proofs.Common.{arith}
-use Rattle.std.specs.Prelude.{Option, Some, None, IsSome, is_some}
+use Rattle.std.specs.Prelude.{Option, Some, None, IfSome, IsSome, IsSomeAnd, is_some, option_map}
 use Rattle.std.specs.FinMap as map
 use Rattle.std.specs.Ordering.{nat_cmp}
 use Rattle.std.proofs.lemmas.List.{append-nil, drop_all}
@@ -16,7 +16,6 @@ use Rattle.kernel_model.specs.declared.opening.Opened.{Opened}
 use Rattle.kernel_model.specs.files.FileTree.{Nodes}
 use Rattle.kernel_model.specs.files.Settled.{tree_now}
 use Rattle.kernel_model.specs.opening.Opening.{bare, opening_of, root_of, rooted, tasks_begun, Opens}
-use Rattle.kernel_model.specs.entries.History.{replay, each_whole}
 use Rattle.image_walk.specs.declared.granted.Numbering.{Numbering}
 use Rattle.image_walk.specs.Counts.{HasRisen}
 use Rattle.image_walk.specs.Granted.{Child, CanGiveBack, GivesBack, put_all}
@@ -26,16 +25,18 @@ use Rattle.image_walk.proofs.Risen.{risen}
 use Rattle.image_walk.proofs.Settling.{settles}
 use Rattle.call_table.specs.declared.processes.Processes.{Processes}
 use Rattle.call_table.specs.Processes.{kernel_of}
-use Rattle.call_table.specs.Turns.{Leaves}
 use Rattle.run_opening.specs.declared.opening.OpenErr.{OpenErr}
 use Rattle.run_opening.specs.declared.opening.OpenErr.TheVariants as openings
-use Rattle.run_opening.specs.Openings.{HasBegun, IsStanding, Stops, beside_of, numbering_of}
+use Rattle.run_opening.specs.Begun.{HasBegun, Stops}
+use Rattle.run_opening.specs.Openings.{IsStanding, StandsStill, beside_of, numbering_of}
 use Rattle.run_opening.specs.Records.{IsRecorded}
-use Rattle.run_opening.specs.Trees.{Others, trees_with}
+use Rattle.run_opening.specs.Told.{Folders, folders, kernel_told, nodes_told}
+use Rattle.run_opening.specs.Trees.{AreOthers, Others, trees_with}
 use Rattle.run_opening.proofs.Roots.{have_trees}
+use Rattle.run_opening.proofs.Telling.{Tells, tells}
 use Rattle.sentry_run.specs.declared.play.End.{End}
 use Rattle.sentry_run.specs.declared.play.End.TheVariants as ends
-use Rattle.sentry_run.specs.Played.{Ended, RanFrom, Runs, end_of, over}
+use Rattle.sentry_run.specs.Played.{Ended, EndsTold, RanFrom, ReplaysTo, Runs, SameText, end_of, over, over_told}
 use Rattle.sentry_run.proofs.Records.{opened_by, record_with}
 
 -- ---- what is given back
@@ -57,7 +58,8 @@ can_back num t root children s = can_give_back num t s.names s.rises root childr
 pub ended_lacking : (m : Mounts) (others : Others) (t : Shape) (root : Option Shape) (children : List Child)
     (opening : Opening) (trace : List Entry) (after : Shape)
     → IsStanding (numbering_of m.mounts) t root children → trace ≡ []
-    → GivesBack root children (Some after) → Ended m others t after opening trace ends.Memory
+    → GivesBack root children (Some after)
+    → EndsTold m (folders others root children) t after opening trace ends.Memory
 ended_lacking m others t root children opening trace after s none gives =
     let rose = risen (numbering_of m.mounts) t s.names s.rises root children s.stands in
     let is : put_all children rose.0 ≡ after =
@@ -68,9 +70,10 @@ ended_lacking m others t root children opening trace after s none gives =
 
 pub ended_stopped : (m : Mounts) (others : Others) (t : Shape) (why : OpenErr) (tasks : List Opened)
     (root : Option Shape) (children : List Child) (opening : Opening) (trace : List Entry) → IsRecorded m tasks
-    → opening ≡ record_with m tasks → trace ≡ [] → Stops m others t why tasks root children
+    → opening ≡ record_with m tasks → trace ≡ []
+    → Stops m 0 [] tasks why (folders others root children) (bare m (trees_with others t))
     → IsStanding (numbering_of m.mounts) t root children → (after : Shape)
-    → GivesBack root children (Some after) → Ended m others t after opening trace (end_of why)
+    → GivesBack root children (Some after) → EndsTold m (folders others root children) t after opening trace (end_of why)
 ended_stopped m others t openings.Memory tasks root children opening trace r o none stops stands after gives =
     ended_lacking m others t root children opening trace after stands none gives
 ended_stopped m others t (openings.Image task errno) tasks root children opening trace r o none stops stands after
@@ -78,7 +81,8 @@ ended_stopped m others t (openings.Image task errno) tasks root children opening
       record {
         left = stops.left;
         refuses =
-            ap (opening_of m (trees_with others t)) o ∙ opened_by m (trees_with others t) tasks r ∙ stops.refuses;
+            ap (opening_of m (trees_with others t)) o ∙ opened_by m (trees_with others t) tasks r
+            ∙ ap (λ os. tasks_begun 1 m.tasks os (bare m (trees_with others t))) stops.added ∙ stops.refuses;
         settles =
             stops.others_keep after
             (gives_same root children _ (tree_now stops.left no_left (root_of m.mounts)) after
@@ -89,68 +93,111 @@ ended_stopped m others t (openings.Image task errno) tasks root children opening
 
 -- ---- one that began all
 
-module _ (m : Mounts) (others : Others) (t : Shape) (tasks : List Opened) (p : Processes) (root : Option Shape)
-    (children : List Child) (opening : Opening) (r : IsRecorded m tasks) (o : opening ≡ record_with m tasks)
-    (h : HasBegun m others t (length m.tasks) tasks p root children) where
+module _ (m : Mounts) (others : Others) (is : AreOthers m.mounts others) (t : Shape) (tasks : List Opened)
+    (p : Processes) (root : Option Shape) (children : List Child) (opening : Opening) (r : IsRecorded m tasks)
+    (o : opening ≡ record_with m tasks) (s : StandsStill (numbering_of m.mounts) t root children)
+    (b : IsSomeAnd (kernel_told m (folders others root children) p 0)
+    (HasBegun m 0 (length m.tasks) [] tasks (bare m (trees_with others t)))) where
+  abbrev f : Folders
+  f = folders others root children
+
+  h : Tells (numbering_of m.mounts) others t s.names root children
+  h = tells m.mounts others is t s.names root children s.stands
+
   abbrev start : Kernel
   start = kernel_of p (beside_of m h.nodes) 0
+
+  tells_start : kernel_told m f p 0 ≡ Some start
+  tells_start = ap (option_map (λ nodes. kernel_of p (beside_of m nodes) 0)) h.told
+
+  begun : HasBegun m 0 (length m.tasks) [] tasks (bare m (trees_with others t)) start
+  begun =
+      subst (λ (x : Option Kernel). IsSomeAnd x (HasBegun m 0 (length m.tasks) [] tasks (bare m (trees_with others t))))
+      tells_start b
 
   opens : opening_of m (trees_with others t) opening ≡ Opens start
   opens =
       ap (opening_of m (trees_with others t)) o ∙ opened_by m (trees_with others t) tasks r
-      ∙ ap (λ os. tasks_begun 1 m.tasks os (bare m (trees_with others t))) (sym (append-nil tasks)) ∙ h.begun []
+      ∙ ap (λ os. tasks_begun 1 m.tasks os (bare m (trees_with others t)))
+      (begun.added ∙ sym (append-nil begun.opened)) ∙ begun.begun []
       ∙ ap (λ ps. tasks_begun (length m.tasks + 1) ps [] start) (drop_all (length m.tasks) m.tasks (omega arith))
 
-  runs : (state : Kernel) (trace : List Entry) (after : Shape) → replay start trace ≡ Some state
-      → each_whole start trace ≡ true → state.nodes ≡ h.nodes → state.failed ≡ map.empty
-      → GivesBack root children (Some after) → Runs m others t after opening trace state
-  runs state trace after replayed whole nodes failed gives = record {
+  runs : (state : Kernel) (trace : List Entry) (after : Shape) → ReplaysTo start trace state → state.nodes ≡ h.nodes
+      → state.failed ≡ map.empty → GivesBack root children (Some after) → Runs m others t after opening trace state
+  runs state trace after replays nodes failed gives = record {
     start = start;
     opens = opens;
-    replayed = replayed;
-    whole = whole;
+    replayed = replays.0;
+    whole = replays.1;
     settles =
-        have_trees m.mounts others t after state h.beside
+        have_trees m.mounts others t after state is
         (subst (λ (n : Nodes). KeepsRoots (numbering_of m.mounts) (rooted 1 (trees_with others t)) n) (sym nodes)
         h.kept)
         (λ ino differs low. ap (λ (f : map.FinMap nat_cmp ℕ). map.get f ino) failed ∙ get_of_empty ino)
-        (gives_same root children _ (tree_now state no_left (root_of m.mounts)) after h.stands.root_tells
-        (settles (numbering_of m.mounts) state t h.names root children
-        (subst (λ (n : Nodes). AreNodes (numbering_of m.mounts) n t h.names) (sym nodes) h.are) failed h.stands) gives);
+        (gives_same root children _ (tree_now state no_left (root_of m.mounts)) after s.stands.root_tells
+        (settles (numbering_of m.mounts) state t s.names root children
+        (subst (λ (n : Nodes). AreNodes (numbering_of m.mounts) n t s.names) (sym nodes) h.are) failed s.stands) gives);
   }
 
-  left : (found : Option Kernel) (trace : List Entry) (after : Shape) → replay start trace ≡ found
-      → Leaves (beside_of m h.nodes) found → each_whole start trace ≡ true → GivesBack root children (Some after)
-      → (state : Kernel) × Runs m others t after opening trace state
-  left None trace after e l whole gives = absurd l
-  left (Some state) trace after e l whole gives = (state, runs state trace after e whole l.0 l.1 gives)
+  tells_over : (k : Kernel) → over_told m f k ≡ Some (over m h.nodes k)
+  tells_over k = ap (option_map (λ nodes. over m nodes k)) h.told
 
-  pub ended_begun : (trace : List Entry) (end : End) → RanFrom m h.nodes start end trace → (after : Shape)
-      → GivesBack root children (Some after) → Ended m others t after opening trace end
-  ended_begun trace (ends.Done k) ran after gives = (
-    over m h.nodes k,
-    runs (over m h.nodes k) trace after ran.0 ran.1 refl refl gives,
-    record { tasks = refl; console = refl },
-    ran.2,
-  )
-  ended_begun trace (ends.Full k) ran after gives = (
-    over m h.nodes k,
-    runs (over m h.nodes k) trace after ran.0 ran.1 refl refl gives,
-    record { tasks = refl; console = refl },
-    ran.2,
-    ran.3,
-  )
-  ended_begun trace (ends.Stuck k) ran after gives = (
-    over m h.nodes k,
-    runs (over m h.nodes k) trace after ran.0 ran.1 refl refl gives,
-    record { tasks = refl; console = refl },
-    ran.2,
-  )
-  ended_begun trace ends.Memory ran after gives =
-      inr (left (replay start trace) trace after refl ran.0 ran.1 gives)
-  ended_begun trace (ends.Image task errno) ran after gives = absurd ran
-  ended_begun trace ends.HostFault ran after gives = absurd ran
-  ended_begun trace (ends.Grant mount) ran after gives = absurd ran
+  -- what holds of the kernel that is told holds of it with its nodes
+  over_is : (k : Kernel) (fact : Kernel → Type 0) → IsSomeAnd (over_told m f k) fact → fact (over m h.nodes k)
+  over_is k fact e = subst (λ (x : Option Kernel). IsSomeAnd x fact) (tells_over k) e
+
+  is_over : (k : Kernel) (fact : Kernel → Type 0) → fact (over m h.nodes k) → IsSomeAnd (over_told m f k) fact
+  is_over k fact e = subst (λ (x : Option Kernel). IsSomeAnd x fact) (sym (tells_over k)) e
+
+  ended_from : (trace : List Entry) (end : End) → RanFrom m f start end trace → (after : Shape)
+      → GivesBack root children (Some after) → EndsTold m f t after opening trace end
+  ended_from trace (ends.Done k) ran after gives =
+      let e = over_is k _ ran in is_over k _ (runs (over m h.nodes k) trace after e.0 refl refl gives, e.1)
+  ended_from trace (ends.Full k) ran after gives =
+      let e = over_is k _ ran in is_over k _ (runs (over m h.nodes k) trace after e.0 refl refl gives, e.1, e.2)
+  ended_from trace (ends.Stuck k) ran after gives =
+      let e = over_is k _ ran in is_over k _ (runs (over m h.nodes k) trace after e.0 refl refl gives, e.1)
+  ended_from trace ends.Memory ran after gives =
+      let same : over m h.nodes ran.0 ≡ ran.0 = same_Some _ _ (sym (tells_over ran.0) ∙ ran.2) in
+      inr (
+        ran.0,
+        runs ran.0 trace after ran.1 (ap (λ (k : Kernel). k.nodes) (sym same))
+            (ap (λ (k : Kernel). k.failed) (sym same)) gives,
+        ran.2,
+      )
+  ended_from trace (ends.Image task errno) ran after gives = absurd ran
+  ended_from trace ends.HostFault ran after gives = absurd ran
+  ended_from trace (ends.Grant mount) ran after gives = absurd ran
+
+  pub ended_begun : (trace : List Entry) (end : End) → IfSome (kernel_told m f p 0) (λ k. RanFrom m f k end trace)
+      → (after : Shape) → GivesBack root children (Some after) → EndsTold m f t after opening trace end
+  ended_begun trace end ran after gives =
+      ended_from trace end (subst (λ (x : Option Kernel). IfSome x (λ k. RanFrom m f k end trace)) tells_start ran) after
+      gives
+
+-- ---- whoever tells it
+
+-- the kernel that is told prints as its processes do
+told_then : (m : Mounts) (f : Folders) (k : Kernel) (fact : Kernel → Type 0) → IsSomeAnd (over_told m f k) fact
+    → (state : Kernel) × fact state × SameText state k
+told_then m f k fact h = by (nodes_told (numbering_of m.mounts) f) h
+  where
+    by : (ns : Option Nodes) → IsSomeAnd (option_map (λ nodes. over m nodes k) ns) fact
+        → (state : Kernel) × fact state × SameText state k
+    by None e = absurd e
+    by (Some nodes) e = (over m nodes k, e, record { tasks = refl; console = refl })
+
+-- how a run ended, whatever told it
+pub ended_told : (m : Mounts) (f : Folders) (t after : Shape) (opening : Opening) (trace : List Entry) (end : End)
+    → EndsTold m f t after opening trace end → Ended m f.others t after opening trace end
+ended_told m f t after opening trace (ends.Done k) h = let e = told_then m f k _ h in (e.0, e.1.0, e.2, e.1.1)
+ended_told m f t after opening trace (ends.Full k) h = let e = told_then m f k _ h in (e.0, e.1.0, e.2, e.1.1, e.1.2)
+ended_told m f t after opening trace (ends.Stuck k) h = let e = told_then m f k _ h in (e.0, e.1.0, e.2, e.1.1)
+ended_told m f t after opening trace (ends.Image task errno) h = h
+ended_told m f t after opening trace ends.Memory h =
+    elim h [ inl lacking ↦ inl lacking | inr e ↦ inr (e.0, e.1) ]
+ended_told m f t after opening trace ends.HostFault h = absurd h
+ended_told m f t after opening trace (ends.Grant mount) h = absurd h
 
 -- ---- whatever is told
 

@@ -76,32 +76,34 @@ module _ (m : Mounts) (f : Folders) (nodes : Nodes) (are : nodes_told (numbering
   ran_from (Some p) trace (ends.Grant mount) start leaves state whole bound stop fin = absurd fin
 
 -- what a run left, with these nodes beside it
-state_with : (m : Mounts) (o : Option Processes) (first : Processes) (trace : List Entry) (nodes : Nodes)
-    → IfSome o (λ p. (beside : Beside) → beside.seed ≡ m.seed
+state_with : (m : Mounts) (seed : List ℕ) (o : Option Processes) (first : Processes) (trace : List Entry)
+    (nodes : Nodes) → m.seed ≡ seed
+    → IfSome o (λ p. (beside : Beside) → beside.seed ≡ seed
     → replay (kernel_of first beside 0) trace ≡ Some (kernel_of p beside (length trace)))
     → IfSome o (λ p. replay (kernel_of first (beside_of m nodes) 0) trace
     ≡ Some (kernel_of p (beside_of m nodes) (length trace)))
-state_with m None first trace nodes h = tt
-state_with m (Some p) first trace nodes h = h (beside_of m nodes) refl
+state_with m seed None first trace nodes same h = tt
+state_with m seed (Some p) first trace nodes same h = h (beside_of m nodes) same
 
 -- a run of turns, from the kernel that is told before it
-pub ran_told : (m : Mounts) (f : Folders) (first : Processes) (o : Option Processes) (trace : List Entry) (end : End)
-    → ((beside : Beside) → beside.seed ≡ m.seed → Leaves beside (replay (kernel_of first beside 0) trace))
-    → IfSome o (λ p. (beside : Beside) → beside.seed ≡ m.seed
+pub ran_told : (m : Mounts) (f : Folders) (seed : List ℕ) (first : Processes) (o : Option Processes)
+    (trace : List Entry) (end : End) → m.seed ≡ seed
+    → ((beside : Beside) → beside.seed ≡ seed → Leaves beside (replay (kernel_of first beside 0) trace))
+    → IfSome o (λ p. (beside : Beside) → beside.seed ≡ seed
     → replay (kernel_of first beside 0) trace ≡ Some (kernel_of p beside (length trace)))
-    → ((beside : Beside) → beside.seed ≡ m.seed → each_whole (kernel_of first beside 0) trace ≡ true)
+    → ((beside : Beside) → beside.seed ≡ seed → each_whole (kernel_of first beside 0) trace ≡ true)
     → length trace ≤ m.entries → IfSome o (λ p. AreStill p ⊎ (length trace ≡ m.entries))
     → FinishesAs o (length trace) m.entries end
     → IfSome (kernel_told m f first 0) (λ k. RanFrom m f k end trace)
-ran_told m f first o trace end history state whole bound stop fin =
+ran_told m f seed first o trace end same history state whole bound stop fin =
     by (nodes_told (numbering_of m.mounts) f) refl
   where
     by : (ns : Option Nodes) → nodes_told (numbering_of m.mounts) f ≡ ns
         → IfSome (option_map (λ nodes. kernel_of first (beside_of m nodes) 0) ns) (λ k. RanFrom m f k end trace)
     by None e = tt
     by (Some nodes) e =
-        ran_from m f nodes e o trace end (kernel_of first (beside_of m nodes) 0) (history (beside_of m nodes) refl)
-        (state_with m o first trace nodes state) (whole (beside_of m nodes) refl) bound stop fin
+        ran_from m f nodes e o trace end (kernel_of first (beside_of m nodes) 0) (history (beside_of m nodes) same)
+        (state_with m seed o first trace nodes same state) (whole (beside_of m nodes) same) bound stop fin
 
 -- what its end says of the trace, whatever is told
 pub ended_trace : (entries : ℕ) (o : Option Processes) (trace : List Entry) (end : End) → length trace ≤ entries

@@ -1,5 +1,5 @@
 -- Processes run from the kernel that is told at their opening.
-use Rattle.std.proofs.Common.{◌≡◌, List, length, sym, subst, ◌≤◌}
+use Rattle.std.proofs.Common.{List, sym, subst}
 use Rattle.std.specs.Prelude.{IfSome}
 use Rattle.image_walk.specs.Granted.{told_of}
 use Rattle.kernel_model.specs.declared.entry.Entry.{Entry}
@@ -16,12 +16,9 @@ returns-clause-ran g c = λ others.
     let f = folders others (told c.args.granted.now.root) (told_of told c.args.granted.now.lent.items) in
     subst (λ (es : List Entry). IfSome (kernel_told m f c.args.processes 0)
     (λ k. RanFrom m f k c.finished.result.end es)) (sym c.finished.ensures.trace)
-    (ran_told m f c.args.processes c.run_turns-ran.result.processes c.run_turns-ran.result.trace
-    c.finished.result.end
-    (λ beside same. e.history beside (same ∙ sym c.as_slice.ensures))
-    (seeded m c.run_turns-ran.result.processes c.args.processes c.run_turns-ran.result.trace c.as_slice.result.now
-    c.as_slice.ensures e.state)
-    (λ beside same. e.whole beside (same ∙ sym c.as_slice.ensures)) e.bound e.ended c.finished.ensures.end)
+    (ran_told m f c.as_slice.result.now c.args.processes c.run_turns-ran.result.processes
+    c.run_turns-ran.result.trace c.finished.result.end (sym c.as_slice.ensures) e.history e.state e.whole e.bound
+    e.ended c.finished.ensures.end)
 
 pub returns-clause-trace : goal.returns-clause-trace
 returns-clause-trace g c =
