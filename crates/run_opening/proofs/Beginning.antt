@@ -4,7 +4,7 @@ use Rattle.std.proofs.Common.{ap, sym, ◌∙◌, ◌⊎◌, inl, inr}
 use Rattle.std.proofs.Common.{subst, arith, length-append}
 use Rattle.std.specs.Prelude.{Option, Some, None, Result, Ok, Err, IfOk, IfErr, IsErrAnd, OnErr, slice_get, ⊤}
 use Rattle.std.specs.Prelude.{IfSome, IsSomeAnd, if◌then◌else◌, option_map}
-use Rattle.std.proofs.lemmas.List.{append_assoc, append-nil, drop_more}
+use Rattle.std.proofs.lemmas.List.{drop_more}
 use Rattle.std.proofs.lemmas.Option.{get_or_from_slice_get, slice_get_within}
 use Rattle.host_node.specs.Tree.{Shape}
 use Rattle.sn_errno.specs.declared.errno.Errno.{Errno}
@@ -22,9 +22,9 @@ use Rattle.kernel_model.specs.entries.Given.{may_meet}
 use Rattle.kernel_model.specs.entries.Parts.{parts, outcome_in, changed}
 use Rattle.kernel_model.specs.files.FileTree.{Nodes, last_number}
 use Rattle.kernel_model.specs.opening.Arguments.{is_too_long}
-use Rattle.kernel_model.specs.opening.Opening.{Misfits, Refuses, bare, execve_of}
+use Rattle.kernel_model.specs.opening.Opening.{Misfits, Refuses, execve_of}
 use Rattle.kernel_model.specs.opening.Opening.{made_by, root_of}
-use Rattle.kernel_model.specs.opening.Opening.{rooted, task_begun, tasks_begun, with_task}
+use Rattle.kernel_model.specs.opening.Opening.{task_begun, tasks_begun, with_task}
 use Rattle.kernel_model.proofs.OpenedTasks.{AreOpened, opened_more}
 use Rattle.image_walk.specs.declared.granted.Numbering.{Numbering}
 use Rattle.image_walk.specs.declared.loading.Answer.{Answer}
@@ -32,9 +32,8 @@ use Rattle.image_walk.specs.declared.loading.Answer.TheVariants as answers
 use Rattle.image_walk.specs.Executing.{Executes, named_then}
 use Rattle.image_walk.specs.Granted.{Child}
 use Rattle.image_walk.specs.Standing.{IsNumbering, Stands, lent_from}
-use Rattle.image_walk.specs.Walking.{IsGrant, IsRoot, IsSilent}
+use Rattle.image_walk.specs.Walking.{IsGrant}
 use Rattle.image_walk.proofs.KernelAnswers.{Started, Failed, execve_starts, execve_fails, stands_on}
-use Rattle.image_walk.proofs.Places.{root_is}
 use Rattle.call_table.specs.declared.processes.Processes.{Processes}
 use Rattle.proc_cells.specs.Beside.{Beside}
 use Rattle.call_table.specs.Processes.{kernel_of}
@@ -42,9 +41,9 @@ use Rattle.run_opening.specs.declared.opening.OpenErr.{OpenErr}
 use Rattle.run_opening.specs.declared.opening.OpenErr.TheVariants.{Image, Memory}
 use Rattle.run_opening.specs.Begun.{GoesOn, HasBegun, IsRefused, Stops}
 use Rattle.run_opening.specs.Openings.{Begins, IsStanding, StandsStill, beside_of, numbering_of}
-use Rattle.run_opening.specs.Told.{Folders, folders, kernel_told}
-use Rattle.run_opening.specs.Trees.{AreOthers, Others, trees_with}
-use Rattle.run_opening.proofs.Roots.{are_nodes, have_trees, root_within}
+use Rattle.run_opening.specs.Told.{kernel_told, trees_told}
+use Rattle.run_opening.specs.Trees.{AreOthers, Others}
+use Rattle.run_opening.proofs.Roots.{have_trees, root_within}
 use Rattle.run_opening.proofs.Telling.{Tells, tells, told_nodes}
 
 -- ---- the numbers
@@ -94,9 +93,9 @@ next_programs programs i p e =
 
 -- where nothing is told of a state, nothing is said of what comes after it
 none_told : (m : Mounts) (others : Others) (p : Processes) (root : Option Shape) (children : List Child)
-    (fact : Kernel → Type 0) → root ≡ None → IfSome (kernel_told m (folders others root children) p 0) fact
+    (fact : Kernel → Type 0) → root ≡ None → IfSome (kernel_told m (trees_told others root children) p 0) fact
 none_told m others p root children fact e =
-    subst (λ (o : Option Shape). IfSome (kernel_told m (folders others o children) p 0) fact) (sym e) tt
+    subst (λ (o : Option Shape). IfSome (kernel_told m (trees_told others o children) p 0) fact) (sym e) tt
 
 module _ (m : Mounts) (others : Others) (is : AreOthers m.mounts others) (t : Shape) (names : List (List ℕ)) (i : ℕ)
     (tasks tasks' : List Opened) (p : Processes) (program : Program) (name : List ℕ) (o : Opened)
@@ -113,7 +112,7 @@ module _ (m : Mounts) (others : Others) (is : AreOthers m.mounts others) (t : Sh
   abbrev k : Kernel
   k = kernel_of p (beside_of m h.nodes) 0
 
-  tells_k : kernel_told m (folders others root children) p 0 ≡ Some k
+  tells_k : kernel_told m (trees_told others root children) p 0 ≡ Some k
   tells_k = ap (option_map (λ nodes. kernel_of p (beside_of m nodes) 0)) h.told
 
   room : length names + num.first ≤ last_number
@@ -160,7 +159,7 @@ module _ (m : Mounts) (others : Others) (is : AreOthers m.mounts others) (t : Sh
         ∙ ap (λ n. with_task (n + 1) program image (kernel_of p (beside_of m nodes') 0)) (sym last)
         ∙ sym (begun (beside_of m nodes') 0 refl refl)
 
-    tells_after : kernel_told m (folders others root' children') more 0 ≡ Some k'
+    tells_after : kernel_told m (trees_told others root' children') more 0 ≡ Some k'
     tells_after =
         ap (option_map (λ nodes. kernel_of more (beside_of m nodes) 0))
         (told_nodes m.mounts others is t (named_then e.drawn names name) nodes' root' children'
@@ -178,11 +177,11 @@ module _ (m : Mounts) (others : Others) (is : AreOthers m.mounts others) (t : Sh
           ∙ ap (tasks_begun (i + 1 + 1) (drop (i + 1) m.tasks) rest) after;
     }
 
-    pub task_begins : GoesOn m i (i + 1) tasks tasks' (kernel_told m (folders others root children) p 0)
-        (kernel_told m (folders others root' children') more 0)
+    pub task_begins : GoesOn m i (i + 1) tasks tasks' (kernel_told m (trees_told others root children) p 0)
+        (kernel_told m (trees_told others root' children') more 0)
     task_begins =
         subst (λ (x : Option Kernel). GoesOn m i (i + 1) tasks tasks' x
-        (kernel_told m (folders others root' children') more 0)) (sym tells_k)
+        (kernel_told m (trees_told others root' children') more 0)) (sym tells_k)
         (subst (λ (x : Option Kernel). IsSomeAnd x (HasBegun m i (i + 1) tasks tasks' k)) (sym tells_after) begins)
 
   -- ---- it fails
@@ -197,7 +196,7 @@ module _ (m : Mounts) (others : Others) (is : AreOthers m.mounts others) (t : Sh
         errno refl
 
     refused : (task : ℕ) → task ≡ i + 1
-        → IsRefused m i tasks tasks' task errno (folders others root' children') k
+        → IsRefused m i tasks tasks' task errno (trees_told others root' children') k
     refused task same = record {
       opened = o ∷ [];
       added = pushed;
@@ -213,11 +212,11 @@ module _ (m : Mounts) (others : Others) (is : AreOthers m.mounts others) (t : Sh
           (λ ino differs low. failed.others ino differs low ∙ h.kept ino differs low) failed.still tree;
     }
 
-    pub task_refused : (task : ℕ) → task ≡ i + 1 → IfSome (kernel_told m (folders others root children) p 0)
-        (IsRefused m i tasks tasks' task errno (folders others root' children'))
+    pub task_refused : (task : ℕ) → task ≡ i + 1 → IfSome (kernel_told m (trees_told others root children) p 0)
+        (IsRefused m i tasks tasks' task errno (trees_told others root' children'))
     task_refused task same =
         subst (λ (x : Option Kernel). IfSome x
-        (IsRefused m i tasks tasks' task errno (folders others root' children'))) (sym tells_k) (refused task same)
+        (IsRefused m i tasks tasks' task errno (trees_told others root' children'))) (sym tells_k) (refused task same)
 
 -- the folder stands, whatever an execve answers,
 pub standing : (num : Numbering) (long : Bool) (t : Shape) (names : List (List ℕ)) (name : List ℕ) (given : Given)
@@ -288,8 +287,8 @@ module _ (m : Mounts) (i : ℕ) (tasks tasks' : List Opened) (p : Processes) (ro
   pub begun_then : (result : Result Processes OpenErr)
       → Deed m i tasks tasks' p root root' children children' result
       → IfOk result (λ q. (others : Others) → AreOthers m.mounts others
-      → GoesOn m i (i + 1) tasks tasks' (kernel_told m (folders others root children) p 0)
-      (kernel_told m (folders others root' children') q 0))
+      → GoesOn m i (i + 1) tasks tasks' (kernel_told m (trees_told others root children) p 0)
+      (kernel_told m (trees_told others root' children') q 0))
   begun_then (Err e) d = tt
   begun_then (Ok q) d = λ others is. elim (before numbers root children d.grant) [
     | inl none ↦ none_told m others p root children _ none
@@ -303,8 +302,8 @@ module _ (m : Mounts) (i : ℕ) (tasks tasks' : List Opened) (p : Processes) (ro
   pub stopped_then : (result : Result Processes OpenErr)
       → Deed m i tasks tasks' p root root' children children' result
       → IfErr result (λ e. (others : Others) → AreOthers m.mounts others
-      → IfSome (kernel_told m (folders others root children) p 0)
-      (Stops m i tasks tasks' e (folders others root' children')))
+      → IfSome (kernel_told m (trees_told others root children) p 0)
+      (Stops m i tasks tasks' e (trees_told others root' children')))
   stopped_then (Ok q) d = tt
   stopped_then (Err (Image task errno)) d = λ others is. elim (before numbers root children d.grant) [
     | inl none ↦ none_told m others p root children _ none
@@ -312,7 +311,8 @@ module _ (m : Mounts) (i : ℕ) (tasks tasks' : List Opened) (p : Processes) (ro
         task_refused m others is g.0 g.1 i tasks tasks' p d.program d.name d.opened root root' children children' g.2
         d.at d.path d.drawn d.few d.pushed d.facts errno
         (subst (λ (x : Answer). Executes numbers (is_too_long d.program.args d.program.env) g.0 g.1 d.name
-        d.opened.given x root' children') d.begins.1 (d.executes g.0 g.1 g.2)) task (d.begins.0 ∙ ap (λ n. n + 1) d.last)
+        d.opened.given x root' children') d.begins.1 (d.executes g.0 g.1 g.2)) task
+        (d.begins.0 ∙ ap (λ n. n + 1) d.last)
   ]
   stopped_then (Err Memory) d = λ others is. if_any _
 
@@ -345,95 +345,14 @@ opened_then seed root program answer i p (Ok q) o few b =
     subst (λ (list : TaskTable). AreOpened (i + 1) list) (sym b.2)
     (opened_more i p.cells.tasks (made_by (p.cells.tasks.last + 1)) (made_by (p.cells.tasks.last + 1)) root few o)
 
--- ---- before the first task, and between two
-
--- before the first task the state tells the kernel that the definitions begin with
-pub begun_none : (m : Mounts) (others : Others) (t : Shape) (p : Processes) (root : Option Shape)
-    (children : List Child) (tasks : List Opened) → AreOthers m.mounts others
-    → Stands (numbering_of m.mounts) t [] [] root children
-    → ((nodes : Nodes) → kernel_of p (beside_of m nodes) 0 ≡ record (bare m (trees_with others t)) { nodes = nodes })
-    → IsSomeAnd (kernel_told m (folders others root children) p 0)
-    (HasBegun m 0 0 tasks tasks (bare m (trees_with others t)))
-begun_none m others t p root children tasks is s same =
-    let first : length m.mounts + 1 ≡ length others.before + length others.behind + 2 = omega (arith, is.long) in
-    let nodes : Nodes = rooted 1 (trees_with others t) in
-    let tells_bare : kernel_told m (folders others root children) p 0 ≡ Some (bare m (trees_with others t)) =
-    ap (option_map (λ ns. kernel_of p (beside_of m ns) 0))
-    (told_nodes m.mounts others is t [] nodes root children s
-    (are_nodes (numbering_of m.mounts) others t is.place first) (λ ino differs low. refl))
-    ∙ ap Some (same nodes) in
-    subst (λ (x : Option Kernel). IsSomeAnd x (HasBegun m 0 0 tasks tasks (bare m (trees_with others t))))
-    (sym tells_bare)
-    (record { opened = []; added = sym (append-nil tasks); begun = λ rest. refl })
-
--- one task more, behind those that began
-pub goes_on : (m : Mounts) (i j : ℕ) (first tasks tasks' : List Opened) (k : Kernel) (here there : Option Kernel)
-    → IsSomeAnd here (HasBegun m 0 i first tasks k) → GoesOn m i j tasks tasks' here there
-    → IsSomeAnd there (HasBegun m 0 j first tasks' k)
-goes_on m i j first tasks tasks' k None there h g = absurd h
-goes_on m i j first tasks tasks' k (Some a) None h g = absurd g
-goes_on m i j first tasks tasks' k (Some a) (Some b) h g = record {
-  opened = h.opened ++ g.opened;
-  added = g.added ∙ ap (λ os. os ++ g.opened) h.added ∙ append_assoc first h.opened g.opened;
-  begun = λ rest.
-      ap (λ os. tasks_begun 1 m.tasks os k) (append_assoc h.opened g.opened rest) ∙ h.begun (g.opened ++ rest)
-      ∙ g.begun rest;
-}
-
--- one that is refused, behind those that began
-stops_behind : (m : Mounts) (i : ℕ) (first tasks tasks' : List Opened) (why : OpenErr) (f : Folders) (k : Kernel)
-    (before : Option Kernel) → IsSomeAnd before (HasBegun m 0 i first tasks k)
-    → IfSome before (Stops m i tasks tasks' why f) → Stops m 0 first tasks' why f k
-stops_behind m i first tasks tasks' why f k None h r = absurd h
-stops_behind m i first tasks tasks' Memory f k (Some b) h r = tt
-stops_behind m i first tasks tasks' (Image task errno) f k (Some b) h r = record {
-  opened = h.opened ++ r.opened;
-  added = r.added ∙ ap (λ os. os ++ r.opened) h.added ∙ append_assoc first h.opened r.opened;
-  left = r.left;
-  refuses = h.begun r.opened ∙ r.refuses;
-  settles = r.settles;
-  others_keep = r.others_keep;
-}
-
--- the error of the task that was refused is that of the whole opening
-pub stops_then : (m : Mounts) (i : ℕ) (first tasks tasks' : List Opened) (p : Processes) (told root root' : Option Shape)
-    (children children' : List Child) (result : Result Processes OpenErr) (why : OpenErr)
-    → IsErrAnd result (λ e. e ≡ why)
-    → ((others : Others) (t : Shape) → AreOthers m.mounts others → told ≡ Some t
-    → IsSomeAnd (kernel_told m (folders others root children) p 0)
-    (HasBegun m 0 i first tasks (bare m (trees_with others t))))
-    → ((others : Others) → AreOthers m.mounts others → IfSome (kernel_told m (folders others root children) p 0)
-    (Stops m i tasks tasks' why (folders others root' children')))
-    → IfErr result (λ e. (others : Others) (t : Shape) → AreOthers m.mounts others → told ≡ Some t
-    → Stops m 0 first tasks' e (folders others root' children') (bare m (trees_with others t)))
-stops_then m i first tasks tasks' p told root root' children children' (Ok q) why is begun stopped = tt
-stops_then m i first tasks tasks' p told root root' children children' (Err e) why is begun stopped =
-    λ others t are tells.
-    subst (λ (x : OpenErr). Stops m 0 first tasks' x (folders others root' children') (bare m (trees_with others t)))
-    (sym is)
-    (stops_behind m i first tasks tasks' why (folders others root' children') (bare m (trees_with others t))
-    (kernel_told m (folders others root children) p 0) (begun others t are tells) (stopped others are))
-
-pub still_grant : (num : Numbering) (told root : Option Shape) (children : List Child) → IsRoot told
-    → (told ≡ None → IsSilent root children)
-    → ((t : Shape) → told ≡ Some t → (names : List (List ℕ)) × Stands num t names [] root children)
-    → IsGrant num root children
-still_grant num None root children is silent tells =
-    let s = silent refl in subst (λ (o : Option Shape). IsGrant num o children) (sym s.0) s.1
-still_grant num (Some t) root children is silent tells =
-    let s = tells t refl in
-    let root_tells = root_is num t s.0 root children s.1 in
-    subst (λ (o : Option Shape). IsGrant num o children) (sym root_tells)
-    (t, s.0, is.0, subst (λ (o : Option Shape). Stands num t s.0 [] o children) root_tells s.1)
-
 -- want of memory in the record
 pub err_stops : (m : Mounts) (i : ℕ) (tasks tasks' : List Opened) (p : Processes) (root root' : Option Shape)
     (children children' : List Child) (result : Result Processes OpenErr)
     → IsErrAnd result (λ e. e ≡ Memory)
     → IfErr result (λ e. (others : Others) → AreOthers m.mounts others
-    → IfSome (kernel_told m (folders others root children) p 0)
-    (Stops m i tasks tasks' e (folders others root' children')))
+    → IfSome (kernel_told m (trees_told others root children) p 0)
+    (Stops m i tasks tasks' e (trees_told others root' children')))
 err_stops m i tasks tasks' p root root' children children' (Ok q) is = tt
 err_stops m i tasks tasks' p root root' children children' (Err e) is = λ others _.
-    subst (λ (x : OpenErr). IfSome (kernel_told m (folders others root children) p 0)
-    (Stops m i tasks tasks' x (folders others root' children'))) (sym is) (if_any _)
+    subst (λ (x : OpenErr). IfSome (kernel_told m (trees_told others root children) p 0)
+    (Stops m i tasks tasks' x (trees_told others root' children'))) (sym is) (if_any _)

@@ -3,3 +3,4 @@ pub mod Recording
 pub mod Roots
 pub mod Telling
 pub mod Beginning
+pub mod InOrder

@@ -1,4 +1,4 @@
--- The nodes that folders tell are those of a granted tree of which children were lent, and no others.
+-- The nodes that are told are those of a granted tree of which children were lent, and no others.
 use Rattle.std.proofs.Common.{◌≡◌, ◌≢◌, ℕ, suc, ◌+◌, ◌<◌, ◌≤◌, true, List, [], ◌∷◌, length, inl, inr, refl, ap}
 use Rattle.std.proofs.Common.{sym, ◌∙◌, subst, arith, length-append}
 use Rattle.std.specs.Prelude.{Option, Some, None, IsSomeAnd, option_and_then, option_map, if◌then◌else◌}
@@ -20,25 +20,26 @@ use Rattle.image_walk.proofs.OutAgain.{can_give_back}
 use Rattle.image_walk.proofs.Places.{IsThere, root_is}
 use Rattle.image_walk.proofs.Trees.{faulted_by_none}
 use Rattle.run_opening.specs.Openings.{numbering_of}
-use Rattle.run_opening.specs.Told.{child_told, folders, names_of, nodes_told, root_told, roots_told, told_at, with_lent}
+use Rattle.run_opening.specs.Told.{lent_told, lent_names, nodes_told, root_told, roots_told, told_at, trees_told, with_lent}
 use Rattle.run_opening.specs.Trees.{AreOthers, Others, trees_with}
 use Rattle.run_opening.proofs.Roots.{rooted_above, rooted_but}
 
 -- ---- the children
 
 -- a child whose place in the root is left to it is told as it tells itself
-told_lent : (place told : Option Shape) → IsSomeAnd place (λ s. is_lent s ≡ true) → told_at place told ≡ told
-told_lent None told lent = absurd lent
-told_lent (Some place) told lent = ap (λ b. if b then told else None) lent
+told_place : (place told : Option Shape) → IsSomeAnd place (λ s. is_lent s ≡ true) → told_at place told ≡ told
+told_place None told lent = absurd lent
+told_place (Some place) told lent = ap (λ b. if b then told else None) lent
 
 -- what a child tells of which no count rose
 told_child : (o : Option Shape) (s : Shape) → o ≡ Some s → IsThere o → option_map (faulted_by 0) o ≡ Some s
 told_child None s e there = absurd there
 told_child (Some x) s e there = ap Some (faulted_by_none x there.1) ∙ e
 
-names_lent : (n : ℕ) (t : Shape) (names : List (List ℕ)) (rises : List Rise) → names_of (lent_from n t names rises) ≡ names
-names_lent n t [] rises = refl
-names_lent n t (name ∷ names) rises = ap (λ ns. name ∷ ns) (names_lent (n + 1) t names rises)
+lent_named : (n : ℕ) (t : Shape) (names : List (List ℕ)) (rises : List Rise)
+    → lent_names (lent_from n t names rises) ≡ names
+lent_named n t [] rises = refl
+lent_named n t (name ∷ names) rises = ap (λ ns. name ∷ ns) (lent_named (n + 1) t names rises)
 
 -- the child of a name, where one is there
 found : (o : Option Shape) → IsThere o → (s : Shape) × (o ≡ Some s)
@@ -46,26 +47,27 @@ found None there = absurd there
 found (Some s) there = (s, refl)
 
 -- the nodes from a number on, over those below it
-pub record Lent (num : Numbering) (t root : Shape) (n : ℕ) (names : List (List ℕ)) (base : Nodes) : Type 0 where
+pub record LentNodes (num : Numbering) (t root : Shape) (n : ℕ) (names : List (List ℕ)) (base : Nodes) : Type 0 where
   pub nodes : Nodes
   pub told : with_lent num.root n root (lent_from n t names []) base ≡ Some nodes
   pub have : HaveNodes num nodes n t names
   pub below : (ino : ℕ) → ino < n → map.get nodes ino ≡ map.get base ino
 
-lent : (num : Numbering) (t root : Shape) (n : ℕ) (names : List (List ℕ)) (base : Nodes) → AreThere t names
+lent_nodes : (num : Numbering) (t root : Shape) (n : ℕ) (names : List (List ℕ)) (base : Nodes) → AreThere t names
     → AreOut root (lent_from n t names []) → ((ino : ℕ) → n ≤ ino → map.get base ino ≡ None)
-    → Lent num t root n names base
-lent num t root n [] base there out none = record { nodes = base; told = refl; have = none; below = λ ino low. refl }
-lent num t root n (name ∷ names) base there out none =
+    → LentNodes num t root n names base
+lent_nodes num t root n [] base there out none =
+    record { nodes = base; told = refl; have = none; below = λ ino low. refl }
+lent_nodes num t root n (name ∷ names) base there out none =
     let s = found (child_of name t) there.0 in
     let more : Nodes = map.insert base n (child_node num.root s.0) in
-    let next : Lent num t root (n + 1) names more =
-    lent num t root (n + 1) names more there.2 out.3 (λ ino high.
+    let next : LentNodes num t root (n + 1) names more =
+    lent_nodes num t root (n + 1) names more there.2 out.3 (λ ino high.
     let apart : n ≢ ino = λ e. absurd (omega arith) in
     let above : n ≤ ino = omega arith in
     get-insert_other base n ino (child_node num.root s.0) apart ∙ none ino above) in
-    let tells : child_told root (name, option_map (faulted_by 0) (child_of name t)) ≡ Some s.0 =
-    told_lent (child_of name root) _ out.0 ∙ told_child (child_of name t) s.0 s.1 there.0 in
+    let tells : lent_told root (name, option_map (faulted_by 0) (child_of name t)) ≡ Some s.0 =
+    told_place (child_of name root) _ out.0 ∙ told_child (child_of name t) s.0 s.1 there.0 in
     let here : n < n + 1 = omega arith in
     record {
       nodes = next.nodes;
@@ -89,11 +91,12 @@ lent num t root n (name ∷ names) base there out none =
 pub record Tells (num : Numbering) (others : Others) (t : Shape) (names : List (List ℕ)) (root : Option Shape)
     (children : List Child) : Type 0 where
   pub nodes : Nodes
-  pub told : nodes_told num (folders others root children) ≡ Some nodes
+  pub told : nodes_told num (trees_told others root children) ≡ Some nodes
   pub are : AreNodes num nodes t names
   pub kept : KeepsRoots num (rooted 1 (trees_with others t)) nodes
 
-module _ (mounts : List Mount) (others : Others) (is : AreOthers mounts others) (t : Shape) (names : List (List ℕ)) where
+module _ (mounts : List Mount) (others : Others) (is : AreOthers mounts others) (t : Shape)
+    (names : List (List ℕ)) where
   abbrev num : Numbering
   num = numbering_of mounts
 
@@ -108,8 +111,8 @@ module _ (mounts : List Mount) (others : Others) (is : AreOthers mounts others) 
       let node : Node = root_told num r children in
       let roots : Nodes = rooted 1 (trees_with others r) in
       let base : Nodes = roots_told num others r children in
-      let l : Lent num t r num.first names base =
-      lent num t r num.first names base there out (λ ino high.
+      let l : LentNodes num t r num.first names base =
+      lent_nodes num t r num.first names base there out (λ ino high.
       let apart : num.root ≢ ino = λ e. absurd (omega arith) in
       let above : 1 + length (trees_with others r) ≤ ino = omega arith in
       get-insert_other roots num.root ino node apart ∙ rooted_above 1 (trees_with others r) ino above) in
@@ -126,7 +129,7 @@ module _ (mounts : List Mount) (others : Others) (is : AreOthers mounts others) 
                 linked = true;
                 tree = lend_all names t;
                 numbers = numbers_from num.first ns;
-              })) (names_lent num.first t names []);
+              })) (lent_named num.first t names []);
           children = l.have;
         };
         kept = λ ino differs low.
@@ -178,7 +181,7 @@ pub told_nodes : (mounts : List Mount) (others : Others) (is : AreOthers mounts 
     (names : List (List ℕ)) (nodes : Nodes) (root : Option Shape) (children : List Child)
     → Stands (numbering_of mounts) t names [] root children → AreNodes (numbering_of mounts) nodes t names
     → KeepsRoots (numbering_of mounts) (rooted 1 (trees_with others t)) nodes
-    → nodes_told (numbering_of mounts) (folders others root children) ≡ Some nodes
+    → nodes_told (numbering_of mounts) (trees_told others root children) ≡ Some nodes
 told_nodes mounts others is t names nodes root children s are kept =
     let h = tells mounts others is t names root children s in
     h.told

@@ -11,7 +11,7 @@ use Rattle.image_walk.specs.Granted.{GivesBack}
 use Rattle.image_walk.specs.Standing.{no_left}
 use Rattle.run_opening.specs.declared.opening.OpenErr.{OpenErr}
 use Rattle.run_opening.specs.declared.opening.OpenErr.TheVariants.{Image, Memory}
-use Rattle.run_opening.specs.Told.{Folders}
+use Rattle.run_opening.specs.Told.{TreesTold}
 use Rattle.run_opening.specs.Trees.{HaveTrees, trees_with}
 
 -- from one kernel to another the tasks from one index to another began, and the record grew by their execves: whatever
@@ -26,12 +26,13 @@ pub record HasBegun (m : Mounts) (from upto : ℕ) (tasks tasks' : List Opened) 
 -- the same of states: where the one before tells a kernel, so does the one after
 -- execve(2); profile
 abbrev pub GoesOn : Mounts → (from upto : ℕ) → (tasks tasks' : List Opened) → (before after : Option Kernel) → Type 0
-GoesOn m from upto tasks tasks' before after = IfSome before (λ k. IsSomeAnd after (HasBegun m from upto tasks tasks' k))
+GoesOn m from upto tasks tasks' before after =
+    IfSome before (λ k. IsSomeAnd after (HasBegun m from upto tasks tasks' k))
 
 -- from a kernel the opening of the tasks from an index on came to an execve that failed, and the kernel that it leaves
--- has the trees that the folders are then
+-- has the trees that are told then
 -- execve(2), ERRORS
-pub record IsRefused (m : Mounts) (from : ℕ) (tasks tasks' : List Opened) (task : ℕ) (errno : Errno) (f : Folders)
+pub record IsRefused (m : Mounts) (from : ℕ) (tasks tasks' : List Opened) (task : ℕ) (errno : Errno) (f : TreesTold)
     (k : Kernel) : Type 0 where
   pub opened : List Opened
   pub added : tasks' ≡ tasks ++ opened
@@ -43,6 +44,6 @@ pub record IsRefused (m : Mounts) (from : ℕ) (tasks tasks' : List Opened) (tas
 
 -- why an opening ended before all tasks had begun
 -- execve(2), ERRORS; profile
-abbrev pub Stops : Mounts → (from : ℕ) → (tasks tasks' : List Opened) → OpenErr → Folders → Kernel → Type 0
+abbrev pub Stops : Mounts → (from : ℕ) → (tasks tasks' : List Opened) → OpenErr → TreesTold → Kernel → Type 0
 Stops m from tasks tasks' (Image task errno) f k = IsRefused m from tasks tasks' task errno f k
 Stops m from tasks tasks' Memory f k = ⊤

@@ -19,13 +19,13 @@ use Rattle.run_opening.specs.Trees.{Others, trees_with}
 -- what the granted folders of a run tell: the trees of the other mounts, as granted; the root of the mount at `/`; and
 -- the children that it lent, in order
 -- profile
-pub record Folders : Type 0 where
+pub record TreesTold : Type 0 where
   pub others : Others
   pub root : Option Shape
   pub children : List Child
 
-abbrev pub folders : Others → (root : Option Shape) → List Child → Folders
-folders others root children = record { others = others; root = root; children = children }
+abbrev pub trees_told : Others → (root : Option Shape) → List Child → TreesTold
+trees_told others root children = record { others = others; root = root; children = children }
 
 -- what a lent child tells, where a place in the root is left to it
 -- profile
@@ -33,8 +33,8 @@ abbrev pub told_at : (place told : Option Shape) → Option Shape
 told_at None told = None
 told_at (Some place) told = if is_lent place then told else None
 
-abbrev pub child_told : (root : Shape) → Child → Option Shape
-child_told root c = told_at (child_of c.0 root) c.1
+abbrev pub lent_told : (root : Shape) → Child → Option Shape
+lent_told root c = told_at (child_of c.0 root) c.1
 
 -- nodes with those of children that the directory of a number lent, numbered in order from the second number on: none
 -- where a child tells nothing, or no place is left to it
@@ -43,36 +43,36 @@ abbrev pub with_lent : (dir number : ℕ) → (root : Shape) → List Child → 
 with_lent dir number root [] nodes = Some nodes
 with_lent dir number root (c ∷ children) nodes =
     option_and_then (λ s. with_lent dir (number + 1) root children (map.insert nodes number (child_node dir s)))
-    (child_told root c)
+    (lent_told root c)
 
 -- the node of the root that lent these children
 -- inode(7), st_ino
-abbrev pub names_of : List Child → List (List ℕ)
-names_of [] = []
-names_of (c ∷ children) = c.0 ∷ names_of children
+abbrev pub lent_names : List Child → List (List ℕ)
+lent_names [] = []
+lent_names (c ∷ children) = c.0 ∷ lent_names children
 
 abbrev pub root_told : Numbering → (root : Shape) → List Child → Node
 root_told num root children = record {
   parent = num.root;
   linked = true;
   tree = root;
-  numbers = numbers_from num.first (names_of children);
+  numbers = numbers_from num.first (lent_names children);
 }
 
--- the nodes that folders tell: the roots of all mounts, and the children that the mount at `/` lent. None where its
--- root tells nothing, or a child does, or no place is left to one
+-- the nodes that are told: the roots of all mounts, and the children that the mount at `/` lent. None where its root
+-- or a child tells nothing, or no place in the root is left to a child
 -- inode(7), st_ino
 abbrev pub roots_told : Numbering → Others → (root : Shape) → List Child → Nodes
 roots_told num others root children =
     map.insert (rooted 1 (trees_with others root)) num.root (root_told num root children)
 
-abbrev pub nodes_told : Numbering → Folders → Option Nodes
+abbrev pub nodes_told : Numbering → TreesTold → Option Nodes
 nodes_told num f =
     option_and_then (λ root. with_lent num.root num.first root f.children (roots_told num f.others root f.children))
     f.root
 
--- the kernel that processes and granted folders are, after so many entries and with no rise of a count
+-- the kernel that processes are with the nodes that are told, after so many entries and with no rise of a count
 -- profile
-abbrev pub kernel_told : Mounts → Folders → Processes → (entries : ℕ) → Option Kernel
+abbrev pub kernel_told : Mounts → TreesTold → Processes → (entries : ℕ) → Option Kernel
 kernel_told m f p entries =
     option_map (λ nodes. kernel_of p (beside_of m nodes) entries) (nodes_told (numbering_of m.mounts) f)

@@ -5,11 +5,12 @@
 //! record of the opening, as an `Opened` for each execve that was done. `numbering` tells the inode numbers of the
 //! folder that is mounted at `/`.
 //!
-//! Proved, where the folder's root tells its tree, whatever trees the other mounts have: the processes are the kernel
-//! that the definitions open over all of them, with the other roots as they were granted (`begun`); a refusal is that
-//! of the first execve that fails, and leaves the trees that the nodes have then (`stopped`); the folder can be put
-//! together again, and at most counts of failed calls rose (`stands`, `standing`). Whatever the root tells, the record
-//! is of the programs in order, and its inode numbers run up without a gap (`recorded`).
+//! Proved, where the folder's root tells its tree, whatever trees the other mounts have: the kernel that the state then
+//! tells, its processes with the nodes that the folders tell, is the one that the definitions open over all the trees
+//! (`begun`); a refusal is that of the first execve that fails, and leaves the trees that the nodes have then
+//! (`stopped`); the folder can be put together again, and at most counts of failed calls rose (`stands`, `standing`).
+//! Whatever the root tells, the record is of the programs in order, and its inode numbers run up without a gap
+//! (`recorded`).
 //!
 //! Not said: what a host is, which folder it granted, and what the tasks then do.
 //!

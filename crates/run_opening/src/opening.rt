@@ -16,7 +16,7 @@ ghost use Rattle.image_walk.specs.Walking.{IsGrant, IsRoot, IsSilent};
 ghost use Rattle.run_opening.specs.Begun.{GoesOn, HasBegun, Stops};
 ghost use Rattle.run_opening.specs.Openings.{Begins, IsStanding, StandsStill, numbering_of};
 ghost use Rattle.run_opening.specs.Records.{IsRecord, IsRecorded};
-ghost use Rattle.run_opening.specs.Told.{folders, kernel_told};
+ghost use Rattle.run_opening.specs.Told.{kernel_told, trees_told};
 ghost use Rattle.run_opening.specs.Trees.{AreOthers, Others, trees_with};
 
 use crate::executing::{Done, execute};
@@ -107,15 +107,15 @@ fn open_task<N: HostNode>(
         (told_of N.told granted.new.lent.items)) }
     ensures begun { IfOk result (λ p. (others : Others) → AreOthers mounts.now.mounts others →
         GoesOn mounts.now index (index + 1) tasks.old tasks.new
-        (kernel_told mounts.now (folders others (N.told granted.old.root) (told_of N.told granted.old.lent.items))
+        (kernel_told mounts.now (trees_told others (N.told granted.old.root) (told_of N.told granted.old.lent.items))
         processes 0)
-        (kernel_told mounts.now (folders others (N.told granted.new.root) (told_of N.told granted.new.lent.items))
+        (kernel_told mounts.now (trees_told others (N.told granted.new.root) (told_of N.told granted.new.lent.items))
         p 0)) }
     ensures stopped { IfErr result (λ e. (others : Others) → AreOthers mounts.now.mounts others →
         IfSome (kernel_told mounts.now
-        (folders others (N.told granted.old.root) (told_of N.told granted.old.lent.items)) processes 0)
+        (trees_told others (N.told granted.old.root) (told_of N.told granted.old.lent.items)) processes 0)
         (Stops mounts.now index tasks.old tasks.new e
-        (folders others (N.told granted.new.root) (told_of N.told granted.new.lent.items)))) }
+        (trees_told others (N.told granted.new.root) (told_of N.told granted.new.lent.items)))) }
     ensures standing { OnErr result ((t : Shape) →
         StandsStill (numbering_of mounts.now.mounts) t (N.told granted.old.root)
         (told_of N.told granted.old.lent.items) →
@@ -164,13 +164,13 @@ pub fn open_tasks<N: HostNode>(
     ensures begun { IfOk result (λ p. (others : Others) (t : Shape) → AreOthers mounts.now.mounts others →
         N.told granted.old.root ≡ Some t →
         IsSomeAnd (kernel_told mounts.now
-        (folders others (N.told granted.new.root) (told_of N.told granted.new.lent.items)) p 0)
+        (trees_told others (N.told granted.new.root) (told_of N.told granted.new.lent.items)) p 0)
         (HasBegun mounts.now 0 (length mounts.now.tasks) tasks.old tasks.new
         (bare mounts.now (trees_with others t)))) }
     ensures stopped { IfErr result (λ e. (others : Others) (t : Shape) → AreOthers mounts.now.mounts others →
         N.told granted.old.root ≡ Some t →
         Stops mounts.now 0 tasks.old tasks.new e
-        (folders others (N.told granted.new.root) (told_of N.told granted.new.lent.items))
+        (trees_told others (N.told granted.new.root) (told_of N.told granted.new.lent.items))
         (bare mounts.now (trees_with others t))) }
     ensures standing { OnErr result ((t : Shape) → N.told granted.old.root ≡ Some t →
         IsStanding (numbering_of mounts.now.mounts) t (N.told granted.new.root)

@@ -30,7 +30,7 @@ use Rattle.run_opening.specs.declared.opening.OpenErr.TheVariants as openings
 use Rattle.run_opening.specs.Begun.{HasBegun, Stops}
 use Rattle.run_opening.specs.Openings.{IsStanding, StandsStill, beside_of, numbering_of}
 use Rattle.run_opening.specs.Records.{IsRecorded}
-use Rattle.run_opening.specs.Told.{Folders, folders, kernel_told, nodes_told}
+use Rattle.run_opening.specs.Told.{TreesTold, kernel_told, nodes_told, trees_told}
 use Rattle.run_opening.specs.Trees.{AreOthers, Others, trees_with}
 use Rattle.run_opening.proofs.Roots.{have_trees}
 use Rattle.run_opening.proofs.Telling.{Tells, tells}
@@ -59,7 +59,7 @@ pub ended_lacking : (m : Mounts) (others : Others) (t : Shape) (root : Option Sh
     (opening : Opening) (trace : List Entry) (after : Shape)
     → IsStanding (numbering_of m.mounts) t root children → trace ≡ []
     → GivesBack root children (Some after)
-    → EndsTold m (folders others root children) t after opening trace ends.Memory
+    → EndsTold m (trees_told others root children) t after opening trace ends.Memory
 ended_lacking m others t root children opening trace after s none gives =
     let rose = risen (numbering_of m.mounts) t s.names s.rises root children s.stands in
     let is : put_all children rose.0 ≡ after =
@@ -71,9 +71,10 @@ ended_lacking m others t root children opening trace after s none gives =
 pub ended_stopped : (m : Mounts) (others : Others) (t : Shape) (why : OpenErr) (tasks : List Opened)
     (root : Option Shape) (children : List Child) (opening : Opening) (trace : List Entry) → IsRecorded m tasks
     → opening ≡ record_with m tasks → trace ≡ []
-    → Stops m 0 [] tasks why (folders others root children) (bare m (trees_with others t))
+    → Stops m 0 [] tasks why (trees_told others root children) (bare m (trees_with others t))
     → IsStanding (numbering_of m.mounts) t root children → (after : Shape)
-    → GivesBack root children (Some after) → EndsTold m (folders others root children) t after opening trace (end_of why)
+    → GivesBack root children (Some after)
+    → EndsTold m (trees_told others root children) t after opening trace (end_of why)
 ended_stopped m others t openings.Memory tasks root children opening trace r o none stops stands after gives =
     ended_lacking m others t root children opening trace after stands none gives
 ended_stopped m others t (openings.Image task errno) tasks root children opening trace r o none stops stands after
@@ -96,10 +97,10 @@ ended_stopped m others t (openings.Image task errno) tasks root children opening
 module _ (m : Mounts) (others : Others) (is : AreOthers m.mounts others) (t : Shape) (tasks : List Opened)
     (p : Processes) (root : Option Shape) (children : List Child) (opening : Opening) (r : IsRecorded m tasks)
     (o : opening ≡ record_with m tasks) (s : StandsStill (numbering_of m.mounts) t root children)
-    (b : IsSomeAnd (kernel_told m (folders others root children) p 0)
+    (b : IsSomeAnd (kernel_told m (trees_told others root children) p 0)
     (HasBegun m 0 (length m.tasks) [] tasks (bare m (trees_with others t)))) where
-  abbrev f : Folders
-  f = folders others root children
+  abbrev f : TreesTold
+  f = trees_told others root children
 
   h : Tells (numbering_of m.mounts) others t s.names root children
   h = tells m.mounts others is t s.names root children s.stands
@@ -172,13 +173,13 @@ module _ (m : Mounts) (others : Others) (is : AreOthers m.mounts others) (t : Sh
   pub ended_begun : (trace : List Entry) (end : End) → IfSome (kernel_told m f p 0) (λ k. RanFrom m f k end trace)
       → (after : Shape) → GivesBack root children (Some after) → EndsTold m f t after opening trace end
   ended_begun trace end ran after gives =
-      ended_from trace end (subst (λ (x : Option Kernel). IfSome x (λ k. RanFrom m f k end trace)) tells_start ran) after
-      gives
+      ended_from trace end
+      (subst (λ (x : Option Kernel). IfSome x (λ k. RanFrom m f k end trace)) tells_start ran) after gives
 
 -- ---- whoever tells it
 
 -- the kernel that is told prints as its processes do
-told_then : (m : Mounts) (f : Folders) (k : Kernel) (fact : Kernel → Type 0) → IsSomeAnd (over_told m f k) fact
+told_then : (m : Mounts) (f : TreesTold) (k : Kernel) (fact : Kernel → Type 0) → IsSomeAnd (over_told m f k) fact
     → (state : Kernel) × fact state × SameText state k
 told_then m f k fact h = by (nodes_told (numbering_of m.mounts) f) h
   where
@@ -188,7 +189,7 @@ told_then m f k fact h = by (nodes_told (numbering_of m.mounts) f) h
     by (Some nodes) e = (over m nodes k, e, record { tasks = refl; console = refl })
 
 -- how a run ended, whatever told it
-pub ended_told : (m : Mounts) (f : Folders) (t after : Shape) (opening : Opening) (trace : List Entry) (end : End)
+pub ended_told : (m : Mounts) (f : TreesTold) (t after : Shape) (opening : Opening) (trace : List Entry) (end : End)
     → EndsTold m f t after opening trace end → Ended m f.others t after opening trace end
 ended_told m f t after opening trace (ends.Done k) h = let e = told_then m f k _ h in (e.0, e.1.0, e.2, e.1.1)
 ended_told m f t after opening trace (ends.Full k) h = let e = told_then m f k _ h in (e.0, e.1.0, e.2, e.1.1, e.1.2)

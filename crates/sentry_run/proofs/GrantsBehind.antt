@@ -13,7 +13,7 @@ use Rattle.mount_file.specs.Form.{HasForm}
 use Rattle.mount_file.specs.declared.mounts.Mount.{Mount}
 use Rattle.mount_file.specs.declared.mounts.Mounts.{Mounts}
 use Rattle.image_walk.specs.Granted.{Child, GivesBack}
-use Rattle.run_opening.specs.Told.{folders}
+use Rattle.run_opening.specs.Told.{trees_told}
 use Rattle.run_opening.specs.Trees.{AreAmong, AreOthers, Others}
 use Rattle.sentry_run.specs.declared.play.End.{End}
 use Rattle.sentry_run.specs.declared.play.Played.{Played}
@@ -35,7 +35,7 @@ use Rattle.sentry_run.proofs.Ends.{plays_as, inner_plays, stopped_plays, lacks_f
 pub runs_inner : (m : Mounts) (i : ℕ) (world told root : Option Shape) (children : List Child) (played : Played)
     → i ≡ length m.mounts → IsInner played.end
     → ((others : Others) (t : Shape) → AreOthers m.mounts others → told ≡ Some t
-    → EndsOver m (folders others root children) t played)
+    → EndsOver m (trees_told others root children) t played)
     → RunsBehind m i world told root children played
 runs_inner m i world told root children played all inner ended = λ w e others among t tells after gives.
     let none : drop i m.mounts ≡ [] = drop_all i m.mounts (omega (arith, all)) in
@@ -47,7 +47,7 @@ runs_inner m i world told root children played all inner ended = λ w e others a
       ap (λ ms. granted ms w) none,
       subst (λ (x : Others). AreOthers m.mounts x) (sym same) are,
       subst (λ (x : Others). Ended m x t after played.opening played.trace played.end) (sym same)
-          (ended_told m (folders others root children) t after played.opening played.trace played.end
+          (ended_told m (trees_told others root children) t after played.opening played.trace played.end
           (ended others t are tells after gives)),
     )
 

@@ -17,7 +17,7 @@ use Rattle.sentry_run.specs.declared.play.End.{End}
 use Rattle.sentry_run.specs.declared.play.End.TheVariants as ends
 use Rattle.proc_cells.specs.Beside.{Beside}
 use Rattle.run_opening.specs.Openings.{beside_of, numbering_of}
-use Rattle.run_opening.specs.Told.{Folders, kernel_told, nodes_told}
+use Rattle.run_opening.specs.Told.{TreesTold, kernel_told, nodes_told}
 use Rattle.sentry_run.specs.Played.{RanFrom, TraceOf, over, over_told}
 use Rattle.sentry_run.specs.Stopped.{FinishesAs}
 
@@ -30,7 +30,7 @@ over_itself m nodes state l =
     ∙ ap (λ ms. record state { mounts = ms; seed = m.seed }) (sym l.2)
     ∙ ap (λ seed. record state { seed = seed }) (sym l.3)
 
-module _ (m : Mounts) (f : Folders) (nodes : Nodes) (are : nodes_told (numbering_of m.mounts) f ≡ Some nodes) where
+module _ (m : Mounts) (f : TreesTold) (nodes : Nodes) (are : nodes_told (numbering_of m.mounts) f ≡ Some nodes) where
   -- the kernel that is told, of processes that ended so
   tells_over : (k : Kernel) → over_told m f k ≡ Some (over m nodes k)
   tells_over k = ap (option_map (λ ns. over m ns k)) are
@@ -86,7 +86,7 @@ state_with m seed None first trace nodes same h = tt
 state_with m seed (Some p) first trace nodes same h = h (beside_of m nodes) same
 
 -- a run of turns, from the kernel that is told before it
-pub ran_told : (m : Mounts) (f : Folders) (seed : List ℕ) (first : Processes) (o : Option Processes)
+pub ran_told : (m : Mounts) (f : TreesTold) (seed : List ℕ) (first : Processes) (o : Option Processes)
     (trace : List Entry) (end : End) → m.seed ≡ seed
     → ((beside : Beside) → beside.seed ≡ seed → Leaves beside (replay (kernel_of first beside 0) trace))
     → IfSome o (λ p. (beside : Beside) → beside.seed ≡ seed

@@ -19,7 +19,7 @@ use Rattle.image_walk.specs.Granted.{GivesBack}
 use Rattle.run_opening.specs.declared.opening.OpenErr.{OpenErr}
 use Rattle.run_opening.specs.declared.opening.OpenErr.TheVariants as openings
 use Rattle.run_opening.specs.Openings.{numbering_of}
-use Rattle.run_opening.specs.Told.{Folders, nodes_told}
+use Rattle.run_opening.specs.Told.{TreesTold, nodes_told}
 use Rattle.run_opening.specs.Trees.{HaveTrees, Others, trees_with}
 use Rattle.sentry_run.specs.declared.play.End.{End}
 use Rattle.sentry_run.specs.declared.play.End.TheVariants as ends
@@ -93,9 +93,9 @@ Ended mounts others tree after opening trace (ends.Grant mount) = ⊥
 abbrev pub over : Mounts → Nodes → Kernel → Kernel
 over m nodes k = record k { nodes = nodes; failed = map.empty; mounts = m.mounts; seed = m.seed }
 
--- the kernel that a run's state tells where its processes are that kernel: none where the folders tell no nodes
+-- the kernel that a run's state tells where its processes are that kernel: none where no nodes are told
 -- profile
-abbrev pub over_told : Mounts → Folders → Kernel → Option Kernel
+abbrev pub over_told : Mounts → TreesTold → Kernel → Option Kernel
 over_told m f k = option_map (λ nodes. over m nodes k) (nodes_told (numbering_of m.mounts) f)
 
 -- a trace is a history from a kernel, each Run in it whole, and leaves that state
@@ -105,7 +105,7 @@ ReplaysTo start trace state = (replay start trace ≡ Some state) × (each_whole
 
 -- how a run from a kernel ended: its trace leaves the kernel that its state then tells
 -- profile
-abbrev pub RanFrom : Mounts → Folders → Kernel → End → List Entry → Type 0
+abbrev pub RanFrom : Mounts → TreesTold → Kernel → End → List Entry → Type 0
 RanFrom m f start (ends.Done kernel) trace =
     IsSomeAnd (over_told m f kernel) (λ state. ReplaysTo start trace state × (any_live state ≡ false))
 RanFrom m f start (ends.Full kernel) trace =
@@ -120,7 +120,7 @@ RanFrom m f start _ trace = ⊥
 -- how a run over the tree of the mount at `/` ended, and what it left of that tree: the state of its trace is the
 -- kernel that is told then
 -- profile
-abbrev pub EndsTold : Mounts → Folders → (tree after : Shape) → Opening → List Entry → End → Type 0
+abbrev pub EndsTold : Mounts → TreesTold → (tree after : Shape) → Opening → List Entry → End → Type 0
 EndsTold m f tree after opening trace (ends.Done kernel) =
     IsSomeAnd (over_told m f kernel)
     (λ state. Runs m f.others tree after opening trace state × (any_live state ≡ false))
@@ -139,7 +139,7 @@ EndsTold m f tree after opening trace _ = ⊥
 
 -- the same, once the children that were lent are back in their places
 -- profile
-abbrev pub EndsOver : Mounts → Folders → Shape → Played → Type 0
+abbrev pub EndsOver : Mounts → TreesTold → Shape → Played → Type 0
 EndsOver m f tree played =
     (after : Shape) → GivesBack f.root f.children (Some after)
     → EndsTold m f tree after played.opening played.trace played.end

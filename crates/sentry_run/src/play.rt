@@ -9,7 +9,7 @@ ghost use Rattle.image_walk.specs.Granted.{CanGiveBack, told_of};
 ghost use Rattle.image_walk.specs.Standing.{Stands};
 ghost use Rattle.image_walk.specs.Walking.{IsRoot};
 ghost use Rattle.run_opening.specs.Openings.{numbering_of};
-ghost use Rattle.run_opening.specs.Told.{folders, kernel_told};
+ghost use Rattle.run_opening.specs.Told.{kernel_told, trees_told};
 ghost use Rattle.run_opening.specs.Trees.{AreOthers, Others};
 ghost use Rattle.sentry_run.specs.Played.{EndsOver, end_of, RanFrom, TraceOf, first_of, nothing_opened};
 ghost use Rattle.sentry_run.specs.Stopped.{EndsAs, FinishesAs, IsInner};
@@ -104,8 +104,8 @@ fn run_processes<N: HostNode>(
 ) -> Played
     ensures ran { (others : Others) →
         IfSome (kernel_told mounts.now
-        (folders others (N.told granted.now.root) (told_of N.told granted.now.lent.items)) processes 0)
-        (λ k. RanFrom mounts.now (folders others (N.told granted.now.root) (told_of N.told granted.now.lent.items)) k
+        (trees_told others (N.told granted.now.root) (told_of N.told granted.now.lent.items)) processes 0)
+        (λ k. RanFrom mounts.now (trees_told others (N.told granted.now.root) (told_of N.told granted.now.lent.items)) k
         result.end result.trace) }
     ensures opening { result.opening ≡ opening }
     ensures drawn { flat_map numbers_in result.trace ≡ [] }
@@ -183,7 +183,7 @@ pub fn play_granted<N: HostNode>(alloc: Global, mounts: &Mounts, granted: &mut G
     requires lent { granted.old.lent.items ≡ [] }
     ensures ended { (others : Others) (t : Shape) → AreOthers mounts.now.mounts others →
         N.told granted.old.root ≡ Some t →
-        EndsOver mounts.now (folders others (N.told granted.new.root) (told_of N.told granted.new.lent.items)) t
+        EndsOver mounts.now (trees_told others (N.told granted.new.root) (told_of N.told granted.new.lent.items)) t
         result }
     ensures silent { N.told granted.old.root ≡ None → N.told granted.new.root ≡ None }
     ensures tells { IsSome (N.told granted.old.root) → IsSome (N.told granted.new.root) }

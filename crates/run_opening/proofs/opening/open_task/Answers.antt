@@ -47,8 +47,8 @@ deed g c =
       executes =
           executes_as m c.args.granted.now.numbers program named.0 c.in_ok-opened.field-0.opened.given
           c.in_ok-opened.field-0.answer (told c.args.granted.now.root) (told c.execute.new.granted.root)
-          (told_of told c.args.granted.now.lent.items) (told_of told c.execute.new.granted.lent.items) c.requires.numbers
-          (c.in_ok-opened.ensures.executes named.0 named.2);
+          (told_of told c.args.granted.now.lent.items) (told_of told c.execute.new.granted.lent.items)
+          c.requires.numbers (c.in_ok-opened.ensures.executes named.0 named.2);
       begins =
           begins_as m c.args.granted.now.numbers c.as_slice.result.now program c.in_ok-opened.field-0.answer
           c.args.processes c.begin.result c.requires.numbers c.as_slice.ensures c.begin.ensures;

@@ -11,7 +11,8 @@ use Rattle.image_walk.specs.Standing.{IsNumbering, Stands}
 use Rattle.image_walk.specs.Walking.{TellNothing}
 use Rattle.run_opening.specs.Openings.{beside_of}
 use Rattle.run_opening.specs.Trees.{trees_with}
-use Rattle.run_opening.proofs.Beginning.{are_numbering, begun_none, goes_on, still_grant, stops_then}
+use Rattle.run_opening.proofs.Beginning.{are_numbering}
+use Rattle.run_opening.proofs.InOrder.{begun_none, goes_on, still_grant, stops_then}
 use Rattle.run_opening.proofs.Recording.{record_none}
 use Rattle.run_opening.proofs.opening.open_tasks.Goals as goal
 

@@ -9,7 +9,7 @@ use Rattle.image_walk.specs.Walking.{IsSilent}
 use Rattle.run_opening.specs.Begun.{HasBegun}
 use Rattle.run_opening.specs.Openings.{StandsStill, numbering_of}
 use Rattle.run_opening.specs.Records.{IsRecord}
-use Rattle.run_opening.specs.Told.{folders, kernel_told}
+use Rattle.run_opening.specs.Told.{kernel_told, trees_told}
 use Rattle.run_opening.specs.Trees.{AreOthers, Others, trees_with}
 use Rattle.run_opening.proofs.opening.open_tasks.Given as goal
 
@@ -24,6 +24,6 @@ invariant-loop-index g l =
       stands : (t : Shape) → told l.fn.granted.root ≡ Some t
           → StandsStill (numbering_of l.mounts.mounts) t (told l.granted.root) (told_of told l.granted.lent.items);
       begun : (others : Others) (t : Shape) → AreOthers l.mounts.mounts others → told l.fn.granted.root ≡ Some t
-          → IsSomeAnd (kernel_told l.mounts (folders others (told l.granted.root) (told_of told l.granted.lent.items))
-          l.processes 0) (HasBegun l.mounts 0 l.index l.fn.tasks l.tasks (bare l.mounts (trees_with others t)));
+          → IsSomeAnd (kernel_told l.mounts
+          (trees_told others (told l.granted.root) (told_of told l.granted.lent.items)) l.processes 0) (HasBegun l.mounts 0 l.index l.fn.tasks l.tasks (bare l.mounts (trees_with others t)));
     }

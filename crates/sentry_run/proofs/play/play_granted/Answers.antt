@@ -10,7 +10,7 @@ use Rattle.image_walk.specs.Standing.{Stands}
 use Rattle.image_walk.proofs.OutAgain.{can_give_back}
 use Rattle.run_opening.specs.Begun.{HasBegun, Stops}
 use Rattle.run_opening.specs.Openings.{numbering_of}
-use Rattle.run_opening.specs.Told.{folders, kernel_told}
+use Rattle.run_opening.specs.Told.{kernel_told, trees_told}
 use Rattle.run_opening.specs.Trees.{trees_with}
 use Rattle.sentry_run.specs.declared.play.End.{End}
 use Rattle.sentry_run.specs.Played.{EndsTold}
@@ -22,7 +22,7 @@ use Rattle.sentry_run.proofs.play.play_granted.Goals as goal
 pub returns-in-Err-clause-ended : goal.returns-in-Err-clause-ended
 returns-in-Err-clause-ended g c = λ others t are e after gives.
     let told = g.N.HostNode.told in
-    let f = folders others (told c.args.granted.now.root) (told_of told c.args.granted.now.lent.items) in
+    let f = trees_told others (told c.args.granted.now.root) (told_of told c.args.granted.now.lent.items) in
     subst (λ (x : End). EndsTold c.args.mounts.now f t after c.stopped.result.opening c.stopped.result.trace x)
     (sym c.stopped.ensures.end)
     (ended_lacking c.args.mounts.now others t (told c.args.granted.now.root)
@@ -47,7 +47,7 @@ returns-in-Ok-open_tasks-clause-ended g c = λ others t are e after gives.
     (c.run_processes.ensures.opening
     ∙ ap (λ (o : Opening). record o { tasks = c.open_tasks.new.tasks }) c.in-Ok.ensures)
     (c.in-Ok-open_tasks.ensures.stands t e)
-    (subst (λ (first : List Opened). IsSomeAnd (kernel_told m (folders others root children)
+    (subst (λ (first : List Opened). IsSomeAnd (kernel_told m (trees_told others root children)
     c.in-Ok-open_tasks.processes 0)
     (HasBegun m 0 (length m.tasks) first c.open_tasks.new.tasks (bare m (trees_with others t))))
     (ap (λ (o : Opening). o.tasks) c.in-Ok.ensures) (c.in-Ok-open_tasks.ensures.begun others t are e))
@@ -76,7 +76,7 @@ returns-in-Err-open_tasks-clause-ended g c = λ others t are e after gives.
     let m = c.args.mounts.now in
     let root = told c.open_tasks.new.granted.root in
     let children = told_of told c.open_tasks.new.granted.lent.items in
-    let f = folders others root children in
+    let f = trees_told others root children in
     subst (λ (x : End). EndsTold m f t after c.unbegun.result.opening c.unbegun.result.trace x)
     (sym c.unbegun.ensures.end)
     (ended_stopped m others t c.in-Err-open_tasks.why c.open_tasks.new.tasks root children c.unbegun.result.opening

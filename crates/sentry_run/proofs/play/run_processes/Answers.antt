@@ -3,7 +3,7 @@ use Rattle.std.proofs.Common.{List, sym, subst}
 use Rattle.std.specs.Prelude.{IfSome}
 use Rattle.image_walk.specs.Granted.{told_of}
 use Rattle.kernel_model.specs.declared.entry.Entry.{Entry}
-use Rattle.run_opening.specs.Told.{folders, kernel_told}
+use Rattle.run_opening.specs.Told.{kernel_told, trees_told}
 use Rattle.sentry_run.specs.Played.{RanFrom, TraceOf}
 use Rattle.sentry_run.proofs.RunsOfTurns.{ended_trace, ran_told}
 use Rattle.sentry_run.proofs.play.run_processes.Goals as goal
@@ -13,7 +13,7 @@ returns-clause-ran g c = λ others.
     let m = c.args.mounts.now in
     let e = c.run_turns-ran.ensures in
     let told = g.N.HostNode.told in
-    let f = folders others (told c.args.granted.now.root) (told_of told c.args.granted.now.lent.items) in
+    let f = trees_told others (told c.args.granted.now.root) (told_of told c.args.granted.now.lent.items) in
     subst (λ (es : List Entry). IfSome (kernel_told m f c.args.processes 0)
     (λ k. RanFrom m f k c.finished.result.end es)) (sym c.finished.ensures.trace)
     (ran_told m f c.as_slice.result.now c.args.processes c.run_turns-ran.result.processes
