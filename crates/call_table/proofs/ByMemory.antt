@@ -12,7 +12,7 @@ use Rattle.std.proofs.lemmas.Bool.Decides.{nat_tests}
 use Rattle.std.proofs.lemmas.List.{take-append-drop}
 use Rattle.std.proofs.lemmas.List.Folds.{list_any-append, list_any_more}
 use Rattle.sn_base.proofs.Maps.{get_of_empty, get-insert_same, get-insert_other, get-remove_same, get-remove_other}
-use Rattle.task_table.specs.declared.task.Made.{Made}
+use Rattle.sn_base.specs.declared.made.Made.{Made}
 use Rattle.kernel_model.specs.Names.{NamedMap, get_named, without_named}
 use Rattle.kernel_model.proofs.NamedMaps.{same_or_other, one_name_or_two, get-no_names, get-with_same, get-with_other}
 use Rattle.kernel_model.proofs.NamedMaps.{get-without_same, get-without_other}

@@ -10,7 +10,7 @@ use Rattle.futex_core.specs.declared.keys.FutexKey.{FutexKey}
 use Rattle.futex_core.specs.FutexLists.{after_leave, after_sleep}
 use Rattle.rv_table.specs.declared.regs.Regs.{Regs}
 use Rattle.mm_space.specs.Spaces.{AddressSpace}
-use Rattle.task_table.specs.declared.task.Made.{Made}
+use Rattle.sn_base.specs.declared.made.Made.{Made}
 use Rattle.task_table.specs.declared.task.Task.{Task}
 use Rattle.task_table.specs.Table.{TaskTable, is_live}
 use Rattle.kernel_model.specs.Names.{NamedMap, get_named, with_named}

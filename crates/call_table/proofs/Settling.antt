@@ -5,7 +5,7 @@ use Rattle.std.specs.Option.{option_map_or}
 use Rattle.std.specs.FinMap as map
 use Rattle.std.proofs.lemmas.Bool.{and_parts, eqb-true, eq-eqb, lt-ltb, ltb-true, or_parts}
 use Rattle.sn_base.proofs.Maps.{get-remove_same, get-remove_other}
-use Rattle.task_table.specs.declared.task.Made.{Made}
+use Rattle.sn_base.specs.declared.made.Made.{Made}
 use Rattle.task_table.specs.Table.{TaskTable, is_live}
 use Rattle.kernel_model.specs.entries.Waiting.{wait_of}
 use Rattle.kernel_model.proofs.NamedMaps.{same_or_other}

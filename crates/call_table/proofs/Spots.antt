@@ -4,7 +4,7 @@ use Rattle.std.specs.Prelude.{Option, Some, None, is_some, ◌&&◌}
 use Rattle.std.specs.Ordering.{nat_cmp}
 use Rattle.std.specs.FinMap as map
 use Rattle.sn_base.proofs.Maps.{get_of_empty, get-insert_same, get-insert_other}
-use Rattle.task_table.specs.declared.task.Made.{Made}
+use Rattle.sn_base.specs.declared.made.Made.{Made}
 use Rattle.kernel_model.proofs.NamedMaps.{same_or_other}
 use Rattle.call_table.specs.Parked.{AreApart}
 use Rattle.call_table.specs.Parking.{IsParkedAt, parked_at, spot_of}

@@ -13,7 +13,7 @@ use Rattle.mm_space.specs.Handing.{AreaState}
 use Rattle.mm_space.specs.Spaces.{AddressSpace}
 use Rattle.quantum.specs.Instructions.{Going, ran}
 use Rattle.task_table.specs.declared.task.Group.{Group}
-use Rattle.task_table.specs.declared.task.Made.{Made}
+use Rattle.sn_base.specs.declared.made.Made.{Made}
 use Rattle.task_table.specs.declared.task.Status.TheVariants.{Killed}
 use Rattle.futex_core.specs.declared.keys.FutexKey.{FutexKey}
 use Rattle.futex_core.specs.FutexLists.{FutexList, after_leave, after_sleep, after_wake}

@@ -4,7 +4,7 @@ use Rattle.sn_base.specs.declared.memory.Memory.{Memory}
 use Rattle.rv_table.specs.declared.regs.Regs.{Regs}
 use Rattle.mm_space.specs.Handing.{AreaState}
 use Rattle.mm_space.specs.Spaces.{AddressSpace}
-use Rattle.task_table.specs.declared.task.Made.{Made}
+use Rattle.sn_base.specs.declared.made.Made.{Made}
 use Rattle.quantum.specs.declared.run.TheConstants.{QUANTUM}
 use Rattle.quantum.specs.Instructions.{ran}
 use Rattle.kernel_model.specs.Names.{NamedMap, get_named, with_named}

@@ -1,7 +1,7 @@
 -- What an entry of a task leaves as it was.
 use Rattle.std.specs.Prelude.{◌≡◌, ◌≢◌, ◌≤◌, ◌+◌, ℕ, Bool, true, false}
 use Rattle.std.specs.FinMap as map
-use Rattle.task_table.specs.declared.task.Made.{Made}
+use Rattle.sn_base.specs.declared.made.Made.{Made}
 use Rattle.task_table.specs.Table.{is_live}
 use Rattle.kernel_model.specs.Names.{get_named}
 use Rattle.kernel_model.specs.declared.entry.Entry.{Entry}

@@ -17,7 +17,7 @@ ghost use Rattle.kernel_calls.specs.Children.{with_child};
 ghost use Rattle.kernel_calls.specs.Prepared.{EndsEach, EndsLive, EndsOnly, MayLack, changes_of};
 ghost use Rattle.proc_cells.specs.Cells.{AreKept, IsAwake};
 ghost use Rattle.call_table.specs.Moves.{Moves, changes_list, may_store};
-ghost use Rattle.task_table.specs.declared.task.Made.{Made as AMade};
+ghost use Rattle.sn_base.specs.declared.made.Made.{Made as AMade};
 
 use crate::entered::Entered;
 use futex_core::FutexKey;

@@ -29,9 +29,9 @@ use kernel_model::{Entry, GuestSpace, Named, Next};
 use proc_cells::{Cells, Standing};
 use quantum::QUANTUM;
 use rv_table::Regs;
-use sn_base::Memory;
+use sn_base::{Made, Memory};
 use std::alloc::Global;
-use task_table::{Made, Status};
+use task_table::Status;
 
 /// Runs a task's next instructions over its group's memory, until one of them traps or calls, or 10,000 ran. Want of
 /// memory leaves what fewer of them have left.

@@ -5,9 +5,8 @@ ghost use Rattle.std.specs.FinMap as map;
 ghost use Rattle.call_table.specs.Parked.{AreFewer, AreLinked, AreNumbers, HaveWoken, is_among, same_made, with_listed};
 
 use kernel_model::Named;
-use sn_base::{Map, Memory};
+use sn_base::{Made, Map, Memory};
 use std::alloc::Global;
-use task_table::Made;
 
 /// What the next step of a task used whose call waits: its memory, by name, and the shared areas too, where the call's
 /// instruction lies in one.

@@ -6,9 +6,8 @@ ghost use Rattle.sn_base.specs.MapKeys.{IsLeastAbove};
 ghost use Rattle.call_table.specs.Parked.{AreApart, AreNumbers, same_made};
 
 use crate::parked::{Parked, Spot};
-use sn_base::{Map, Memory};
+use sn_base::{Made, Map, Memory};
 use std::alloc::Global;
-use task_table::Made;
 
 /// Which tasks are looked at for the next turn, and which are parked until something that they used changes. Nothing
 /// here says why a task is parked, nor that each task is one or the other.

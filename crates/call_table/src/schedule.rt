@@ -23,9 +23,9 @@ use crate::parking::Parking;
 use futex_core::Waiters;
 use kernel_model::Entry;
 use proc_cells::{Cells, Standing};
-use sn_base::Memory;
+use sn_base::{Made, Memory};
 use std::alloc::Global;
-use task_table::{Made, Tasks};
+use task_table::Tasks;
 
 /// The cells of a run, and which of its tasks are looked at for the next turn and which are parked.
 #[derive(Drop)]

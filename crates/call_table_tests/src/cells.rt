@@ -3,9 +3,9 @@
 use crate::guests::processes_of;
 use crate::turns::expect_live;
 use proc_cells::Cells;
+use sn_base::Made;
 use sn_vectors::words::EBREAK;
 use std::test::Fail;
-use task_table::Made;
 
 #[test]
 fn no_task_lives_in_new_cells(rt: HostRuntime) {

@@ -4,14 +4,7 @@ ghost use Rattle.std.specs.Prelude.{◌≡◌};
 
 use crate::{Access, OpenFlags};
 use bitflags::Flags;
-
-/// The name of an open file description or of a pipe: the place of the log entry that made it, and which of those that
-/// the entry made it is.
-#[derive(Clone, Copy, Debug, PartialEq, Eq)]
-pub struct Made {
-    pub place: u64,
-    pub index: u32,
-}
+use sn_base::Made;
 
 /// The two ends of a pipe.
 #[derive(Clone, Copy, Debug, PartialEq, Eq)]

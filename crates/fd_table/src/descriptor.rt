@@ -2,7 +2,7 @@
 
 ghost use Rattle.std.specs.Prelude.{◌≡◌};
 
-use crate::Made;
+use sn_base::Made;
 
 /// What a number of a descriptor table stands for.
 #[derive(Clone, Copy, Debug, PartialEq, Eq)]

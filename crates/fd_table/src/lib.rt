@@ -29,7 +29,7 @@ mod flags;
 mod slots;
 mod table;
 
-pub use description::{Description, Made, Object, PipeSide};
+pub use description::{Description, Object, PipeSide};
 pub use descriptor::{Descriptor, FdErr};
 pub use flags::{Access, OpenFlags};
 pub use table::FdTable;

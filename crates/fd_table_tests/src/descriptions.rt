@@ -1,6 +1,7 @@
 //! The status flags of open file descriptions.
 
-use fd_table::{Access, Description, Made, Object, PipeSide};
+use fd_table::{Access, Description, Object, PipeSide};
+use sn_base::Made;
 
 /// A node's description, from its beginning on.
 fn node(access: Access, append: bool, nonblock: bool) -> Description {

@@ -1,6 +1,7 @@
 //! Descriptors and tables that the tests begin with.
 
-use fd_table::{Descriptor, FdTable, Made};
+use fd_table::{Descriptor, FdTable};
+use sn_base::Made;
 use std::alloc::Global;
 use std::process::Abort;
 use std::test::Fail;

@@ -7,7 +7,7 @@ use Rattle.futex_core.specs.declared.keys.FutexKey.{FutexKey}
 use Rattle.mm_space.specs.Handing.{AreaState}
 use Rattle.mm_space.specs.Spaces.{AddressSpace, Reach}
 use Rattle.task_table.specs.declared.task.EndedTask.{EndedTask}
-use Rattle.task_table.specs.declared.task.Made.{Made}
+use Rattle.sn_base.specs.declared.made.Made.{Made}
 use Rattle.kernel_model.specs.Names.{NamedMap}
 use Rattle.kernel_model.specs.declared.caller.Caller.{Caller}
 use Rattle.kernel_model.specs.calls.ClearWords.{Cleared, nothing_cleared, with_cleared, word_cleared, words_cleared}

@@ -1,6 +1,6 @@
 //! What a call may read beside its task's parts.
 
-use task_table::Made;
+use sn_base::Made;
 
 /// A call's context: its task's number, that of its thread group and the name of the group's memory, the place of its
 /// entry, and the mount file's seed, which is the key of the random stream.

@@ -24,10 +24,9 @@ use crate::prepared::{Called, Effect, Prepared};
 use futex_core::{FutexKey, Owner, Waiters};
 use kernel_model::{Args, GuestArea, GuestSpace, Named};
 use mm_space::AreaByte;
-use sn_base::Memory;
+use sn_base::{Made, Memory};
 use sn_errno::Errno;
 use std::alloc::Global;
-use task_table::Made;
 
 /// futex(address, operation, value, timeout): FUTEX_WAIT puts the caller to sleep on the word at an address, where that
 /// is what the caller expects, and FUTEX_WAKE wakes the first who sleep on it, and replies how many. Operation and

@@ -16,9 +16,9 @@ use crate::Context;
 use crate::clone::{Child, Words};
 use kernel_model::{GuestArea, GuestSpace, Named};
 use rv_table::Regs;
-use sn_base::{Map, Memory};
+use sn_base::{Made, Map, Memory};
 use std::alloc::Global;
-use task_table::{CloneErr, Made, Tasks};
+use task_table::{CloneErr, Tasks};
 
 /// Makes a child of a live task: it takes the next number, and what it begins with its place. An `Err` changes nothing.
 ///

@@ -13,9 +13,9 @@ use image_load::{LoadErr, load};
 use kernel_model::GuestSpace;
 use mount_file::{Mount, Program};
 use rv_table::Regs;
-use sn_base::Memory;
+use sn_base::{Made, Memory};
 use std::alloc::Global;
-use task_table::{CloneErr, Made, Tasks};
+use task_table::{CloneErr, Tasks};
 
 /// What a task begins with: its registers and its address space.
 #[derive(Drop)]

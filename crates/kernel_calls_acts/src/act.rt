@@ -7,9 +7,10 @@ use crate::guest::{Guest, LOAD, STORE, STORE_RESERVED, guest_among, new_guest};
 use crate::words::Word;
 use kernel_calls::Ran;
 use kernel_model::Next;
+use sn_base::Made;
 use std::alloc::Global;
 use std::test::Fail;
-use task_table::{Made, Status, Tasks};
+use task_table::{Status, Tasks};
 
 /// What a guest does, with what is expected of it last.
 #[derive(Clone, Copy)]

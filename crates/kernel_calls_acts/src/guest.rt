@@ -9,11 +9,11 @@ use kernel_calls::{Beginning, Called, Context, Effect, Prepared, Ran, call, run,
 use kernel_model::{GuestArea, GuestSpace, Named, Next};
 use mm_areas::{AreaErr, Backing, Rights};
 use rv_table::{Area, Regs};
-use sn_base::{List, Map, Memory};
+use sn_base::{List, Made, Map, Memory};
 use sn_vectors::image_of;
 use std::alloc::Global;
 use std::test::Fail;
-use task_table::{Made, Tasks};
+use task_table::Tasks;
 
 /// The break's start of a guest whose image has one page.
 pub const HEAP: u64 = 69_632;

@@ -13,11 +13,11 @@ use kernel_model::{GuestArea, GuestSpace, Named};
 use mm_areas::Areas;
 use mm_space::Space;
 use rv_table::Regs;
-use sn_base::{Map, Memory};
+use sn_base::{Made, Map, Memory};
 use std::alloc::Global;
 use std::mem;
 use std::test::Fail;
-use task_table::{Made, Tasks};
+use task_table::Tasks;
 
 /// Whether a task that has a memory may make another.
 fn may_make(tasks: &Tasks, task: u32, spaces: &Named<GuestSpace>, memory: Made) -> bool

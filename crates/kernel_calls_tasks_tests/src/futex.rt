@@ -4,9 +4,9 @@ use kernel_calls_acts::{
     Act, EAGAIN, EFAULT, EINVAL, ENOSYS, FIXED, FUTEX, GETTID, HEAP, MAPPINGS_END, MEMORY, PRIVATE,
     SHARED, TOP, expect_acts, expect_acts_among, family, guest_among,
 };
+use sn_base::Made;
 use std::alloc::Global;
 use std::test::Fail;
-use task_table::Made;
 
 /// Two words: 5, and 7 behind it.
 const AT: u64 = TOP - 64;

@@ -4,8 +4,9 @@ use kernel_calls_acts::{
     Act, EXIT_GROUP, Ends, GETPID, GETPPID, GETTID, HEAP, MAPPINGS_END, MEMORY, SHARED, STORE, TOP,
     expect_acts, expect_acts_among, family,
 };
+use sn_base::Made;
 use std::test::Fail;
-use task_table::{Made, Status};
+use task_table::Status;
 
 /// The flags of a process, SIGCHLD; and of a thread: CLONE_VM, CLONE_FS, CLONE_FILES, CLONE_SIGHAND and CLONE_THREAD.
 const PROCESS: u64 = 17;

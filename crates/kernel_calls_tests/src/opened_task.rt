@@ -4,11 +4,12 @@ ghost use Rattle.kernel_model.specs.laws.Beginnings.{IsRoomFor};
 
 use kernel_calls::{open_task, root_of};
 use mount_file::Mount;
+use sn_base::Made;
 use sn_text::{Folder, Route, name_of};
 use std::alloc::Global;
 use std::process::Abort;
 use std::test::Fail;
-use task_table::{Group, Made, Task, Tasks};
+use task_table::{Group, Task, Tasks};
 
 /// The working directory's number.
 const ROOT: u64 = 3;

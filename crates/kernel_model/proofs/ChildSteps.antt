@@ -21,7 +21,7 @@ use Rattle.mm_space.specs.Handing.{InHand, zero_area}
 use Rattle.sn_errno.specs.Calls.{call_of}
 use Rattle.sn_errno.specs.Errors.{reply_of}
 use Rattle.host_node.specs.Tree.{Shape}
-use Rattle.task_table.specs.declared.task.Made.{Made}
+use Rattle.sn_base.specs.declared.made.Made.{Made}
 use Rattle.task_table.specs.declared.task.EndedTask.{EndedTask}
 use Rattle.task_table.specs.declared.task.ReapEnd.{ReapEnd}
 use Rattle.task_table.specs.declared.task.ReapEnd.TheVariants.{Reaped, NotYet, NoChild}

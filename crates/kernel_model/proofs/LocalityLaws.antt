@@ -13,7 +13,7 @@ use Rattle.sn_errno.specs.declared.errno.Errno.{Errno}
 use Rattle.mm_space.specs.Spaces.{AddressSpace, Reach, unreserved}
 use Rattle.sn_errno.specs.Calls.{call_of}
 use Rattle.rv_table.specs.declared.error.Area.{Area}
-use Rattle.task_table.specs.declared.task.Made.{Made}
+use Rattle.sn_base.specs.declared.made.Made.{Made}
 use Rattle.task_table.specs.Table.{TaskTable}
 use Rattle.kernel_model.specs.declared.caller.Caller.{Caller}
 use Rattle.kernel_model.specs.declared.entry.Args.{Args}

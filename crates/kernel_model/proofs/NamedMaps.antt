@@ -10,7 +10,7 @@ use Rattle.std.specs.FinMap.{nat_cmp-IsAntisymmetric}
 use Rattle.std.specs.declared.cmp.Ordering.TheVariants.{Less, Equal, Greater}
 use Rattle.sn_base.proofs.Maps.{get_of_empty, get-insert_same, get-insert_other, get-remove_same, get-remove_other}
 use Rattle.sn_base.proofs.Maps.{insert_same}
-use Rattle.task_table.specs.declared.task.Made.{Made}
+use Rattle.sn_base.specs.declared.made.Made.{Made}
 use Rattle.kernel_model.specs.entries.Parts.{set_named}
 
 -- two numbers are one, or differ

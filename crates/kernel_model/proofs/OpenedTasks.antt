@@ -1,7 +1,7 @@
 -- Opening tasks among the tasks: so many were made, and there is room for more.
 use Rattle.std.proofs.Common.{◌≡◌, ℕ, ◌+◌, ◌<◌, List, [], ◌∷◌, ◌++◌, length, refl, ap, sym, subst, ◌∙◌, arith}
 use Rattle.std.proofs.Common.{length-append, None}
-use Rattle.task_table.specs.declared.task.Made.{Made}
+use Rattle.sn_base.specs.declared.made.Made.{Made}
 use Rattle.task_table.specs.Clones.{opened}
 use Rattle.task_table.specs.Kept.{IsSound}
 use Rattle.task_table.specs.Table.{TaskTable, no_tasks, live_count}

@@ -2,7 +2,7 @@
 
 use crate::GuestSpace;
 use rv_table::Regs;
-use task_table::Made;
+use sn_base::Made;
 
 /// A live task: its number, its thread group's number and the name of the group's memory, its registers, and what its
 /// memory holds.

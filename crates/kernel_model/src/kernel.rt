@@ -5,9 +5,9 @@ use futex_core::Waiters;
 use host_node::Tree;
 use mount_file::Mount;
 use rv_table::{Area, Regs};
-use sn_base::{List, Map};
+use sn_base::{List, Made, Map};
 use sn_text::Name;
-use task_table::{Made, Tasks};
+use task_table::Tasks;
 
 /// A name in a directory, and the inode number of the node there.
 #[derive(Drop)]

@@ -9,9 +9,8 @@ ghost use Rattle.plain_kernel.specs.Doing.{IsThere};
 
 use kernel_calls::Context;
 use kernel_model::{Caller, GuestArea, GuestSpace, Kernel, Named};
-use sn_base::Memory;
+use sn_base::{Made, Memory};
 use std::alloc::Global;
-use task_table::Made;
 
 /// The live task of a number, with a copy of its address space. The kernel stays as it is.
 pub(crate) fn caller(

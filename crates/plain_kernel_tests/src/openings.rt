@@ -5,11 +5,11 @@ use kernel_model::GuestSpace;
 use mm_space::Handed;
 use plain_kernel::Plain;
 use rv_table::Reg;
-use sn_base::Memory;
+use sn_base::{Made, Memory};
 use std::alloc::Global;
 use std::process::Abort;
 use std::test::Fail;
-use task_table::{Made, Tasks};
+use task_table::Tasks;
 
 /// Two tasks, of which the first draws the number 2 for `init`; and a seed of 32 zeros.
 #[rattlefmt::skip]

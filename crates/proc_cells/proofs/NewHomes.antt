@@ -8,7 +8,7 @@ use Rattle.sn_base.proofs.Maps.{get-insert_same, get-insert_other}
 use Rattle.rv_table.specs.declared.regs.Regs.{Regs}
 use Rattle.mm_space.specs.Spaces.{AddressSpace}
 use Rattle.task_table.specs.declared.task.Group.{Group}
-use Rattle.task_table.specs.declared.task.Made.{Made}
+use Rattle.sn_base.specs.declared.made.Made.{Made}
 use Rattle.task_table.specs.declared.task.Task.{Task}
 use Rattle.task_table.specs.Clones.{threaded, with_group}
 use Rattle.task_table.specs.Table.{TaskTable, is_live, group_of}

@@ -9,9 +9,9 @@ ghost use Rattle.proc_cells.specs.Beside.{AreAtHome};
 use futex_core::Waiters;
 use kernel_model::{GuestArea, GuestSpace, Kernel, Named};
 use rv_table::Regs;
-use sn_base::{List, Map};
+use sn_base::{List, Made, Map};
 use std::alloc::Global;
-use task_table::{Made, Tasks};
+use task_table::Tasks;
 
 /// The task list, registers by task, address spaces and shared areas by the entry that made them, the futex list, and
 /// the console.

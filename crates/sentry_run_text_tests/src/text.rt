@@ -3,10 +3,10 @@
 use futex_core::Waiters;
 use kernel_model::{Args, Entry, Given, Kernel, Named};
 use sentry_run::printed_text;
-use sn_base::{List, Map, Memory};
+use sn_base::{List, Made, Map, Memory};
 use std::alloc::Global;
 use std::test::Fail;
-use task_table::{Made, Status, Tasks};
+use task_table::{Status, Tasks};
 
 /// Makes a thread group, which ends so.
 fn add_group(alloc: Global, tasks: &mut Tasks, ended: Option<Status>) -> Result<(), Fail> {

@@ -1,5 +1,5 @@
 //! Lists, finite maps, values on the heap and capped sums: the containers that every crate above keeps its state in,
-//! and the error for want of memory.
+//! the names of what the entries of a run make, and the error for want of memory.
 //!
 //! A caller sees a `List<T>` as the list of its items, in order, and a `Map<V>` as a finite map from
 //! unsigned numbers to values, and a `Boxed<T>` as its value. So a type that has them as fields is plain data in every
@@ -21,12 +21,14 @@
 
 mod boxed;
 mod list;
+mod made;
 mod map;
 mod memory;
 mod sums;
 
 pub use boxed::Boxed;
 pub use list::List;
+pub use made::Made;
 pub use map::Map;
 pub use memory::Memory;
 pub use sums::capped_add;

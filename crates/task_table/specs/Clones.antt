@@ -1,7 +1,7 @@
 -- What a new task leaves, and tables that have one made last.
 use Rattle.std.specs.Prelude.{◌≡◌, ◌⊎◌, ℕ, ◌+◌, true, None, IsTrue}
 use Rattle.std.specs.FinMap.{insert}
-use Rattle.task_table.specs.declared.task.Made.{Made}
+use Rattle.sn_base.specs.declared.made.Made.{Made}
 use Rattle.task_table.specs.declared.task.Group.{Group}
 use Rattle.task_table.specs.Kept.{IsKept}
 use Rattle.task_table.specs.Table.{TaskTable, group_of, cwd_of, is_live}

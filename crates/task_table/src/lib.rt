@@ -31,4 +31,4 @@ mod table;
 mod task;
 
 pub use table::{MOST_LIVE, Tasks};
-pub use task::{CloneErr, Ended, EndedTask, Group, Made, ReapEnd, Status, Task};
+pub use task::{CloneErr, Ended, EndedTask, Group, ReapEnd, Status, Task};

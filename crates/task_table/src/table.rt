@@ -16,8 +16,8 @@ use crate::clones::{note_child, put_both};
 use crate::ends::{Leaving, close_group, end_tasks, tasks_leaving};
 use crate::exits::{end_one, group_of, is_last_of_group, take_out, task_leaving};
 use crate::reaps::{end_of_wait, release};
-use crate::{CloneErr, Ended, EndedTask, Group, Made, ReapEnd, Status, Task};
-use sn_base::{List, Map, Memory};
+use crate::{CloneErr, Ended, EndedTask, Group, ReapEnd, Status, Task};
+use sn_base::{List, Made, Map, Memory};
 use std::alloc::Global;
 use std::marker::Model;
 

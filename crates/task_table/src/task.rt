@@ -2,16 +2,8 @@
 
 ghost use Rattle.std.specs.Prelude.{◌≡◌};
 
-use sn_base::{List, Memory};
+use sn_base::{List, Made, Memory};
 use std::alloc::AllocError;
-
-/// The name of a memory or of a descriptor table: the place of the log entry that made it, and which of those that
-/// the entry made it is.
-#[derive(Clone, Copy, Debug, PartialEq, Eq)]
-pub struct Made {
-    pub place: u64,
-    pub index: u32,
-}
 
 /// How a thread group ended.
 #[derive(Clone, Copy, Debug, PartialEq, Eq)]

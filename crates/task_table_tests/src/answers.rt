@@ -1,7 +1,8 @@
 //! What calls answer, and what is set.
 use crate::calls::{expect_group, expect_live, expect_next, memory, table};
+use sn_base::Made;
 use std::test::Fail;
-use task_table::{EndedTask, Made, Status, Tasks};
+use task_table::{EndedTask, Status, Tasks};
 
 #[test]
 fn a_wait_status_has_the_code_in_its_second_byte_or_the_signal_in_its_first(rt: HostRuntime) {

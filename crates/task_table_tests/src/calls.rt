@@ -3,10 +3,11 @@ ghost use Rattle.std.specs.Prelude.{◌<◌, ◌-◌, ◌^◌, IsTrue, IsFalse};
 ghost use Rattle.std.specs.FinMap as map;
 ghost use Rattle.task_table.specs.Table.{has_ended, is_live};
 
+use sn_base::Made;
 use std::alloc::Global;
 use std::process::Abort;
 use std::test::Fail;
-use task_table::{Made, ReapEnd, Status, Tasks};
+use task_table::{ReapEnd, Status, Tasks};
 
 /// A call, by the numbers that it is given.
 #[derive(Clone, Copy)]

@@ -1,7 +1,7 @@
 -- Bytes that a call puts into its caller's buffer.
 use Rattle.std.specs.Prelude.{ℕ, List, Option, Some, None, pos}
 use Rattle.sn_errno.specs.declared.errno.Errno.TheVariants.{EFAULT}
-use Rattle.task_table.specs.declared.task.Made.{Made}
+use Rattle.sn_base.specs.declared.made.Made.{Made}
 use Rattle.mm_space.specs.Spaces.{Reach}
 use Rattle.kernel_model.specs.declared.caller.Caller.{Caller}
 use Rattle.kernel_model.specs.calls.Answers.{Answer, replies, refuses}

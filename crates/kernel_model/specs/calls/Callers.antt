@@ -5,7 +5,7 @@ use Rattle.mount_file.specs.declared.mounts.Mount.{Mount}
 use Rattle.rv_table.specs.declared.regs.Regs.{Regs}
 use Rattle.mm_space.specs.Spaces.{AddressSpace}
 use Rattle.task_table.specs.declared.task.Group.{Group}
-use Rattle.task_table.specs.declared.task.Made.{Made}
+use Rattle.sn_base.specs.declared.made.Made.{Made}
 use Rattle.task_table.specs.Table.{TaskTable, is_live, group_of}
 use Rattle.kernel_model.specs.declared.caller.Caller.{Caller}
 use Rattle.kernel_model.specs.declared.kernel.Kernel.{Kernel}

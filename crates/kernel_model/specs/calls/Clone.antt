@@ -7,7 +7,7 @@ use Rattle.rv_table.specs.declared.regs.Regs.{Regs}
 use Rattle.rv_table.specs.Registers.{with_reg}
 use Rattle.mm_space.specs.Handing.{InHand}
 use Rattle.mm_space.specs.Spaces.{AddressSpace, Reach, unreserved}
-use Rattle.task_table.specs.declared.task.Made.{Made}
+use Rattle.sn_base.specs.declared.made.Made.{Made}
 use Rattle.task_table.specs.declared.table.TheConstants.{MOST_LIVE}
 use Rattle.task_table.specs.Clones.{forked, threaded}
 use Rattle.task_table.specs.Table.{TaskTable, live_count}

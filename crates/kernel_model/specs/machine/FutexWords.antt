@@ -5,7 +5,7 @@ use Rattle.futex_core.specs.declared.keys.Owner.TheVariants.{Memory, Area}
 use Rattle.mm_space.specs.declared.area_bytes.AreaByte.{AreaByte}
 use Rattle.mm_space.specs.AreaBytes.{area_byte_at}
 use Rattle.mm_space.specs.Spaces.{AddressSpace}
-use Rattle.task_table.specs.declared.task.Made.{Made}
+use Rattle.sn_base.specs.declared.made.Made.{Made}
 
 -- the name of the word at an address of a memory: by its place in the shared area that lies there, or else by its
 -- address there

@@ -12,7 +12,7 @@ use Rattle.kernel_model.specs.declared.kernel.Kernel.{Kernel}
 use Rattle.kernel_model.specs.declared.kernel.Node.{Node}
 use Rattle.rv_table.specs.declared.regs.Regs.{Regs}
 use Rattle.kernel_model.specs.Names.{with_named}
-use Rattle.task_table.specs.declared.task.Made.{Made}
+use Rattle.sn_base.specs.declared.made.Made.{Made}
 use Rattle.task_table.specs.Clones.{opened}
 use Rattle.task_table.specs.Table.{no_tasks}
 use Rattle.mm_areas.specs.declared.places.TheConstants.{MOST_PAGES}

@@ -1,6 +1,6 @@
 -- The words are in place as if they had been there before the child's memory.
 use Rattle.std.proofs.Common.{◌≡◌, ◌≢◌, ℕ, ◌⊎◌, refl, ap, sym, subst, ◌∙◌}
-use Rattle.task_table.specs.declared.task.Made.{Made}
+use Rattle.sn_base.specs.declared.made.Made.{Made}
 use Rattle.task_table.specs.Clones.{forked}
 use Rattle.task_table.specs.Table.{TaskTable}
 use Rattle.kernel_model.specs.Names.{has_named, with_named}

@@ -4,7 +4,7 @@ use Rattle.std.specs.Prelude.{None}
 use Rattle.std.specs.Ordering.{nat_cmp}
 use Rattle.std.specs.FinMap as map
 use Rattle.sn_base.proofs.Maps.{remove-insert, remove_absent}
-use Rattle.task_table.specs.declared.task.Made.{Made}
+use Rattle.sn_base.specs.declared.made.Made.{Made}
 use Rattle.kernel_model.specs.Names.{NamedMap}
 use Rattle.call_table.specs.Parked.{AreLinked, AreNumbers}
 use Rattle.call_table.proofs.ByMemory.{linked_more, numbers_more}

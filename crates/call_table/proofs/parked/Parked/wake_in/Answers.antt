@@ -3,7 +3,7 @@ use Rattle.std.proofs.Common.{◌∙◌, ◌||◌, ap, sym, cond}
 use Rattle.std.proofs.Math.Bool.{or-false}
 use Rattle.std.specs.Prelude.{None}
 use Rattle.std.specs.FinMap as map
-use Rattle.task_table.specs.declared.task.Made.{Made}
+use Rattle.sn_base.specs.declared.made.Made.{Made}
 use Rattle.call_table.specs.Parked.{is_parked, same_made}
 use Rattle.call_table.proofs.ByMemory.{among_listed, are_out, are_woken, fewer_left, linked_out, none_listed}
 use Rattle.call_table.proofs.ByMemory.{numbers_left, numbers_woken}

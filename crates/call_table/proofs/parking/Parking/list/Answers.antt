@@ -2,7 +2,7 @@
 use Rattle.std.proofs.Common.{refl, sym, subst}
 use Rattle.std.specs.Ordering.{nat_cmp}
 use Rattle.std.specs.FinMap as map
-use Rattle.task_table.specs.declared.task.Made.{Made}
+use Rattle.sn_base.specs.declared.made.Made.{Made}
 use Rattle.call_table.specs.Parked.{AreApart}
 use Rattle.call_table.proofs.Results.{by_result, on_ok}
 use Rattle.call_table.proofs.Spots.{apart_back, apart_more, neither_of, parked_alone, parked_in_area}

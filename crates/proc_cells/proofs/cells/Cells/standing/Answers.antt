@@ -4,7 +4,7 @@ use Rattle.std.specs.Prelude.{Option, Some}
 use Rattle.std.specs.Option.{option_map_or}
 use Rattle.std.specs.FinMap as map
 use Rattle.task_table.specs.declared.task.Group.{Group}
-use Rattle.task_table.specs.declared.task.Made.{Made}
+use Rattle.sn_base.specs.declared.made.Made.{Made}
 use Rattle.task_table.specs.declared.task.Task.{Task}
 use Rattle.task_table.specs.Table.{group_of}
 use Rattle.kernel_model.specs.Names.{get_named}
