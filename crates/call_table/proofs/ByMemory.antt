@@ -1,4 +1,4 @@
--- Laws of tasks that are parked with a memory, of those among them that are looked at again, and of the lists by memory.
+-- Laws of tasks that are parked with a memory, of those that are looked at again, and of the lists by memory.
 use Rattle.std.proofs.Common.{◌≡◌, ◌≢◌, ℕ, ◌<◌, ◌+◌, ◌^◌, ◌||◌, ◌⊎◌, Bool, true, false, cond, List, length, get_or}
 use Rattle.std.proofs.Common.{refl, ap, sym, ◌∙◌, subst, inl, inr, arith, take, drop}
 use Rattle.std.specs.Prelude.{Option, Some, None, is_some, unwrap_or}

@@ -206,7 +206,7 @@ module _ (task : ℕ) (memory : Made) (made : Entered) (p q : Cells) where
     asleep = λ e off. sleeper_on p.sleepers task key (ap (λ list. wait_of list task) (sym sleepers) ∙ off);
   }
 
--- one that was made behind cells that differ in the task's own memory alone, or in shared areas too, where it tells that
+-- one that was made behind cells that differ in the task's own memory alone, or in shared areas too, where that is told
 pub moves_behind : (task : ℕ) (memory own : Made) (made : Entered) (p b q : Cells) → Moves task own made b q
     → own ≡ memory → b.tasks ≡ p.tasks → b.sleepers ≡ p.sleepers → (made.areas ≡ false → b.areas ≡ p.areas)
     → Others task memory p b → Moves task memory made p q

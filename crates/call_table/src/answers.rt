@@ -62,8 +62,8 @@ pub(crate) fn go_on(cells: &mut Cells, task: u32, registers: Regs, value: i64)
     cells.registers.replace(u64::from(task), after);
 }
 
-/// Does what a call comes to that replies, and lets its task go on. It tells too whether the call may have stored into a
-/// shared area, which was done before. An `Err` changes nothing.
+/// Does what a call comes to that replies, and lets its task go on. It tells too whether the call may have stored into
+/// a shared area, which was done before. An `Err` changes nothing.
 pub(crate) fn finish(
     alloc: Global,
     cells: &mut Cells,

@@ -4,15 +4,15 @@
 //!
 //! Tried: a guest that writes to the console and exits, entry by entry and in turns; a trace that is full before the
 //! guest's end; a guest that traps; random bytes by two seeds; the time of a call's place; loads, stores and a call in
-//! a shared page; a call that waits in a shared page, where its child ends or the page changes; the kernel that is left;
-//! how an opening task stands in the cells; and the numbers and turns of up to 64 opening tasks.
+//! a shared page; a call that waits in a shared page, where its child ends or the page changes; the kernel that is
+//! left; how an opening task stands in the cells; and the numbers and turns of up to 64 opening tasks.
 //!
 //! Not tried: threads, and tasks that sleep.
 //!
 //! The expected entries follow from the guests' words, which an assembler made, and from the Linux man-pages write(2),
 //! exit_group(2), mmap(2), getrandom(2), clock_gettime(2), clone(2) and wait4(2); random bytes from another
-//! implementation of ChaCha20; turns from the rule that the least live task above that of the last turn has the next, or
-//! else the least.
+//! implementation of ChaCha20; turns from the rule that the least live task above that of the last turn has the next,
+//! or else the least.
 #![tactic(auto)]
 
 #[cfg(test)]

@@ -65,11 +65,12 @@ word_unasked task asked space areas at number is = record {
 }
 
 -- a word that was set is the same for equal data
-pub sets_same : {task : ℕ} {asked due : Bool} {space own space' : AddressSpace} {areas shared areas' : NamedMap AreaState}
-    {at number : ℕ} {set told : Bool} → SetsWord task asked space space' areas areas' at number set
-    → asked ≡ due → space ≡ own → areas ≡ shared → set ≡ told
+pub sets_same : {task : ℕ} {asked due : Bool} {space own space' : AddressSpace}
+    {areas shared areas' : NamedMap AreaState} {at number : ℕ} {set told : Bool}
+    → SetsWord task asked space space' areas areas' at number set → asked ≡ due → space ≡ own → areas ≡ shared → set ≡ told
     → SetsWord task due own space' shared areas' at number told
-sets_same {task} {asked} {due} {space} {own} {space'} {areas} {shared} {areas'} {at} {number} {set} {told} sets is there lies so =
+sets_same {task} {asked} {due} {space} {own} {space'} {areas} {shared} {areas'} {at} {number} {set} {told} sets is
+    there lies so =
     subst (λ b. SetsWord task b own space' shared areas' at number told) is
     (subst (λ m. SetsWord task asked m space' shared areas' at number told) there
     (subst (λ a. SetsWord task asked space space' a areas' at number told) lies

@@ -36,7 +36,8 @@ pub record IsCleared (x : Cleared) (all : NamedMap AreaState) (space : AddressSp
 -- of the context, whatever was cleared so far
 -- set_tid_address(2)
 abbrev pub Clears : Context → (Caller → Cleared → Prog Cleared) → (space : AddressSpace) → (areas : NamedMap AreaState)
-    → (keys : List FutexKey) → (space' : AddressSpace) → (areas' : NamedMap AreaState) → (keys' : List FutexKey) → Type 0
+    → (keys : List FutexKey) → (space' : AddressSpace) → (areas' : NamedMap AreaState) → (keys' : List FutexKey)
+    → Type 0
 Clears context clearing space areas keys space' areas' keys' =
     (c : Caller) (x : Cleared) (all : NamedMap AreaState) (s : Parts) → c.task ≡ context.task
     → c.memory ≡ context.memory → AreThose s all → IsCleared x all space areas keys

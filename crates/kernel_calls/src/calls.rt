@@ -101,7 +101,8 @@ pub fn call(
         Some(CallNo::SetTidAddress) => Ok(Called::Replies(set_tid_address(context, args.a0))),
         Some(CallNo::Futex) => futex(alloc, context, args, space, areas, sleepers),
         Some(CallNo::SetRobustList) => Ok(Called::Replies(set_robust_list())),
-        Some(CallNo::ClockGettime) => Ok(Called::Replies(clock_gettime(alloc, context, args.a0, args.a1, space, areas)?)),
+        Some(CallNo::ClockGettime) =>
+            Ok(Called::Replies(clock_gettime(alloc, context, args.a0, args.a1, space, areas)?)),
         Some(CallNo::SchedYield) => Ok(Called::Replies(sched_yield())),
         Some(CallNo::Kill) => lacking(),
         Some(CallNo::RtSigaction) => lacking(),
@@ -122,7 +123,8 @@ pub fn call(
         Some(CallNo::Mprotect) => Ok(Called::Replies(mprotect(args.a0, args.a1, args.a2, space))),
         Some(CallNo::Wait4) => wait4(alloc, context, args, space, areas, tasks),
         Some(CallNo::Renameat2) => lacking(),
-        Some(CallNo::Getrandom) => Ok(Called::Replies(getrandom(alloc, context, args.a0, args.a1, args.a2, space, areas)?)),
+        Some(CallNo::Getrandom) =>
+            Ok(Called::Replies(getrandom(alloc, context, args.a0, args.a1, args.a2, space, areas)?)),
     }
 }
 

@@ -21,7 +21,8 @@ and_true : (b : Bool) → (b && true) ≡ b
 and_true true = refl
 and_true false = refl
 
-module _ (areas : Areas) (was : List Reservation) (task at : ℕ) (small : at < 2 ^ 64) (own : owns areas (at / 4096) ≡ true) where
+module _ (areas : Areas) (was : List Reservation) (task at : ℕ) (small : at < 2 ^ 64)
+    (own : owns areas (at / 4096) ≡ true) where
   abbrev pages : Pages
   pages = (mapping areas).pages
 
@@ -40,7 +41,8 @@ module _ (areas : Areas) (was : List Reservation) (task at : ℕ) (small : at < 
       ap (λ n. counts_mapped task (page_offset at) (map.get pages n) hand) number
       ∙ ap (λ (m : Option Mapped). counts_mapped task (page_offset at) m hand) page.there
 
-  pub held_there : (width : ℕ) (hand : List InHand) → is_held was task at width ≡ is_held_at task at width (reaching was hand)
+  pub held_there : (width : ℕ) (hand : List InHand)
+      → is_held was task at width ≡ is_held_at task at width (reaching was hand)
   held_there width hand =
       sym (ap (λ b. is_held was task at width && b) (counts hand) ∙ and_true (is_held was task at width))
 

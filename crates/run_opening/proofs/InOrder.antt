@@ -74,8 +74,8 @@ stops_behind m i first tasks tasks' (Image task errno) f k (Some b) h r = record
 
 -- the error of the task that was refused is that of the whole opening
 pub stops_then : (m : Mounts) (i : ℕ) (first tasks tasks' : List Opened) (p : Processes)
-    (told root root' : Option Shape) (children children' : List Child) (result : Result Processes OpenErr) (why : OpenErr)
-    → IsErrAnd result (λ e. e ≡ why)
+    (told root root' : Option Shape) (children children' : List Child) (result : Result Processes OpenErr)
+    (why : OpenErr) → IsErrAnd result (λ e. e ≡ why)
     → ((others : Others) (t : Shape) → AreOthers m.mounts others → told ≡ Some t
     → IsSomeAnd (kernel_told m (trees_told others root children) p 0)
     (HasBegun m 0 i first tasks (bare m (trees_with others t))))

@@ -25,5 +25,6 @@ invariant-loop-index g l =
           → StandsStill (numbering_of l.mounts.mounts) t (told l.granted.root) (told_of told l.granted.lent.items);
       begun : (others : Others) (t : Shape) → AreOthers l.mounts.mounts others → told l.fn.granted.root ≡ Some t
           → IsSomeAnd (kernel_told l.mounts
-          (trees_told others (told l.granted.root) (told_of told l.granted.lent.items)) l.processes 0) (HasBegun l.mounts 0 l.index l.fn.tasks l.tasks (bare l.mounts (trees_with others t)));
+          (trees_told others (told l.granted.root) (told_of told l.granted.lent.items)) l.processes 0)
+          (HasBegun l.mounts 0 l.index l.fn.tasks l.tasks (bare l.mounts (trees_with others t)));
     }
