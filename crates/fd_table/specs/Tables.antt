@@ -6,16 +6,17 @@ use Rattle.std.specs.FinMap as map
 use Rattle.fd_table.specs.declared.descriptor.Descriptor.{Descriptor}
 use Rattle.fd_table.specs.declared.descriptor.FdErr.{FdErr}
 use Rattle.fd_table.specs.declared.descriptor.FdErr.TheVariants.{BadFd, Same}
+use Rattle.fd_table.specs.declared.table.TheConstants.{OPEN_MAX}
 
 -- a descriptor table: what each number that is open stands for
 -- open(2), DESCRIPTION: a file descriptor is an index to an entry in the process's table
 abbrev pub Table : Type 0
 Table = map.FinMap nat_cmp Descriptor
 
--- each number that is open is below 256
--- getrlimit(2), RLIMIT_NOFILE; 256: profile
+-- each number that is open is below the limit
+-- getrlimit(2), RLIMIT_NOFILE; the number: profile
 abbrev pub IsWithinLimit : Table → Type 0
-IsWithinLimit table = (n : ℕ) → IsTrue (map.contains_key table n) → n < 256
+IsWithinLimit table = (n : ℕ) → IsTrue (map.contains_key table n) → n < OPEN_MAX
 
 -- ---- the lowest free number
 
@@ -24,13 +25,13 @@ IsWithinLimit table = (n : ℕ) → IsTrue (map.contains_key table n) → n < 25
 pub record IsLowestFree (table : Table) (from number : ℕ) : Type 0 where
   pub free : map.get table number ≡ None
   pub from_on : from ≤ number
-  pub limited : number < 256
+  pub limited : number < OPEN_MAX
   pub taken : (n : ℕ) → from ≤ n → n < number → IsSome (map.get table n)
 
 -- no number at or above another is free
 -- open(2), dup(2) and fcntl(2), EMFILE; a minimum that no table has is the caller's to refuse: profile
 abbrev pub IsFullFrom : Table → (from : ℕ) → Type 0
-IsFullFrom table from = (n : ℕ) → from ≤ n → n < 256 → IsSome (map.get table n)
+IsFullFrom table from = (n : ℕ) → from ≤ n → n < OPEN_MAX → IsSome (map.get table n)
 
 -- ---- one descriptor
 
@@ -63,7 +64,7 @@ duplicated table old new cloexec =
 abbrev pub dup3_fault : Table → (old new : ℕ) → Option FdErr
 dup3_fault table old new =
     if old == new then Some Same
-    else if map.contains_key table old && nat_lt new 256 then None
+    else if map.contains_key table old && nat_lt new OPEN_MAX then None
     else Some BadFd
 
 -- ---- all of them

@@ -32,4 +32,4 @@ mod table;
 pub use description::{Description, Object, PipeSide};
 pub use descriptor::{Descriptor, FdErr};
 pub use flags::{Access, OpenFlags};
-pub use table::FdTable;
+pub use table::{FdTable, OPEN_MAX};

@@ -4,6 +4,7 @@ ghost use Rattle.std.specs.Prelude.{◌≡◌, ◌<◌, ◌≤◌, ◌↔◌, No
 ghost use Rattle.std.specs.List.{range_with_len};
 ghost use Rattle.std.specs.FinMap as map;
 ghost use Rattle.fd_table.specs.Slots.{table_of};
+ghost use Rattle.fd_table.specs.declared.table.TheConstants.{OPEN_MAX};
 ghost use Rattle.fd_table.specs.Tables.{IsFullFrom, IsLowestFree, closed_on_exec, is_closed_on_exec};
 
 use crate::Descriptor;
@@ -40,10 +41,10 @@ pub(crate) fn vacate(slots: &mut [Option<Descriptor>], fd: u32)
 
 /// The lowest number at or above another that has no descriptor.
 pub(crate) fn first_free(slots: &[Option<Descriptor>], from: u32) -> Option<u32>
-    requires { length slots.now ≡ 256 }
+    requires { length slots.now ≡ OPEN_MAX }
     ensures lowest { IfSome result (λ fd. IsLowestFree (table_of slots.now) from fd) }
     ensures full { IfNone result (IsFullFrom (table_of slots.now) from) }
-    ensures all { from ≡ 0 → (result ≡ None) ↔ (map.len (table_of slots.now) ≡ 256) }
+    ensures all { from ≡ 0 → (result ≡ None) ↔ (map.len (table_of slots.now) ≡ OPEN_MAX) }
 {
     for fd in from..slots.len() as u32 {
         if descriptor_at(slots, fd).is_none() {
@@ -63,7 +64,7 @@ pub(crate) fn count_open(slots: &[Option<Descriptor>]) -> usize
 
 /// The places that have a descriptor, of all places of slots.
 fn taken_places(alloc: Global, slots: &[Option<Descriptor>]) -> Result<Vec<u32>, AllocError>
-    requires { length slots.now ≡ 256 }
+    requires { length slots.now ≡ OPEN_MAX }
     ensures { IfOk result (λ places. places.items ≡
         filter (λ n. is_some (map.get (table_of slots.now) n)) (range_with_len 0 (length slots.now))) }
 {
@@ -77,7 +78,7 @@ pub(crate) fn open_numbers(
     alloc: Global,
     slots: &[Option<Descriptor>],
 ) -> Result<Vec<u32>, AllocError>
-    requires { length slots.now ≡ 256 }
+    requires { length slots.now ≡ OPEN_MAX }
     ensures { IfOk result (λ numbers. numbers.items ≡ map.keys (table_of slots.now)) }
 {
     taken_places(alloc, slots)
@@ -95,7 +96,7 @@ pub(crate) fn closed_on_exec(
     alloc: Global,
     slots: &[Option<Descriptor>],
 ) -> Result<Vec<u32>, AllocError>
-    requires { length slots.now ≡ 256 }
+    requires { length slots.now ≡ OPEN_MAX }
     ensures { IfOk result (λ numbers. numbers.items ≡ closed_on_exec (table_of slots.now)) }
 {
     let mut numbers = open_numbers(alloc, slots)?;

@@ -13,8 +13,8 @@ use sn_base::{List, Memory};
 use std::alloc::Global;
 use std::marker::Model;
 
-/// How many numbers a table has. getrlimit(2), RLIMIT_NOFILE.
-const LIMIT: usize = 256;
+/// How many numbers a table has: getrlimit(2), RLIMIT_NOFILE.
+pub const OPEN_MAX: usize = 256;
 
 /// A descriptor table. Contracts see it as a finite map from the numbers that are open to their descriptors.
 #[derive(Debug, Drop)]
@@ -30,6 +30,7 @@ impl Model for FdTable {
     ghost use Rattle.fd_table.specs.contracts.descriptor.Descriptor as of_descriptor;
     ghost use Rattle.fd_table.specs.Tables.{Table};
     ghost use Rattle.fd_table.specs.Slots.{table_of};
+    ghost use Rattle.fd_table.specs.declared.table.TheConstants.{OPEN_MAX};
 
     ghost Value = { Table };
 
@@ -37,7 +38,7 @@ impl Model for FdTable {
 
     ghost view = { λ a. table_of a.slots.items };
 
-    ghost invariant = { λ a. length a.slots.items ≡ 256 };
+    ghost invariant = { λ a. length a.slots.items ≡ OPEN_MAX };
 }
 
 impl FdTable {
@@ -45,7 +46,7 @@ impl FdTable {
     pub fn new(alloc: Global) -> Result<FdTable, Memory>
         ensures { IfOk result (λ table. table ≡ map.empty) }
     {
-        let slots = vec![in alloc; None; LIMIT]?;
+        let slots = vec![in alloc; None; OPEN_MAX]?;
         Ok(FdTable { slots })
     }
 
@@ -60,7 +61,7 @@ impl FdTable {
     /// How many numbers are open.
     pub fn len(&self) -> usize
         ensures value { result ≡ map.len self.now }
-        ensures few { map.len self.now ≤ 256 }
+        ensures few { map.len self.now ≤ OPEN_MAX }
     {
         count_open(&self.slots)
     }
@@ -70,7 +71,7 @@ impl FdTable {
         ensures lowest { IfOk result (λ fd. IsLowestFree self.old from fd) }
         ensures ok { IfOk result (λ fd. self.new ≡ map.insert self.old fd descriptor) }
         ensures full { (result ≡ Err FdErr.Full) ↔ IsFullFrom self.old from }
-        ensures all { from ≡ 0 → (result ≡ Err FdErr.Full) ↔ (map.len self.old ≡ 256) }
+        ensures all { from ≡ 0 → (result ≡ Err FdErr.Full) ↔ (map.len self.old ≡ OPEN_MAX) }
         ensures only { IfErr result (λ e. e ≡ FdErr.Full) }
         ensures err { OnErr result (self.new ≡ self.old) }
     {
@@ -104,7 +105,7 @@ impl FdTable {
             return Err(FdErr::Same);
         }
         let descriptor = self.get(old).ok_or(FdErr::BadFd)?;
-        if new as usize >= LIMIT {
+        if new as usize >= OPEN_MAX {
             return Err(FdErr::BadFd);
         }
         let replaced = self.get(new);

@@ -4,6 +4,7 @@ use Rattle.std.specs.Ordering.{nat_cmp, is_lt}
 use Rattle.std.specs.Cmp.Lexicographic.{slice_cmp}
 use Rattle.std.specs.Str.{bytes_eq}
 use Rattle.host_node.specs.declared.tree.Entry.{Entry}
+use Rattle.host_node.specs.declared.tree.TheConstants.{LONGEST_LINK}
 use Rattle.host_node.specs.declared.tree.Node.{Node}
 use Rattle.host_node.specs.declared.tree.Node.TheVariants.{Directory, File, Link, Lent}
 use Rattle.host_node.specs.Tree.{Shape, Children, directory, file, link, lent, no_children, child}
@@ -29,12 +30,12 @@ abbrev pub entry_names : List Entry → List (List ℕ)
 entry_names [] = []
 entry_names (entry ∷ entries) = entry.name ∷ entry_names entries
 
--- permission bits, a link's text of at most 65,536 bytes, and entries in the order of their names
+-- permission bits, a link's text that is not too long, and entries in the order of their names
 -- inode(7), The file type and mode; the limit: profile
 abbrev pub IsSound : Node → Type 0
 IsSound (Directory mode faults entries) = (mode ≤ 511) × IsAscending (entry_names entries.items)
 IsSound (File bytes mode faults) = mode ≤ 511
-IsSound (Link text faults) = length text ≤ 65536
+IsSound (Link text faults) = length text ≤ LONGEST_LINK
 IsSound (Lent kind) = ⊤
 
 -- the entry has the name

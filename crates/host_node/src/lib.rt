@@ -30,7 +30,7 @@ pub use error::HostErr;
 pub use kind::{Attr, Kind};
 pub use listing::{Listed, Listing};
 pub use node::HostNode;
-pub use tree::Tree;
+pub use tree::{LONGEST_LINK, Tree};
 pub use world::HostWorld;
 
 #[cfg(test)]

@@ -15,6 +15,9 @@ use sn_text::{Name, Text};
 use std::alloc::Global;
 use std::marker::Model;
 
+/// The most bytes of a link's text.
+pub const LONGEST_LINK: usize = 65_536;
+
 /// A host's tree of files, in memory. Contracts see it as a `Shape`: a directory with its entries in the
 /// order of their names, a file, a link, or a node that stands with a borrower.
 #[cycle(tree)]
@@ -101,9 +104,9 @@ impl Tree {
         }
     }
 
-    /// A symbolic link with a text of at most 65,536 bytes. It takes no memory.
+    /// A symbolic link with a text of at most `LONGEST_LINK` bytes. It takes no memory.
     pub fn link(text: Text) -> Tree
-        requires { length text ≤ 65536 }
+        requires { length text ≤ LONGEST_LINK }
         ensures { result ≡ symlink text 0 }
     {
         Tree {

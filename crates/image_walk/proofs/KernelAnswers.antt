@@ -11,11 +11,11 @@ use Rattle.sn_errno.specs.declared.errno.Errno.{Errno}
 use Rattle.sn_errno.specs.declared.errno.Errno.TheVariants.{EIO, E2BIG}
 use Rattle.elf_image.specs.declared.image.Image.{Image}
 use Rattle.mount_file.specs.declared.mounts.Program.{Program}
+use Rattle.kernel_model.specs.declared.limits.TheConstants.{LAST_NUMBER}
 use Rattle.kernel_model.specs.declared.kernel.Kernel.{Kernel}
 use Rattle.kernel_model.specs.declared.kernel.Part.TheVariants.{OfFaults}
 use Rattle.kernel_model.specs.declared.opening.Given.{Given}
 use Rattle.kernel_model.specs.declared.opening.Rise.{Rise}
-use Rattle.kernel_model.specs.files.FileTree.{last_number}
 use Rattle.kernel_model.specs.files.Settled.{tree_now}
 use Rattle.kernel_model.specs.entries.Given.{node_changes, risen, may_meet}
 use Rattle.kernel_model.specs.entries.Parts.{parts, outcome_in, Change, changed}
@@ -106,7 +106,7 @@ pub record Failed (num : Numbering) (k : Kernel) (p : Program) (given : Given) (
 module _ (num : Numbering) (facts : IsNumbering num) (k : Kernel) (t : Shape) (names : List (List ℕ)) (name : List ℕ)
     (given : Given) (answer : Answer)
     (root : Option Shape) (children : List Child) (p : Program) (path : p.path ≡ 47 ∷ name)
-    (a : AreNodes num k.nodes t names) (failed : k.failed ≡ map.empty) (room : length names + num.first ≤ last_number)
+    (a : AreNodes num k.nodes t names) (failed : k.failed ≡ map.empty) (room : length names + num.first ≤ LAST_NUMBER)
     (e : Executes num (is_too_long p.args p.env) t names name given answer root children) where
   drawing : Draws num t names name e.drawn
   drawing = record {

@@ -11,12 +11,13 @@ use Rattle.host_node.specs.Tree.{Shape, child_of}
 use Rattle.sn_errno.specs.declared.errno.Errno.{Errno}
 use Rattle.sn_errno.specs.declared.errno.Errno.TheVariants.{EIO, ENFILE}
 use Rattle.elf_image.specs.declared.image.Image.{Image}
+use Rattle.kernel_model.specs.declared.limits.TheConstants.{LAST_NUMBER}
 use Rattle.kernel_model.specs.declared.kernel.Kernel.{Kernel}
 use Rattle.kernel_model.specs.declared.kernel.Part.TheVariants.{OfFaults}
 use Rattle.kernel_model.specs.declared.opening.Fresh.{Fresh}
 use Rattle.kernel_model.specs.declared.opening.Given.{Given}
 use Rattle.kernel_model.specs.declared.opening.Rise.{Rise}
-use Rattle.kernel_model.specs.files.FileTree.{last_number, number_in, known, unnumbered, child_node, numbered_in}
+use Rattle.kernel_model.specs.files.FileTree.{number_in, known, unnumbered, child_node, numbered_in}
 use Rattle.kernel_model.specs.entries.Given.{Nodes_so_far, has_any, is_in_order, number_all, number_at, number_next}
 use Rattle.kernel_model.specs.entries.Given.{given_number, met, faulted, node_changes, above_last, risen, is_unused}
 use Rattle.kernel_model.specs.entries.Given.{gives_number, is_numbered, may_meet}
@@ -51,7 +52,7 @@ nodes_then num false t names name = []
 pub record Draws (num : Numbering) (t : Shape) (names : List (List ℕ)) (name : List ℕ) (drawn : Bool) : Type 0 where
   pub unnumbered : drawn ≡ true → number_in name (numbers_from num.first names) ≡ None
   pub there : drawn ≡ true → IsThere (child_of name t)
-  pub room : length names + num.first ≤ last_number
+  pub room : length names + num.first ≤ LAST_NUMBER
 
 -- a node that has a number has not 0
 pub number_some : (num : Numbering) (is : IsNumbering num) (count ino : ℕ) → HasNumber num count ino → 0 < ino
@@ -78,7 +79,7 @@ module _ (num : Numbering) (is : IsNumbering num) (s : Parts) (t : Shape) (names
       ∙ ap (λ c. outcome_in s (number_next (number_all []) (given_number [] f (root_with num t names) (unnumbered c))))
       (child_of-lend_all name names t (unnumbered_new name num.first names none) ∙ e)
       ∙ ap (λ b. outcome_in s (number_next (number_all [])
-      (if b then Some (nodes_drawn num t names name (Some x)) else Some []))) (le-leb n last_number d.room)
+      (if b then Some (nodes_drawn num t names name (Some x)) else Some []))) (le-leb n LAST_NUMBER d.room)
 
   pub numbers_are : (drawn : Bool) → Draws num t names name drawn
       → outcome_in s (number_all (fresh_for num drawn names name) []) ≡ Some (nodes_then num drawn t names name)
@@ -99,9 +100,9 @@ module _ (num : Numbering) (is : IsNumbering num) (s : Parts) (t : Shape) (names
   draws true = same_bytes
   draws false = refl
 
-  not_above : (drawn : Bool) → length names + num.first ≤ last_number
+  not_above : (drawn : Bool) → length names + num.first ≤ LAST_NUMBER
       → list_any above_last (fresh_for num drawn names name) ≡ false
-  not_above true h = ap (λ b. b || false) (le-ltb last_number (length names + num.first) h)
+  not_above true h = ap (λ b. b || false) (le-ltb LAST_NUMBER (length names + num.first) h)
   not_above false h = refl
 
   pub by_walk_quiet : (drawn : Bool) (image : Result Image Errno) (w : Walked) → Draws num t names name drawn
@@ -191,7 +192,7 @@ module _ (num : Numbering) (k : Kernel) (t : Shape) (names : List (List ℕ)) (n
           → is_numbered k.nodes (fresh_of num names name ∷ []) r ≡ true
       by (inl e) =
           ap (λ b. map.contains_key k.nodes r.ino || ((b && eqb (length names + num.first) r.ino) || false))
-          (le-leb (length names + num.first) last_number d.room)
+          (le-leb (length names + num.first) LAST_NUMBER d.room)
           ∙ ap (λ b. map.contains_key k.nodes r.ino || (b || false)) (eq-eqb (length names + num.first) r.ino e)
           ∙ or_true (map.contains_key k.nodes r.ino)
       by (inr differs) =

@@ -9,12 +9,13 @@ use Rattle.std.proofs.lemmas.Bool.{eqb-true, eqb-false}
 use Rattle.sn_base.proofs.Maps.{get-insert_same, get-insert_other}
 use Rattle.host_node.specs.Tree.{Shape, child_of, lend_child, kind_of, lent}
 use Rattle.host_node.proofs.TreeLemmas.{lend_child_found, child_of-with_other}
+use Rattle.kernel_model.specs.declared.limits.TheConstants.{LAST_NUMBER}
 use Rattle.kernel_model.specs.declared.kernel.Kernel.{Kernel}
 use Rattle.kernel_model.specs.declared.kernel.Node.{Node}
 use Rattle.kernel_model.specs.declared.kernel.Numbered.{Numbered}
 use Rattle.kernel_model.specs.declared.kernel.Part.TheVariants.{OfNode}
 use Rattle.kernel_model.specs.declared.opening.Fresh.{Fresh}
-use Rattle.kernel_model.specs.files.FileTree.{Nodes, last_number, Child, Missing, Known, Unnumbered, child_at}
+use Rattle.kernel_model.specs.files.FileTree.{Nodes, Child, Missing, Known, Unnumbered, child_at}
 use Rattle.kernel_model.specs.files.FileTree.{child_node, numbered_in, number_in, known}
 use Rattle.kernel_model.specs.entries.Given.{Nodes_so_far, node_in, node_by, node_now, given_number, number_at}
 use Rattle.kernel_model.specs.entries.Given.{number_one, number_next, number_all, node_changes, is_unused}
@@ -109,7 +110,7 @@ module _ (s : Parts) (dir : ℕ) (name : List ℕ) (shape : Shape) where
 
   -- the directory stays as it is, or gives another child its number
   directory_stays : (nodes : Nodes_so_far) (f : Fresh) (d : Node) (child : Shape) → now s nodes f.dir ≡ Some d
-      → child_at f.name d ≡ Unnumbered child → nat_le f.ino last_number ≡ true → is_given_to dir name f ≡ false
+      → child_at f.name d ≡ Unnumbered child → nat_le f.ino LAST_NUMBER ≡ true → is_given_to dir name f ≡ false
       → Stays nodes → HasUnnumbered name shape (now s ((f.dir, numbered_in d f.name f.ino) ∷ nodes) dir)
   directory_stays nodes f d child there waits small apart (node, found, has) =
       by (f.dir == dir) refl (now_first s (f.dir, numbered_in d f.name f.ino) nodes dir)
@@ -128,7 +129,7 @@ module _ (s : Parts) (dir : ℕ) (name : List ℕ) (shape : Shape) where
 
   -- the new node is not the directory's
   given_stays : (nodes : Nodes_so_far) (f : Fresh) (d : Node) (child : Shape) → now s nodes f.dir ≡ Some d
-      → is_number dir f ≡ false → child_at f.name d ≡ Unnumbered child → nat_le f.ino last_number ≡ true
+      → is_number dir f ≡ false → child_at f.name d ≡ Unnumbered child → nat_le f.ino LAST_NUMBER ≡ true
       → is_given_to dir name f ≡ false → Stays nodes
       → Stays ((f.ino, child_node f.dir child) ∷ (f.dir, numbered_in d f.name f.ino) ∷ nodes)
   given_stays nodes f d child there other waits small apart stays =
@@ -147,7 +148,7 @@ module _ (s : Parts) (dir : ℕ) (name : List ℕ) (shape : Shape) where
   number_stays nodes f None there other apart stays = tt
   number_stays nodes f (Some d) there other apart stays = by (child_at f.name d) refl
     where
-      small : (child : Shape) (b : Bool) → child_at f.name d ≡ Unnumbered child → nat_le f.ino last_number ≡ b
+      small : (child : Shape) (b : Bool) → child_at f.name d ≡ Unnumbered child → nat_le f.ino LAST_NUMBER ≡ b
           → StaysIf (cond b (Some ((f.ino, child_node f.dir child) ∷ (f.dir, numbered_in d f.name f.ino) ∷ nodes))
           (Some nodes))
       small child true e l = given_stays nodes f d child there other e l apart stays
@@ -156,7 +157,7 @@ module _ (s : Parts) (dir : ℕ) (name : List ℕ) (shape : Shape) where
       by : (child : Child) → child_at f.name d ≡ child → StaysIf (given_number nodes f d child)
       by Missing e = tt
       by (Known ino) e = tt
-      by (Unnumbered child) e = small child (nat_le f.ino last_number) e refl
+      by (Unnumbered child) e = small child (nat_le f.ino LAST_NUMBER) e refl
 
   one_stays : (nodes : Nodes_so_far) (f : Fresh) → is_number dir f ≡ false → is_given_to dir name f ≡ false
       → Stays nodes → StaysIf (outcome_in s (number_one nodes f))

@@ -15,14 +15,14 @@ use Rattle.mount_file.specs.Form.{HasForm, IsNamed, AreNamed}
 use Rattle.mount_file.specs.Keys.{has_keys}
 use Rattle.mount_file.specs.MountFile.{ruled, document_read, IsMountFile}
 use Rattle.mount_file.specs.Read.{Reads}
-use Rattle.mount_file.specs.Rules.{has_root, has_clash, has_too_many, most_mounts, rule_broken}
+use Rattle.mount_file.specs.Rules.{has_root, has_clash, has_too_many, rule_broken}
 use Rattle.mount_file.specs.Tables.{each_in, some_tasks, texts_at, mount_in, task_in, mounts_in}
 use Rattle.mount_file.specs.Values.{entries_in, seed_in, hex_bytes, path_in, is_name}
 use Rattle.mount_file.specs.declared.mounts.MountFault.{MountFault}
 use Rattle.mount_file.specs.declared.mounts.MountFault.TheVariants.{Field, Range, NoRoot, Twice, TooMany}
 use Rattle.mount_file.specs.declared.mounts.Mounts.{Mounts}
 use Rattle.mount_file.specs.declared.mounts.Program.{Program}
-use Rattle.mount_file.specs.declared.rules.TheConstants.{MOST_TASKS}
+use Rattle.mount_file.specs.declared.rules.TheConstants.{MOST_MOUNTS, MOST_TASKS}
 use Rattle.mount_file.specs.declared.values.TheConstants.{MOST_ENTRIES}
 use Rattle.mount_file.proofs.Hex.{hex_bytes_length}
 
@@ -138,7 +138,7 @@ unbroken true true many is = cc
 unbroken true false true is = cc
 unbroken true false false is = (refl, refl, refl)
 
-few : (m : Mounts) → has_too_many m ≡ false → (length m.mounts ≤ most_mounts) × (length m.tasks ≤ MOST_TASKS)
+few : (m : Mounts) → has_too_many m ≡ false → (length m.mounts ≤ MOST_MOUNTS) × (length m.tasks ≤ MOST_TASKS)
 few m is = grind (arith, nat_tests)
 
 form_in : (d : Members) (m : Mounts) → document_read d ≡ Ok m → HasForm m

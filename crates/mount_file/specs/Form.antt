@@ -1,10 +1,10 @@
 -- The form of the mount files that are read so far.
 use Rattle.std.specs.Prelude.{◌≡◌, ℕ, ◌≤◌, List, [], ◌∷◌, length, true, false, ⊤}
 use Rattle.sn_text.specs.Names.{IsName}
-use Rattle.mount_file.specs.Rules.{has_clash, has_root, most_mounts}
+use Rattle.mount_file.specs.Rules.{has_clash, has_root}
 use Rattle.mount_file.specs.declared.mounts.Mounts.{Mounts}
 use Rattle.mount_file.specs.declared.mounts.Program.{Program}
-use Rattle.mount_file.specs.declared.rules.TheConstants.{MOST_TASKS}
+use Rattle.mount_file.specs.declared.rules.TheConstants.{MOST_MOUNTS, MOST_TASKS}
 use Rattle.mount_file.specs.declared.values.TheConstants.{MOST_ENTRIES}
 
 -- a path of `/` and a name
@@ -27,7 +27,7 @@ pub record HasForm (mounts : Mounts) : Type 0 where
   pub seed : length mounts.seed ≡ 32
   pub rooted : has_root mounts.mounts ≡ true
   pub apart : has_clash mounts.mounts ≡ false
-  pub few_mounts : length mounts.mounts ≤ most_mounts
+  pub few_mounts : length mounts.mounts ≤ MOST_MOUNTS
   pub some_tasks : 1 ≤ length mounts.tasks
   pub few_tasks : length mounts.tasks ≤ MOST_TASKS
   pub named : AreNamed mounts.tasks

@@ -7,12 +7,7 @@ use Rattle.mount_file.specs.declared.mounts.Mounts.{Mounts}
 use Rattle.mount_file.specs.declared.mounts.Mount.{Mount}
 use Rattle.mount_file.specs.declared.mounts.MountFault.{MountFault}
 use Rattle.mount_file.specs.declared.mounts.MountFault.TheVariants.{NoRoot, Twice, TooMany}
-use Rattle.mount_file.specs.declared.rules.TheConstants.{MOST_TASKS}
-
--- how many mounts there may be, so far
--- profile
-abbrev pub most_mounts : ℕ
-most_mounts = 1
+use Rattle.mount_file.specs.declared.rules.TheConstants.{MOST_MOUNTS, MOST_TASKS}
 
 -- two places are the same: None is `/`
 -- mount(8)
@@ -45,7 +40,7 @@ has_root mounts = list_any (λ (mount : Mount). is_none mount.at) mounts
 -- there are more mounts or tasks than may be
 -- profile
 abbrev pub has_too_many : Mounts → Bool
-has_too_many mounts = nat_lt most_mounts (length mounts.mounts) || nat_lt MOST_TASKS (length mounts.tasks)
+has_too_many mounts = nat_lt MOST_MOUNTS (length mounts.mounts) || nat_lt MOST_TASKS (length mounts.tasks)
 
 -- the first rule that is broken
 -- profile

@@ -27,5 +27,5 @@ mod values;
 
 pub use mounts::{Mount, MountFault, Mounts, Program, copied_mounts};
 pub use read::{LONGEST_MOUNT_FILE, read_mounts};
-pub use rules::MOST_TASKS;
+pub use rules::{MOST_MOUNTS, MOST_TASKS};
 pub use values::MOST_ENTRIES;

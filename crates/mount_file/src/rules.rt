@@ -8,8 +8,8 @@ ghost use Rattle.mount_file.specs.Rules.{is_same_place, is_in, clashes, has_clas
 use crate::mounts::{Mount, MountFault, Mounts};
 use sn_text::Name;
 
-/// How many mounts there may be.
-const MOST_MOUNTS: usize = 1;
+/// How many mounts there may be, so far.
+pub const MOST_MOUNTS: usize = 1;
 
 /// How many tasks there may be.
 pub const MOST_TASKS: usize = 64;

@@ -8,11 +8,12 @@ use Rattle.std.specs.FinMap as map
 use Rattle.std.proofs.lemmas.Bool.{and_parts, eqb-true, eqb-false, ltb-true}
 use Rattle.sn_base.proofs.Maps.{get-insert_same, get-insert_other}
 use Rattle.host_node.specs.Tree.{Shape}
+use Rattle.kernel_model.specs.declared.limits.TheConstants.{LAST_NUMBER}
 use Rattle.kernel_model.specs.declared.kernel.Kernel.{Kernel}
 use Rattle.kernel_model.specs.declared.kernel.Node.{Node}
 use Rattle.kernel_model.specs.declared.kernel.Part.TheVariants.{OfNode}
 use Rattle.kernel_model.specs.declared.opening.Fresh.{Fresh}
-use Rattle.kernel_model.specs.files.FileTree.{last_number, Child, Missing, Known, Unnumbered, child_at, child_node}
+use Rattle.kernel_model.specs.files.FileTree.{Child, Missing, Known, Unnumbered, child_at, child_node}
 use Rattle.kernel_model.specs.files.FileTree.{numbered_in}
 use Rattle.kernel_model.specs.entries.Given.{Nodes_so_far, node_in, node_by, node_now, given_number, number_at}
 use Rattle.kernel_model.specs.entries.Given.{number_one, number_next, number_all, node_changes, ascend_from}
@@ -65,7 +66,7 @@ module _ (nodes : Nodes_so_far) where
       → given_number nodes f dir child ≡ option_map (λ ns. ns ++ nodes) (given_number [] f dir child)
   given_behind f dir Missing = refl
   given_behind f dir (Known ino) = refl
-  given_behind f dir (Unnumbered shape) = by (nat_le f.ino last_number)
+  given_behind f dir (Unnumbered shape) = by (nat_le f.ino LAST_NUMBER)
     where
       by : (b : Bool)
           → cond b (Some ((f.ino, child_node f.dir shape) ∷ (f.dir, numbered_in dir f.name f.ino) ∷ nodes)) (Some nodes)
@@ -135,7 +136,7 @@ module _ (f g : Fresh) (k : Kernel) (ns : Nodes_so_far) (other : f.ino ≢ g.ino
         child : (c : Child) → given_number [] f dir c ≡ Some ns → is_unused (with_nodes ns k).nodes g ≡ true
         child Missing e = absurd (cc e)
         child (Known ino) e = absurd (cc e)
-        child (Unnumbered shape) e = small shape (nat_le f.ino last_number) e
+        child (Unnumbered shape) e = small shape (nat_le f.ino LAST_NUMBER) e
 
 module _ (f : Fresh) (k : Kernel) (ns : Nodes_so_far) (free : is_unused k.nodes f ≡ true)
     (added : nodes_for f k ≡ Some ns) where

@@ -9,10 +9,11 @@ use Rattle.sn_base.proofs.Maps.{get-insert_same, get-insert_other, insert_same, 
 use Rattle.sn_base.proofs.Maps.{remove_absent, same_by_get}
 use Rattle.host_node.specs.Tree.{Shape, child_of, lend_child, kind_of, lent}
 use Rattle.host_node.proofs.TreeLemmas.{lend_child_found, child_of-with_same, directory_from_child}
+use Rattle.kernel_model.specs.declared.limits.TheConstants.{LAST_NUMBER}
 use Rattle.kernel_model.specs.declared.kernel.Kernel.{Kernel}
 use Rattle.kernel_model.specs.declared.kernel.Node.{Node}
 use Rattle.kernel_model.specs.declared.opening.Fresh.{Fresh}
-use Rattle.kernel_model.specs.files.FileTree.{last_number, Child, Missing, Known, Unnumbered, child_at, child_node}
+use Rattle.kernel_model.specs.files.FileTree.{Child, Missing, Known, Unnumbered, child_at, child_node}
 use Rattle.kernel_model.specs.files.FileTree.{numbered_in, number_in, known, unnumbered}
 use Rattle.kernel_model.specs.entries.Given.{Nodes_so_far, given_number, number_at}
 use Rattle.kernel_model.specs.entries.Given.{is_unused}
@@ -38,26 +39,26 @@ waiting_number f k dir shape w =
     ∙ ap (given_number [] f dir) (waiting_child f k dir shape w)
 
 -- a number up to the greatest gets its node
-pub number_given : (f : Fresh) (k : Kernel) (dir : Node) (shape : Shape) → IsWaiting f k dir shape → f.ino ≤ last_number
+pub number_given : (f : Fresh) (k : Kernel) (dir : Node) (shape : Shape) → IsWaiting f k dir shape → f.ino ≤ LAST_NUMBER
     → numbered (f ∷ []) k ≡ Some (record k { nodes = nodes_given f dir shape k.nodes })
 number_given f k dir shape w small =
     numbered_one f k ∙ ap (option_map (λ ns. with_nodes ns k)) (waiting_number f k dir shape w
-    ∙ by (le-leb f.ino last_number small))
+    ∙ by (le-leb f.ino LAST_NUMBER small))
   where
-    by : leb f.ino last_number ≡ true → given_number [] f dir (Unnumbered shape)
+    by : leb f.ino LAST_NUMBER ≡ true → given_number [] f dir (Unnumbered shape)
         ≡ Some ((f.ino, child_node f.dir shape) ∷ (f.dir, numbered_in dir f.name f.ino) ∷ [])
     by e =
         ap (λ b. cond b (Some ((f.ino, child_node f.dir shape) ∷ (f.dir, numbered_in dir f.name f.ino) ∷ [])) (Some []))
         e
 
 -- one above it changes nothing
-pub number_spent : (f : Fresh) (k : Kernel) (dir : Node) (shape : Shape) → IsWaiting f k dir shape → last_number < f.ino
+pub number_spent : (f : Fresh) (k : Kernel) (dir : Node) (shape : Shape) → IsWaiting f k dir shape → LAST_NUMBER < f.ino
     → numbered (f ∷ []) k ≡ Some k
 number_spent f k dir shape w large =
     numbered_one f k ∙ ap (option_map (λ ns. with_nodes ns k)) (waiting_number f k dir shape w
-    ∙ by (lt-leb f.ino last_number large))
+    ∙ by (lt-leb f.ino LAST_NUMBER large))
   where
-    by : leb f.ino last_number ≡ false → given_number [] f dir (Unnumbered shape) ≡ Some []
+    by : leb f.ino LAST_NUMBER ≡ false → given_number [] f dir (Unnumbered shape) ≡ Some []
     by e =
         ap (λ b. cond b (Some ((f.ino, child_node f.dir shape) ∷ (f.dir, numbered_in dir f.name f.ino) ∷ [])) (Some []))
         e
@@ -176,10 +177,10 @@ is_missing f k dir d e = by (child_of f.name dir.tree) refl e
     by (Some shape) g s = absurd (cc s)
 
 -- a number above the greatest
-pub waits_spent : (f : Fresh) (k : Kernel) → Waits f k → last_number < f.ino → numbered (f ∷ []) k ≡ Some k
+pub waits_spent : (f : Fresh) (k : Kernel) → Waits f k → LAST_NUMBER < f.ino → numbered (f ∷ []) k ≡ Some k
 waits_spent f k w large = number_spent f k w.0 w.1 w.2 large
 
-pub spent_back : (f : Fresh) (before k : Kernel) → numbered (f ∷ []) before ≡ Some k → last_number < f.ino → k ≡ before
+pub spent_back : (f : Fresh) (before k : Kernel) → numbered (f ∷ []) before ≡ Some k → LAST_NUMBER < f.ino → k ≡ before
 spent_back f before k e large =
     let same : numbered (f ∷ []) before ≡ Some before = waits_spent f before (waited f before k e) large in cc
 
@@ -190,7 +191,7 @@ pub record WasPlaced (f : Fresh) (before k : Kernel) (dir : Node) (shape : Shape
   pub there : child_of f.name dir.tree ≡ Some shape
   pub back : record k { nodes = map.insert (map.remove k.nodes f.ino) f.dir dir } ≡ before
 
-pub was_placed : (f : Fresh) (before k : Kernel) → numbered (f ∷ []) before ≡ Some k → f.ino ≤ last_number
+pub was_placed : (f : Fresh) (before k : Kernel) → numbered (f ∷ []) before ≡ Some k → f.ino ≤ LAST_NUMBER
     → (dir : Node) × (shape : Shape) × WasPlaced f before k dir shape
 was_placed f before k e small = by (waited f before k e)
   where
@@ -262,7 +263,7 @@ stand_in_removed f k dir shape stand_in w =
 
 -- and where it was, the kernel has the number
 pub placed : (f : Fresh) (k : Kernel) (dir : Node) (shape : Shape) (stand_in : Node) → IsWaiting f k dir shape
-    → f.ino ≤ last_number
+    → f.ino ≤ LAST_NUMBER
     → numbered (f ∷ []) k
     ≡ Some (record k {
       nodes =
@@ -287,7 +288,7 @@ still_there m i d a b = by (cases_eq d i)
 
 -- ---- while a number is taken back, told by what the calls left
 
-module _ (f : Fresh) (before k : Kernel) (e : numbered (f ∷ []) before ≡ Some k) (small : f.ino ≤ last_number) where
+module _ (f : Fresh) (before k : Kernel) (e : numbered (f ∷ []) before ≡ Some k) (small : f.ino ≤ LAST_NUMBER) where
   now_is : (dir : Node) (shape : Shape) (rest : map.FinMap nat_cmp Node) (now : Node) → WasPlaced f before k dir shape
       → rest ≡ map.remove k.nodes f.ino → map.get rest f.dir ≡ Some now → now ≡ numbered_in dir f.name f.ino
   now_is dir shape rest now w is found =
@@ -356,7 +357,7 @@ module _ (f : Fresh) (k : Kernel) (waits : Waits f k) (stand_in : Node) (nodes :
     has_the_child = ap (λ (n : Node). is_some (child_of f.name n.tree)) dir_is ∙ ap is_some waits.2.there
 
     -- which gets its node,
-    pub child_placed : f.ino ≤ last_number → (left : Node) (tree : Shape) → left ≡ numbered_in now f.name f.ino
+    pub child_placed : f.ino ≤ LAST_NUMBER → (left : Node) (tree : Shape) → left ≡ numbered_in now f.name f.ino
         → child_of f.name now.tree ≡ Some tree
         → (after : map.FinMap nat_cmp Node)
         → after ≡ map.insert (map.insert nodes f.dir left) f.ino (child_node f.dir tree)

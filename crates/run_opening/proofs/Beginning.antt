@@ -10,17 +10,18 @@ use Rattle.host_node.specs.Tree.{Shape}
 use Rattle.sn_errno.specs.declared.errno.Errno.{Errno}
 use Rattle.elf_image.specs.declared.image.Image.{Image as Executable}
 use Rattle.mount_file.specs.Form.{HasForm}
-use Rattle.mount_file.specs.Rules.{most_mounts}
+use Rattle.mount_file.specs.declared.rules.TheConstants.{MOST_MOUNTS}
 use Rattle.mount_file.specs.declared.mounts.Mounts.{Mounts}
 use Rattle.mount_file.specs.declared.mounts.Program.{Program}
 use Rattle.task_table.specs.Table.{TaskTable}
+use Rattle.kernel_model.specs.declared.limits.TheConstants.{LAST_NUMBER}
 use Rattle.kernel_model.specs.declared.kernel.Kernel.{Kernel}
 use Rattle.kernel_model.specs.declared.opening.Given.{Given}
 use Rattle.kernel_model.specs.declared.opening.Opened.{Opened}
 use Rattle.kernel_model.specs.declared.opening.Rise.{Rise}
 use Rattle.kernel_model.specs.entries.Given.{may_meet}
 use Rattle.kernel_model.specs.entries.Parts.{parts, outcome_in, changed}
-use Rattle.kernel_model.specs.files.FileTree.{Nodes, last_number}
+use Rattle.kernel_model.specs.files.FileTree.{Nodes}
 use Rattle.kernel_model.specs.opening.Arguments.{is_too_long}
 use Rattle.kernel_model.specs.opening.Opening.{Misfits, Refuses, execve_of}
 use Rattle.kernel_model.specs.opening.Opening.{made_by, root_of}
@@ -51,7 +52,7 @@ use Rattle.run_opening.proofs.Telling.{Tells, tells, told_nodes}
 pub are_numbering : (m : Mounts) → HasForm m → IsNumbering (numbering_of m.mounts)
 are_numbering m form =
     let within = root_within 1 m.mounts form.rooted in
-    let few : length m.mounts ≤ most_mounts = form.few_mounts in
+    let few : length m.mounts ≤ MOST_MOUNTS = form.few_mounts in
     (omega arith, omega arith, omega arith)
 
 -- a granted tree has a child for each name
@@ -115,7 +116,7 @@ module _ (m : Mounts) (others : Others) (is : AreOthers m.mounts others) (t : Sh
   tells_k : kernel_told m (trees_told others root children) p 0 ≡ Some k
   tells_k = ap (option_map (λ nodes. kernel_of p (beside_of m nodes) 0)) h.told
 
-  room : length names + num.first ≤ last_number
+  room : length names + num.first ≤ LAST_NUMBER
   room =
       let named : length names ≤ i = subst (λ (n : ℕ). n ≤ i) (length_standing num t names root children s) drawn in
       let low : num.first ≤ 17 = facts.2 in

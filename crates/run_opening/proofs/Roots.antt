@@ -10,8 +10,9 @@ use Rattle.host_node.specs.Tree.{Shape, faults_of, with_faults}
 use Rattle.host_node.proofs.TreeLemmas.{with_faults_own}
 use Rattle.mount_file.specs.Rules.{has_root}
 use Rattle.mount_file.specs.declared.mounts.Mount.{Mount}
+use Rattle.kernel_model.specs.declared.limits.TheConstants.{LAST_NUMBER}
 use Rattle.kernel_model.specs.declared.kernel.Kernel.{Kernel}
-use Rattle.kernel_model.specs.files.FileTree.{Nodes, last_number, plain, plain_node, root_node}
+use Rattle.kernel_model.specs.files.FileTree.{Nodes, plain, plain_node, root_node}
 use Rattle.kernel_model.specs.files.Settled.{count_now, tree_now}
 use Rattle.kernel_model.specs.opening.Opening.{root_among, root_of, rooted}
 use Rattle.image_walk.specs.declared.granted.Numbering.{Numbering}
@@ -126,7 +127,7 @@ same_count faults small =
 tree_granted : (k : Kernel) (ino : ℕ) (t : Shape) → map.get k.nodes ino ≡ Some (root_node ino t)
     → map.get k.failed ino ≡ None → faults_of t < 2 ^ 64 → tree_now k no_left ino ≡ Some t
 tree_granted k ino t node failed small =
-    plain_granted last_number (count_now k no_left) k.nodes ino t node
+    plain_granted LAST_NUMBER (count_now k no_left) k.nodes ino t node
     ∙ ap (λ o. Some (with_faults (capped (faults_of t + unwrap_or o 0 + 0)) t)) failed
     ∙ ap (λ n. Some (with_faults n t)) (same_count (faults_of t) small)
     ∙ ap Some (with_faults_own t)

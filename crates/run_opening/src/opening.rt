@@ -9,6 +9,7 @@ ghost use Rattle.kernel_model.specs.laws.Beginnings.{IsRoomFor};
 ghost use Rattle.kernel_model.specs.opening.Arguments.{is_too_long};
 ghost use Rattle.kernel_model.specs.opening.Opening.{bare};
 ghost use Rattle.mount_file.specs.Form.{AreNamed, HasForm};
+ghost use Rattle.mount_file.specs.declared.rules.TheConstants.{MOST_TASKS};
 ghost use Rattle.image_walk.specs.Granted.{told_of};
 ghost use Rattle.image_walk.specs.Loading.{is_roomy};
 ghost use Rattle.image_walk.specs.Standing.{IsNumbering, Stands};
@@ -86,7 +87,7 @@ fn open_task<N: HostNode>(
     tasks: &mut List<Opened>,
 ) -> Result<Processes, OpenErr>
     requires within { index < length mounts.now.tasks }
-    requires few { length mounts.now.tasks ≤ 64 }
+    requires few { length mounts.now.tasks ≤ MOST_TASKS }
     requires named { AreNamed mounts.now.tasks }
     requires numbers { granted.old.numbers ≡ numbering_of mounts.now.mounts }
     requires known { IsNumbering granted.old.numbers }

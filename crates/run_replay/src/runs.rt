@@ -5,6 +5,7 @@ ghost use Rattle.host_node.specs.Tree.{none_lent};
 ghost use Rattle.kernel_model.specs.Words.{accepted};
 ghost use Rattle.sentry_run.specs.Causes.{HasText};
 ghost use Rattle.sentry_run.specs.Outcome.{asks_trace};
+ghost use Rattle.mount_file.specs.declared.rules.TheConstants.{MOST_MOUNTS};
 
 use host_copy::{copied_folder, put_folder};
 use host_memory::{PutErr, World};
@@ -95,7 +96,7 @@ fn granted<W: HostWorld>(
     host: &mut W,
     world: &mut World,
 ) -> Result<List<Tree>, Fault>
-    requires few { length mounts.now ≤ 64 }
+    requires few { length mounts.now ≤ MOST_MOUNTS }
     requires silent { W.told host.old ≡ None }
     requires lent { none_lent world.old.tree ≡ true }
     ensures { none_lent world.new.tree ≡ true }

@@ -6,11 +6,12 @@ use Rattle.sn_bytes.specs.Fields.{field}
 use Rattle.stat_layout.specs.declared.iovec.IoVec.{IoVec}
 use Rattle.stat_layout.specs.declared.iovec.IoVecErr.{IoVecErr}
 use Rattle.stat_layout.specs.declared.iovec.IoVecErr.TheVariants.{Count, Sum, Memory}
+use Rattle.stat_layout.specs.declared.iovec.TheConstants.{IOV_MAX}
 
 -- a count that no call takes: as a signed number it's below 0 or above the most buffers that a call may have
--- readv(2), ERRORS, EINVAL; limits.h, IOV_MAX: 1,024; that all 64 bits count: profile
+-- readv(2), ERRORS, EINVAL; limits.h, IOV_MAX; its number, and that all 64 bits count: profile
 abbrev pub IsOutOfRange : (count : ℕ) → Type 0
-IsOutOfRange count = (cast_signed w64 count <ℤ pos 0) ⊎ (pos 1024 <ℤ cast_signed w64 count)
+IsOutOfRange count = (cast_signed w64 count <ℤ pos 0) ⊎ (pos IOV_MAX <ℤ cast_signed w64 count)
 
 -- the record at an offset
 -- readv(2), struct iovec: iov_base, iov_len

@@ -23,7 +23,7 @@ pub struct IoVec {
 /// Why a call has no buffers.
 #[derive(Clone, Copy, Debug, PartialEq, Eq)]
 pub enum IoVecErr {
-    /// Fewer than 0 are asked for, or more than 1,024.
+    /// Fewer than 0 are asked for, or more than `IOV_MAX`.
     Count,
     /// They have more than 2^63 - 1 bytes in all.
     Sum,
@@ -42,8 +42,8 @@ impl From<Memory> for IoVecErr {
 /// The size of struct iovec, in bytes.
 const IOVEC_SIZE: usize = 16;
 
-/// The most buffers that a call takes: IOV_MAX.
-const MOST: u64 = 1_024;
+/// The most buffers that a call takes: limits.h, IOV_MAX.
+pub const IOV_MAX: u64 = 1_024;
 
 /// The most bytes that a call's buffers may have: the greatest `ssize_t`.
 const LONGEST: u64 = (1 << 63) - 1;
@@ -51,11 +51,11 @@ const LONGEST: u64 = (1 << 63) - 1;
 /// How many bytes the records of so many buffers take.
 pub fn iovec_bytes(count: u64) -> Result<usize, IoVecErr>
     ensures ok { IfOk result (λ size. size ≡ 16 * count) }
-    ensures within { IfOk result (λ size. size ≤ 16384) }
+    ensures within { IfOk result (λ size. size ≤ 16 * IOV_MAX) }
     ensures count { (result ≡ Err IoVecErr.Count) ↔ IsOutOfRange count }
     ensures fault { IfErr result (λ e. e ≡ IoVecErr.Count) }
 {
-    if count > MOST {
+    if count > IOV_MAX {
         return Err(IoVecErr::Count);
     }
     Ok(IOVEC_SIZE * count as usize)

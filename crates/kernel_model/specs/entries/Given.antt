@@ -6,12 +6,13 @@ use Rattle.std.specs.Str.{bytes_eq}
 use Rattle.std.specs.Ordering.{nat_cmp}
 use Rattle.std.specs.FinMap as map
 use Rattle.sn_base.specs.Sums.{capped}
+use Rattle.kernel_model.specs.declared.limits.TheConstants.{LAST_NUMBER}
 use Rattle.kernel_model.specs.declared.kernel.Node.{Node}
 use Rattle.kernel_model.specs.declared.kernel.Part.TheVariants.{OfNode, OfFaults}
 use Rattle.kernel_model.specs.declared.opening.Fresh.{Fresh}
 use Rattle.kernel_model.specs.declared.opening.Rise.{Rise}
 use Rattle.kernel_model.specs.declared.opening.Given.{Given}
-use Rattle.kernel_model.specs.files.FileTree.{Nodes, last_number, Child, Missing, Known, Unnumbered, child_at}
+use Rattle.kernel_model.specs.files.FileTree.{Nodes, Child, Missing, Known, Unnumbered, child_at}
 use Rattle.kernel_model.specs.files.FileTree.{child_node, numbered_in}
 use Rattle.kernel_model.specs.entries.Parts.{Prog, done, look, ◌>>=◌, Change}
 
@@ -59,7 +60,7 @@ is_in_order given =
 -- a number above the greatest is drawn for a child and given to no node
 -- profile
 abbrev pub above_last : Fresh → Bool
-above_last f = nat_lt last_number f.ino
+above_last f = nat_lt LAST_NUMBER f.ino
 
 -- the number is that of no node
 -- inode(7), st_ino
@@ -69,7 +70,7 @@ is_unused nodes f = not (map.contains_key nodes f.ino)
 -- a fresh number that is given to a node is that one
 -- inode(7), st_ino; profile
 abbrev pub gives_number : ℕ → Fresh → Bool
-gives_number ino f = nat_le f.ino last_number && (f.ino == ino)
+gives_number ino f = nat_le f.ino LAST_NUMBER && (f.ino == ino)
 
 -- the node whose count rose has a number, or gets it from the fresh ones
 -- profile
@@ -107,7 +108,7 @@ abbrev pub given_number : Nodes_so_far → Fresh → Node → Child → Option N
 given_number nodes fresh dir Missing = None
 given_number nodes fresh dir (Known ino) = None
 given_number nodes fresh dir (Unnumbered shape) =
-    if nat_le fresh.ino last_number
+    if nat_le fresh.ino LAST_NUMBER
     then Some ((fresh.ino, child_node fresh.dir shape) ∷ (fresh.dir, numbered_in dir fresh.name fresh.ino) ∷ nodes)
     else Some nodes
 

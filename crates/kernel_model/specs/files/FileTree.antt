@@ -14,11 +14,6 @@ use Rattle.kernel_model.specs.declared.limits.TheConstants.{LAST_NUMBER}
 abbrev pub Nodes : Type 0
 Nodes = map.FinMap nat_cmp Node
 
--- the greatest inode number that a node may have
--- profile
-abbrev pub last_number : ℕ
-last_number = LAST_NUMBER
-
 -- the number that a directory's list has for a name
 -- readdir(3), d_ino
 abbrev pub number_in : List ℕ → List Numbered → Option ℕ

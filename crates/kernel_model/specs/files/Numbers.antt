@@ -1,6 +1,7 @@
 -- The inode numbers that a run drew.
 use Rattle.std.specs.Prelude.{◌≡◌, ℕ, zero, suc, ◌+◌, ◌≤◌, ◌<◌, List, [], ◌∷◌, ◌++◌, length, Contains}
 use Rattle.std.specs.List.{flat_map}
+use Rattle.kernel_model.specs.declared.limits.TheConstants.{LAST_NUMBER}
 use Rattle.kernel_model.specs.declared.entry.Entry.{Entry}
 use Rattle.kernel_model.specs.declared.entry.Entry.TheVariants.{Run, Call, Sleep, End}
 use Rattle.kernel_model.specs.declared.opening.Fresh.{Fresh}
@@ -8,7 +9,7 @@ use Rattle.kernel_model.specs.declared.opening.Opening.{Opening}
 use Rattle.kernel_model.specs.declared.opening.Opened.{Opened}
 use Rattle.kernel_model.specs.declared.opening.Left.{Left}
 use Rattle.kernel_model.specs.declared.opening.LeftRise.{LeftRise}
-use Rattle.kernel_model.specs.files.FileTree.{last_number, Child, Missing, Known, Unnumbered}
+use Rattle.kernel_model.specs.files.FileTree.{Child, Missing, Known, Unnumbered}
 use Rattle.kernel_model.specs.entries.Given.{numbers_of}
 
 -- so many numbers from the first on, ascending
@@ -48,7 +49,7 @@ IsGapless numbers = numbers ≡ count_up 1 (length numbers)
 -- each number up to the greatest that is below one of these is one of these
 -- profile
 abbrev pub HasAllBelow : List ℕ → Type 0
-HasAllBelow numbers = (n m : ℕ) → 1 ≤ n → n ≤ last_number → Contains numbers m → n < m → Contains numbers n
+HasAllBelow numbers = (n m : ℕ) → 1 ≤ n → n ≤ LAST_NUMBER → Contains numbers m → n < m → Contains numbers n
 
 -- a fresh number is of a child that is there without a number
 -- profile

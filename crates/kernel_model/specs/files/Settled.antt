@@ -5,12 +5,13 @@ use Rattle.host_node.specs.Tree.{Shape, lent}
 use Rattle.host_node.specs.Routes.{put_subtree}
 use Rattle.host_node.specs.declared.kind.Kind.TheVariants.{Dir}
 use Rattle.sn_base.specs.Sums.{capped}
+use Rattle.kernel_model.specs.declared.limits.TheConstants.{LAST_NUMBER}
 use Rattle.kernel_model.specs.declared.kernel.Kernel.{Kernel}
 use Rattle.mount_file.specs.declared.mounts.Mount.{Mount}
 use Rattle.kernel_model.specs.declared.opening.Rise.{Rise}
 use Rattle.kernel_model.specs.declared.opening.Left.{Left}
 use Rattle.kernel_model.specs.declared.opening.LeftRise.{LeftRise}
-use Rattle.kernel_model.specs.files.FileTree.{last_number, plain}
+use Rattle.kernel_model.specs.files.FileTree.{plain}
 use Rattle.kernel_model.specs.entries.Given.{Nodes_so_far, number_all, node_changes}
 use Rattle.kernel_model.specs.entries.Parts.{parts, outcome_in, changed}
 
@@ -40,7 +41,7 @@ count_now k left ino granted = capped (granted + unwrap_or (map.get k.failed ino
 -- the tree of a root, without numbers, with the counts as they are now
 -- profile
 abbrev pub tree_now : Kernel → Left → ℕ → Option Shape
-tree_now k left root = plain (suc last_number) (count_now k left) (left_numbered left.rises k).nodes root
+tree_now k left root = plain (suc LAST_NUMBER) (count_now k left) (left_numbered left.rises k).nodes root
 
 -- the world's tree with each grant replaced by the tree of its root
 -- profile

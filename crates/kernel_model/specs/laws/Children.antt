@@ -3,11 +3,12 @@ use Rattle.std.specs.Prelude.{◌≡◌, ℕ, ◌==◌, nat_le, List, [], Bool, 
 use Rattle.std.specs.List.{list_any}
 use Rattle.std.specs.Str.{bytes_eq}
 use Rattle.host_node.specs.Tree.{Shape}
+use Rattle.kernel_model.specs.declared.limits.TheConstants.{LAST_NUMBER}
 use Rattle.kernel_model.specs.declared.entry.Entry.{Entry}
 use Rattle.kernel_model.specs.declared.entry.Entry.TheVariants.{Run, Call, Sleep, End}
 use Rattle.kernel_model.specs.declared.kernel.Node.{Node}
 use Rattle.kernel_model.specs.declared.opening.Fresh.{Fresh}
-use Rattle.kernel_model.specs.files.FileTree.{last_number, Unnumbered, child_at}
+use Rattle.kernel_model.specs.files.FileTree.{Unnumbered, child_at}
 
 -- the node of a directory is there, and has under a name a child of that shape without a number
 -- inode(7), st_ino
@@ -26,7 +27,7 @@ fresh_of (End task signal) = []
 -- a fresh number is given to the child of that directory and name; one above the greatest is given to no child
 -- inode(7), st_ino; profile
 abbrev pub is_given_to : (dir : ℕ) → (name : List ℕ) → Fresh → Bool
-is_given_to dir name f = nat_le f.ino last_number && (f.dir == dir) && bytes_eq name f.name
+is_given_to dir name f = nat_le f.ino LAST_NUMBER && (f.dir == dir) && bytes_eq name f.name
 
 -- an entry gives a number to the child of that directory and name
 -- inode(7), st_ino
