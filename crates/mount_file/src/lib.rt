@@ -21,8 +21,6 @@ mod mounts;
 mod read;
 mod rules;
 mod tables;
-#[cfg(test)]
-mod tests;
 mod values;
 
 pub use mounts::{Mount, MountFault, Mounts, Program, copied_mounts};

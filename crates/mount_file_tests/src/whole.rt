@@ -1,7 +1,9 @@
 //! Whole mount files, and what is read of them.
 
-use super::*;
+use crate::parts::{ENTRIES, MOUNT, SEED, TASK, are, tasks_of};
+use mount_file::{copied_mounts, read_mounts};
 use sn_text::Folder;
+use std::test::Fail;
 
 /// Whether a folder is of these names.
 fn is_folder(folder: &Folder, rooted: bool, names: &[&str]) -> bool {

@@ -1,7 +1,8 @@
 //! Mount files with one fault each, whole and cut off behind any of their bytes.
 
-use super::*;
-use crate::MountFault::{Field, Long, NoRoot, Range, Toml, TooMany, Twice, Utf8};
+use mount_file::MountFault::{Field, Long, NoRoot, Range, Toml, TooMany, Twice, Utf8};
+use mount_file::{MountFault, read_mounts};
+use std::test::Fail;
 
 /// A line of a file. The file that ends in it is no TOML before the line has `from` of its bytes, and from there on has
 /// this answer.

@@ -1,6 +1,8 @@
 //! Values outside their form.
 
-use super::*;
+use crate::parts::{ENTRIES, MOUNT, SEED, TASK, fault_of};
+use mount_file::MountFault;
+use std::test::Fail;
 
 /// 63 zeros.
 const SHORT: &str = "000000000000000000000000000000000000000000000000000000000000000";

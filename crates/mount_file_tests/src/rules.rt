@@ -1,6 +1,8 @@
 //! Mounts and tasks that each are good and together break a rule.
 
-use super::*;
+use crate::parts::{ENTRIES, MOUNT, SEED, TASK, fault_of, tasks_of};
+use mount_file::MountFault;
+use std::test::Fail;
 
 #[test]
 fn without_mounts_it_is_no_root(rt: HostRuntime) -> Result<(), Fail> {

@@ -1,6 +1,8 @@
 //! Mount files near the greatest length: many arguments, and many mounts.
 
-use super::*;
+use crate::parts::{ENTRIES, MOUNT, SEED, TASK, fault_of};
+use mount_file::{MountFault, read_mounts};
+use std::test::Fail;
 
 #[test]
 fn a_task_may_have_twenty_thousand_arguments(rt: HostRuntime) -> Result<(), Fail> {

@@ -1,6 +1,7 @@
 //! A good mount file cut off behind any of its bytes.
 
-use super::*;
+use mount_file::{MountFault, read_mounts};
+use std::test::Fail;
 
 /// The lines of a good file. From the end of line 7, counted from 0, the file has all that it must have.
 const LINES: [&str; 9] = [

@@ -1,6 +1,9 @@
 //! Faults of the bytes and of the document, and which of two is told.
 
-use super::*;
+use crate::parts::{ENTRIES, MOUNT, SEED, TASK, fault_of, tasks_of};
+use mount_file::{MountFault, read_mounts};
+use std::alloc::Global;
+use std::test::Fail;
 
 /// Two mounts at `/`.
 const ROOTS: &str =

@@ -1,6 +1,8 @@
 //! Keys that are missing, unknown or of another type.
 
-use super::*;
+use crate::parts::{ENTRIES, MOUNT, SEED, TASK, fault_of};
+use mount_file::MountFault;
+use std::test::Fail;
 
 #[test]
 fn a_key_of_the_document_missing_unknown_or_of_another_type_is_field(
