@@ -1,101 +1,97 @@
 //! Bytes of private pages, and copies of an address space.
 
+use crate::acts::{Act, May, areas_after, expect_act};
 use mm_areas::{Areas, Backing, Rights};
 use rv_table::Area;
+use std::alloc::Global;
+use std::process::Abort;
 use std::test::Fail;
+
+#[rattlefmt::skip]
+const BEFORE_THE_FORK: [Act; 3] = [
+    Act::Map(8192, 8192, May::Both), Act::Number(2, 8, 4, Some(0)), Act::Write(2, 8, 4, 0x0403_0201),
+];
+
+/// What the child does, or its parent.
+#[rattlefmt::skip]
+const BEHIND_THE_FORK: [(bool, Act); 15] = [
+    (false, Act::IsOwn(2, false)), (true, Act::IsOwn(2, false)),
+    (false, Act::Put(2, 8, 1, 9, false)), (false, Act::Number(2, 8, 4, Some(0x0403_0201))),
+    (false, Act::Write(2, 9, 2, 0xb3a2)), (true, Act::Number(2, 8, 4, Some(0x0403_0201))),
+    (true, Act::WriteBytes(2, 10, &[0xc3, 0xd4])),
+    (false, Act::Number(2, 8, 4, Some(0x04b3_a201))), (true, Act::Number(2, 8, 4, Some(0xd4c3_0201))),
+    (false, Act::IsOwn(2, true)), (true, Act::IsOwn(2, true)),
+    (true, Act::Byte(2, 11, Some(0xd4))), (true, Act::Byte(3, 4095, Some(0))),
+    (true, Act::Byte(3, 4096, None)), (true, Act::Byte(4, 0, None)),
+];
+
+/// Does acts in turn, each in the child or in its parent.
+fn expect_acts_of_both(
+    rt: &impl Abort,
+    alloc: Global,
+    parent: &mut Areas,
+    child: &mut Areas,
+    acts: &[(bool, Act)],
+) -> Result<(), Fail> {
+    for (index, &(is_childs, act)) in acts.iter().enumerate() {
+        if is_childs {
+            expect_act(rt, alloc, child, index, act)?;
+        } else {
+            expect_act(rt, alloc, parent, index, act)?;
+        }
+    }
+    Ok(())
+}
 
 #[test]
 fn each_address_space_keeps_its_bytes_over_the_others_stores(rt: HostRuntime) -> Result<(), Fail> {
-    let mut parent = Areas::new(rt.alloc(), 4096);
-    parent.map(
-        rt.alloc(),
-        Some(8192),
-        8192,
-        Rights::READ | Rights::WRITE,
-        Backing::Zeros,
-    )?;
-    assert_eq!(rt; parent.number(2, 8, 4), Some(0));
-    parent.write_number(rt.alloc(), 2, 8, 4, 0x0403_0201)?;
+    let mut parent = areas_after(&rt, rt.alloc(), &BEFORE_THE_FORK)?;
     let mut child = parent.fork(rt.alloc())?;
     assert_eq!(rt; child.len(), 2);
     assert_eq!(rt; child.start(), 4096);
-    assert!(rt; !parent.is_own(2) && !child.is_own(2));
-    assert!(rt; !parent.put_number(2, 8, 1, 9));
-    assert_eq!(rt; parent.number(2, 8, 4), Some(0x0403_0201));
-    parent.write_number(rt.alloc(), 2, 9, 2, 0xb3a2)?;
-    assert_eq!(rt; child.number(2, 8, 4), Some(0x0403_0201));
-    child.write_bytes(rt.alloc(), 2, 10, &[0xc3, 0xd4])?;
-    assert_eq!(rt; parent.number(2, 8, 4), Some(0x04b3_a201));
-    assert_eq!(rt; child.number(2, 8, 4), Some(0xd4c3_0201));
-    assert!(rt; parent.is_own(2) && child.is_own(2));
-    assert_eq!(rt; child.byte(2, 11), Some(0xd4));
-    assert_eq!(rt; child.byte(3, 4095), Some(0));
-    assert_eq!(rt; child.byte(3, 4096), None);
-    assert_eq!(rt; child.byte(4, 0), None);
-    Ok(())
+    expect_acts_of_both(&rt, rt.alloc(), &mut parent, &mut child, &BEHIND_THE_FORK)
 }
+
+#[rattlefmt::skip]
+const WRITTEN_IN_PLACE: [Act; 9] = [
+    Act::Map(8192, 4096, May::Read), Act::Put(2, 0, 1, 9, false), Act::Number(2, 0, 1, Some(0)),
+    Act::Own(2), Act::Put(2, 4088, 8, 0x0807_0605_0403_0201, true), Act::Put(2, 4089, 8, 0, false),
+    Act::PutBytes(2, 4094, &[0xa7, 0xb8], true), Act::PutBytes(2, 4095, &[0, 0], false),
+    Act::Number(2, 4088, 8, Some(0xb8a7_0605_0403_0201)),
+];
 
 #[test]
 fn a_page_that_is_its_own_is_written_in_place(rt: HostRuntime) -> Result<(), Fail> {
-    let mut areas = Areas::new(rt.alloc(), 4096);
-    areas.map(rt.alloc(), Some(8192), 4096, Rights::READ, Backing::Zeros)?;
-    assert!(rt; !areas.put_number(2, 0, 1, 9));
-    assert_eq!(rt; areas.number(2, 0, 1), Some(0));
-    areas.own(rt.alloc(), 2)?;
-    assert!(rt; areas.put_number(2, 4088, 8, 0x0807_0605_0403_0201));
-    assert!(rt; !areas.put_number(2, 4089, 8, 0));
-    assert!(rt; areas.put_bytes(2, 4094, &[0xa7, 0xb8]));
-    assert!(rt; !areas.put_bytes(2, 4095, &[0, 0]));
-    assert_eq!(rt; areas.number(2, 4088, 8), Some(0xb8a7_0605_0403_0201));
+    let _ = areas_after(&rt, rt.alloc(), &WRITTEN_IN_PLACE)?;
     Ok(())
 }
+
+#[rattlefmt::skip]
+const SHARED: [Act; 5] = [
+    Act::Share(8192), Act::Number(2, 0, 1, None), Act::Byte(2, 0, None), Act::Put(2, 0, 1, 0, false),
+    Act::IsOwn(2, false),
+];
 
 #[test]
 fn a_page_of_a_shared_area_has_no_bytes_here(rt: HostRuntime) -> Result<(), Fail> {
-    let mut areas = Areas::new(rt.alloc(), 4096);
-    let area = Area { place: 1, index: 0 };
-    areas.map(
-        rt.alloc(),
-        Some(8192),
-        4096,
-        Rights::READ | Rights::WRITE,
-        Backing::Of(area),
-    )?;
-    assert_eq!(rt; areas.number(2, 0, 1), None);
-    assert_eq!(rt; areas.byte(2, 0), None);
-    assert!(rt; !areas.put_number(2, 0, 1, 0) && !areas.is_own(2));
+    let _ = areas_after(&rt, rt.alloc(), &SHARED)?;
     Ok(())
 }
 
+#[rattlefmt::skip]
+const HINTED: [Act; 15] = [
+    Act::Map(8192, 4096, May::Read), Act::Map(16_384, 8192, May::Both), Act::Hint(5, 1), Act::Hint(3, 0),
+    Act::Number(5, 0, 8, Some(0)), Act::Own(5), Act::PutNear(1, 5, 0, 2, 0x0201, May::Write, true),
+    Act::NumberNear(1, 5, 0, 8, May::Read, Some(0x0201)), Act::NumberNear(1, 5, 0, 8, May::Execute, None),
+    Act::NumberNear(0, 5, 0, 8, May::Read, None), Act::NumberNear(9, 5, 0, 8, May::Read, None),
+    Act::PutNear(0, 5, 0, 1, 0, May::Write, false),
+    Act::HintFrom(1, 5, 1), Act::HintFrom(0, 5, 1), Act::HintFrom(9, 3, 0),
+];
+
 #[test]
 fn a_hint_serves_the_region_that_it_names(rt: HostRuntime) -> Result<(), Fail> {
-    let mut areas = Areas::new(rt.alloc(), 4096);
-    areas.map(rt.alloc(), Some(8192), 4096, Rights::READ, Backing::Zeros)?;
-    areas.map(
-        rt.alloc(),
-        Some(16_384),
-        8192,
-        Rights::READ | Rights::WRITE,
-        Backing::Zeros,
-    )?;
-    let hint = areas.hint(5);
-    assert_eq!(rt; hint, 1);
-    assert_eq!(rt; areas.hint(3), 0);
-    assert_eq!(rt; areas.number(5, 0, 8), Some(0));
-    areas.own(rt.alloc(), 5)?;
-    assert!(rt; areas.put_number_near(hint, 5, 0, 2, 0x0201, Rights::WRITE));
-    assert_eq!(rt;
-        areas.number_near(hint, 5, 0, 8, Rights::READ),
-        Some(0x0201)
-    );
-    assert_eq!(rt; areas.number_near(hint, 5, 0, 8, Rights::EXECUTE), None);
-    assert_eq!(rt; areas.number_near(0, 5, 0, 8, Rights::READ), None);
-    assert_eq!(rt; areas.number_near(9, 5, 0, 8, Rights::READ), None);
-    assert!(rt; !areas.put_number_near(0, 5, 0, 1, 0, Rights::WRITE));
-    assert_eq!(rt; areas.hint_from(hint, 5), 1);
-    assert_eq!(rt; areas.hint_from(0, 5), 1);
-    assert_eq!(rt; areas.hint_from(9, 3), 0);
-    for guess in [hint, 0, 9] {
+    let areas = areas_after(&rt, rt.alloc(), &HINTED)?;
+    for guess in [1, 0, 9] {
         assert_eq!(rt;
             areas.page_from(guess, 5).map(|page| page.rights),
             areas.page(5).map(|page| page.rights)
@@ -145,43 +141,31 @@ fn a_number_has_room_in_a_page_of_its_own_with_the_right(rt: HostRuntime) -> Res
     Ok(())
 }
 
+#[rattlefmt::skip]
+const OTHERS_CHANGE: [Act; 17] = [
+    Act::Map(8192, 16_384, May::Both), Act::Own(3), Act::Put(3, 0, 1, 1, true),
+    Act::Protect(12_288, 4096, May::Read), Act::Put(3, 1, 1, 2, true), Act::PutNear(0, 3, 1, 1, 9, May::Write, false),
+    Act::Protect(8192, 12_288, May::Both), Act::PutNear(0, 3, 2, 1, 3, May::Write, true),
+    Act::Unmap(8192, 4096), Act::Map(16_384, 4096, May::Read), Act::Break(8192), Act::Put(3, 3, 1, 4, true),
+    Act::Number(3, 0, 4, Some(0x0403_0201)),
+    Act::IsOwn(1, false), Act::IsOwn(2, false), Act::IsOwn(4, false), Act::IsOwn(5, false),
+];
+
 #[test]
 fn a_page_stays_its_own_where_others_change(rt: HostRuntime) -> Result<(), Fail> {
-    let mut areas = Areas::new(rt.alloc(), 4096);
-    areas.map(
-        rt.alloc(),
-        Some(8192),
-        4 * 4096,
-        Rights::READ | Rights::WRITE,
-        Backing::Zeros,
-    )?;
-    areas.own(rt.alloc(), 3)?;
-    assert!(rt; areas.put_number(3, 0, 1, 1));
-    areas.protect(12_288, 4096, Rights::READ)?;
-    assert!(rt; areas.put_number(3, 1, 1, 2));
-    assert!(rt; !areas.put_number_near(0, 3, 1, 1, 9, Rights::WRITE));
-    areas.protect(8192, 3 * 4096, Rights::READ | Rights::WRITE)?;
-    assert!(rt; areas.put_number_near(0, 3, 2, 1, 3, Rights::WRITE));
-    areas.unmap(8192, 4096)?;
-    areas.map(rt.alloc(), Some(16_384), 4096, Rights::READ, Backing::Zeros)?;
-    assert_eq!(rt; areas.brk(rt.alloc(), 8192), Ok(8192));
-    assert!(rt; areas.put_number(3, 3, 1, 4));
-    assert_eq!(rt; areas.number(3, 0, 4), Some(0x0403_0201));
-    assert!(rt; !areas.is_own(1) && !areas.is_own(2) && !areas.is_own(4) && !areas.is_own(5));
+    let _ = areas_after(&rt, rt.alloc(), &OTHERS_CHANGE)?;
     Ok(())
 }
 
+#[rattlefmt::skip]
+const MAPPED_ANEW: [Act; 11] = [
+    Act::Break(8192), Act::IsOwn(1, false), Act::Own(1), Act::Put(1, 0, 1, 1, true),
+    Act::Break(4096), Act::IsOwn(1, false), Act::Put(1, 0, 1, 1, false),
+    Act::Break(4097), Act::IsOwn(1, false), Act::Put(1, 0, 1, 1, false), Act::Number(1, 0, 1, Some(0)),
+];
+
 #[test]
 fn a_page_that_is_mapped_anew_is_not_its_own(rt: HostRuntime) -> Result<(), Fail> {
-    let mut areas = Areas::new(rt.alloc(), 4096);
-    assert_eq!(rt; areas.brk(rt.alloc(), 8192), Ok(8192));
-    assert!(rt; !areas.is_own(1));
-    areas.own(rt.alloc(), 1)?;
-    assert!(rt; areas.put_number(1, 0, 1, 1));
-    assert_eq!(rt; areas.brk(rt.alloc(), 4096), Ok(4096));
-    assert!(rt; !areas.is_own(1) && !areas.put_number(1, 0, 1, 1));
-    assert_eq!(rt; areas.brk(rt.alloc(), 4097), Ok(4097));
-    assert!(rt; !areas.is_own(1) && !areas.put_number(1, 0, 1, 1));
-    assert_eq!(rt; areas.number(1, 0, 1), Some(0));
+    let _ = areas_after(&rt, rt.alloc(), &MAPPED_ANEW)?;
     Ok(())
 }

@@ -7,7 +7,15 @@ use sn_base::Made;
 use std::alloc::Global;
 use std::process::Abort;
 use std::test::Fail;
-use task_table::{ReapEnd, Status, Tasks};
+use task_table::{CloneErr, ReapEnd, Status, Tasks};
+
+/// A call that makes a task: which task makes it, and its clear word.
+#[derive(Clone, Copy)]
+pub(crate) enum Making {
+    Open,
+    Fork(u32, u64),
+    Thread(u32, u64),
+}
 
 /// A call, by the numbers that it is given.
 #[derive(Clone, Copy)]
@@ -62,6 +70,22 @@ pub(crate) fn expect_group(rt: &impl Abort, tasks: &Tasks, number: u32)
     assert!(rt; live);
 }
 
+/// Makes a task, and answers what the call answers.
+pub(crate) fn make(rt: &impl Abort, tasks: &mut Tasks, making: Making) -> Result<u32, CloneErr> {
+    expect_next(rt, tasks);
+    match making {
+        Making::Open => tasks.open(memory(), table(), 1),
+        Making::Fork(task, clear) => {
+            expect_live(rt, tasks, task);
+            tasks.fork(task, memory(), table(), clear)
+        }
+        Making::Thread(task, clear) => {
+            expect_live(rt, tasks, task);
+            tasks.thread(task, clear)
+        }
+    }
+}
+
 /// Does a call, which has memory and room.
 pub(crate) fn apply(
     rt: &impl Abort,
@@ -71,18 +95,13 @@ pub(crate) fn apply(
 ) -> Result<(), Fail> {
     match call {
         Call::Open => {
-            expect_next(rt, tasks);
-            let _ = tasks.open(memory(), table(), 1)?;
+            let _ = make(rt, tasks, Making::Open)?;
         }
         Call::Fork(task) => {
-            expect_live(rt, tasks, task);
-            expect_next(rt, tasks);
-            let _ = tasks.fork(task, memory(), table(), 0)?;
+            let _ = make(rt, tasks, Making::Fork(task, 0))?;
         }
         Call::Thread(task) => {
-            expect_live(rt, tasks, task);
-            expect_next(rt, tasks);
-            let _ = tasks.thread(task, 0)?;
+            let _ = make(rt, tasks, Making::Thread(task, 0))?;
         }
         Call::Exit(task, code) => {
             expect_live(rt, tasks, task);
@@ -130,7 +149,11 @@ fn expect_tasks(rt: &impl Abort, table: &Tasks, expected: &[(u32, u32, bool)]) {
     }
 }
 
-fn expect_groups(rt: &impl Abort, table: &Tasks, expected: &[(u32, u32, Option<Status>)]) {
+pub(crate) fn expect_groups(
+    rt: &impl Abort,
+    table: &Tasks,
+    expected: &[(u32, u32, Option<Status>)],
+) {
     for &(number, parent, ended) in expected {
         let found = table.group(number).map(|group| (group.parent, group.ended));
         assert_eq!(rt; found, Some((parent, ended)), "group {number}");

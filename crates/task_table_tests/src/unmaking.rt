@@ -2,7 +2,7 @@
 ghost use Rattle.std.specs.Prelude.{◌≡◌, ◌<◌, ◌-◌, ◌^◌, IsTrue};
 ghost use Rattle.task_table.specs.Table.{is_live};
 
-use crate::calls::{expect_live, expect_next, memory, table};
+use crate::calls::{Making, expect_live, expect_next, make, memory, table};
 use std::process::Abort;
 use std::test::Fail;
 use task_table::{CloneErr, Tasks};
@@ -46,14 +46,13 @@ fn expect_three(rt: &impl Abort, tasks: &Tasks) {
 #[test]
 fn a_task_that_is_taken_back_leaves_no_trace(rt: HostRuntime) -> Result<(), Fail> {
     let mut tasks = Tasks::new(rt.alloc());
-    expect_next(&rt, &tasks);
-    let first = tasks.open(memory(), table(), 1)?;
-    expect_live(&rt, &tasks, first);
-    expect_next(&rt, &tasks);
-    let _ = tasks.thread(first, 0x2000)?;
-    expect_live(&rt, &tasks, 2);
-    expect_next(&rt, &tasks);
-    let _ = tasks.fork(2, memory(), table(), 0x3000)?;
+    for making in [
+        Making::Open,
+        Making::Thread(1, 0x2000),
+        Making::Fork(2, 0x3000),
+    ] {
+        let _ = make(&rt, &mut tasks, making)?;
+    }
     expect_three(&rt, &tasks);
     for task in [1, 3] {
         expect_live(&rt, &tasks, task);
@@ -65,9 +64,7 @@ fn a_task_that_is_taken_back_leaves_no_trace(rt: HostRuntime) -> Result<(), Fail
         assert_eq!(rt; thread_in_vain(&mut tasks, task), Ok(4));
         expect_three(&rt, &tasks);
     }
-    expect_live(&rt, &tasks, 2);
-    expect_next(&rt, &tasks);
-    assert_eq!(rt; tasks.fork(2, memory(), table(), 0x1000), Ok(4));
+    assert_eq!(rt; make(&rt, &mut tasks, Making::Fork(2, 0x1000)), Ok(4));
     assert_eq!(rt; tasks.group(4).map(|group| group.parent), Some(1));
     assert_eq!(rt; tasks.next_live(3), Some(4));
     Ok(())
