@@ -348,6 +348,13 @@ impl Tasks {
         self.last
     }
 
+    /// Whether no other task of a task's thread group lives. It goes over the live tasks once.
+    pub fn is_last(&self, task: u32) -> bool
+        ensures { result ≡ is_last self.now.tasks task }
+    {
+        is_last_of_group(&self.tasks, &self.live, task)
+    }
+
     /// The live task of the lowest number above another, if there is one.
     pub fn next_live(&self, after: u32) -> Option<u32>
         ensures { result ≡ find (λ n. nat_lt after n) (live_numbers self.now.tasks) }
