@@ -1,8 +1,11 @@
 -- Descriptor tables: which numbers are open and free, and what the calls make of a table.
 use Rattle.std.specs.Prelude.{◌≡◌, ℕ, ◌<◌, ◌≤◌, ◌==◌, nat_lt, Bool, false, ◌&&◌, List, filter, Option, Some, None, IsSome, IsTrue, if◌then◌else◌}
+use Rattle.std.specs.Prelude.{filter_map, option_map}
+use Rattle.std.specs.List.{range_with_len}
 use Rattle.std.specs.Option.{option_map_or}
 use Rattle.std.specs.Ordering.{nat_cmp}
 use Rattle.std.specs.FinMap as map
+use Rattle.sn_base.specs.declared.made.Made.{Made}
 use Rattle.fd_table.specs.declared.descriptor.Descriptor.{Descriptor}
 use Rattle.fd_table.specs.declared.descriptor.FdErr.{FdErr}
 use Rattle.fd_table.specs.declared.descriptor.FdErr.TheVariants.{BadFd, Same}
@@ -68,6 +71,12 @@ dup3_fault table old new =
     else Some BadFd
 
 -- ---- all of them
+
+-- the open file descriptions of a table's descriptors, in the order of their numbers
+-- open(2), Open file descriptions
+abbrev pub descriptions_of : Table → List Made
+descriptions_of table =
+    filter_map (λ n. option_map (λ (d : Descriptor). d.description) (map.get table n)) (range_with_len 0 OPEN_MAX)
 
 -- whether execve(2) closes a number
 -- execve(2), Effect on process attributes; open(2), O_CLOEXEC
