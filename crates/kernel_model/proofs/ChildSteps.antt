@@ -1,7 +1,7 @@
 -- No row changes a node, so that a child without a number stays as it is through each step that gives it none.
 use Rattle.std.proofs.Common.{◌≡◌, ℕ, ℤ, Bool, true, false, cond, List, [], ◌∷◌, ◌++◌, length, Option, Some, None, ap}
 use Rattle.std.proofs.Common.{refl, sym, ◌∙◌, inl, inr, subst, option_map, pos, nat_cmp}
-use Rattle.std.specs.Prelude.{nat_le, nat_lt, ◌+◌, ◌==◌, ◌%◌, ◌^◌, ◌&&◌, ◌||◌, min, not}
+use Rattle.std.specs.Prelude.{nat_le, nat_lt, ◌+◌, ◌-◌, ◌==◌, ◌%◌, ◌^◌, ◌&&◌, ◌||◌, min, not}
 use Rattle.std.specs.Int.{from_le_bytes, to_le_bytes, w32}
 use Rattle.std.specs.List.{list_all, list_any}
 use Rattle.std.specs.Ordering.{int_eq}
@@ -27,7 +27,7 @@ use Rattle.task_table.specs.declared.task.ReapEnd.{ReapEnd}
 use Rattle.task_table.specs.declared.task.ReapEnd.TheVariants.{Reaped, NotYet, NoChild}
 use Rattle.task_table.specs.declared.task.Status.{Status}
 use Rattle.task_table.specs.declared.task.Status.TheVariants.{Exited, Killed}
-use Rattle.task_table.specs.Ends.{ended_tasks, exited, group_ended, is_itself, is_member}
+use Rattle.task_table.specs.Ends.{ended_tasks, exited, group_ended, is_itself, is_last, is_member}
 use Rattle.task_table.specs.Reaps.{after_reap, reap_end}
 use Rattle.task_table.specs.Status.{status_number}
 use Rattle.task_table.specs.Table.{TaskTable}
@@ -40,8 +40,8 @@ use Rattle.kernel_model.specs.declared.entry.Args.{Args}
 use Rattle.kernel_model.specs.declared.entry.Entry.{Entry}
 use Rattle.kernel_model.specs.declared.entry.Entry.TheVariants.{Run, Call, Sleep, End}
 use Rattle.kernel_model.specs.declared.kernel.Kernel.{Kernel}
-use Rattle.kernel_model.specs.declared.kernel.Part.TheVariants.{OfTasks, OfSpace, OfArea, OfNode, OfConsole}
-use Rattle.kernel_model.specs.declared.kernel.Part.TheVariants.{OfSleepers, OfFaults}
+use Rattle.kernel_model.specs.declared.kernel.Part.TheVariants.{OfTasks, OfSpace, OfArea, OfNode, OfSleepers}
+use Rattle.kernel_model.specs.declared.kernel.Part.TheVariants.{OfConsole, OfFaults}
 use Rattle.kernel_model.specs.declared.opening.Given.{Given}
 use Rattle.kernel_model.specs.declared.traps.Next.{Next}
 use Rattle.kernel_model.specs.declared.traps.Next.TheVariants.{Goes, Calls, Traps, Touches}
@@ -54,11 +54,11 @@ use Rattle.kernel_model.specs.calls.Buffers.{filled, fills}
 use Rattle.kernel_model.specs.calls.Callers.{Context, context_of, caller_of}
 use Rattle.kernel_model.specs.calls.ClearWords.{Cleared, nothing_cleared, words_cleared}
 use Rattle.kernel_model.specs.calls.Clone.{Cloning, caller_word, clone_of, cloning_of, is_full, is_process, is_thread}
-use Rattle.kernel_model.specs.calls.Clone.{made_for_child, process_by, process_made, process_row, sets_child_word}
-use Rattle.kernel_model.specs.calls.Clone.{thread_by, thread_made, thread_row, word_set}
+use Rattle.kernel_model.specs.calls.Clone.{made_for_child, process_by, process_made, process_row, process_with}
+use Rattle.kernel_model.specs.calls.Clone.{sets_child_word, thread_by, thread_made, thread_row, word_set}
 use Rattle.kernel_model.specs.calls.Console.{is_written_to, descriptor, to_console, appended, write_row}
-use Rattle.kernel_model.specs.calls.Ending.{end_changes, ends_as, ends_with, exit_row, exit_group_row, group_end}
-use Rattle.kernel_model.specs.calls.Ending.{set_tid_address_row, task_end}
+use Rattle.kernel_model.specs.calls.Ending.{closed_if, end_changes, ends_as, ends_with, exit_row, exit_group_row}
+use Rattle.kernel_model.specs.calls.Ending.{group_end, set_tid_address_row, task_end}
 use Rattle.kernel_model.specs.calls.Futex.{by_word, futex_of, is_wait, is_wake, sleeps_on, wakes_on}
 use Rattle.kernel_model.specs.calls.Identity.{owner, parent_of, utsname}
 use Rattle.kernel_model.specs.calls.Memory.{mmap_row}
@@ -71,6 +71,7 @@ use Rattle.kernel_model.specs.calls.Wait.{asked_child, by_child, is_child_asked,
 use Rattle.kernel_model.specs.entries.Areas.{Stands, next_row, bytes_read, bytes_written, area_changes, reach_changes}
 use Rattle.kernel_model.specs.entries.Given.{has_any, is_in_order, above_last, Nodes_so_far, number_all, node_changes}
 use Rattle.kernel_model.specs.entries.Given.{met, faulted, risen, is_unused, may_meet}
+use Rattle.kernel_model.specs.descriptors.Counts.{table_closed, table_copied}
 use Rattle.kernel_model.specs.entries.Parts.{Parts, parts, Prog, done, look, outcome_in, ◌>>=◌, IsIn, Change}
 use Rattle.kernel_model.specs.entries.Parts.{changed, parts_of}
 use Rattle.kernel_model.specs.entries.Steps.{run_changes, run_row, run_alone, or_step, step_row, step_with, end_at}
@@ -80,8 +81,10 @@ use Rattle.kernel_model.specs.entries.Steps.{are_named, are_just, row_of, if_liv
 use Rattle.kernel_model.specs.entries.Steps.{may_enter, step, stands_at, sleep_at, slept_by, woken_at, woken_entry}
 use Rattle.kernel_model.specs.entries.Waiting.{Wait, Awake, Asleep, Woken, wait_of}
 use Rattle.kernel_model.specs.laws.Children.{HasUnnumbered, is_given_to, numbers_child}
+use Rattle.kernel_model.proofs.FileChanges.{closed_open, copied_open, open_leaves}
 use Rattle.kernel_model.proofs.Trees.{outcome-bind}
-use Rattle.kernel_model.proofs.LocalityLaws.{changed_other, entered}
+use Rattle.kernel_model.proofs.LocalityLaws.{entered}
+use Rattle.kernel_model.proofs.PartChanges.{changed_other}
 use Rattle.kernel_model.proofs.ChildLaws.{Stays, StaysIf, all_stay, changed-append, nodes_left, unused_others}
 
 -- ---- changes of which none is of a node
@@ -118,6 +121,13 @@ end_leaves : (c : Caller) (ended : List EndedTask) (after : TaskTable) (x : Clea
 end_leaves c ended after x waiting ino (inl e) = absurd (cc e)
 end_leaves c ended after x waiting ino (inr (inl e)) = absurd (cc e)
 end_leaves c ended after x waiting ino (inr (inr is)) = reach_leaves c.memory x.reach ino is
+
+-- pieces that change what is open
+copied_leaves : (s : Parts) (name copy : Made) → LeavesNodes (outcome_in s (table_copied name copy))
+copied_leaves s name copy = open_leaves (outcome_in s (table_copied name copy)) (copied_open name copy s)
+
+closed_leaves : (s : Parts) (name : Made) → LeavesNodes (outcome_in s (table_closed name))
+closed_leaves s name = open_leaves (outcome_in s (table_closed name)) (closed_open name s)
 
 -- ---- no call's row changes a node
 
@@ -169,13 +179,27 @@ module _ (s : Parts) where
       (λ x. look OfSleepers (λ waiting. done (end_changes c ended after x waiting)))))
       (end_leaves c ended after (outcome_in s (words_cleared c ended (nothing_cleared c.space))) (s OfSleepers))
 
+  and_closed_leaves : (last : Bool) (c : Caller) (changes : List Change) → LeavesNodes changes
+      → LeavesNodes (outcome_in s (closed_if last c changes))
+  and_closed_leaves false c changes here = here
+  and_closed_leaves true c changes here =
+      subst LeavesNodes (sym (outcome-bind s (table_closed c.table) (λ closed. done (changes ++ closed))))
+      (leaves-append changes _ here (closed_leaves s c.table))
+
+  behind_ends : (c : Caller) (ended : List EndedTask) (after : TaskTable) (last : Bool)
+      → LeavesNodes (outcome_in s (ends_as c ended after >>= closed_if last c))
+  behind_ends c ended after last =
+      subst LeavesNodes (sym (outcome-bind s (ends_as c ended after) (closed_if last c)))
+      (and_closed_leaves last c (outcome_in s (ends_as c ended after)) (ends_leave c ended after))
+
   group_leaves : (c : Caller) (status : Status) → LeavesNodes (outcome_in s (group_end c status))
   group_leaves c status =
-      ends_leave c (ended_tasks (is_member c.group) (s OfTasks).tasks) (group_ended (s OfTasks) c.group status)
+      behind_ends c (ended_tasks (is_member c.group) (s OfTasks).tasks) (group_ended (s OfTasks) c.group status) true
 
   task_leaves : (c : Caller) (status : Status) → LeavesNodes (outcome_in s (task_end c status))
   task_leaves c status =
-      ends_leave c (ended_tasks (is_itself c.task) (s OfTasks).tasks) (exited (s OfTasks) c.task status)
+      behind_ends c (ended_tasks (is_itself c.task) (s OfTasks).tasks) (exited (s OfTasks) c.task status)
+      (is_last (s OfTasks).tasks c.task)
 
   exit_leaves : (status : ℕ) (c : Caller) → Leaves (exit_row status c)
   exit_leaves status c =
@@ -236,21 +260,28 @@ module _ (s : Parts) where
         (behind_leaves (caller_word c x list) (thread_by c x list) (thread_by_leaves _))
 
     module _ (context : Context) where
-      process_made_leaves : (space : AddressSpace) (reach : Option Reach)
-          → LeavesNodes (process_made context c x list space reach).changes
-      process_made_leaves space None ino is = is
-      process_made_leaves space (Some reach) ino (inl e) = absurd (cc e)
-      process_made_leaves space (Some reach) ino (inr (inl e)) = absurd (cc e)
-      process_made_leaves space (Some reach) ino (inr (inr (inl e))) = absurd (cc e)
-      process_made_leaves space (Some reach) ino (inr (inr (inr is))) =
-          reach_leaves (made_for_child context.place) reach ino is
+      process_made_leaves : (space : AddressSpace) (reach : Reach) (copies : List Change) → LeavesNodes copies
+          → LeavesNodes (process_made context c x list space reach copies).changes
+      process_made_leaves space reach copies more ino (inl e) = absurd (cc e)
+      process_made_leaves space reach copies more ino (inr (inl e)) = absurd (cc e)
+      process_made_leaves space reach copies more ino (inr (inr (inl e))) = absurd (cc e)
+      process_made_leaves space reach copies more ino (inr (inr (inr is))) =
+          leaves-append (reach_changes (made_for_child context.place) reach) copies
+          (reach_leaves (made_for_child context.place) reach) more ino is
+
+      process_with_leaves : (space : AddressSpace) (reach : Option Reach)
+          → Leaves (process_with context c x list space reach)
+      process_with_leaves space None = refused_leaves EFAULT
+      process_with_leaves space (Some reach) =
+          behind_leaves (table_copied c.table (made_for_child context.place)) _
+          (process_made_leaves space reach _ (copied_leaves s c.table (made_for_child context.place)))
 
       process_by_leaves : (reach : Option Reach) → Leaves (process_by context c x list reach)
       process_by_leaves None = refused_leaves EFAULT
       process_by_leaves (Some reach) =
           behind_leaves
           (word_set c.task (sets_child_word x.flags) (unreserved c.space.mapping) reach.hand x.child_word
-          (list.last + 1)) _ (process_made_leaves reach.space _)
+          (list.last + 1)) _ (process_with_leaves reach.space _)
 
       process_leaves : Leaves (process_row context c x list)
       process_leaves =

@@ -4,8 +4,11 @@ pub mod CallLemmas
 pub mod ChildLaws
 pub mod ChildSteps
 pub mod Failing
+pub mod FileChanges
 pub mod LocalityLaws
 pub mod NamedMaps
 pub mod OpenedTasks
+pub mod PartChanges
 pub mod Trees
+pub mod Turns
 pub mod WriteLaws

@@ -1,15 +1,15 @@
 -- Laws of maps by name: what a name has after a change at that name, or at another.
 use Rattle.std.proofs.Common.{◌≡◌, ◌≢◌, ℕ, refl, ap, sym, ◌∙◌, ◌⊎◌, inl, inr}
-use Rattle.std.specs.Prelude.{Option, Some, None, unwrap_or}
+use Rattle.std.specs.Prelude.{Option, Some, None, true, false, is_some, unwrap_or}
 use Rattle.std.specs.Option.{option_and_then, option_map}
-use Rattle.std.specs.FinMap.{FinMap, get, insert, remove, empty}
+use Rattle.std.specs.FinMap.{FinMap, get, insert, remove, empty, contains_key}
 use Rattle.std.specs.Ordering.{nat_cmp}
 use Rattle.kernel_model.specs.Names.{NamedMap, get_named, with_named, without_named}
 use Rattle.std.specs.Cmp.{nat_cmp_total, tied_itself}
 use Rattle.std.specs.FinMap.{nat_cmp-IsAntisymmetric}
 use Rattle.std.specs.declared.cmp.Ordering.TheVariants.{Less, Equal, Greater}
 use Rattle.sn_base.proofs.Maps.{get_of_empty, get-insert_same, get-insert_other, get-remove_same, get-remove_other}
-use Rattle.sn_base.proofs.Maps.{insert_same}
+use Rattle.sn_base.proofs.Maps.{insert_same, insert-insert, remove-insert, remove_absent}
 use Rattle.sn_base.specs.declared.made.Made.{Made}
 use Rattle.kernel_model.specs.entries.Parts.{set_named}
 
@@ -113,6 +113,23 @@ module _ {V : Type 0} where
           ap (λ o. insert names place (insert (unwrap_or o empty) index v)) g
           ∙ ap (insert names place) (insert_same m index v e) ∙ insert_same names place m g
 
+  -- what a place has once one of its names was set
+  place_set : (m : NamedMap V) (p i : ℕ) (v : V)
+      → unwrap_or (get (with_named m p i v) p) empty ≡ insert (unwrap_or (get m p) empty) i v
+  place_set m p i v = ap (λ o. unwrap_or o empty) (get-insert_same m p _)
+
+  -- two names of one place come to one change of that place
+  pub both_set : (m : NamedMap V) (p i j : ℕ) (v w : V)
+      → with_named (with_named m p i v) p j w ≡ insert m p (insert (insert (unwrap_or (get m p) empty) i v) j w)
+  both_set m p i j v w =
+      ap (λ n. insert (with_named m p i v) p (insert n j w)) (place_set m p i v) ∙ insert-insert m p _ _
+
+  -- of two values of one name the last stays
+  pub with-with : (m : NamedMap V) (p i : ℕ) (v w : V)
+      → with_named (with_named m p i v) p i w ≡ with_named m p i w
+  with-with m p i v w =
+      both_set m p i i v w ∙ ap (insert m p) (insert-insert (unwrap_or (get m p) empty) i v w)
+
   -- ---- a value taken out
 
   pub get-without_same : (names : NamedMap V) (place index : ℕ)
@@ -136,6 +153,67 @@ module _ {V : Type 0} where
       by_place (Some m) e (inl d) = get_elsewhere names place p _ i d
       by_place (Some m) e (inr d) =
           get_kept names place _ i (get-remove_other m index i d ∙ sym (ap (option_and_then (λ n. get n i)) e)) p
+
+  -- to take out what isn't there changes nothing
+  pub without_absent : (names : NamedMap V) (place index : ℕ) → get_named names place index ≡ None
+      → without_named names place index ≡ names
+  without_absent names place index e = by_place (get names place) refl e
+    where
+      by_place : (o : Option (FinMap nat_cmp V)) → get names place ≡ o → option_and_then (λ m. get m index) o ≡ None
+          → unwrap_or (option_map (λ m. insert names place (remove m index)) o) names ≡ names
+      by_place None g e = refl
+      by_place (Some m) g e =
+          ap (insert names place) (remove_absent m index e) ∙ insert_same names place m g
+
+  -- ---- a value that was set, taken back
+
+  -- where the name had another
+  pub back_with : (names : NamedMap V) (place index : ℕ) (v w : V) → get_named names place index ≡ Some w
+      → with_named (with_named names place index v) place index w ≡ names
+  back_with names place index v w e = with-with names place index v w ∙ with_same names place index w e
+
+  -- a name of a place that has this map, once it was set and taken out
+  without_set : (names : NamedMap V) (place index : ℕ) (v : V) (m : FinMap nat_cmp V) → get names place ≡ Some m
+      → without_named (with_named names place index v) place index ≡ insert names place (remove m index)
+  without_set names place index v m g =
+      ap (λ o. without_named (insert names place (insert (unwrap_or o empty) index v)) place index) g
+      ∙ ap (λ o. unwrap_or (option_map (λ n. insert (insert names place (insert m index v)) place (remove n index)) o)
+      (insert names place (insert m index v))) (get-insert_same names place (insert m index v))
+      ∙ insert-insert names place (insert m index v) (remove (insert m index v) index)
+      ∙ ap (insert names place) (remove-insert m index v)
+
+  -- where it had none, but its place had a map,
+  pub back_without : (names : NamedMap V) (place index : ℕ) (v : V) → get_named names place index ≡ None
+      → contains_key names place ≡ true → without_named (with_named names place index v) place index ≡ names
+  back_without names place index v e had = by_place (get names place) refl e had
+    where
+      by_place : (o : Option (FinMap nat_cmp V)) → get names place ≡ o → option_and_then (λ m. get m index) o ≡ None
+          → is_some o ≡ true → without_named (with_named names place index v) place index ≡ names
+      by_place None g e had = absurd (cc had)
+      by_place (Some m) g e had =
+          without_set names place index v m g ∙ ap (insert names place) (remove_absent m index e)
+          ∙ insert_same names place m g
+
+  -- a name that has a value is without it, whatever it was set to before
+  pub without-with : (names : NamedMap V) (place index : ℕ) (v w : V) → get_named names place index ≡ Some w
+      → without_named (with_named names place index v) place index ≡ without_named names place index
+  without-with names place index v w e = by_place (get names place) refl e
+    where
+      by_place : (o : Option (FinMap nat_cmp V)) → get names place ≡ o → option_and_then (λ m. get m index) o ≡ Some w
+          → without_named (with_named names place index v) place index
+          ≡ unwrap_or (option_map (λ m. insert names place (remove m index)) o) names
+      by_place None g e = absurd (cc e)
+      by_place (Some m) g e = without_set names place index v m g
+
+  -- and where the place had none
+  pub back_empty : (names : NamedMap V) (place index : ℕ) (v : V) → contains_key names place ≡ false
+      → remove (with_named names place index v) place ≡ names
+  back_empty names place index v had =
+      remove-insert names place _ ∙ remove_absent names place (by_place (get names place) had)
+    where
+      by_place : (o : Option (FinMap nat_cmp V)) → is_some o ≡ false → o ≡ None
+      by_place None had = refl
+      by_place (Some m) had = absurd (cc had)
 
 -- ---- of names in one piece
 

@@ -6,7 +6,7 @@ use Rattle.task_table.specs.Clones.{opened}
 use Rattle.task_table.specs.Kept.{IsSound}
 use Rattle.task_table.specs.Table.{TaskTable, no_tasks, live_count}
 use Rattle.task_table.proofs.Keeping.{sound_empty, sound_with_group}
-use Rattle.kernel_model.specs.laws.Beginnings.{IsRoomFor}
+use Rattle.kernel_model.specs.laws.Beginnings.{MayOpen}
 
 -- so many tasks were opened: each of them lives, and the last has that number
 pub record AreOpened (n : ℕ) (list : TaskTable) : Type 0 where
@@ -19,15 +19,16 @@ pub record AreOpened (n : ℕ) (list : TaskTable) : Type 0 where
 pub opened_none : AreOpened 0 no_tasks
 opened_none = record { live = []; children = []; sound = sound_empty; all = refl; last = refl }
 
--- there is room for a task more
-pub room_for : (n : ℕ) (list : TaskTable) → n < 64 → AreOpened n list → IsRoomFor list
-room_for n list few o =
+-- one more may be opened
+pub may_open : (n : ℕ) (list : TaskTable) → n < 64 → AreOpened n list → MayOpen list
+may_open n list few o =
     let count : live_count list ≡ n = sym (ap length o.sound.live_is) ∙ o.all in
-    record { few = omega arith; next = let last : list.last ≡ n = o.last in omega arith }
+    let last : list.last ≡ n = o.last in
+    record { room = record { few = omega arith; next = omega arith }; few = omega arith }
 
 -- in whatever list that is the same
-pub room_still : (list after : TaskTable) → after ≡ list → IsRoomFor list → IsRoomFor after
-room_still list after same room = subst (λ (x : TaskTable). IsRoomFor x) (sym same) room
+pub opens_still : (list after : TaskTable) → after ≡ list → MayOpen list → MayOpen after
+opens_still list after same may = subst (λ (x : TaskTable). MayOpen x) (sym same) may
 
 -- which is one of one more
 pub opened_more : (n : ℕ) (list : TaskTable) (memory table : Made) (cwd : ℕ) → n < 64 → AreOpened n list

@@ -1,8 +1,10 @@
 -- The definitions of the one-thread kernel, by subject.
 pub mod Names
 pub mod NameLends
+pub mod Formers
 pub mod machine
 pub mod calls
+pub mod descriptors
 pub mod entries
 pub mod files
 pub mod opening

@@ -13,3 +13,6 @@ pub mod RandomBytes
 pub mod Table
 pub mod Time
 pub mod Wait
+pub mod Lookups
+pub mod Descriptors
+pub mod Seek

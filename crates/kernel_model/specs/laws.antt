@@ -2,3 +2,4 @@
 pub mod InPlace
 pub mod Beginnings
 pub mod Children
+pub mod Files

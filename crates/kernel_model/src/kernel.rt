@@ -1,6 +1,6 @@
 //! The kernel's state, and the parts of it that a step reads and changes.
 
-use crate::{GuestArea, GuestSpace, Named};
+use crate::{GuestArea, GuestSpace, Named, OpenFiles};
 use futex_core::Waiters;
 use host_node::Tree;
 use mount_file::Mount;
@@ -29,15 +29,16 @@ pub struct Node {
 
 /// The kernel's state: the task list (which tasks and thread groups there are, and how they stand), the registers of
 /// tasks by number, address spaces by the place of the entry that made them and an index (those of opening tasks by
-/// place 0 and the task's number), shared areas by the place of the entry that made them and an index, nodes by number,
-/// the futex list, the console's bytes, by how much each node's count of faults rose, the mounts, the key of the random
-/// stream, and the number of entries so far.
+/// place 0 and the task's number), shared areas by the place of the entry that made them and an index, what is open
+/// (descriptor tables, open file descriptions, pipes), nodes by number, the futex list, the console's bytes, by how
+/// much each node's count of faults rose, the mounts, the key of the random stream, and the number of entries so far.
 #[derive(Drop)]
 pub struct Kernel {
     pub tasks: Tasks,
     pub registers: Map<Regs>,
     pub spaces: Named<GuestSpace>,
     pub areas: Named<GuestArea>,
+    pub files: OpenFiles,
     pub nodes: Map<Node>,
     pub sleepers: Waiters,
     pub console: List<u8>,
@@ -54,6 +55,9 @@ pub enum Part {
     OfTask(u32),
     OfSpace(Made),
     OfArea(Area),
+    OfTable(Made),
+    OfDescription(Made),
+    OfPipe(Made),
     OfNode(u64),
     OfSleepers,
     OfConsole,

@@ -31,6 +31,7 @@ mod kernel;
 mod laws;
 mod limits;
 mod named;
+mod open_files;
 mod opening;
 mod traps;
 
@@ -41,6 +42,7 @@ pub use guest_space::GuestSpace;
 pub use kernel::{Kernel, Node, Numbered, Part};
 pub use laws::locality;
 pub use limits::{CONSOLE_ROOM, LAST_NUMBER, LONGEST_IMAGE, MOST_RANDOM, MOST_WRITTEN};
-pub use named::Named;
+pub use named::{Former, Named};
+pub use open_files::{OpenFile, OpenFiles};
 pub use opening::{Fresh, Given, Left, LeftRise, Opened, Opening, Rise};
 pub use traps::Next;

@@ -1,13 +1,21 @@
 //! Maps from the names of made things to values: a name is the place of the commit log's entry that made
 //! the thing, and which of that entry's it is.
 
-ghost use Rattle.std.specs.Prelude.{◌≡◌, IsTrue, OnOk, OnErr, None, option_copied};
+ghost use Rattle.std.specs.Prelude.{◌≡◌, IsTrue, IfOk, OnOk, OnErr, None, option_copied};
 ghost use Rattle.std.specs.FinMap as map;
-ghost use Rattle.kernel_model.specs.Names.{get_named, has_named, with_named, without_named};
+ghost use Rattle.kernel_model.specs.Names.{NamedMap, get_named, has_named, with_named, without_named};
 
 use sn_base::{Map, Memory};
 use std::alloc::Global;
 use std::marker::Model;
+use std::mem;
+
+/// What a name had before it was set: its value, if it had one, and whether its place had a map.
+#[derive(Drop)]
+pub struct Former<V> {
+    had_place: bool,
+    value: Option<V>,
+}
 
 /// A map from names to values: address spaces, shared areas, descriptor tables, pipes. A name is a place in
 /// the commit log and an index among what the entry there made. Contracts see it as a finite map from
@@ -33,6 +41,7 @@ impl<V> Named<V> {
     ghost use Rattle.std.specs.Borrow.{sem};
     ghost use Rattle.std.specs.Option.{option_copied_mut};
     ghost use Rattle.kernel_model.specs.NameLends.{lends_named};
+    ghost use Rattle.kernel_model.specs.Formers.{IsFormer};
 
     /// The empty map, which takes no memory.
     pub fn new(alloc: Global) -> Self
@@ -102,6 +111,59 @@ impl<V> Named<V> {
     {
         self.places.get_mut(place)?.remove(u64::from(index))
     }
+
+    /// Sets what a name has, and answers what it had, so that a caller can take it back. An `Err` leaves the map as it
+    /// was.
+    pub fn put(
+        &mut self,
+        alloc: Global,
+        place: u64,
+        index: u32,
+        value: V,
+    ) -> Result<Former<V>, Memory>
+    where
+        V: Drop,
+        ensures ok { IfOk result (λ f. self.new ≡ with_named self.old place index value) }
+        ensures former { IfOk result (λ f. IsFormer f self.old place index) }
+        ensures err { OnErr result (self.new ≡ self.old) }
+    {
+        if let Some(present) = self.get_mut(place, index) {
+            let former = mem::replace(present, value);
+            return Ok(Former {
+                had_place: true,
+                value: Some(former),
+            });
+        }
+        let had_place = self.places.contains(place);
+        self.insert(alloc, place, index, value)?;
+        Ok(Former {
+            had_place,
+            value: None,
+        })
+    }
+
+    /// Takes back that a name was set, so that the map is as it was before. It takes no memory.
+    pub fn give_back(&mut self, place: u64, index: u32, former: Former<V>)
+    where
+        V: Drop,
+        ensures { (m : NamedMap V) (v : V) → self.old ≡ with_named m place index v → IsFormer former m place index →
+            self.new ≡ m }
+    {
+        match former.value {
+            Some(value) => {
+                if self.contains(place, index) {
+                    self.replace(place, index, value);
+                }
+            }
+            None => {
+                if former.had_place {
+                    let _ = self.remove(place, index);
+                } else {
+                    let _ = self.places.remove(place);
+                }
+            }
+        }
+    }
 }
 
 #[cfg(test)]
@@ -138,6 +200,25 @@ mod tests {
         assert_eq!(rt; names.remove(7, 1), None);
         assert_eq!(rt; names.get(7, 0).copied(), Some(4));
         assert_eq!(rt; names.get(8, 0).copied(), Some(9));
+        Ok(())
+    }
+
+    #[test]
+    fn what_was_put_is_given_back(rt: HostRuntime) -> Result<(), Fail> {
+        let mut names: Named<u8> = Named::new(rt.alloc());
+        names.insert(rt.alloc(), 7, 0, 1)?;
+        let first = names.put(rt.alloc(), 7, 0, 2)?;
+        let beside = names.put(rt.alloc(), 7, 1, 3)?;
+        let apart = names.put(rt.alloc(), 8, 0, 4)?;
+        assert_eq!(rt; names.get(7, 0).copied(), Some(2));
+        assert_eq!(rt; names.get(7, 1).copied(), Some(3));
+        assert_eq!(rt; names.get(8, 0).copied(), Some(4));
+        names.give_back(8, 0, apart);
+        names.give_back(7, 1, beside);
+        names.give_back(7, 0, first);
+        assert_eq!(rt; names.get(7, 0).copied(), Some(1));
+        assert_eq!(rt; names.get(7, 1).copied(), None);
+        assert_eq!(rt; names.get(8, 0).copied(), None);
         Ok(())
     }
 }

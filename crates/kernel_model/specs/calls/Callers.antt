@@ -5,7 +5,6 @@ use Rattle.mount_file.specs.declared.mounts.Mount.{Mount}
 use Rattle.rv_table.specs.declared.regs.Regs.{Regs}
 use Rattle.mm_space.specs.Spaces.{AddressSpace}
 use Rattle.task_table.specs.declared.task.Group.{Group}
-use Rattle.sn_base.specs.declared.made.Made.{Made}
 use Rattle.task_table.specs.Table.{TaskTable, is_live, group_of}
 use Rattle.kernel_model.specs.declared.caller.Caller.{Caller}
 use Rattle.kernel_model.specs.declared.kernel.Kernel.{Kernel}
@@ -25,25 +24,26 @@ abbrev pub context_of : Kernel → Context
 context_of k = record { place = k.entries + 1; mounts = k.mounts; seed = k.seed }
 
 -- a live task with its group, its registers and its memory, where each is there
--- credentials(7), Process ID (PID); clone(2), CLONE_VM
-abbrev pub in_memory : (task group : ℕ) → Made → Regs → Option AddressSpace → Option Caller
-in_memory task group memory registers space =
+-- credentials(7), Process ID (PID); clone(2), CLONE_VM, CLONE_FILES
+abbrev pub in_memory : (task group : ℕ) → Group → Regs → Option AddressSpace → Option Caller
+in_memory task group g registers space =
     option_map (λ (s : AddressSpace). record {
       task = task;
       group = group;
-      memory = memory;
+      memory = g.memory;
+      table = g.table;
       registers = registers;
       space = s;
     }) space
 
-abbrev pub with_memory : (task group : ℕ) → Made → Option Regs → Prog (Option Caller)
-with_memory task group memory None = done None
-with_memory task group memory (Some registers) =
-    look (OfSpace memory) (λ space. done (in_memory task group memory registers space))
+abbrev pub with_memory : (task group : ℕ) → Group → Option Regs → Prog (Option Caller)
+with_memory task group g None = done None
+with_memory task group g (Some registers) =
+    look (OfSpace g.memory) (λ space. done (in_memory task group g registers space))
 
 abbrev pub in_group : (task group : ℕ) → Option Group → Prog (Option Caller)
 in_group task group None = done None
-in_group task group (Some g) = look (OfTask task) (with_memory task group g.memory)
+in_group task group (Some g) = look (OfTask task) (with_memory task group g)
 
 abbrev pub among : (task : ℕ) → TaskTable → Prog (Option Caller)
 among task list =

@@ -1,6 +1,6 @@
 -- clone: a new process, or a new thread in the caller's thread group.
-use Rattle.std.specs.Prelude.{ℕ, ◌+◌, ◌-◌, ◌*◌, ◌/◌, ◌%◌, ◌^◌, ◌==◌, ◌||◌, nat_le, List, [], ◌∷◌, Bool, Option}
-use Rattle.std.specs.Prelude.{Some, None, pos, if◌then◌else◌}
+use Rattle.std.specs.Prelude.{ℕ, ◌+◌, ◌-◌, ◌*◌, ◌/◌, ◌%◌, ◌^◌, ◌==◌, ◌||◌, nat_le, List, [], ◌∷◌, ◌++◌, Bool}
+use Rattle.std.specs.Prelude.{Option, Some, None, pos, if◌then◌else◌}
 use Rattle.std.specs.Int.{to_le_bytes, w32}
 use Rattle.sn_errno.specs.declared.errno.Errno.TheVariants.{EAGAIN, EFAULT, EINVAL}
 use Rattle.rv_table.specs.declared.regs.Regs.{Regs}
@@ -18,8 +18,9 @@ use Rattle.kernel_model.specs.machine.Registers.{replied}
 use Rattle.kernel_model.specs.machine.Spaces.{reach_with}
 use Rattle.kernel_model.specs.calls.Answers.{Answer, replies, refuses}
 use Rattle.kernel_model.specs.calls.Callers.{Context}
+use Rattle.kernel_model.specs.descriptors.Counts.{table_copied}
 use Rattle.kernel_model.specs.entries.Areas.{bytes_written_over, reach_changes}
-use Rattle.kernel_model.specs.entries.Parts.{Prog, done, look, ◌>>=◌}
+use Rattle.kernel_model.specs.entries.Parts.{Change, Prog, done, look, ◌>>=◌}
 
 -- ---- flags
 
@@ -147,9 +148,8 @@ thread_by c x list (Some reach) =
 -- a new process: its memory is a copy of the caller's as it was before the call, in which nothing is reserved, and its
 -- word lies there
 -- fork(2); clone(2), CLONE_CHILD_SETTID; that the caller's word is set behind the copy: clone(2), CLONE_PARENT_SETTID
-abbrev pub process_made : Context → Caller → Cloning → TaskTable → AddressSpace → Option Reach → Answer
-process_made context c x list space None = refuses EFAULT
-process_made context c x list space (Some reach) =
+abbrev pub process_made : Context → Caller → Cloning → TaskTable → AddressSpace → Reach → List Change → Answer
+process_made context c x list space reach copies =
     replies (pos (list.last + 1))
     ((
       OfTasks,
@@ -158,13 +158,22 @@ process_made context c x list space (Some reach) =
     )
     ∷ (OfTask (list.last + 1), Some (child_registers x.flags x.stack x.tls c.registers))
     ∷ (OfSpace c.memory, Some space)
-    ∷ reach_changes (made_for_child context.place) reach)
+    ∷ reach_changes (made_for_child context.place) reach
+    ++ copies)
+
+-- and its descriptor table is a copy of the caller's
+-- fork(2): the child inherits copies of the parent's set of open file descriptors
+abbrev pub process_with : Context → Caller → Cloning → TaskTable → AddressSpace → Option Reach → Prog Answer
+process_with context c x list space None = done (refuses EFAULT)
+process_with context c x list space (Some reach) =
+    table_copied c.table (made_for_child context.place)
+    >>= λ copies. done (process_made context c x list space reach copies)
 
 abbrev pub process_by : Context → Caller → Cloning → TaskTable → Option Reach → Prog Answer
 process_by context c x list None = done (refuses EFAULT)
 process_by context c x list (Some reach) =
     word_set c.task (sets_child_word x.flags) (unreserved c.space.mapping) reach.hand x.child_word (list.last + 1)
-    >>= λ last. done (process_made context c x list reach.space last)
+    >>= process_with context c x list reach.space
 
 -- where one more may be made, the caller's word is set first
 -- clone(2), ERRORS: EAGAIN, EFAULT; their order: profile

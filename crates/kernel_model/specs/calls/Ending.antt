@@ -1,19 +1,20 @@
 -- exit and exit_group, the ends of tasks and thread groups, and what tasks say of their end: set_tid_address and
 -- set_robust_list.
-use Rattle.std.specs.Prelude.{ℕ, ◌%◌, List, [], ◌∷◌, pos}
+use Rattle.std.specs.Prelude.{ℕ, ◌%◌, List, [], ◌∷◌, ◌++◌, Bool, if◌then◌else◌, pos}
 use Rattle.futex_core.specs.declared.keys.FutexKey.{FutexKey}
 use Rattle.futex_core.specs.FutexLists.{FutexList, after_leave, after_wake}
 use Rattle.task_table.specs.declared.task.EndedTask.{EndedTask}
 use Rattle.task_table.specs.declared.task.Status.{Status}
 use Rattle.task_table.specs.declared.task.Status.TheVariants.{Exited}
 use Rattle.task_table.specs.declared.task.Task.{Task}
-use Rattle.task_table.specs.Ends.{exited, group_ended, ended_tasks, is_itself, is_member}
+use Rattle.task_table.specs.Ends.{exited, group_ended, ended_tasks, is_itself, is_last, is_member}
 use Rattle.task_table.specs.Entries.{changed_at}
 use Rattle.task_table.specs.Table.{TaskTable}
 use Rattle.kernel_model.specs.declared.caller.Caller.{Caller}
 use Rattle.kernel_model.specs.declared.kernel.Part.TheVariants.{OfTasks, OfSleepers}
 use Rattle.kernel_model.specs.calls.Answers.{Answer, replies}
 use Rattle.kernel_model.specs.calls.ClearWords.{Cleared, nothing_cleared, words_cleared}
+use Rattle.kernel_model.specs.descriptors.Counts.{table_closed}
 use Rattle.kernel_model.specs.entries.Areas.{reach_changes}
 use Rattle.kernel_model.specs.entries.Parts.{Prog, done, look, Change, ◌>>=◌}
 
@@ -40,17 +41,27 @@ ends_as c ended after =
     words_cleared c ended (nothing_cleared c.space)
     >>= λ x. look OfSleepers (λ waiting. done (end_changes c ended after x waiting))
 
+-- and where the thread group ends, its descriptors are closed
+-- _exit(2), DESCRIPTION; close(2)
+abbrev pub and_closed : Caller → List Change → Prog (List Change)
+and_closed c changes = table_closed c.table >>= λ closed. done (changes ++ closed)
+
+abbrev pub closed_if : (last : Bool) → Caller → List Change → Prog (List Change)
+closed_if last c changes = if last then and_closed c changes else done changes
+
 -- the caller's thread group ends with a status, with all its tasks
 -- exit_group(2)
 abbrev pub group_end : Caller → Status → Prog (List Change)
 group_end c status =
-    look OfTasks (λ list. ends_as c (ended_tasks (is_member c.group) list.tasks) (group_ended list c.group status))
+    look OfTasks (λ list. ends_as c (ended_tasks (is_member c.group) list.tasks) (group_ended list c.group status)
+    >>= and_closed c)
 
 -- the caller ends with a status, and with the last task of a thread group the group
 -- _exit(2)
 abbrev pub task_end : Caller → Status → Prog (List Change)
 task_end c status =
-    look OfTasks (λ list. ends_as c (ended_tasks (is_itself c.task) list.tasks) (exited list c.task status))
+    look OfTasks (λ list. ends_as c (ended_tasks (is_itself c.task) list.tasks) (exited list c.task status)
+    >>= closed_if (is_last list.tasks c.task) c)
 
 -- an end as a call; the reply, which nobody reads, is 0
 -- exit_group(2)

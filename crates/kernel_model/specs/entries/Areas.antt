@@ -11,8 +11,8 @@ use Rattle.mm_space.specs.Puts.{after_run_stored}
 use Rattle.mm_space.specs.Runs.{bytes_from}
 use Rattle.mm_space.specs.Spaces.{AddressSpace, Reach}
 use Rattle.kernel_model.specs.declared.caller.Caller.{Caller}
-use Rattle.kernel_model.specs.declared.kernel.Part.TheVariants.{OfTasks, OfTask, OfSpace, OfArea, OfNode, OfSleepers}
-use Rattle.kernel_model.specs.declared.kernel.Part.TheVariants.{OfConsole, OfFaults}
+use Rattle.kernel_model.specs.declared.kernel.Part.TheVariants.{OfTasks, OfTask, OfSpace, OfArea, OfTable, OfDescription}
+use Rattle.kernel_model.specs.declared.kernel.Part.TheVariants.{OfPipe, OfNode, OfSleepers, OfConsole, OfFaults}
 use Rattle.kernel_model.specs.declared.traps.Next.{Next}
 use Rattle.kernel_model.specs.declared.traps.Next.TheVariants.{Goes, Calls, Traps, Touches}
 use Rattle.kernel_model.specs.machine.Instructions.{next_of}
@@ -72,6 +72,9 @@ over hand (look (OfArea name) next) = look (OfArea name) (λ content. over hand 
 over hand (look OfTasks next) = look OfTasks (λ content. over hand (next content))
 over hand (look (OfTask task) next) = look (OfTask task) (λ content. over hand (next content))
 over hand (look (OfSpace name) next) = look (OfSpace name) (λ content. over hand (next content))
+over hand (look (OfTable name) next) = look (OfTable name) (λ content. over hand (next content))
+over hand (look (OfDescription name) next) = look (OfDescription name) (λ content. over hand (next content))
+over hand (look (OfPipe name) next) = look (OfPipe name) (λ content. over hand (next content))
 over hand (look (OfNode ino) next) = look (OfNode ino) (λ content. over hand (next content))
 over hand (look OfSleepers next) = look OfSleepers (λ content. over hand (next content))
 over hand (look OfConsole next) = look OfConsole (λ content. over hand (next content))

@@ -2,6 +2,7 @@
 use Rattle.std.specs.Prelude.{◌≡◌, ℕ, List, [], ◌∷◌, Option, Some, None, ◌⊎◌}
 use Rattle.std.specs.Ordering.{nat_cmp}
 use Rattle.std.specs.FinMap as map
+use Rattle.fd_table.specs.Tables.{Table}
 use Rattle.kernel_model.specs.Names.{NamedMap, get_named, with_named, without_named}
 use Rattle.rv_table.specs.declared.error.Area.{Area}
 use Rattle.rv_table.specs.declared.regs.Regs.{Regs}
@@ -10,20 +11,25 @@ use Rattle.task_table.specs.Table.{TaskTable}
 use Rattle.mm_space.specs.Handing.{AreaState}
 use Rattle.futex_core.specs.FutexLists.{FutexList}
 use Rattle.mm_space.specs.Spaces.{AddressSpace}
+use Rattle.pipe_core.specs.Pipes.{PipeState}
 use Rattle.kernel_model.specs.declared.kernel.Kernel.{Kernel}
 use Rattle.kernel_model.specs.declared.kernel.Node.{Node}
 use Rattle.kernel_model.specs.declared.kernel.Part.{Part}
-use Rattle.kernel_model.specs.declared.kernel.Part.TheVariants.{OfTasks, OfTask, OfSpace, OfArea, OfNode}
-use Rattle.kernel_model.specs.declared.kernel.Part.TheVariants.{OfSleepers, OfConsole, OfFaults}
+use Rattle.kernel_model.specs.declared.kernel.Part.TheVariants.{OfTasks, OfTask, OfSpace, OfArea, OfTable, OfDescription}
+use Rattle.kernel_model.specs.declared.kernel.Part.TheVariants.{OfPipe, OfNode, OfSleepers, OfConsole, OfFaults}
+use Rattle.kernel_model.specs.declared.open_files.OpenFile.{OpenFile}
 
--- what a part holds: the task list, a task's registers, an address space, a shared area, a node, the futex list, the
--- console's bytes, rises of counts
+-- what a part holds: the task list, a task's registers, an address space, a shared area, a descriptor table, an open
+-- file description, a pipe, a node, the futex list, the console's bytes, rises of counts
 -- profile
 abbrev pub Holds : Part → Type 0
 Holds OfTasks = TaskTable
 Holds (OfTask task) = Option Regs
 Holds (OfSpace name) = Option AddressSpace
 Holds (OfArea name) = Option AreaState
+Holds (OfTable name) = Option Table
+Holds (OfDescription name) = Option OpenFile
+Holds (OfPipe name) = Option PipeState
 Holds (OfNode ino) = Option Node
 Holds OfSleepers = FutexList
 Holds OfConsole = List ℕ
@@ -41,6 +47,9 @@ parts k OfTasks = k.tasks
 parts k (OfTask task) = map.get k.registers task
 parts k (OfSpace name) = get_named k.spaces name.place name.index
 parts k (OfArea name) = get_named k.areas name.place name.index
+parts k (OfTable name) = get_named k.files.tables name.place name.index
+parts k (OfDescription name) = get_named k.files.descriptions name.place name.index
+parts k (OfPipe name) = get_named k.files.pipes name.place name.index
 parts k (OfNode ino) = map.get k.nodes ino
 parts k OfSleepers = k.sleepers
 parts k OfConsole = k.console
@@ -109,6 +118,12 @@ put OfTasks content k = record k { tasks = content }
 put (OfTask task) content k = record k { registers = set_at task content k.registers }
 put (OfSpace name) content k = record k { spaces = set_named name content k.spaces }
 put (OfArea name) content k = record k { areas = set_named (area_made name) content k.areas }
+put (OfTable name) content k =
+    record k { files = record k.files { tables = set_named name content k.files.tables } }
+put (OfDescription name) content k =
+    record k { files = record k.files { descriptions = set_named name content k.files.descriptions } }
+put (OfPipe name) content k =
+    record k { files = record k.files { pipes = set_named name content k.files.pipes } }
 put (OfNode ino) content k = record k { nodes = set_at ino content k.nodes }
 put OfSleepers content k = record k { sleepers = content }
 put OfConsole content k = record k { console = content }

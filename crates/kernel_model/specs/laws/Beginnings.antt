@@ -2,6 +2,7 @@
 use Rattle.std.specs.Prelude.{◌≡◌, ◌<◌, ◌-◌, ◌^◌, Bool, true, Result, Ok, Err}
 use Rattle.sn_errno.specs.declared.errno.Errno.{Errno}
 use Rattle.elf_image.specs.declared.image.Image.{Image as AnImage}
+use Rattle.mount_file.specs.declared.rules.TheConstants.{MOST_TASKS}
 use Rattle.task_table.specs.declared.table.TheConstants.{MOST_LIVE}
 use Rattle.task_table.specs.Table.{TaskTable, live_count}
 use Rattle.kernel_model.specs.opening.Opening.{has_room}
@@ -20,3 +21,9 @@ fits (Err errno) = true
 pub record IsRoomFor (list : TaskTable) : Type 0 where
   pub few : live_count list < MOST_LIVE
   pub next : list.last < 2 ^ 31 - 1
+
+-- an opening task more may be made: there is room for it, and fewer were made than a mount file may have
+-- profile
+pub record MayOpen (list : TaskTable) : Type 0 where
+  pub room : IsRoomFor list
+  pub few : list.last < MOST_TASKS

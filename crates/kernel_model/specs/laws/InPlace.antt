@@ -9,7 +9,12 @@ use Rattle.kernel_model.specs.declared.opening.Fresh.{Fresh}
 use Rattle.kernel_model.specs.declared.opening.Given.{Given}
 use Rattle.kernel_model.specs.files.FileTree.{number_in}
 use Rattle.kernel_model.specs.entries.Given.{has_any, Nodes_so_far, is_unused, number_at, node_changes}
-use Rattle.kernel_model.specs.entries.Parts.{Change, changed}
+use Rattle.kernel_model.specs.entries.Parts.{parts, Prog, outcome_in, Change, changed}
+
+-- the kernel that a piece leaves
+-- profile
+abbrev pub done_by : Prog (List Change) → Kernel → Kernel
+done_by piece k = changed (outcome_in (parts k) piece) k
 
 -- the kernel after changes, or None where there are none to do
 -- profile

@@ -1,9 +1,12 @@
 -- The opening: the state after the opening execves, from the mount file, the granted trees and the record of both.
-use Rattle.std.specs.Prelude.{ℕ, ◌+◌, ◌==◌, nat_lt, nat_le, List, [], ◌∷◌, length, drop, Bool, true, false}
+use Rattle.std.specs.Prelude.{ℕ, ◌+◌, ◌*◌, ◌==◌, nat_lt, nat_le, List, [], ◌∷◌, length, drop, Bool, true, false}
 use Rattle.std.specs.Prelude.{◌&&◌, not, Option, Some, None, is_some, Result, Ok, Err, if◌then◌else◌}
 use Rattle.std.specs.List.{list_any}
 use Rattle.std.specs.Str.{bytes_eq}
 use Rattle.std.specs.FinMap as map
+use Rattle.fd_table.specs.Tables.{Table}
+use Rattle.fd_table.specs.declared.description.Object.TheVariants.{Console, EmptyInput}
+use Rattle.fd_table.specs.declared.flags.Access.TheVariants.{Read, Write}
 use Rattle.host_node.specs.Tree.{Shape, directory, file, link, lent}
 use Rattle.sn_errno.specs.declared.errno.Errno.{Errno}
 use Rattle.sn_errno.specs.declared.errno.Errno.TheVariants.{EIO, ENOENT, E2BIG, EACCES, ENOEXEC, ENOMEM, ENFILE, ELOOP}
@@ -11,7 +14,10 @@ use Rattle.elf_image.specs.declared.image.Image.{Image}
 use Rattle.kernel_model.specs.declared.kernel.Kernel.{Kernel}
 use Rattle.kernel_model.specs.declared.kernel.Node.{Node}
 use Rattle.rv_table.specs.declared.regs.Regs.{Regs}
-use Rattle.kernel_model.specs.Names.{with_named}
+use Rattle.kernel_model.specs.Names.{NamedMap, with_named}
+use Rattle.kernel_model.specs.declared.open_files.OpenFile.{OpenFile}
+use Rattle.kernel_model.specs.declared.open_files.OpenFiles.{OpenFiles}
+use Rattle.kernel_model.specs.descriptors.OpenFiles.{descriptor_of, new_file, nothing_open}
 use Rattle.sn_base.specs.declared.made.Made.{Made}
 use Rattle.task_table.specs.Clones.{opened}
 use Rattle.task_table.specs.Table.{no_tasks}
@@ -166,6 +172,7 @@ bare mounts trees = record {
   registers = map.empty;
   spaces = map.empty;
   areas = map.empty;
+  files = nothing_open;
   nodes = rooted 1 trees;
   sleepers = record { sleepers = []; woken = [] };
   console = [];
@@ -190,6 +197,30 @@ abbrev pub space_opened : (seed : List ℕ) → (number : ℕ) → Program → I
 space_opened seed number program image =
     opening_space image program.args program.env (opening_random seed number)
 
+-- its descriptors, each with a description of its own: 0 is of an empty input, 1 and 2 are of the console
+-- stdin(3); the names: profile
+abbrev pub stream_made : (number fd : ℕ) → Made
+stream_made number fd = record { place = 0; index = 3 * number + fd }
+
+abbrev pub table_opened : (number : ℕ) → Table
+table_opened number =
+    map.insert (map.insert (map.insert map.empty 0 (descriptor_of (stream_made number 0) false)) 1
+    (descriptor_of (stream_made number 1) false)) 2 (descriptor_of (stream_made number 2) false)
+
+abbrev pub with_stream : (number fd : ℕ) → OpenFile → NamedMap OpenFile → NamedMap OpenFile
+with_stream number fd stream descriptions = with_named descriptions 0 (3 * number + fd) stream
+
+abbrev pub with_streams : (number : ℕ) → NamedMap OpenFile → NamedMap OpenFile
+with_streams number descriptions =
+    with_stream number 2 (new_file Console Write false) (with_stream number 1 (new_file Console Write false)
+    (with_stream number 0 (new_file EmptyInput Read false) descriptions))
+
+abbrev pub files_opened : (number : ℕ) → OpenFiles → OpenFiles
+files_opened number files = record files {
+  tables = with_named files.tables 0 number (table_opened number);
+  descriptions = with_streams number files.descriptions;
+}
+
 -- the kernel with an opening task, which is a group of its own, without a parent, and whose working directory is `/`
 -- execve(2); profile
 abbrev pub with_task : (number : ℕ) → Program → Image → Kernel → Kernel
@@ -197,6 +228,7 @@ with_task number program image k = record k {
   tasks = opened k.tasks (made_by number) (made_by number) (root_of k.mounts);
   registers = map.insert k.registers number (registers_opened k.seed number program image);
   spaces = with_named k.spaces 0 number (space_opened k.seed number program image);
+  files = files_opened number k.files;
 }
 
 -- what an opening comes to: a kernel, or the errno of the first execve that fails, with the kernel that it leaves, or

@@ -1,0 +1,3 @@
+-- Open file descriptions and the descriptors that have them.
+pub mod OpenFiles
+pub mod Counts

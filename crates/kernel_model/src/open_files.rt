@@ -1,0 +1,40 @@
+//! What is open: descriptor tables, open file descriptions, and pipes.
+
+ghost use Rattle.std.specs.Prelude.{◌≡◌};
+ghost use Rattle.kernel_model.specs.descriptors.OpenFiles.{nothing_open};
+
+use crate::Named;
+use fd_table::{Description, FdTable};
+use pipe_core::Pipe;
+use std::alloc::Global;
+
+/// An open file description, and how many descriptors have it, of all tables. It is closed with the last of them.
+///
+/// open(2), Open file descriptions; close(2).
+#[derive(Clone, Copy, Debug, Drop, PartialEq, Eq)]
+pub struct OpenFile {
+    pub description: Description,
+    pub descriptors: u64,
+}
+
+/// What is open: descriptor tables, open file descriptions and pipes, by the place of the entry that made them and an
+/// index (those of opening tasks by place 0).
+#[derive(Drop)]
+pub struct OpenFiles {
+    pub tables: Named<FdTable>,
+    pub descriptions: Named<OpenFile>,
+    pub pipes: Named<Pipe>,
+}
+
+impl OpenFiles {
+    /// Nothing is open. It takes no memory.
+    pub fn new(alloc: Global) -> OpenFiles
+        ensures { result ≡ nothing_open }
+    {
+        OpenFiles {
+            tables: Named::new(alloc),
+            descriptions: Named::new(alloc),
+            pipes: Named::new(alloc),
+        }
+    }
+}
