@@ -4,7 +4,7 @@ use Rattle.std.specs.Prelude.{Option, Some, None, is_some, unwrap_or}
 use Rattle.std.specs.FinMap.{FinMap, get, insert, empty}
 use Rattle.std.specs.Ordering.{nat_cmp}
 use Rattle.std.proofs.lemmas.Bool.Decides.{nat_tests}
-use Rattle.sn_base.proofs.Maps.{same_by_get, get-insert_same, get-insert_other, insert-insert}
+use Rattle.sn_base.proofs.Maps.{same_by_get, get-insert_same, get-insert_other}
 use Rattle.mm_space.specs.Handing.{AreaState}
 use Rattle.mm_space.specs.Spaces.{AddressSpace}
 use Rattle.task_table.specs.Clones.{forked}
@@ -13,7 +13,9 @@ use Rattle.kernel_model.specs.Names.{NamedMap, has_named, with_named}
 use Rattle.kernel_model.specs.calls.Clone.{made_for_child}
 use Rattle.kernel_model.specs.declared.caller.Caller.{Caller}
 use Rattle.kernel_model.specs.declared.kernel.Kernel.{Kernel}
-use Rattle.kernel_model.proofs.NamedMaps.{same_or_other, get-with}
+use Rattle.kernel_model.specs.declared.open_files.OpenFiles.{OpenFiles}
+use Rattle.kernel_model.specs.laws.Files.{with_copy}
+use Rattle.kernel_model.proofs.NamedMaps.{same_or_other, get-with, both_set, with-with}
 use Rattle.kernel_calls.specs.Children.{with_task, with_words}
 use Rattle.kernel_calls.specs.declared.clone.Words.{Words}
 
@@ -46,23 +48,6 @@ module _ {V : Type 0} where
 -- ---- two changes of a map by name
 
 module _ {V : Type 0} where
-  -- what a place has once one of its names was set
-  place_set : (m : NamedMap V) (p i : ℕ) (v : V)
-      → unwrap_or (get (with_named m p i v) p) empty ≡ insert (unwrap_or (get m p) empty) i v
-  place_set m p i v = ap (λ o. unwrap_or o empty) (get-insert_same m p _)
-
-  -- two names of one place come to one change of that place
-  both_set : (m : NamedMap V) (p i j : ℕ) (v w : V)
-      → with_named (with_named m p i v) p j w ≡ insert m p (insert (insert (unwrap_or (get m p) empty) i v) j w)
-  both_set m p i j v w =
-      ap (λ n. insert (with_named m p i v) p (insert n j w)) (place_set m p i v) ∙ insert-insert m p _ _
-
-  -- of two values of one name the last stays
-  pub with-with : (m : NamedMap V) (p i : ℕ) (v w : V)
-      → with_named (with_named m p i v) p i w ≡ with_named m p i w
-  with-with m p i v w =
-      both_set m p i i v w ∙ ap (insert m p) (insert-insert (unwrap_or (get m p) empty) i v w)
-
   apart_places : (m : NamedMap V) (p i q j : ℕ) (v w : V) → p ≢ q
       → with_named (with_named m p i v) q j w ≡ insert (with_named m p i v) q (insert (unwrap_or (get m q) empty) j w)
   apart_places m p i q j v w d =
@@ -107,15 +92,17 @@ other_name p i q j h =
 
 module _ (c : Caller) (k : Kernel) (place clear : ℕ) (memory : AddressSpace) (words : Option Words) where
   -- the kernel with the child's task and memory alone, where those are such
-  abbrev with_process : TaskTable → NamedMap AddressSpace → Kernel
-  with_process tasks spaces = record k { tasks = tasks; spaces = spaces }
+  abbrev with_process : TaskTable → NamedMap AddressSpace → OpenFiles → Kernel
+  with_process tasks spaces files = record k { tasks = tasks; spaces = spaces; files = files }
 
-  process_as : (tasks : TaskTable) (spaces : NamedMap AddressSpace)
+  process_as : (tasks : TaskTable) (spaces : NamedMap AddressSpace) (files : OpenFiles)
       → tasks ≡ forked k.tasks c.task (made_for_child place) (made_for_child place) clear
-      → spaces ≡ with_named k.spaces place 0 memory
-      → with_task place (Some memory) clear c k ≡ with_process tasks spaces
-  process_as tasks spaces e f =
-      ap (λ t. with_process t (with_named k.spaces place 0 memory)) (sym e) ∙ ap (with_process tasks) (sym f)
+      → spaces ≡ with_named k.spaces place 0 memory → files ≡ with_copy c.table (made_for_child place) k.files
+      → with_task place (Some memory) clear c k ≡ with_process tasks spaces files
+  process_as tasks spaces files e f g =
+      let copy : OpenFiles = with_copy c.table (made_for_child place) k.files in
+      ap (λ t. with_process t (with_named k.spaces place 0 memory) copy) (sym e)
+      ∙ ap (λ s. with_process tasks s copy) (sym f) ∙ ap (with_process tasks spaces) (sym g)
 
   -- where the caller's memory has the child's name, its words are lost
   hidden : (words : Option Words) → (c.memory.place ≡ place) × (c.memory.index ≡ 0)
@@ -129,16 +116,17 @@ module _ (c : Caller) (k : Kernel) (place clear : ℕ) (memory : AddressSpace) (
       ∙ with-with k.spaces place 0 words.space memory)
 
   pub words_hidden : (tasks : TaskTable) (spaces : NamedMap AddressSpace) (areas : NamedMap AreaState)
+      (files : OpenFiles)
       → (c.memory.place ≡ place) × (c.memory.index ≡ 0)
       → tasks ≡ forked k.tasks c.task (made_for_child place) (made_for_child place) clear
-      → spaces ≡ with_named k.spaces place 0 memory
+      → spaces ≡ with_named k.spaces place 0 memory → files ≡ with_copy c.table (made_for_child place) k.files
       → (with_words words c k).areas ≡ areas
       → with_task place (Some memory) clear c (with_words words c k)
-      ≡ record k { tasks = tasks; spaces = spaces; areas = areas }
-  words_hidden tasks spaces areas same e f g =
+      ≡ record k { tasks = tasks; spaces = spaces; areas = areas; files = files }
+  words_hidden tasks spaces areas files same e f h g =
       hidden words same
-      ∙ ap (λ (k' : Kernel). record k' { areas = (with_words words c k).areas }) (process_as tasks spaces e f)
-      ∙ ap (λ a. record k { tasks = tasks; spaces = spaces; areas = a }) g
+      ∙ ap (λ (k' : Kernel). record k' { areas = (with_words words c k).areas }) (process_as tasks spaces files e f h)
+      ∙ ap (λ a. record k { tasks = tasks; spaces = spaces; areas = a; files = files }) g
 
   -- where it has another, either may be placed first
   apart : (words : Option Words) → (c.memory.place ≢ place) ⊎ ((c.memory.place ≡ place) × (c.memory.index ≢ 0))
@@ -150,12 +138,13 @@ module _ (c : Caller) (k : Kernel) (place clear : ℕ) (memory : AddressSpace) (
       (with_swapped k.spaces c.memory.place c.memory.index place 0 words.space memory other)
 
   pub words_behind : (tasks : TaskTable) (spaces left : NamedMap AddressSpace) (areas : NamedMap AreaState)
+      (files : OpenFiles)
       → (c.memory.place ≢ place) ⊎ ((c.memory.place ≡ place) × (c.memory.index ≢ 0))
       → tasks ≡ forked k.tasks c.task (made_for_child place) (made_for_child place) clear
-      → spaces ≡ with_named k.spaces place 0 memory
-      → with_words words c (with_process tasks spaces)
-      ≡ record (with_process tasks spaces) { spaces = left; areas = areas }
+      → spaces ≡ with_named k.spaces place 0 memory → files ≡ with_copy c.table (made_for_child place) k.files
+      → with_words words c (with_process tasks spaces files)
+      ≡ record (with_process tasks spaces files) { spaces = left; areas = areas }
       → with_task place (Some memory) clear c (with_words words c k)
-      ≡ record k { tasks = tasks; spaces = left; areas = areas }
-  words_behind tasks spaces left areas other e f g =
-      apart words other ∙ ap (with_words words c) (process_as tasks spaces e f) ∙ g
+      ≡ record k { tasks = tasks; spaces = left; areas = areas; files = files }
+  words_behind tasks spaces left areas files other e f h g =
+      apart words other ∙ ap (with_words words c) (process_as tasks spaces files e f h) ∙ g

@@ -1,5 +1,5 @@
 -- What clone comes to, as its rows have it.
-use Rattle.std.proofs.Common.{◌≡◌, ℕ, ◌+◌, Bool, true, false, cond, List, [], ◌∷◌, Option, Some, None, refl, ap}
+use Rattle.std.proofs.Common.{◌≡◌, ℕ, ◌+◌, Bool, true, false, cond, List, [], ◌∷◌, ◌++◌, Option, Some, None, refl, ap}
 use Rattle.std.proofs.Common.{sym, ◌∙◌}
 use Rattle.std.specs.Prelude.{◌||◌}
 use Rattle.std.specs.FinMap as map
@@ -10,6 +10,7 @@ use Rattle.mm_space.specs.Spaces.{AddressSpace, Reach, unreserved}
 use Rattle.futex_core.specs.FutexLists.{FutexList}
 use Rattle.task_table.specs.Clones.{forked, threaded}
 use Rattle.task_table.specs.Table.{TaskTable}
+use Rattle.sn_base.specs.declared.made.Made.{Made}
 use Rattle.kernel_model.specs.Names.{NamedMap}
 use Rattle.kernel_model.specs.declared.caller.Caller.{Caller}
 use Rattle.kernel_model.specs.declared.kernel.Kernel.{Kernel}
@@ -18,11 +19,14 @@ use Rattle.kernel_model.specs.calls.Answers.{Answer, refuses}
 use Rattle.kernel_model.specs.calls.Callers.{context_of}
 use Rattle.kernel_model.specs.calls.Clone.{Cloning, caller_word, child_clear, child_registers, clone_row}
 use Rattle.kernel_model.specs.calls.Clone.{cloning_of, is_full, is_process, is_thread, made_for_child, process_by}
-use Rattle.kernel_model.specs.calls.Clone.{process_made, process_row, sets_child_word, sets_parent_word, thread_by}
-use Rattle.kernel_model.specs.calls.Clone.{thread_made, thread_row, word_set}
+use Rattle.kernel_model.specs.calls.Clone.{process_made, process_row, process_with, sets_child_word, sets_parent_word}
+use Rattle.kernel_model.specs.calls.Clone.{thread_by, thread_made, thread_row, word_set}
+use Rattle.kernel_model.specs.descriptors.Counts.{table_copied}
 use Rattle.kernel_model.specs.declared.entry.Args.{Args}
-use Rattle.kernel_model.specs.entries.Areas.{reach_changes}
-use Rattle.kernel_model.specs.entries.Parts.{Parts, parts, Prog, done, look, outcome_in, ◌>>=◌}
+use Rattle.kernel_model.specs.entries.Areas.{area_changes, reach_changes}
+use Rattle.kernel_model.specs.entries.Parts.{Parts, parts, Prog, done, look, outcome_in, ◌>>=◌, Change, changed}
+use Rattle.kernel_model.proofs.ChildLaws.{changed-append}
+use Rattle.kernel_model.proofs.FileChanges.{copied_behind}
 use Rattle.kernel_model.proofs.Trees.{outcome-bind}
 use Rattle.kernel_calls.specs.Children.{with_child, with_task, with_words}
 use Rattle.kernel_calls.specs.Cloning.{HasSet, MakesIf, SetsWord, is_shape}
@@ -156,12 +160,13 @@ module _ {c : Caller} {k : Kernel} {context : Context} {own : AddressSpace} {sha
         (copied ∙ ap (λ (m : AddressSpace). unreserved m.mapping) (sym calling.space)) lies
 
     process_then : (r : Reach) (o : Option Reach) → caller_set ≡ Some r → child_set r.hand ≡ o
-        → outcome_in s (process_row (context_of k) c x k.tasks) ≡ process_made (context_of k) c x k.tasks r.space o
+        → outcome_in s (process_row (context_of k) c x k.tasks)
+        ≡ outcome_in s (process_with (context_of k) c x k.tasks r.space o)
     process_then r o e f =
         process_is ∙ ap behind e
         ∙ outcome-bind s (word_set c.task (sets_child_word x.flags) (unreserved c.space.mapping) r.hand x.child_word
-        (k.tasks.last + 1)) (λ last. done (process_made (context_of k) c x k.tasks r.space last))
-        ∙ ap (process_made (context_of k) c x k.tasks r.space) f
+        (k.tasks.last + 1)) (process_with (context_of k) c x k.tasks r.space)
+        ∙ ap (λ last. outcome_in s (process_with (context_of k) c x k.tasks r.space last)) f
 
     process_barred_by : (r : Reach) (o : Option Reach) → caller_set ≡ Some r → child_set r.hand ≡ o
         → HasSet o set' memory areas'' k.areas → set' ≡ false
@@ -175,13 +180,16 @@ module _ {c : Caller} {k : Kernel} {context : Context} {own : AddressSpace} {sha
         → MakesChild (process_row (context_of k) c x k.tasks) child c k
     process_made_by child r None e there f h wrote is = absurd (cc (h, wrote))
     process_made_by child r (Some last) e there f h wrote is = record {
-      changes = (OfTasks, forked k.tasks c.task (made_for_child (k.entries + 1)) (made_for_child (k.entries + 1)) clear)
+      changes = (OfTasks, forked k.tasks c.task child_name child_name clear)
           ∷ (OfTask (k.tasks.last + 1), Some registers) ∷ (OfSpace c.memory, Some r.space)
-          ∷ reach_changes (made_for_child (k.entries + 1)) last;
-      row_is = process_then r (Some last) e f;
+          ∷ reach_changes child_name last ++ copies;
+      row_is = process_then r (Some last) e f
+          ∙ outcome-bind s (table_copied c.table child_name)
+          (λ copied. done (process_made (context_of k) c x k.tasks r.space last copied));
       done_is =
-          areas_changed last.hand (record (made_so c k registers clear (Some last.space)
-          (with_memory c r.space k.areas k)) { areas = k.areas })
+          changed-append (area_changes last.hand) copies placed
+          ∙ ap (changed copies) (areas_changed last.hand placed)
+          ∙ copied_behind c.table child_name k (record placed { areas = with_hand last.hand k.areas }) refl
           ∙ sym (made_by c k child args (Some memory) space' areas'' is
           ∙ ap (λ (m : AddressSpace). made_so c k registers clear (Some m) (with_memory c space' areas'' k)) h.1
           ∙ ap (λ (m : AddressSpace). made_so c k registers clear (Some last.space) (with_memory c m areas'' k)) there
@@ -193,6 +201,18 @@ module _ {c : Caller} {k : Kernel} {context : Context} {own : AddressSpace} {sha
 
         clear : ℕ
         clear = child_clear x.flags x.child_word
+
+        child_name : Made
+        child_name = made_for_child (k.entries + 1)
+
+        copies : List Change
+        copies = outcome_in s (table_copied c.table child_name)
+
+        placed : Kernel
+        placed = record (made_so c k registers clear (Some last.space) (with_memory c r.space k.areas k)) {
+          areas = k.areas;
+          files = k.files;
+        }
 
     process_last : (P : Type 0) → ((r : Reach) → caller_set ≡ Some r → space' ≡ r.space
         → HasSet (child_set r.hand) set' memory areas'' k.areas → P) → P

@@ -1,11 +1,11 @@
 -- What the ends of tasks come to, as they were prepared.
-use Rattle.std.proofs.Common.{◌≡◌, ℕ, pos, List, [], ◌∷◌, ap, sym, ◌∙◌}
+use Rattle.std.proofs.Common.{◌≡◌, ℕ, pos, Bool, true, false, cond, List, [], ◌∷◌, ◌++◌, Some, None, ap, sym, ◌∙◌}
 use Rattle.futex_core.specs.FutexLists.{FutexList}
 use Rattle.mm_space.specs.Handing.{AreaState}
 use Rattle.mm_space.specs.Spaces.{AddressSpace}
 use Rattle.task_table.specs.declared.task.EndedTask.{EndedTask}
 use Rattle.task_table.specs.declared.task.Status.{Status}
-use Rattle.task_table.specs.Ends.{exited, group_ended, ended_tasks, is_itself, is_member}
+use Rattle.task_table.specs.Ends.{exited, group_ended, ended_tasks, is_itself, is_last, is_member}
 use Rattle.task_table.specs.Table.{TaskTable}
 use Rattle.kernel_model.specs.Names.{NamedMap}
 use Rattle.kernel_model.specs.declared.caller.Caller.{Caller}
@@ -13,14 +13,17 @@ use Rattle.kernel_model.specs.declared.kernel.Kernel.{Kernel}
 use Rattle.kernel_model.specs.declared.kernel.Part.TheVariants.{OfTasks, OfSleepers}
 use Rattle.kernel_model.specs.calls.Answers.{replies}
 use Rattle.kernel_model.specs.calls.ClearWords.{Cleared, nothing_cleared, words_cleared}
-use Rattle.kernel_model.specs.calls.Ending.{end_changes, ends_as, ends_with, left_by, task_end, woken_on}
+use Rattle.kernel_model.specs.calls.Ending.{and_closed, closed_if, end_changes, ends_as, ends_with, left_by, task_end}
+use Rattle.kernel_model.specs.calls.Ending.{woken_on}
+use Rattle.kernel_model.specs.descriptors.Counts.{table_closed}
 use Rattle.kernel_model.specs.entries.Parts.{parts, Prog, done, look, outcome_in, Change, changed, ◌>>=◌}
+use Rattle.kernel_model.proofs.ChildLaws.{changed-append}
 use Rattle.kernel_model.proofs.Trees.{outcome-bind}
 use Rattle.kernel_calls.specs.ClearWords.{IsCleared}
 use Rattle.kernel_calls.specs.Ends.{Ends}
 use Rattle.kernel_calls.specs.Lending.{with_hand}
 use Rattle.kernel_calls.specs.Memories.{with_memory}
-use Rattle.kernel_calls.specs.Prepared.{Answers, EndsGroupAs, IsCalling, changes_of, left_behind}
+use Rattle.kernel_calls.specs.Prepared.{Answers, EndsGroupAs, IsCalling, changes_of, closed_of, left_behind}
 use Rattle.kernel_calls.specs.declared.context.Context.{Context}
 use Rattle.kernel_calls.specs.declared.prepared.Effect.TheVariants.{EndsTask}
 use Rattle.kernel_calls.specs.declared.prepared.Ending.{Ending}
@@ -63,6 +66,26 @@ module _ (c : Caller) (k : Kernel) (ended : List EndedTask) (e : Ending) (space 
       ∙ ap (λ own. left after (left_behind e k.sleepers) own (with_hand x.reach.hand k.areas)) (sym is.space_is)
       ∙ ap (λ shared. left after (left_behind e k.sleepers) space shared) (sym is.areas_are)
 
+-- an end, and the closing of its descriptors behind it
+module _ (c : Caller) (k : Kernel) where
+  pub then_closed : (tree : Prog (List Change)) (after : Kernel) → changed (outcome_in (parts k) tree) k ≡ after
+      → changed (outcome_in (parts k) (tree >>= and_closed c)) k ≡ changed (closed_of (Some c.table) (parts k)) after
+  then_closed tree after is =
+      let before : List Change = outcome_in (parts k) tree in
+      ap (λ changes. changed changes k)
+      (outcome-bind (parts k) tree (and_closed c)
+      ∙ outcome-bind (parts k) (table_closed c.table) (λ closed. done (before ++ closed)))
+      ∙ changed-append before (closed_of (Some c.table) (parts k)) k
+      ∙ ap (changed (closed_of (Some c.table) (parts k))) is
+
+  pub then_closed_if : (last : Bool) (tree : Prog (List Change)) (after : Kernel)
+      → changed (outcome_in (parts k) tree) k ≡ after
+      → changed (outcome_in (parts k) (tree >>= closed_if last c)) k
+      ≡ changed (closed_of (cond last (Some c.table) None) (parts k)) after
+  then_closed_if true tree after is = then_closed tree after is
+  then_closed_if false tree after is =
+      ap (λ changes. changed changes k) (outcome-bind (parts k) tree (closed_if false c)) ∙ is
+
 module _ (c : Caller) (k : Kernel) (context : Context) (own : AddressSpace) (shared : NamedMap AreaState)
     (list : TaskTable) (waiting : FutexList) (console : ℕ)
     (calling : IsCalling c k context own shared list waiting console) (ended : List EndedTask) (e : Ending)
@@ -79,29 +102,44 @@ module _ (c : Caller) (k : Kernel) (context : Context) (own : AddressSpace) (sha
       })
 
   module _ (status : Status) (so : e.status ≡ status) (ends : Ends ended e c k space areas) where
-    -- a thread group,
-    pub group_ends : ended ≡ ended_tasks (is_member context.group) list.tasks → EndsGroupAs status e c k space areas
-    group_ends are = record {
+    -- a thread group, whose descriptors are closed,
+    pub group_ends : ended ≡ ended_tasks (is_member context.group) list.tasks → e.closes ≡ Some context.table
+        → EndsGroupAs status e c k space areas
+    group_ends are shut = record {
       is_so = so;
       done_is =
-          ap (λ l. changed (outcome_in (parts k) (ends_as c l (group_ended k.tasks c.group status))) k)
+          ap (λ l. changed (outcome_in (parts k) (ends_as c l (group_ended k.tasks c.group status) >>= and_closed c)) k)
           (ap (λ g. ended_tasks (is_member g) k.tasks.tasks) calling.group
           ∙ ap (λ (t : TaskTable). ended_tasks (is_member context.group) t.tasks) calling.tasks ∙ sym are)
-          ∙ ends (group_ended k.tasks c.group status)
-          ∙ ap (λ st. changed ((OfTasks, group_ended k.tasks c.group st) ∷ (OfSleepers, left_behind e k.sleepers) ∷ [])
-          (with_memory c space areas k)) (sym so);
+          ∙ then_closed c k (ends_as c ended (group_ended k.tasks c.group status)) _
+          (ends (group_ended k.tasks c.group status))
+          ∙ ap (λ o. changed (closed_of o (parts k))
+          (changed ((OfTasks, group_ended k.tasks c.group status) ∷ (OfSleepers, left_behind e k.sleepers) ∷ [])
+          (with_memory c space areas k))) (ap Some calling.table ∙ sym shut)
+          ∙ ap (λ st. changed ((OfTasks, group_ended k.tasks c.group st) ∷ (OfSleepers, left_behind e k.sleepers)
+          ∷ closed_of e.closes (parts k)) (with_memory c space areas k)) (sym so);
     }
 
-    -- and a task
+    -- and a task, with whose group they are
     pub task_ends : ended ≡ ended_tasks (is_itself context.task) list.tasks
+        → e.closes ≡ cond (is_last list.tasks context.task) (Some context.table) None
         → changed (outcome_in (parts k) (task_end c status)) k
         ≡ changed (changes_of (EndsTask context.task e) c.group (parts k)) (with_memory c space areas k)
-    task_ends are =
-        ap (λ l. changed (outcome_in (parts k) (ends_as c l (exited k.tasks c.task status))) k)
+    task_ends are shut =
+        ap (λ l. changed (outcome_in (parts k) (ends_as c l (exited k.tasks c.task status)
+        >>= closed_if (is_last k.tasks.tasks c.task) c)) k)
         (ap (λ n. ended_tasks (is_itself n) k.tasks.tasks) calling.task
         ∙ ap (λ (t : TaskTable). ended_tasks (is_itself context.task) t.tasks) calling.tasks ∙ sym are)
-        ∙ ends (exited k.tasks c.task status)
-        ∙ ap (λ n. changed ((OfTasks, exited k.tasks n status) ∷ (OfSleepers, left_behind e k.sleepers) ∷ [])
-        (with_memory c space areas k)) calling.task
-        ∙ ap (λ st. changed ((OfTasks, exited k.tasks context.task st) ∷ (OfSleepers, left_behind e k.sleepers) ∷ [])
-        (with_memory c space areas k)) (sym so)
+        ∙ then_closed_if c k (is_last k.tasks.tasks c.task) (ends_as c ended (exited k.tasks c.task status)) _
+        (ends (exited k.tasks c.task status))
+        ∙ ap (λ o. changed (closed_of o (parts k))
+        (changed ((OfTasks, exited k.tasks c.task status) ∷ (OfSleepers, left_behind e k.sleepers) ∷ [])
+        (with_memory c space areas k)))
+        (ap (λ t. cond (is_last k.tasks.tasks c.task) (Some t) None) calling.table
+        ∙ ap (λ n. cond (is_last k.tasks.tasks n) (Some context.table) None) calling.task
+        ∙ ap (λ (t : TaskTable). cond (is_last t.tasks context.task) (Some context.table) None) calling.tasks
+        ∙ sym shut)
+        ∙ ap (λ n. changed ((OfTasks, exited k.tasks n status) ∷ (OfSleepers, left_behind e k.sleepers)
+        ∷ closed_of e.closes (parts k)) (with_memory c space areas k)) calling.task
+        ∙ ap (λ st. changed ((OfTasks, exited k.tasks context.task st) ∷ (OfSleepers, left_behind e k.sleepers)
+        ∷ closed_of e.closes (parts k)) (with_memory c space areas k)) (sym so)

@@ -6,8 +6,8 @@ use Rattle.rv_table.specs.declared.error.Area.{Area}
 use Rattle.mm_space.specs.Handing.{AreaState, InHand, area_in}
 use Rattle.mm_space.specs.Sight.{is_area}
 use Rattle.kernel_model.specs.Names.{NamedMap, get_named, with_named}
-use Rattle.kernel_model.specs.declared.kernel.Part.TheVariants.{OfTasks, OfTask, OfSpace, OfArea, OfNode, OfSleepers}
-use Rattle.kernel_model.specs.declared.kernel.Part.TheVariants.{OfConsole, OfFaults}
+use Rattle.kernel_model.specs.declared.kernel.Part.TheVariants.{OfTasks, OfTask, OfSpace, OfArea, OfTable, OfDescription}
+use Rattle.kernel_model.specs.declared.kernel.Part.TheVariants.{OfPipe, OfNode, OfSleepers, OfConsole, OfFaults}
 use Rattle.kernel_model.specs.entries.Areas.{left_in, over}
 use Rattle.kernel_model.specs.entries.Parts.{Parts, Prog, done, look, outcome_in}
 use Rattle.kernel_model.proofs.NamedMaps.{get-with_same, get-with_other}
@@ -20,6 +20,9 @@ overlay hand s OfTasks = s OfTasks
 overlay hand s (OfTask task) = s (OfTask task)
 overlay hand s (OfSpace name) = s (OfSpace name)
 overlay hand s (OfArea name) = left_in hand name (s (OfArea name))
+overlay hand s (OfTable name) = s (OfTable name)
+overlay hand s (OfDescription name) = s (OfDescription name)
+overlay hand s (OfPipe name) = s (OfPipe name)
 overlay hand s (OfNode ino) = s (OfNode ino)
 overlay hand s OfSleepers = s OfSleepers
 overlay hand s OfConsole = s OfConsole
@@ -33,6 +36,9 @@ outcome-over hand s (look (OfArea name) next) = outcome-over hand s (next (left_
 outcome-over hand s (look OfTasks next) = outcome-over hand s (next (s OfTasks))
 outcome-over hand s (look (OfTask task) next) = outcome-over hand s (next (s (OfTask task)))
 outcome-over hand s (look (OfSpace name) next) = outcome-over hand s (next (s (OfSpace name)))
+outcome-over hand s (look (OfTable name) next) = outcome-over hand s (next (s (OfTable name)))
+outcome-over hand s (look (OfDescription name) next) = outcome-over hand s (next (s (OfDescription name)))
+outcome-over hand s (look (OfPipe name) next) = outcome-over hand s (next (s (OfPipe name)))
 outcome-over hand s (look (OfNode ino) next) = outcome-over hand s (next (s (OfNode ino)))
 outcome-over hand s (look OfSleepers next) = outcome-over hand s (next (s OfSleepers))
 outcome-over hand s (look OfConsole next) = outcome-over hand s (next (s OfConsole))

@@ -306,6 +306,7 @@ some_caller task r space = record {
   task = task;
   group = 0;
   memory = record { place = 0; index = 0 };
+  table = record { place = 0; index = 0 };
   registers = r;
   space = space;
 }

@@ -1,5 +1,5 @@
 -- What the code's answers to calls and instructions stand for.
-use Rattle.std.specs.Prelude.{◌≡◌, ℕ, ◌+◌, ◌≤◌, ⊤, Some, IsTrue, IsFalse, List, [], ◌∷◌, ◌++◌, length, pos}
+use Rattle.std.specs.Prelude.{◌≡◌, ℕ, ◌+◌, ◌≤◌, ⊤, Option, Some, None, IsTrue, IsFalse, List, [], ◌∷◌, ◌++◌, length, pos}
 use Rattle.std.specs.FinMap as map
 use Rattle.rv_table.specs.declared.regs.Regs.{Regs}
 use Rattle.mm_space.specs.Handing.{AreaState}
@@ -11,13 +11,17 @@ use Rattle.task_table.specs.Reaps.{after_reap, reap_end}
 use Rattle.task_table.specs.Table.{TaskTable, has_ended, is_live}
 use Rattle.kernel_model.specs.Names.{NamedMap, get_named}
 use Rattle.kernel_model.specs.declared.caller.Caller.{Caller}
+use Rattle.sn_base.specs.declared.made.Made.{Made}
 use Rattle.kernel_model.specs.declared.kernel.Kernel.{Kernel}
+use Rattle.kernel_model.specs.declared.open_files.OpenFiles.{OpenFiles}
 use Rattle.kernel_model.specs.declared.kernel.Part.TheVariants.{OfTasks, OfSleepers, OfConsole}
 use Rattle.kernel_model.specs.declared.limits.TheConstants.{MOST_WRITTEN}
 use Rattle.kernel_model.specs.calls.Answers.{Answer, replies, sleeps, not_ready}
 use Rattle.kernel_model.specs.calls.Callers.{Context as RowContext}
 use Rattle.kernel_model.specs.calls.Ending.{clear_set, group_end, left_by, woken_on}
+use Rattle.kernel_model.specs.descriptors.Counts.{table_closed}
 use Rattle.kernel_model.specs.laws.Beginnings.{IsRoomFor}
+use Rattle.kernel_model.specs.laws.Files.{without_table}
 use Rattle.kernel_model.specs.entries.Parts.{Parts, parts, Prog, outcome_in, Change, changed}
 use Rattle.kernel_model.specs.entries.Steps.{step_row}
 use Rattle.kernel_calls.specs.Children.{with_child}
@@ -37,15 +41,27 @@ use Rattle.kernel_calls.specs.declared.prepared.Prepared.{Prepared}
 abbrev pub left_behind : Ending → FutexList → FutexList
 left_behind ending waiting = woken_on ending.cleared (left_by ending.ended waiting)
 
+-- the changes of the closing of a descriptor table, where an end names one, and what is open then
+-- _exit(2), DESCRIPTION
+abbrev pub closed_of : Option Made → Parts → List Change
+closed_of None s = []
+closed_of (Some name) s = outcome_in s (table_closed name)
+
+abbrev pub with_closed : Option Made → OpenFiles → OpenFiles
+with_closed None files = files
+with_closed (Some name) files = without_table name files
+
 -- the changes that an effect of a thread group is, in a state
 -- write(2); exit_group(2); _exit(2); set_tid_address(2); futex(2), FUTEX_WAKE; wait4(2)
 abbrev pub changes_of : Effect → (group : ℕ) → Parts → List Change
 changes_of Nothing group s = []
 changes_of (TakesBytes bytes) group s = (OfConsole, s OfConsole ++ bytes) ∷ []
 changes_of (EndsGroup ending) group s =
-    (OfTasks, group_ended (s OfTasks) group ending.status) ∷ (OfSleepers, left_behind ending (s OfSleepers)) ∷ []
+    (OfTasks, group_ended (s OfTasks) group ending.status) ∷ (OfSleepers, left_behind ending (s OfSleepers))
+    ∷ closed_of ending.closes s
 changes_of (EndsTask task ending) group s =
-    (OfTasks, exited (s OfTasks) task ending.status) ∷ (OfSleepers, left_behind ending (s OfSleepers)) ∷ []
+    (OfTasks, exited (s OfTasks) task ending.status) ∷ (OfSleepers, left_behind ending (s OfSleepers))
+    ∷ closed_of ending.closes s
 changes_of (SetsClear task address) group s = (OfTasks, clear_set task address (s OfTasks)) ∷ []
 changes_of (Wakes key most) group s = (OfSleepers, after_wake (s OfSleepers) key most) ∷ []
 changes_of (Reaps which) group s =
@@ -65,6 +81,7 @@ pub record IsCalling (c : Caller) (k : Kernel) (context : Context) (own : Addres
   pub task : c.task ≡ context.task
   pub group : c.group ≡ context.group
   pub memory : c.memory ≡ context.memory
+  pub table : c.table ≡ context.table
   pub place : k.entries + 1 ≡ context.place
   pub seed : k.seed ≡ context.seed.now
   pub space : c.space ≡ own

@@ -1,10 +1,10 @@
 //! exit and exit_group, the end of a thread group by a signal, set_tid_address and set_robust_list.
 
-ghost use Rattle.std.specs.Prelude.{◌≡◌, ◌%◌, ℕ, IfOk, IsTrue, OnErr};
+ghost use Rattle.std.specs.Prelude.{◌≡◌, ◌%◌, ℕ, IfOk, IsTrue, None, OnErr, Some, if◌then◌else◌};
 ghost use Rattle.futex_core.specs.FutexLists.{FutexList};
 ghost use Rattle.mm_space.specs.Spaces.{AddressSpace};
 ghost use Rattle.task_table.specs.declared.task.Status.TheVariants.{Exited};
-ghost use Rattle.task_table.specs.Ends.{ended_tasks, is_member};
+ghost use Rattle.task_table.specs.Ends.{ended_tasks, is_last, is_member};
 ghost use Rattle.task_table.specs.Table.{TaskTable, is_live};
 ghost use Rattle.kernel_model.specs.declared.caller.Caller.{Caller as ACaller};
 ghost use Rattle.kernel_model.specs.declared.kernel.Kernel.{Kernel as AKernel};
@@ -21,7 +21,7 @@ use crate::memory::replied;
 use crate::prepared::Ending;
 use crate::{Context, Effect, Prepared};
 use kernel_model::{GuestArea, GuestSpace, Named};
-use sn_base::{List, Memory};
+use sn_base::{List, Made, Memory};
 use std::alloc::Global;
 use task_table::{EndedTask, Status, Tasks};
 
@@ -47,7 +47,8 @@ pub(crate) fn exit(
     ensures err_areas { OnErr result (AreAlike areas.new areas.old) }
 {
     let ended = tasks.itself(alloc, context.task)?;
-    let ending = ending_of(alloc, context, exited(status), ended, space, areas)?;
+    let closes = closed_with(context, tasks);
+    let ending = ending_of(alloc, context, exited(status), ended, closes, space, areas)?;
     Ok(Prepared {
         reply: 0,
         effect: Effect::EndsTask {
@@ -84,6 +85,17 @@ pub(crate) fn exit_group(
     })
 }
 
+/// The descriptor table that is closed where a task ends: that of its thread group, where it is the last of that.
+fn closed_with(context: &Context<'_>, tasks: &Tasks) -> Option<Made>
+    ensures { result ≡ if is_last tasks.now.tasks context.now.task then Some context.now.table else None }
+{
+    if tasks.is_last(context.task) {
+        Some(context.table)
+    } else {
+        None
+    }
+}
+
 /// How a task ends that says how: with the low 8 bits of a status.
 fn exited(status: u64) -> Status
     ensures { result ≡ Exited (status % 256) }
@@ -109,20 +121,24 @@ pub fn end_group(
     ensures err_areas { OnErr result (AreAlike areas.new areas.old) }
 {
     let ended = tasks.members(alloc, context.group)?;
-    ending_of(alloc, context, status, ended, space, areas)
+    let closes = Some(context.table);
+    ending_of(alloc, context, status, ended, closes, space, areas)
 }
 
-/// How tasks end with a status, once their clear words are cleared. An `Err` changes nothing.
+/// How tasks end with a status, and with which descriptor table, once their clear words are cleared. An `Err` changes
+/// nothing.
 fn ending_of(
     alloc: Global,
     context: &Context<'_>,
     status: Status,
     ended: List<EndedTask>,
+    closes: Option<Made>,
     space: &mut GuestSpace,
     areas: &mut Named<GuestArea>,
 ) -> Result<Ending, Memory>
     ensures status { IfOk result (λ e. e.status ≡ status) }
     ensures ended { IfOk result (λ e. e.ended ≡ ended) }
+    ensures closes { IfOk result (λ e. e.closes ≡ closes) }
     ensures ends { IfOk result (λ e.
         (c : ACaller) (k : AKernel) (list : TaskTable) (waiting : FutexList) (console : ℕ) →
         IsCalling c k context.now space.old areas.old list waiting console →
@@ -134,6 +150,7 @@ fn ending_of(
         status,
         ended,
         cleared,
+        closes,
     })
 }
 

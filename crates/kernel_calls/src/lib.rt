@@ -2,12 +2,12 @@
 //!
 //! A caller sees `call`, which tells what becomes of a call of a live task (`Called`): it replies, makes a child, puts
 //! its task to sleep on a futex word, or waits. What it does to memory is done then. What is left of it to do to the
-//! console, the task list or the futex list `commit` does, `make` gives a child its place, and `sleep` puts a task to
-//! sleep. `end_group` prepares the end of a thread group by a signal. `args_of`, `call_of` and `reply` are of the
-//! registers at a call; `run` does a task's instructions up to one that calls, traps or touches a shared area, and
-//! `step` one with the shared areas that it touches; and of execve there are `is_too_long`, `read_executable`,
-//! `opened`, `opening_random`, `open_task` and `root_of`. They know no host and no trace; of other tasks' registers
-//! `make` alone knows, which puts a child's among them.
+//! console, the task list, the futex list or what is open `commit` does, `make` gives a child its place, and `sleep`
+//! puts a task to sleep. `end_group` prepares the end of a thread group by a signal. `args_of`, `call_of` and `reply`
+//! are of the registers at a call; `run` does a task's instructions up to one that calls, traps or touches a shared
+//! area, and `step` one with the shared areas that it touches; and of execve there are `is_too_long`,
+//! `read_executable`, `opened`, `opening_random`, `open_task`, `open_files` and `root_of`. They know no host and no
+//! trace; of other tasks' registers `make` alone knows, which puts a child's among them.
 //!
 //! Proved, by the definitions of `kernel_model`: `call` comes to what its row says, in every state that has what was
 //! handed in (`row`). Where what is left may lack memory, and where the call waits, memory is as it was (`apart`); no
@@ -17,7 +17,8 @@
 //! (`steps`), up to its limit or to one that stops it (`within`, `stopped`), or fewer (`memory`). `step` tells what the
 //! next instruction does (`next`), leaves what its row leaves where it goes on (`goes`), and else what was there
 //! (`kept`, `err`). `read_executable` is the image as execve takes it (`image`, `pages`), `opened` what an opening task
-//! begins with (`registers`, `space`), and the last three are of its random bytes, its place and its directory.
+//! begins with (`registers`, `space`), and the last four are of its random bytes, its place, the table and the
+//! descriptions of its descriptors, and its directory.
 //!
 //! Not said: which tasks there are, what a host is, and what an entry changes.
 //!
@@ -33,6 +34,7 @@ mod console;
 mod context;
 mod ending;
 mod executable;
+mod files;
 mod futex;
 mod identity;
 mod instructions;
@@ -40,6 +42,7 @@ mod lending;
 mod making;
 mod mapping;
 mod memory;
+mod opened_files;
 mod opened_task;
 mod prepared;
 mod random;
@@ -54,8 +57,10 @@ pub use clone::{Child, Words};
 pub use context::Context;
 pub use ending::end_group;
 pub use executable::read_executable;
+pub use files::{count_one, drop_one};
 pub use instructions::{Ran, run};
 pub use making::make;
+pub use opened_files::open_files;
 pub use opened_task::{Beginning, open_task, opened, root_of};
 pub use prepared::{Called, Effect, Ending, Prepared, commit, sleep};
 pub use random::opening_random;

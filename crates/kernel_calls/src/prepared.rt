@@ -5,20 +5,24 @@ ghost use Rattle.futex_core.specs.FutexLists.{after_sleep, is_asleep, is_woken};
 ghost use Rattle.kernel_model.specs.declared.kernel.Kernel.{Kernel as AKernel};
 ghost use Rattle.kernel_model.specs.calls.Ending.{clear_set, left_by, woken_on};
 ghost use Rattle.kernel_model.specs.entries.Parts.{changed, parts};
-ghost use Rattle.kernel_calls.specs.Prepared.{EndsLive, MayLack, changes_of};
+ghost use Rattle.kernel_calls.specs.Prepared.{EndsLive, MayLack, changes_of, with_closed};
 
 use crate::clone::Child;
+use crate::files::close_table;
 use futex_core::{FutexKey, Waited, Waiters};
-use sn_base::{Boxed, List, Memory};
+use kernel_model::OpenFiles;
+use sn_base::{Boxed, List, Made, Memory};
 use std::alloc::Global;
 use task_table::{EndedTask, Status, Tasks};
 
-/// How tasks end: with which status, which they are, and the clear words of theirs that were cleared.
+/// How tasks end: with which status, which they are, the clear words of theirs that were cleared, and the descriptor
+/// table that is closed with their thread group, where that ends.
 #[derive(Debug, Drop)]
 pub struct Ending {
     pub status: Status,
     pub ended: List<EndedTask>,
     pub cleared: List<FutexKey>,
+    pub closes: Option<Made>,
 }
 
 /// What a call is to do beside its reply: nothing, or the console takes bytes, or the caller's thread group ends, or a
@@ -62,14 +66,16 @@ pub fn commit(
     tasks: &mut Tasks,
     sleepers: &mut Waiters,
     console: &mut List<u8>,
+    files: &mut OpenFiles,
 ) -> Result<(), Memory>
     requires lives { EndsLive effect group tasks.old }
     ensures ok { OnOk result ((k : AKernel) → k.tasks ≡ tasks.old → k.sleepers ≡ sleepers.old →
-        k.console ≡ console.old → changed (changes_of effect group (parts k)) k
-        ≡ record k { tasks = tasks.new; sleepers = sleepers.new; console = console.new }) }
+        k.console ≡ console.old → k.files ≡ files.old → changed (changes_of effect group (parts k)) k
+        ≡ record k { tasks = tasks.new; sleepers = sleepers.new; console = console.new; files = files.new }) }
     ensures err { OnErr result (tasks.new ≡ tasks.old) }
     ensures err_sleepers { OnErr result (sleepers.new ≡ sleepers.old) }
     ensures err_console { OnErr result (console.new ≡ console.old) }
+    ensures err_files { OnErr result (files.new ≡ files.old) }
     ensures lacking { OnErr result (MayLack effect) }
 {
     match effect {
@@ -78,11 +84,13 @@ pub fn commit(
         Effect::EndsGroup(ending) => {
             tasks.close(group, ending.status);
             leave(sleepers, &ending);
+            close_descriptors(&ending, files);
             Ok(())
         }
         Effect::EndsTask { task, ending } => {
             tasks.leave(task, ending.status);
             leave(sleepers, &ending);
+            close_descriptors(&ending, files);
             Ok(())
         }
         Effect::SetsClear { task, address } => {
@@ -106,6 +114,15 @@ fn leave(sleepers: &mut Waiters, ending: &Ending)
 {
     leave_each(sleepers, ending.ended.as_slice());
     wake_each(sleepers, ending.cleared.as_slice());
+}
+
+/// The descriptors of a thread group that ends with its tasks are closed.
+fn close_descriptors(ending: &Ending, files: &mut OpenFiles)
+    ensures { files.new ≡ with_closed ending.now.closes files.old }
+{
+    if let Some(name) = ending.closes {
+        close_table(name, files);
+    }
 }
 
 /// Tasks leave the futex list.

@@ -93,6 +93,14 @@ pub enum Act {
     Begins(u64, u64, u64),
     /// The next call's entry has that place.
     At(u64),
+    /// It opens a pipe.
+    OpensPipe,
+    /// The descriptor table of a name has so many numbers open, or isn't there.
+    Open(Made, Option<usize>),
+    /// The open file description of a name has so many descriptors, or isn't there.
+    Descriptors(Made, Option<u64>),
+    /// Its pipe has so many read ends and write ends, or isn't there.
+    PipeEnds(Option<(u64, u64)>),
 }
 
 impl Guest {
@@ -232,6 +240,10 @@ impl Guest {
             Act::Turns(task) => self.turns(task),
             Act::Begins(pc, sp, answer) => Ok(self.begins(pc, sp, answer)),
             Act::At(place) => self.is_at(place),
+            Act::OpensPipe => self.opens_pipe(),
+            Act::Open(table, count) => Ok(self.open_in(table) == count),
+            Act::Descriptors(description, count) => Ok(self.descriptors_of(description) == count),
+            Act::PipeEnds(ends) => Ok(self.ends_of_pipe() == ends),
         }
     }
 

@@ -1,4 +1,4 @@
-//! What is left of calls to do to tasks and sleepers is done. It says nothing of how it came to be.
+//! What is left of calls to do to tasks, sleepers and what is open is done. It says nothing of how it came to be.
 
 ghost use Rattle.kernel_calls.specs.Prepared.{EndsLive};
 
@@ -6,6 +6,7 @@ use crate::families::{group_lives, lives};
 use crate::guest::Guest;
 use futex_core::{FutexKey, Waiters};
 use kernel_calls::{Effect, Ending, commit, sleep};
+use kernel_model::OpenFiles;
 use sn_base::List;
 use std::alloc::Global;
 use std::test::Fail;
@@ -18,11 +19,12 @@ fn finish(
     group: u32,
     tasks: &mut Tasks,
     sleepers: &mut Waiters,
+    files: &mut OpenFiles,
 ) -> Result<(), Fail>
     requires { EndsLive effect group tasks.old }
 {
     let mut console = List::new(alloc);
-    commit(alloc, effect, group, tasks, sleepers, &mut console)?;
+    commit(alloc, effect, group, tasks, sleepers, &mut console, files)?;
     Ok(())
 }
 
@@ -44,6 +46,7 @@ impl Guest {
             self.group,
             &mut self.tasks,
             &mut self.sleepers,
+            &mut self.files,
         )
     }
 
@@ -56,6 +59,7 @@ impl Guest {
             self.group,
             &mut self.tasks,
             &mut self.sleepers,
+            &mut self.files,
         )
     }
 
@@ -71,6 +75,7 @@ impl Guest {
             self.group,
             &mut self.tasks,
             &mut self.sleepers,
+            &mut self.files,
         )
     }
 
@@ -89,6 +94,7 @@ impl Guest {
             self.group,
             &mut self.tasks,
             &mut self.sleepers,
+            &mut self.files,
         )
     }
 
@@ -104,6 +110,7 @@ impl Guest {
             self.group,
             &mut self.tasks,
             &mut self.sleepers,
+            &mut self.files,
         )
     }
 }

@@ -5,8 +5,10 @@ use crate::asked::{Asked, WRITE, args_of, ask};
 use crate::families::{alone, lives};
 use crate::opening::opened;
 use futex_core::Waiters;
-use kernel_calls::{Beginning, Called, Context, Effect, Prepared, Ran, call, run, step};
-use kernel_model::{GuestArea, GuestSpace, Named, Next};
+use kernel_calls::{
+    Beginning, Called, Context, Effect, Prepared, Ran, call, open_files, run, step,
+};
+use kernel_model::{GuestArea, GuestSpace, Named, Next, OpenFiles};
 use mm_areas::{AreaErr, Backing, Rights};
 use rv_table::{Area, Regs};
 use sn_base::{List, Made, Map, Memory};
@@ -57,13 +59,13 @@ pub const ADD_WORD: u64 = 65_684;
 
 pub const JUMP: u64 = 65_688;
 
-/// The name of a guest's memory.
+/// The name of a guest's memory, and of its descriptor table.
 pub const MEMORY: Made = Made { place: 0, index: 1 };
 
 /// A guest: its registers, its memory, the shared areas, the tasks and the sleepers there are, the task and the thread
-/// group that it calls as, the name of its memory, the place of its last call's entry, the seed of its calls, the kind
-/// of mappings that it makes where a test tries both, the registers of other tasks, and the memories that aren't its
-/// own.
+/// group that it calls as, the names of its memory and of its descriptor table, the place of its last call's entry, the
+/// seed of its calls, the kind of mappings that it makes where a test tries both, the registers of other tasks, the
+/// memories that aren't its own, and what is open.
 #[derive(Drop)]
 pub struct Guest {
     pub alloc: Global,
@@ -75,16 +77,20 @@ pub struct Guest {
     pub task: u32,
     pub group: u32,
     pub memory: Made,
+    pub table: Made,
     pub place: u64,
     pub seed: [u8; 32],
     pub kind: u64,
     pub others: Map<Regs>,
     pub spaces: Named<GuestSpace>,
+    pub files: OpenFiles,
 }
 
 /// One that was opened so, and has not called.
 fn guest_from(alloc: Global, beginning: Beginning) -> Result<Guest, Fail> {
     let Beginning { registers, space } = beginning;
+    let mut files = OpenFiles::new(alloc);
+    open_files(alloc, 1, &mut files)?;
     Ok(Guest {
         alloc,
         registers,
@@ -95,11 +101,13 @@ fn guest_from(alloc: Global, beginning: Beginning) -> Result<Guest, Fail> {
         task: 1,
         group: 1,
         memory: MEMORY,
+        table: MEMORY,
         place: 0,
         seed: [0; 32],
         kind: 0,
         others: Map::new(alloc),
         spaces: Named::new(alloc),
+        files,
     })
 }
 
@@ -147,6 +155,7 @@ impl Guest {
             task: self.task,
             group: self.group,
             memory: self.memory,
+            table: self.table,
             place: self.place,
             seed: &self.seed,
         };

@@ -5,8 +5,8 @@
 //! there are `alone`, `family`, `brood` and `crowd`); and `Act`, a call or an instruction with what is expected of it.
 //! `expect` does acts one after another, and fails at the first that comes to something else, by its index;
 //! `expect_acts` and those beside it do so with a new guest. Other tasks have their registers and memories beside it:
-//! with `Makes` a child takes its place among them, and with `Turns` the guest goes on as another. `opened` and `read`
-//! are of an opening task's memory.
+//! with `Makes` a child takes its place among them, and with `Turns` the guest goes on as another. It begins with the
+//! descriptors of an opening task. `opened` and `read` are of an opening task's memory.
 //!
 //! Proved: that each call meets what kernel_calls requires of its callers, and that no function stops. No function says
 //! what a call or an instruction comes to, so that no test's proof has a contract of kernel_calls before it.
@@ -24,6 +24,7 @@ mod ends;
 mod families;
 mod finishing;
 mod guest;
+mod open;
 mod opening;
 mod turns;
 mod words;
@@ -41,5 +42,6 @@ pub use guest::{
     ADD, ADD_WORD, Guest, HEAP, JUMP, LOAD, MAPPINGS_END, MEMORY, RESERVE, RESERVE_WORD, STORE,
     STORE_RESERVED, STORE_RESERVED_WORD, TOP, guest_among, guest_in, guest_of, new_guest, taken,
 };
+pub use open::{READ_END, WRITE_END};
 pub use opening::{opened, read};
 pub use words::Word;

@@ -9,7 +9,7 @@ ghost use Rattle.task_table.specs.Table.{is_live};
 use crate::families::lives;
 use crate::guest::Guest;
 use kernel_calls::{Child, Context, make};
-use kernel_model::{GuestArea, GuestSpace, Named};
+use kernel_model::{GuestArea, GuestSpace, Named, OpenFiles};
 use mm_areas::Areas;
 use mm_space::Space;
 use rv_table::Regs;
@@ -38,11 +38,14 @@ fn take_place(
     registers: &mut Map<Regs>,
     spaces: &mut Named<GuestSpace>,
     areas: &mut Named<GuestArea>,
+    files: &mut OpenFiles,
 ) -> Result<(), Fail> {
     if !may_make(tasks, context.task, spaces, context.memory) {
         return Err(Fail::new("no child may be made"));
     }
-    Ok(make(alloc, context, child, tasks, registers, spaces, areas)?)
+    Ok(make(
+        alloc, context, child, tasks, registers, spaces, areas, files,
+    )?)
 }
 
 /// A memory in which nothing is mapped.
@@ -75,6 +78,7 @@ impl Guest {
             task: self.task,
             group: self.group,
             memory: self.memory,
+            table: self.table,
             place: self.place,
             seed: &seed,
         };
@@ -86,6 +90,7 @@ impl Guest {
             &mut self.others,
             &mut self.spaces,
             &mut self.areas,
+            &mut self.files,
         )
     }
 
@@ -98,15 +103,17 @@ impl Guest {
         Ok(true)
     }
 
-    /// From here on it is that task, in the group and in the memory that the list of tasks says.
+    /// From here on it is that task, in the group, in the memory and with the descriptor table that the list of tasks
+    /// says.
     pub fn turns(&mut self, task: u32) -> Result<bool, Fail> {
         let number = self.tasks.task(task).ok_or("no such task")?.group;
-        let memory = self.tasks.group(number).ok_or("no such group")?.memory;
+        let group = self.tasks.group(number).copied().ok_or("no such group")?;
         let registers = self.others.remove(u64::from(task));
         let own = mem::replace(&mut self.registers, registers.ok_or("no registers")?);
         self.others.insert(u64::from(self.task), own)?;
         self.put_away()?;
-        self.take_up(memory)?;
+        self.take_up(group.memory)?;
+        self.table = group.table;
         self.task = task;
         self.group = number;
         Ok(true)

@@ -2,7 +2,7 @@
 //!
 //! The contracts of `kernel_calls` say what each of them does; here tasks are told who they are and what time it is,
 //! say where their clear words are, sleep on words and wake one another, make others, which take their places, wait
-//! for their children, and end.
+//! for their children, and end, and their descriptors are copied and closed.
 //!
 //! Calls that map memory or fill buffers stand in `kernel_calls_tests`, and what the tables are made of in
 //! `kernel_calls_acts`.
@@ -12,6 +12,8 @@
 
 #[cfg(test)]
 mod clone;
+#[cfg(test)]
+mod descriptors;
 #[cfg(test)]
 mod ending;
 #[cfg(test)]

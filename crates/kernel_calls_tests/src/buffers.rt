@@ -4,7 +4,7 @@ use crate::guests::{expect_bytes, expect_unreadable};
 use futex_core::Waiters;
 use kernel_calls::{Effect, Prepared, commit};
 use kernel_calls_acts::{Asked, Guest, ask, guest_in, opened, read, taken};
-use kernel_model::GuestSpace;
+use kernel_model::{GuestSpace, OpenFiles};
 use sn_base::{List, Memory};
 use sn_vectors::images::GUEST;
 use std::alloc::Global;
@@ -140,7 +140,16 @@ fn take(alloc: Global, console: &mut List<u8>, bytes: &[u8]) -> Result<(), Memor
     let effect = Effect::TakesBytes(List::from_slice(alloc, bytes)?);
     let mut tasks = Tasks::new(alloc);
     let mut sleepers = Waiters::new(alloc);
-    commit(alloc, effect, 1, &mut tasks, &mut sleepers, console)
+    let mut files = OpenFiles::new(alloc);
+    commit(
+        alloc,
+        effect,
+        1,
+        &mut tasks,
+        &mut sleepers,
+        console,
+        &mut files,
+    )
 }
 
 /// That a console has what it took, in order.

@@ -12,7 +12,8 @@ returns-clause-ends c caller k list waiting console calling =
     let a = c.args in
     let new = c.clear_words.new in
     ends_calling caller k a.context.now a.space.now a.areas.now list waiting console calling a.ended
-    (record { status = a.status; ended = a.ended; cleared = c.in_ok-cleared.cleared }) new.space new.areas refl
+    (record { status = a.status; ended = a.ended; cleared = c.in_ok-cleared.cleared; closes = a.closes }) new.space
+    new.areas refl
     (subst (λ ended. IsCleared (outcome_in (parts k) (words_cleared caller ended (nothing_cleared caller.space)))
     a.areas.now new.space new.areas c.in_ok-cleared.cleared) c.as_slice.ensures
     (c.in_ok-cleared.ensures.cleared caller (parts k) calling.task calling.memory calling.space

@@ -13,4 +13,5 @@ returns-clause-row c caller k waiting console calling =
     (task_ends caller k a.context.now a.space.now a.areas.now a.tasks.now waiting console calling c.in_ok-ended.ended
     c.in_ok-ending.ending new.space new.areas (Exited (a.status % 256))
     (c.in_ok-ending.ensures.status ∙ c.exited.ensures)
-    (c.in_ok-ending.ensures.ends caller k a.tasks.now waiting console calling) c.in_ok-ended.ensures)
+    (c.in_ok-ending.ensures.ends caller k a.tasks.now waiting console calling) c.in_ok-ended.ensures
+    (c.in_ok-ending.ensures.closes ∙ c.closed_with-closes.ensures))
