@@ -30,6 +30,19 @@ fails_refused does before after answer errno rest begin number e is =
     let (changes, fails, left) = subst (Executes does before after) is e in
     (changed changes before, ap (task_begun rest begin number before) fails)
 
+-- and one that started goes on from the kernel that has its task
+pub starts_begun : (does : Executed) (before after left : Kernel) (answer : Execved) (image : Image) (rest : Kernel
+    → Begun) (begin : Image → Kernel → Kernel) (number : ℕ) → Executes does before after answer
+    → answer ≡ answers.Starts image → left ≡ begin image after → task_begun rest begin number before does ≡ rest left
+starts_begun does before after left answer image rest begin number e is adds =
+    let (changes, starts, stays) = subst (Executes does before after) is e in
+    ap (task_begun rest begin number before) starts ∙ ap (λ k. rest (begin image k)) (sym stays) ∙ ap rest (sym adds)
+
+-- an opening that begins with a task of one number begins with it by another that is the same
+pub begun_at : (m n : ℕ) (program : Program) (k : Kernel) (does : Executed) (rest : Kernel → Begun) → m ≡ n
+    → task_begun rest (with_task m program) m k does ≡ task_begun rest (with_task n program) n k does
+begun_at m n program k does rest same = ap (λ i. task_begun rest (with_task i program) i k does) same
+
 module _ (n : ℕ) (programs : List Program) (opened : List Opened) (k : Kernel) (i : ℕ) where
   -- a program with no record of its opening
   pub no_record : i < length programs → length opened ≤ i → tasks_begun n (drop i programs) (drop i opened) k

@@ -5,10 +5,12 @@ use Rattle.std.specs.Prelude.{IsTrue, not, Result, Ok}
 use Rattle.std.specs.List.{list_any}
 use Rattle.std.specs.Ordering.{int_eq, nat_cmp}
 use Rattle.std.specs.FinMap as map
+use Rattle.sn_base.specs.declared.made.Made.{Made}
 use Rattle.sn_base.specs.declared.memory.Memory.{Memory}
 use Rattle.sn_base.proofs.Maps.{get-insert_same, get-insert_other}
 use Rattle.sn_errno.specs.declared.errno.Errno.TheVariants.{EIO}
 use Rattle.sn_errno.specs.Errors.{reply_of}
+use Rattle.task_table.specs.Ends.{exited, group_ended}
 use Rattle.mm_space.specs.Handing.{AreaState}
 use Rattle.mm_space.specs.Spaces.{AddressSpace}
 use Rattle.kernel_model.specs.Names.{NamedMap}
@@ -27,15 +29,17 @@ use Rattle.kernel_model.specs.entries.Given.{met, node_changes, may_meet}
 use Rattle.kernel_model.specs.entries.Parts.{Parts, parts, Prog, done, outcome_in, Change, put, changed, ◌>>=◌}
 use Rattle.kernel_model.specs.entries.Steps.{by_answer, by_given, call_at, call_entry, failing, refused_with, going_on}
 use Rattle.kernel_model.specs.entries.Steps.{replied_by, replied_to, stands_at}
+use Rattle.kernel_model.specs.laws.Files.{without_table}
 use Rattle.kernel_model.specs.laws.InPlace.{with_nodes, changed_by}
 use Rattle.kernel_model.specs.machine.Registers.{replied}
 use Rattle.kernel_model.proofs.CallLemmas.{call_disordered, call_failing}
 use Rattle.kernel_model.proofs.Failing.{faulted_is}
+use Rattle.kernel_model.proofs.FileChanges.{closed_behind}
 use Rattle.kernel_model.proofs.NamedMaps.{same_or_other}
 use Rattle.kernel_model.proofs.Trees.{outcome-bind}
 use Rattle.kernel_calls.specs.Children.{with_child, with_registers, with_task, with_words}
 use Rattle.kernel_calls.specs.Memories.{with_memory}
-use Rattle.kernel_calls.specs.Prepared.{Comes, changes_of}
+use Rattle.kernel_calls.specs.Prepared.{Comes, changes_of, closed_of, left_behind}
 use Rattle.kernel_calls.specs.declared.clone.Child.{Child}
 use Rattle.kernel_calls.specs.declared.clone.Words.{Words}
 use Rattle.kernel_calls.specs.declared.prepared.Called.{Called}
@@ -244,14 +248,34 @@ call_done k c reply value changes after left agrees does goes =
     ∙ ap (λ x. Some (put (OfTask c.task) (Some (replied c.registers value)) x)) does
     ∙ ap (λ x. Some x) (sym goes)
 
--- a call's effect is the same in a state with other memory
+-- the closing of a table leaves the same, in whichever of two states with the same open files it is looked at,
+closed_apart : (closes : Option Made) (k other after : Kernel) → other.files ≡ k.files → after.files ≡ k.files
+    → changed (closed_of closes (parts k)) after ≡ changed (closed_of closes (parts other)) after
+closed_apart None k other after same stays = refl
+closed_apart (Some name) k other after same stays =
+    closed_behind name k after stays
+    ∙ ap (λ f. record after { files = without_table name f }) (sym same)
+    ∙ sym (closed_behind name other after (stays ∙ sym same))
+
+-- and a call's effect leaves the same as in a state with other memory
 pub effect_apart : (effect : Effect) (group : ℕ) (k : Kernel) (c : Caller) (space : AddressSpace)
     (areas : NamedMap AreaState)
-    → changes_of effect group (parts k) ≡ changes_of effect group (parts (with_memory c space areas k))
+    → changed (changes_of effect group (parts k)) (with_memory c space areas k)
+    ≡ changed (changes_of effect group (parts (with_memory c space areas k))) (with_memory c space areas k)
 effect_apart Nothing group k c space areas = refl
 effect_apart (TakesBytes bytes) group k c space areas = refl
-effect_apart (EndsGroup ending) group k c space areas = refl
-effect_apart (EndsTask task ending) group k c space areas = refl
+effect_apart (EndsGroup ending) group k c space areas =
+    closed_apart ending.closes k (with_memory c space areas k)
+    (record (with_memory c space areas k) {
+      tasks = group_ended k.tasks group ending.status;
+      sleepers = left_behind ending k.sleepers;
+    }) refl refl
+effect_apart (EndsTask task ending) group k c space areas =
+    closed_apart ending.closes k (with_memory c space areas k)
+    (record (with_memory c space areas k) {
+      tasks = exited k.tasks task ending.status;
+      sleepers = left_behind ending k.sleepers;
+    }) refl refl
 effect_apart (SetsClear task address) group k c space areas = refl
 effect_apart (Wakes key most) group k c space areas = refl
 effect_apart (Reaps which) group k c space areas = refl

@@ -8,8 +8,8 @@ use Rattle.kernel_model.specs.declared.caller.Caller.{Caller}
 use Rattle.kernel_model.specs.declared.entry.Entry.{Entry}
 use Rattle.kernel_model.specs.declared.kernel.Kernel.{Kernel}
 use Rattle.kernel_model.specs.declared.kernel.Part.{Part}
-use Rattle.kernel_model.specs.declared.kernel.Part.TheVariants.{OfTasks, OfTask, OfSpace, OfArea, OfNode, OfSleepers}
-use Rattle.kernel_model.specs.declared.kernel.Part.TheVariants.{OfConsole, OfFaults}
+use Rattle.kernel_model.specs.declared.kernel.Part.TheVariants.{OfTasks, OfTask, OfSpace, OfArea, OfTable, OfDescription}
+use Rattle.kernel_model.specs.declared.kernel.Part.TheVariants.{OfPipe, OfNode, OfSleepers, OfConsole, OfFaults}
 use Rattle.kernel_model.specs.calls.Callers.{context_of, caller_of}
 use Rattle.kernel_model.specs.entries.Parts.{Holds, parts, outcome_in, Change, put, changed}
 use Rattle.kernel_model.specs.entries.Steps.{may_enter, row_of, task_of, if_live, entry_row, stepped, step}
@@ -65,6 +65,9 @@ entries_put OfTasks content k = refl
 entries_put (OfTask n) content k = refl
 entries_put (OfSpace n) content k = refl
 entries_put (OfArea n) content k = refl
+entries_put (OfTable n) content k = refl
+entries_put (OfDescription n) content k = refl
+entries_put (OfPipe n) content k = refl
 entries_put (OfNode n) content k = refl
 entries_put OfSleepers content k = refl
 entries_put OfConsole content k = refl

@@ -9,7 +9,7 @@ ghost use Rattle.kernel_model.specs.opening.Opening.{root_of, task_begun, tasks_
 ghost use Rattle.kernel_model.specs.opening.Arguments.{is_too_long};
 ghost use Rattle.kernel_model.specs.entries.Given.{may_meet};
 ghost use Rattle.kernel_model.specs.entries.Parts.{parts, outcome_in as outcome};
-ghost use Rattle.kernel_model.specs.laws.Beginnings.{HasRoom, IsRoomFor};
+ghost use Rattle.kernel_model.specs.laws.Beginnings.{HasRoom, MayOpen};
 ghost use Rattle.plain_kernel.specs.Beginnings.{IsRefusedBy};
 
 use crate::OpeningErr;
@@ -19,8 +19,8 @@ use crate::walking::{Execved, execve, root_number};
 use elf_image::Image;
 use futex_core::Waiters;
 use host_node::Tree;
-use kernel_calls::{Beginning, open_task, opened};
-use kernel_model::{Given, Kernel, Named, Node, Opened};
+use kernel_calls::{Beginning, open_files, open_task, opened};
+use kernel_model::{Given, Kernel, Named, Node, OpenFiles, Opened};
 use mount_file::{MOST_TASKS, Mounts, Program, copied_mounts};
 use sn_base::{List, Map, Memory};
 use std::alloc::Global;
@@ -51,6 +51,7 @@ pub(crate) fn bare(alloc: Global, mounts: &Mounts, trees: &[Tree]) -> Result<Ker
         registers: Map::new(alloc),
         spaces: Named::new(alloc),
         areas: Named::new(alloc),
+        files: OpenFiles::new(alloc),
         nodes,
         sleepers: Waiters::new(alloc),
         console: List::new(alloc),
@@ -82,33 +83,34 @@ pub(crate) fn begin_tasks(
         if !may_meet(&kernel.nodes, &one.given) {
             return Err(OpeningErr::Misfit { task: number });
         }
-        begin_task(alloc, kernel, number, program, &one.given)?;
+        begin_task(alloc, kernel, program, &one.given)?;
     }
     Ok(())
 }
 
-/// Begins an opening task by its execve.
+/// Begins the next opening task by its execve.
 fn begin_task(
     alloc: Global,
     kernel: &mut Kernel,
-    number: u32,
     program: &Program,
     given: &Given,
 ) -> Result<(), OpeningErr>
-    requires room { IsRoomFor kernel.old.tasks }
+    requires room { MayOpen kernel.old.tasks }
     requires may { may_meet kernel.old.nodes given.now ≡ true }
-    ensures ok { OnOk result ((rest : AKernel → Begun) →
+    ensures ok { let number = kernel.old.tasks.last + 1 in OnOk result ((rest : AKernel → Begun) →
         task_begun rest (with_task number program.now) number kernel.old
         (outcome (parts kernel.old) (execve_of (root_of kernel.old.mounts) program.now given.now)) ≡ rest kernel.new) }
-    ensures tasks { OnOk result (kernel.new.tasks ≡ with_opened kernel.old.tasks (made_by number) (made_by number)
+    ensures tasks { let number = kernel.old.tasks.last + 1 in
+        OnOk result (kernel.new.tasks ≡ with_opened kernel.old.tasks (made_by number) (made_by number)
         (root_of kernel.new.mounts)) }
-    ensures refused { IfErr result (λ e. (rest : AKernel → Begun) →
+    ensures refused { let number = kernel.old.tasks.last + 1 in IfErr result (λ e. (rest : AKernel → Begun) →
         IsRefusedBy (task_begun rest (with_task number program.now) number kernel.old
         (outcome (parts kernel.old) (execve_of (root_of kernel.old.mounts) program.now given.now))) e) }
 {
+    let number = kernel.tasks.last() + 1;
     match execve(alloc, kernel, program, given)? {
         Execved::Starts(image) => {
-            add_task(alloc, kernel, number, program, &image)?;
+            add_task(alloc, kernel, program, &image)?;
             Ok(())
         }
         Execved::Fails(errno) => Err(OpeningErr::Image {
@@ -119,19 +121,20 @@ fn begin_task(
     }
 }
 
-/// Adds an opening task, which is a group of its own.
+/// Adds the next opening task, which is a group of its own.
 fn add_task(
     alloc: Global,
     kernel: &mut Kernel,
-    number: u32,
     program: &Program,
     image: &Image,
 ) -> Result<(), Memory>
     requires short { is_too_long program.now.args program.now.env ≡ false }
     requires pages { HasRoom image.now }
-    requires room { IsRoomFor kernel.old.tasks }
-    ensures { OnOk result (kernel.new ≡ with_task number program.now image.now kernel.old) }
+    requires room { MayOpen kernel.old.tasks }
+    ensures { let number = kernel.old.tasks.last + 1 in
+        OnOk result (kernel.new ≡ with_task number program.now image.now kernel.old) }
 {
+    let number = kernel.tasks.last() + 1;
     let Beginning { registers, space } = opened(
         alloc,
         kernel.seed.as_slice(),
@@ -142,5 +145,6 @@ fn add_task(
     let root = root_number(kernel);
     open_task(&mut kernel.tasks, number, root)?;
     kernel.registers.insert(u64::from(number), registers)?;
-    kernel.spaces.insert(alloc, 0, number, space)
+    kernel.spaces.insert(alloc, 0, number, space)?;
+    open_files(alloc, number, &mut kernel.files)
 }

@@ -43,6 +43,7 @@ pub(crate) fn caller(
         task: number,
         group: task.group,
         memory: group.memory,
+        table: group.table,
         registers,
         space,
     }))
@@ -76,6 +77,7 @@ pub(crate) fn context<'a>(caller: &Caller, place: u64, seed: &'a [u8]) -> Contex
     ensures task { result.task ≡ caller.now.task }
     ensures group { result.group ≡ caller.now.group }
     ensures memory { result.memory ≡ caller.now.memory }
+    ensures table { result.table ≡ caller.now.table }
     ensures place { result.place ≡ place }
     ensures seed { result.seed.now ≡ seed.now }
 {
@@ -83,6 +85,7 @@ pub(crate) fn context<'a>(caller: &Caller, place: u64, seed: &'a [u8]) -> Contex
         task: caller.task,
         group: caller.group,
         memory: caller.memory,
+        table: caller.table,
         place,
         seed,
     }

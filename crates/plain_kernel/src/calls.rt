@@ -227,6 +227,7 @@ fn make_child(
         &mut kernel.registers,
         &mut kernel.spaces,
         &mut kernel.areas,
+        &mut kernel.files,
     )?;
     go_on(kernel, caller.task, caller.registers, number);
     Ok(true)

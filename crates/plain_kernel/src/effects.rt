@@ -37,6 +37,7 @@ pub(crate) fn settle(
         &mut kernel.tasks,
         &mut kernel.sleepers,
         &mut kernel.console,
+        &mut kernel.files,
     )?;
     kernel
         .spaces

@@ -1,9 +1,11 @@
 //! What guests' entries are tried with, which of them fit, and what they leave: rows of tables.
 
 use crate::records::{Begins, Child, ONE_TASK, open, risen};
-use kernel_model::{Args, Entry, Given, Kernel};
+use fd_table::FdTable;
+use kernel_model::{Args, Entry, Given, Kernel, OpenFiles};
 use plain_kernel::Plain;
 use rv_table::Reg;
+use sn_base::Made;
 use std::alloc::Global;
 use std::process::Abort;
 use std::test::Fail;
@@ -45,6 +47,13 @@ pub enum Left {
     Console(&'static [u8]),
     /// So many calls of the root have failed.
     Failed(u64),
+    /// The descriptor table that the entry of a place made, by its index, has these numbers open alone, each with the
+    /// description of that index that the opening made.
+    Open(u64, u32, &'static [(u32, u32)]),
+    /// There is no descriptor table of that name.
+    Closed(u64, u32),
+    /// So many descriptors have the description of that index that the opening made, which is closed with the last.
+    Descriptors(u32, u64),
 }
 
 /// A guest, by a sentence that says what is so of it.
@@ -132,6 +141,33 @@ fn stands(kernel: &Kernel) -> Option<(u64, u64)> {
     Some((registers.read(Reg::new(10)), registers.pc))
 }
 
+/// Whether a number of a table has the description of that index that the opening made.
+fn has_stream(table: &FdTable, fd: u32, index: u32) -> bool {
+    match table.get(fd) {
+        Some(found) => found.description == Made { place: 0, index },
+        None => false,
+    }
+}
+
+/// Whether the table of a name has these numbers open alone.
+fn is_open(files: &OpenFiles, place: u64, index: u32, streams: &[(u32, u32)]) -> bool {
+    let Some(table) = files.tables.get(place, index) else {
+        return false;
+    };
+    let each = streams
+        .iter()
+        .all(|(fd, stream)| has_stream(table, *fd, *stream));
+    each && table.len() == streams.len()
+}
+
+/// How many descriptors have the description of that index that the opening made: none, where it is closed.
+fn descriptors(files: &OpenFiles, index: u32) -> u64 {
+    match files.descriptions.get(0, index) {
+        Some(file) => file.descriptors,
+        None => 0,
+    }
+}
+
 /// Whether the state has that.
 fn is_left(kernel: &Kernel, left: Left) -> bool {
     match left {
@@ -141,6 +177,9 @@ fn is_left(kernel: &Kernel, left: Left) -> bool {
         Left::Stands(a0, pc) => stands(kernel) == Some((a0, pc)),
         Left::Console(bytes) => kernel.console.as_slice() == bytes,
         Left::Failed(count) => kernel.failed.get(1).copied() == Some(count),
+        Left::Open(place, index, streams) => is_open(&kernel.files, place, index, streams),
+        Left::Closed(place, index) => !kernel.files.tables.contains(place, index),
+        Left::Descriptors(index, count) => descriptors(&kernel.files, index) == count,
     }
 }
 

@@ -7,7 +7,7 @@ use task_table::Status;
 
 /// Makes a thread, sleeps on a word of its stack until that wakes it, and exits with 0.
 #[rattlefmt::skip]
-const SLEEPS_FOR_A_THREAD: &[u32] = &[
+pub const SLEEPS_FOR_A_THREAD: &[u32] = &[
     0xff01_0413, // addi s0, sp, -16
     0x0005_1537, // lui a0, 0x51
     0xf005_0513, // addi a0, a0, -256
@@ -30,7 +30,7 @@ const SLEEPS_FOR_A_THREAD: &[u32] = &[
 
 /// Makes a process, which exits with 5, waits for that, and exits with its number.
 #[rattlefmt::skip]
-const WAITS_FOR_A_PROCESS: &[u32] = &[
+pub const WAITS_FOR_A_PROCESS: &[u32] = &[
     0x0110_0513, // li a0, 17
     0x0dc0_0893, // li a7, 220
     0x0000_0073, // ecall
@@ -47,7 +47,7 @@ const WAITS_FOR_A_PROCESS: &[u32] = &[
 
 /// Makes a thread, and both load from address 0: signal 11.
 #[rattlefmt::skip]
-const TRAPS_IN_TWO_THREADS: &[u32] = &[
+pub const TRAPS_IN_TWO_THREADS: &[u32] = &[
     0x0005_1537, // lui a0, 0x51
     0xf005_0513, // addi a0, a0, -256
     0x0dc0_0893, // li a7, 220

@@ -1,10 +1,11 @@
 -- Each opening task begins over the kernel that the one before it left, and the first that fails is told.
-use Rattle.std.proofs.Common.{◌+◌, drop, refl, sym, subst, ◌∙◌, arith}
+use Rattle.std.proofs.Common.{◌+◌, drop, refl, ap, sym, subst, ◌∙◌, arith}
 use Rattle.std.proofs.lemmas.Result.{err_from_is_err_and}
 use Rattle.task_table.specs.Table.{TaskTable}
-use Rattle.kernel_model.specs.opening.Opening.{tasks_begun, made_by, root_of}
-use Rattle.kernel_model.proofs.OpenedTasks.{AreOpened, opened_none, opened_more, room_for}
-use Rattle.plain_kernel.proofs.BeginLemmas.{no_record, next_may, next_misfits, refused_same}
+use Rattle.kernel_model.specs.opening.Opening.{execve_of, made_by, root_of, tasks_begun}
+use Rattle.kernel_model.specs.entries.Parts.{outcome_in, parts}
+use Rattle.kernel_model.proofs.OpenedTasks.{AreOpened, opened_none, opened_more, may_open}
+use Rattle.plain_kernel.proofs.BeginLemmas.{begun_at, no_record, next_may, next_misfits, refused_same}
 use Rattle.plain_kernel.proofs.beginning.begin_tasks.Goals as goal
 
 pub loop-index-init : goal.loop-index-init
@@ -13,7 +14,7 @@ loop-index-init c =
 
 pub begin_task-requires-clause-room : goal.begin_task-requires-clause-room
 begin_task-requires-clause-room c =
-    room_for c.loop-index.index c.loop-index.kernel.tasks (omega arith) c.loop-index.invariant.tasks
+    may_open c.loop-index.index c.loop-index.kernel.tasks (omega arith) c.loop-index.invariant.tasks
 
 pub returns-in_default-clause-refused : goal.returns-in_default-clause-refused
 returns-in_default-clause-refused c =
@@ -36,7 +37,12 @@ returns-in_err-begin_task-clause-refused c =
     ∙ next_may (c.loop-index.index + 1) c.args.programs.now c.args.opened.now c.loop-index.kernel
     c.loop-index.index c.index-programs-index.result c.in-Some.one.now c.loop-index-test.true
     c.index-programs-index.is c.in-Some.ensures.lookup.3.0 c.in-Some.ensures.lookup.1
-    (sym c.may_meet.ensures ∙ c.if-not-may_meet.false))
+    (sym c.may_meet.ensures ∙ c.if-not-may_meet.false)
+    ∙ sym (begun_at (c.loop-index.kernel.tasks.last + 1) (c.loop-index.index + 1) c.index-programs-index.result
+    c.loop-index.kernel (outcome_in (parts c.loop-index.kernel)
+    (execve_of (root_of c.loop-index.kernel.mounts) c.index-programs-index.result c.in-Some.one.now.given))
+    (tasks_begun (c.loop-index.index + 1 + 1) (drop (c.loop-index.index + 1) c.args.programs.now)
+    (drop (c.loop-index.index + 1) c.args.opened.now)) (ap (λ n. n + 1) c.loop-index.invariant.tasks.last)))
     (c.in_err-begin_task.ensures.refused (tasks_begun (c.loop-index.index + 1 + 1)
     (drop (c.loop-index.index + 1) c.args.programs.now) (drop (c.loop-index.index + 1) c.args.opened.now))))
 
@@ -46,6 +52,11 @@ loop-index-preserved c = record {
       sym
       (c.in_ok-begin_task.ensures.ok (tasks_begun (c.loop-index.index + 1 + 1)
       (drop (c.loop-index.index + 1) c.args.programs.now) (drop (c.loop-index.index + 1) c.args.opened.now)))
+      ∙ begun_at (c.loop-index.kernel.tasks.last + 1) (c.loop-index.index + 1) c.index-programs-index.result
+      c.loop-index.kernel (outcome_in (parts c.loop-index.kernel)
+      (execve_of (root_of c.loop-index.kernel.mounts) c.index-programs-index.result c.in-Some.one.now.given))
+      (tasks_begun (c.loop-index.index + 1 + 1) (drop (c.loop-index.index + 1) c.args.programs.now)
+      (drop (c.loop-index.index + 1) c.args.opened.now)) (ap (λ n. n + 1) c.loop-index.invariant.tasks.last)
       ∙ sym (next_may (c.loop-index.index + 1) c.args.programs.now c.args.opened.now
       c.loop-index.kernel c.loop-index.index c.index-programs-index.result c.in-Some.one.now c.loop-index-test.true
       c.index-programs-index.is c.in-Some.ensures.lookup.3.0 c.in-Some.ensures.lookup.1
@@ -53,7 +64,7 @@ loop-index-preserved c = record {
       ∙ c.loop-index.invariant.begun;
   tasks =
       subst (λ (list : TaskTable). AreOpened (c.loop-index.index + 1) list) (sym c.in_ok-begin_task.ensures.tasks)
-      (opened_more c.loop-index.index c.loop-index.kernel.tasks (made_by (c.loop-index.index + 1))
-      (made_by (c.loop-index.index + 1)) (root_of c.begin_task.new.kernel.mounts) (omega arith)
+      (opened_more c.loop-index.index c.loop-index.kernel.tasks (made_by (c.loop-index.kernel.tasks.last + 1))
+      (made_by (c.loop-index.kernel.tasks.last + 1)) (root_of c.begin_task.new.kernel.mounts) (omega arith)
       c.loop-index.invariant.tasks);
 }

@@ -16,7 +16,7 @@ pub go_on-requires : goal.go_on-requires
 go_on-requires c =
     caller_stays c.into_inner.result c.context-context.result.place c.args.caller c.args.kernel.now _
     (c.in_ok-make.ensures.ok c.args.caller c.args.kernel.now (sym c.context-context.ensures.task)
-    (sym c.context-context.ensures.memory) refl refl refl refl)
+    (sym c.context-context.ensures.memory) (sym c.context-context.ensures.table) refl refl refl refl refl)
     c.requires.there.registers
 
 pub returns : goal.returns
@@ -26,6 +26,7 @@ returns c = λ changes told.
       registers = c.make.new.registers;
       spaces = c.make.new.spaces;
       areas = c.make.new.areas;
+      files = c.make.new.files;
     } in
     let fits : SFits w64 c.next_number-number.result = search rules in
     call_done c.args.kernel.now c.args.caller c.args.reply (pos (c.args.kernel.now.tasks.last + 1)) changes after
@@ -38,7 +39,7 @@ returns c = λ changes told.
     ∙ ap (λ place. with_child c.into_inner.result place c.args.caller c.args.kernel.now)
     (sym c.context-context.ensures.place)
     ∙ c.in_ok-make.ensures.ok c.args.caller c.args.kernel.now (sym c.context-context.ensures.task)
-    (sym c.context-context.ensures.memory) refl refl refl refl)
+    (sym c.context-context.ensures.memory) (sym c.context-context.ensures.table) refl refl refl refl refl)
     (c.go_on.ensures
     ∙ ap (λ v. put (OfTask c.args.caller.task) (Some (replied c.args.caller.registers v)) after)
     (to_z-of_z fits ∙ c.next_number-number.ensures))

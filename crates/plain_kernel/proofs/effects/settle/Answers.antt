@@ -2,7 +2,6 @@
 use Rattle.std.proofs.Common.{refl, ap, sym, ◌∙◌}
 use Rattle.kernel_calls.specs.Memories.{with_memory}
 use Rattle.kernel_model.specs.declared.kernel.Kernel.{Kernel}
-use Rattle.kernel_model.specs.entries.Parts.{changed}
 use Rattle.plain_kernel.proofs.CallLemmas.{effect_apart}
 use Rattle.plain_kernel.proofs.effects.settle.Goals as goal
 
@@ -13,8 +12,9 @@ returns-clause-ok c =
       tasks = c.commit.new.tasks;
       sleepers = c.commit.new.sleepers;
       console = c.commit.new.console;
+      files = c.commit.new.files;
     } in
     ap (λ s. record after { spaces = s }) c.replace.ensures
-    ∙ sym (ap (λ cs. changed cs memory)
-    (effect_apart c.args.effect c.args.caller.group c.args.kernel.now c.args.caller c.args.caller.space c.args.areas)
-    ∙ c.in_ok-commit.ensures.ok memory refl refl refl)
+    ∙ sym (effect_apart c.args.effect c.args.caller.group c.args.kernel.now c.args.caller c.args.caller.space
+    c.args.areas
+    ∙ c.in_ok-commit.ensures.ok memory refl refl refl refl)

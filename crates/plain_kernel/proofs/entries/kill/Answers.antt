@@ -12,6 +12,7 @@ returns c =
       task = sym c.context-context.ensures.task;
       group = sym c.context-context.ensures.group;
       memory = sym c.context-context.ensures.memory;
+      table = sym c.context-context.ensures.table;
       place = sym c.context-context.ensures.place;
       seed = sym (c.context-context.ensures.seed ∙ c.as_slice.ensures);
       space = refl;
