@@ -1,5 +1,5 @@
 -- What calls do keeps live tasks at home: what they change of the task list, and the children that they make.
-use Rattle.std.proofs.Common.{◌≡◌, ℕ, ◌+◌, true, refl, ap, subst}
+use Rattle.std.proofs.Common.{◌≡◌, ℕ, ◌+◌, true, refl, ap, sym, ◌∙◌, subst}
 use Rattle.std.specs.Prelude.{Option, Some, None, is_some}
 use Rattle.std.specs.Ordering.{nat_cmp}
 use Rattle.std.specs.FinMap as map
@@ -23,6 +23,7 @@ use Rattle.kernel_calls.specs.declared.prepared.Effect.TheVariants.{Wakes, Reaps
 use Rattle.proc_cells.specs.Beside.{AreAtHome}
 use Rattle.proc_cells.proofs.Homes.{home_cleared, home_ended, home_exited, home_reached, home_released, registers_stay}
 use Rattle.proc_cells.proofs.NewHomes.{home_begun, home_threaded}
+use Rattle.call_table.proofs.Closings.{group_left, task_left}
 
 -- where a call was done
 pub home_committed : (effect : Effect) (group : ℕ) (k : Kernel) (after : TaskTable)
@@ -34,10 +35,12 @@ home_committed Nothing group k after registers spaces is home =
 home_committed (TakesBytes bytes) group k after registers spaces is home =
     subst (λ (x : TaskTable). AreAtHome x registers spaces) is home
 home_committed (EndsGroup ending) group k after registers spaces is home =
-    subst (λ (x : TaskTable). AreAtHome x registers spaces) is
+    subst (λ (x : TaskTable). AreAtHome x registers spaces)
+    (ap (λ (m : Kernel). m.tasks) (sym (group_left k ending group)) ∙ is)
     (home_ended k.tasks registers spaces home group ending.status)
 home_committed (EndsTask task ending) group k after registers spaces is home =
-    subst (λ (x : TaskTable). AreAtHome x registers spaces) is
+    subst (λ (x : TaskTable). AreAtHome x registers spaces)
+    (ap (λ (m : Kernel). m.tasks) (sym (task_left k ending group task)) ∙ is)
     (home_exited k.tasks registers spaces home task ending.status)
 home_committed (Wakes key most) group k after registers spaces is home =
     subst (λ (x : TaskTable). AreAtHome x registers spaces) is home

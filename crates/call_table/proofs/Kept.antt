@@ -21,6 +21,7 @@ kept_back p q kept = record {
   registers = sym kept.registers;
   spaces = sym kept.spaces;
   areas = sym kept.areas;
+  files = sym kept.files;
   sleepers = sym kept.sleepers;
   console = sym kept.console;
 }
@@ -44,10 +45,9 @@ stands_kept p q task standing kept stands = record {
 
 -- no instruction has run
 pub part_none : (p q : Cells) (task : ℕ) (standing : Standing) → StandsAs p task standing → q.tasks ≡ p.tasks
-    → q.registers ≡ p.registers → q.spaces ≡ p.spaces → AreAlike q.areas p.areas → q.sleepers ≡ p.sleepers
-    → q.console ≡ p.console
-    → HasRunPart task p q
-part_none p q task standing stands e f g areas w i = record {
+    → q.registers ≡ p.registers → q.spaces ≡ p.spaces → AreAlike q.areas p.areas → q.files ≡ p.files
+    → q.sleepers ≡ p.sleepers → q.console ≡ p.console → HasRunPart task p q
+part_none p q task standing stands e f g areas files w i = record {
   caller = caller_with task standing stands.space;
   found = stands.found;
   count = 0;
@@ -63,6 +63,7 @@ part_none p q task standing stands e f g areas w i = record {
   kept_registers = f ∙ sym (registers_same p task standing stands standing.registers refl);
   kept_tasks = e;
   kept_areas = areas;
+  kept_files = files;
   kept_sleepers = w;
   kept_console = i;
 }
@@ -71,7 +72,7 @@ pub part_kept : (p q : Cells) (task : ℕ) (standing : Standing) → AreKept p q
     → HasRunPart task p q
 part_kept p q task standing kept stands =
     part_none p q task standing stands kept.tasks kept.registers kept.spaces
-    (λ place index. ap (λ x. get_named x place index) kept.areas) kept.sleepers kept.console
+    (λ place index. ap (λ x. get_named x place index) kept.areas) kept.files kept.sleepers kept.console
 
 -- nor any before those that have
 pub part_behind : (p q r : Cells) (task : ℕ) → AreKept p q → HasRunPart task q r → HasRunPart task p r
@@ -87,6 +88,7 @@ part_behind p q r task kept part = record {
   kept_registers = part.kept_registers ∙ ap (λ x. map.insert x task part.registers) kept.registers;
   kept_tasks = part.kept_tasks ∙ kept.tasks;
   kept_areas = λ place index. part.kept_areas place index ∙ ap (λ x. get_named x place index) kept.areas;
+  kept_files = part.kept_files ∙ kept.files;
   kept_sleepers = part.kept_sleepers ∙ kept.sleepers;
   kept_console = part.kept_console ∙ kept.console;
 }
@@ -99,7 +101,8 @@ kernel_kept p q kept beside n =
     ap (λ x. record (held_by q) { tasks = x }) kept.tasks
     ∙ ap (λ x. record (held_by q) { tasks = p.tasks; registers = x }) kept.registers
     ∙ ap (λ x. record (held_by q) { tasks = p.tasks; registers = p.registers; spaces = x }) kept.spaces
-    ∙ ap (λ x. record (held_by p) { areas = x; sleepers = q.sleepers; console = q.console }) kept.areas
+    ∙ ap (λ x. record (held_by p) { areas = x; files = q.files; sleepers = q.sleepers; console = q.console }) kept.areas
+    ∙ ap (λ x. record (held_by p) { files = x; sleepers = q.sleepers; console = q.console }) kept.files
     ∙ ap (λ x. record (held_by p) { sleepers = x; console = q.console }) kept.sleepers
     ∙ ap (λ x. record (held_by p) { console = x }) kept.console)
 

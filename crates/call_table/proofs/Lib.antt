@@ -1,5 +1,6 @@
 -- Lemmas of processes and their entries, by subject.
 pub mod ByMemory
+pub mod Closings
 pub mod Histories
 pub mod Homes
 pub mod Kept

@@ -118,12 +118,13 @@ module _ (task : ℕ) (memory : Made) (made : Entered) (p q : Cells) where
   -- one that is no sleep, where nobody comes to the task list, and who goes from the futex list has ended
   moves_left : Left (lists_of p) (lists_of q) → IsAwake p task → puts_to_sleep made.entry ≡ false
       → (made.tasks ≡ false → q.tasks ≡ p.tasks) → (made.areas ≡ false → q.areas ≡ p.areas)
-      → Others task memory p q → Moves task memory made p q
-  moves_left left awake entered tasks areas others = record {
+      → (made.tasks ≡ false → q.files ≡ p.files) → Others task memory p q → Moves task memory made p q
+  moves_left left awake entered tasks areas files others = record {
     tasks = tasks;
     registers = λ same. others.registers;
     spaces = λ same. others.spaces;
     areas = areas;
+    files = files;
     last = omega (arith, left.last);
     lives = λ other lives before. absurd (cc (left.lives other lives, before));
     off = λ other apart off. left.off other off;
@@ -134,9 +135,11 @@ module _ (task : ℕ) (memory : Made) (made : Entered) (p q : Cells) where
 
   -- one that leaves the task list and the futex list
   pub moves_alone : q.tasks ≡ p.tasks → q.sleepers ≡ p.sleepers → IsAwake p task → puts_to_sleep made.entry ≡ false
-      → (made.areas ≡ false → q.areas ≡ p.areas) → Others task memory p q → Moves task memory made p q
-  moves_alone tasks sleepers awake entered areas others =
-      moves_left (subst (Left (lists_of p)) (sym same) (left_same (lists_of p))) awake entered (λ e. tasks) areas others
+      → (made.areas ≡ false → q.areas ≡ p.areas) → q.files ≡ p.files → Others task memory p q
+      → Moves task memory made p q
+  moves_alone tasks sleepers awake entered areas files others =
+      moves_left (subst (Left (lists_of p)) (sym same) (left_same (lists_of p))) awake entered (λ e. tasks) areas
+      (λ e. files) others
     where
       same : lists_of q ≡ lists_of p
       same =
@@ -146,12 +149,12 @@ module _ (task : ℕ) (memory : Made) (made : Entered) (p q : Cells) where
   -- one that does what a call prepared, or that ends a thread group
   pub moves_done : (effect : Effect) (group : ℕ) → lists_of q ≡ lists_after effect group (lists_of p)
       → EndsOnly effect task → EndsEach effect task group p.tasks → IsAwake p task → puts_to_sleep made.entry ≡ false
-      → made.tasks ≡ changes_list effect → (made.areas ≡ false → q.areas ≡ p.areas) → Others task memory p q
-      → Moves task memory made p q
-  moves_done effect group is own ended awake entered told areas others =
+      → made.tasks ≡ changes_list effect → (made.areas ≡ false → q.areas ≡ p.areas)
+      → (changes_list effect ≡ false → q.files ≡ p.files) → Others task memory p q → Moves task memory made p q
+  moves_done effect group is own ended awake entered told areas files others =
       moves_left (subst (Left (lists_of p)) (sym is) (left_after task group (lists_of p) effect own ended)) awake
       entered (λ e. ap (λ (l : Lists). l.tasks) is ∙ list_stays task group (lists_of p) effect (sym told ∙ e)) areas
-      others
+      (λ e. files (sym told ∙ e)) others
 
   -- one that makes a child
   pub moves_child : OneMore p.tasks q.tasks → q.sleepers ≡ p.sleepers → IsAwake p task
@@ -161,6 +164,7 @@ module _ (task : ℕ) (memory : Made) (made : Entered) (p q : Cells) where
     registers = λ same. absurd (cc (told, same));
     spaces = λ same. absurd (cc (told, same));
     areas = λ same. absurd (cc (areas, same));
+    files = λ same. absurd (cc (told, same));
     last = omega (arith, more.last);
     lives = λ other lives before. lives_last p.tasks q.tasks more other lives before;
     off = λ other apart off. ap (λ list. wait_of list other) sleepers ∙ off;
@@ -171,12 +175,13 @@ module _ (task : ℕ) (memory : Made) (made : Entered) (p q : Cells) where
 
   -- that of a task that was woken
   pub moves_woken : q.tasks ≡ p.tasks → q.sleepers ≡ after_leave p.sleepers task → puts_to_sleep made.entry ≡ false
-      → q.areas ≡ p.areas → Others task memory p q → Moves task memory made p q
-  moves_woken tasks sleepers entered areas others = record {
+      → q.areas ≡ p.areas → q.files ≡ p.files → Others task memory p q → Moves task memory made p q
+  moves_woken tasks sleepers entered areas files others = record {
     tasks = λ same. tasks;
     registers = λ same. others.registers;
     spaces = λ same. others.spaces;
     areas = λ same. areas;
+    files = λ same. files;
     last = omega (arith, ap (λ (t : TaskTable). t.last) tasks);
     lives = λ other lives before.
         absurd (cc (ap (λ (t : TaskTable). is_live t.tasks other) (sym tasks) ∙ lives, before));
@@ -189,12 +194,14 @@ module _ (task : ℕ) (memory : Made) (made : Entered) (p q : Cells) where
 
   -- one that puts its task to sleep
   pub moves_asleep : (key : FutexKey) → q.tasks ≡ p.tasks → q.sleepers ≡ after_sleep p.sleepers task key
-      → puts_to_sleep made.entry ≡ true → q.areas ≡ p.areas → Others task memory p q → Moves task memory made p q
-  moves_asleep key tasks sleepers entered areas others = record {
+      → puts_to_sleep made.entry ≡ true → q.areas ≡ p.areas → q.files ≡ p.files → Others task memory p q
+      → Moves task memory made p q
+  moves_asleep key tasks sleepers entered areas files others = record {
     tasks = λ same. tasks;
     registers = λ same. others.registers;
     spaces = λ same. others.spaces;
     areas = λ same. areas;
+    files = λ same. files;
     last = omega (arith, ap (λ (t : TaskTable). t.last) tasks);
     lives = λ other lives before.
         absurd (cc (ap (λ (t : TaskTable). is_live t.tasks other) (sym tasks) ∙ lives, before));
@@ -209,12 +216,13 @@ module _ (task : ℕ) (memory : Made) (made : Entered) (p q : Cells) where
 -- one that was made behind cells that differ in the task's own memory alone, or in shared areas too, where that is told
 pub moves_behind : (task : ℕ) (memory own : Made) (made : Entered) (p b q : Cells) → Moves task own made b q
     → own ≡ memory → b.tasks ≡ p.tasks → b.sleepers ≡ p.sleepers → (made.areas ≡ false → b.areas ≡ p.areas)
-    → Others task memory p b → Moves task memory made p q
-moves_behind task memory own made p b q did known tasks sleepers areas others = record {
+    → b.files ≡ p.files → Others task memory p b → Moves task memory made p q
+moves_behind task memory own made p b q did known tasks sleepers areas files others = record {
   tasks = λ e. moves.tasks e ∙ tasks;
   registers = λ e other apart. moves.registers e other apart ∙ others.registers other apart;
   spaces = λ e name apart. moves.spaces e name apart ∙ others.spaces name apart;
   areas = λ e. moves.areas e ∙ areas e;
+  files = λ e. moves.files e ∙ files;
   last = omega (arith, moves.last, ap (λ (t : TaskTable). t.last) tasks);
   lives = λ other lives before.
       let is = moves.lives other lives (ap (λ (t : TaskTable). is_live t.tasks other) tasks ∙ before) in
@@ -233,7 +241,7 @@ moves_behind task memory own made p b q did known tasks sleepers areas others = 
 pub moves_kept : (task : ℕ) (memory : Made) (made : Entered) (p b q : Cells) → AreKept p b
     → Moves task memory made b q → Moves task memory made p q
 moves_kept task memory made p b q kept did =
-    moves_behind task memory memory made p b q did refl kept.tasks kept.sleepers (λ e. kept.areas) (record {
+    moves_behind task memory memory made p b q did refl kept.tasks kept.sleepers (λ e. kept.areas) kept.files (record {
       registers = λ other apart. ap (λ m. map.get m other) kept.registers;
       spaces = λ name apart. ap (λ m. get_named m name.place name.index) kept.spaces;
     })

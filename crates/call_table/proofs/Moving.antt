@@ -8,6 +8,7 @@ use Rattle.task_table.specs.Reaps.{after_reap, reap_end}
 use Rattle.task_table.specs.Table.{TaskTable, is_live}
 use Rattle.task_table.proofs.Endings.{live_before_end}
 use Rattle.kernel_model.specs.declared.kernel.Kernel.{Kernel}
+use Rattle.kernel_model.specs.declared.open_files.OpenFiles.{OpenFiles}
 use Rattle.kernel_model.specs.calls.Ending.{clear_set, left_by}
 use Rattle.kernel_model.specs.entries.Parts.{changed, parts}
 use Rattle.kernel_model.specs.entries.Waiting.{Awake, wait_of}
@@ -18,6 +19,7 @@ use Rattle.kernel_calls.specs.declared.prepared.Effect.TheVariants.{Wakes, Reaps
 use Rattle.proc_cells.specs.Beside.{kernel_with, nothing_beside, nothing_held}
 use Rattle.call_table.specs.Moves.{changes_list}
 use Rattle.proc_cells.proofs.Ends.{live_cleared, tasks_released}
+use Rattle.call_table.proofs.Closings.{group_left, task_left}
 use Rattle.call_table.proofs.OffList.{lives_on, off_before_left_by, off_before_wake, off_before_woken_on, off_left_by}
 use Rattle.call_table.proofs.OffList.{off_wake, off_woken_on, IsNone}
 
@@ -121,26 +123,43 @@ module _ (task group : ℕ) (lists : Lists) where
   list_stays (Reaps which) same = absurd (cc same)
 
   -- the kernel that an effect leaves has these lists
-  abbrev pub at : (console : List ℕ) → Kernel
-  at console =
-      kernel_with (record nothing_held { tasks = lists.tasks; sleepers = lists.sleepers; console = console })
+  abbrev pub at : (console : List ℕ) → OpenFiles → Kernel
+  at console files =
+      kernel_with
+      (record nothing_held { tasks = lists.tasks; sleepers = lists.sleepers; console = console; files = files })
       nothing_beside 0
 
-  pub lists_are : (e : Effect) (after : Lists) (console console' : List ℕ)
-      → changed (changes_of e group (parts (at console))) (at console)
-      ≡ record (at console) { tasks = after.tasks; sleepers = after.sleepers; console = console' }
+  abbrev lists_in : Kernel → Lists
+  lists_in k = record { tasks = k.tasks; sleepers = k.sleepers }
+
+  pub lists_are : (e : Effect) (after : Lists) (console console' : List ℕ) (files files' : OpenFiles)
+      → changed (changes_of e group (parts (at console files))) (at console files)
+      ≡ record (at console files) {
+        tasks = after.tasks;
+        sleepers = after.sleepers;
+        console = console';
+        files = files';
+      }
       → after ≡ lists_after e group lists
-  lists_are e after console console' does =
-      ap (λ (k : Kernel). record { tasks = k.tasks; sleepers = k.sleepers }) (sym does) ∙ by e
+  lists_are e after console console' files files' does = ap lists_in (sym does) ∙ by e
     where
-      by : (e : Effect) → record {
-        tasks = (changed (changes_of e group (parts (at console))) (at console)).tasks;
-        sleepers = (changed (changes_of e group (parts (at console))) (at console)).sleepers;
-      } ≡ lists_after e group lists
+      by : (e : Effect) → lists_in (changed (changes_of e group (parts (at console files))) (at console files))
+          ≡ lists_after e group lists
       by Nothing = refl
       by (TakesBytes bytes) = refl
-      by (EndsGroup ending) = refl
-      by (EndsTask ended_task ending) = refl
+      by (EndsGroup ending) = ap lists_in (group_left (at console files) ending group)
+      by (EndsTask ended_task ending) = ap lists_in (task_left (at console files) ending group ended_task)
       by (SetsClear setter address) = refl
       by (Wakes key most) = refl
       by (Reaps which) = refl
+
+-- what is open stays where an effect leaves the task list
+pub files_stay : (e : Effect) (group : ℕ) (k : Kernel) (files : OpenFiles)
+    → (changed (changes_of e group (parts k)) k).files ≡ files → changes_list e ≡ false → files ≡ k.files
+files_stay Nothing group k files is same = sym is
+files_stay (TakesBytes bytes) group k files is same = sym is
+files_stay (EndsGroup ending) group k files is same = absurd (cc same)
+files_stay (EndsTask ended_task ending) group k files is same = absurd (cc same)
+files_stay (SetsClear setter address) group k files is same = absurd (cc same)
+files_stay (Wakes key most) group k files is same = sym is
+files_stay (Reaps which) group k files is same = absurd (cc same)

@@ -7,7 +7,8 @@ use Rattle.rv_table.specs.declared.regs.Regs.{Regs}
 use Rattle.mm_space.specs.Spaces.{AddressSpace}
 use Rattle.task_table.specs.Clones.{opened}
 use Rattle.kernel_model.specs.Names.{with_named}
-use Rattle.kernel_model.specs.opening.Opening.{made_by, registers_opened, root_of, space_opened, with_task}
+use Rattle.kernel_model.specs.opening.Opening.{files_opened, made_by, registers_opened, root_of, space_opened}
+use Rattle.kernel_model.specs.opening.Opening.{with_task}
 use Rattle.proc_cells.specs.declared.cells.Cells.{Cells}
 use Rattle.proc_cells.specs.Beside.{Beside, Held, kernel_with}
 use Rattle.proc_cells.specs.Cells.{held_by, kernel_of}
@@ -18,6 +19,7 @@ held_with p number root r space = record (held_by p) {
   tasks = opened p.tasks (made_by number) (made_by number) root;
   registers = map.insert p.registers number r;
   spaces = with_named p.spaces 0 number space;
+  files = files_opened number p.files;
 }
 
 -- with the registers and the memory that the task opens with

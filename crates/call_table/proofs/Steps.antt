@@ -27,8 +27,8 @@ use Rattle.kernel_model.specs.declared.entry.Entry.{Entry}
 use Rattle.kernel_model.specs.declared.entry.Entry.TheVariants.{Run, Call, Sleep, End}
 use Rattle.kernel_model.specs.declared.kernel.Kernel.{Kernel}
 use Rattle.kernel_model.specs.declared.kernel.Part.{Part}
-use Rattle.kernel_model.specs.declared.kernel.Part.TheVariants.{OfTasks, OfTask, OfSpace, OfArea, OfNode, OfSleepers}
-use Rattle.kernel_model.specs.declared.kernel.Part.TheVariants.{OfConsole, OfFaults}
+use Rattle.kernel_model.specs.declared.kernel.Part.TheVariants.{OfTasks, OfTask, OfSpace, OfArea, OfTable, OfDescription}
+use Rattle.kernel_model.specs.declared.kernel.Part.TheVariants.{OfPipe, OfNode, OfSleepers, OfConsole, OfFaults}
 use Rattle.kernel_model.specs.declared.opening.Given.{Given}
 use Rattle.kernel_model.specs.declared.traps.Next.{Next}
 use Rattle.kernel_model.specs.declared.traps.Next.TheVariants.{Goes, Calls, Traps, Touches}
@@ -52,7 +52,7 @@ use Rattle.kernel_model.proofs.CallLemmas.{call_quiet}
 use Rattle.kernel_model.proofs.LocalityLaws.{ready_alike}
 use Rattle.kernel_model.proofs.NamedMaps.{get-with_same, with_same}
 use Rattle.kernel_model.proofs.Trees.{outcome-bind}
-use Rattle.kernel_calls.specs.Prepared.{Comes, IsCalling, Steps, changes_of, left_behind}
+use Rattle.kernel_calls.specs.Prepared.{Comes, IsCalling, Steps, changes_of, closed_of, left_behind}
 use Rattle.kernel_calls.specs.declared.context.Context.{Context}
 use Rattle.kernel_calls.specs.declared.prepared.Called.{Called}
 use Rattle.kernel_calls.specs.declared.prepared.Called.TheVariants.{Replies, Makes, Sleeps, Waits}
@@ -67,6 +67,7 @@ use Rattle.proc_cells.specs.Beside.{Beside, Held, nothing_beside, nothing_held, 
 use Rattle.proc_cells.specs.Cells.{held_by, kernel_of, caller_with, StandsAs, IsAwake}
 use Rattle.proc_cells.proofs.Found.{Parted, found_by, parted}
 use Rattle.call_table.specs.Entries.{RunsIn, NextIn, IsNextOf, IsOf, ReadyIs, is_touching}
+use Rattle.call_table.proofs.Closings.{closed_alike}
 
 -- ---- numbers and arguments are themselves
 
@@ -90,17 +91,17 @@ module _ (h : Held) (beside : Beside) (n task : ℕ) where
       parts (kernel_with (record nothing_held { tasks = h.tasks; registers = h.registers; spaces = h.spaces })
       nothing_beside 0)
 
-  alike_registers : (group : ℕ) (memory : Made) (o : Option Regs)
-      → outcome_in s (with_memory task group memory o) ≡ outcome_in z (with_memory task group memory o)
+  alike_registers : (group : ℕ) (g : Group) (o : Option Regs)
+      → outcome_in s (with_memory task group g o) ≡ outcome_in z (with_memory task group g o)
   unfolding s z
-  alike_registers group memory None = refl
-  alike_registers group memory (Some r) = refl
+  alike_registers group g None = refl
+  alike_registers group g (Some r) = refl
 
   alike_group : (group : ℕ) (o : Option Group)
       → outcome_in s (in_group task group o) ≡ outcome_in z (in_group task group o)
   unfolding s z
   alike_group group None = refl
-  alike_group group (Some g) = alike_registers group g.memory (map.get h.registers task)
+  alike_group group (Some g) = alike_registers group g (map.get h.registers task)
 
   alike_life : (b : Bool)
       → outcome_in s (cond b (in_group task (group_of h.tasks.tasks task)
@@ -172,27 +173,45 @@ area_touched Calls e = absurd (cc e)
 area_touched (Traps signal) e = absurd (cc e)
 area_touched (Touches area) e = (area, refl)
 
--- an effect is the same to kernels with the same task list, futex list and console
+-- an effect does the same by the parts of kernels with the same task list, futex list and console, in which the same is
+-- open
 pub effect_alike : (effect : Effect) (group : ℕ) (k m : Kernel) → k.tasks ≡ m.tasks → k.sleepers ≡ m.sleepers
-    → k.console ≡ m.console → changes_of effect group (parts k) ≡ changes_of effect group (parts m)
-effect_alike Nothing group k m e w f = refl
-effect_alike (TakesBytes bytes) group k m e w f = ap (λ (x : List ℕ). (OfConsole, x ++ bytes) ∷ []) f
-effect_alike (EndsGroup ending) group k m e w f =
-    ap (λ (list : TaskTable). (OfTasks, group_ended list group ending.status)
-    ∷ (OfSleepers, left_behind ending k.sleepers) ∷ []) e
-    ∙ ap (λ (waiting : FutexList). (OfTasks, group_ended m.tasks group ending.status)
-    ∷ (OfSleepers, left_behind ending waiting) ∷ []) w
-effect_alike (EndsTask task ending) group k m e w f =
-    ap (λ (list : TaskTable). (OfTasks, exited list task ending.status)
-    ∷ (OfSleepers, left_behind ending k.sleepers) ∷ []) e
-    ∙ ap (λ (waiting : FutexList). (OfTasks, exited m.tasks task ending.status)
-    ∷ (OfSleepers, left_behind ending waiting) ∷ []) w
-effect_alike (SetsClear task address) group k m e w f =
-    ap (λ (list : TaskTable). (OfTasks, clear_set task address list) ∷ []) e
-effect_alike (Wakes key most) group k m e w f =
-    ap (λ (waiting : FutexList). (OfSleepers, after_wake waiting key most) ∷ []) w
-effect_alike (Reaps which) group k m e w f =
-    ap (λ (list : TaskTable). (OfTasks, after_reap list (reap_end list.groups group which)) ∷ []) e
+    → k.console ≡ m.console → k.files ≡ m.files
+    → changed (changes_of effect group (parts k)) m ≡ changed (changes_of effect group (parts m)) m
+effect_alike Nothing group k m e w f o = refl
+effect_alike (TakesBytes bytes) group k m e w f o = ap (λ (x : List ℕ). record m { console = x ++ bytes }) f
+effect_alike (EndsGroup ending) group k m e w f o =
+    closed_alike ending.closes k m (record m {
+      tasks = group_ended k.tasks group ending.status;
+      sleepers = left_behind ending k.sleepers;
+    }) o refl
+    ∙ ap (λ (list : TaskTable). changed (closed_of ending.closes (parts m)) (record m {
+      tasks = group_ended list group ending.status;
+      sleepers = left_behind ending k.sleepers;
+    })) e
+    ∙ ap (λ (waiting : FutexList). changed (closed_of ending.closes (parts m)) (record m {
+      tasks = group_ended m.tasks group ending.status;
+      sleepers = left_behind ending waiting;
+    })) w
+effect_alike (EndsTask task ending) group k m e w f o =
+    closed_alike ending.closes k m (record m {
+      tasks = exited k.tasks task ending.status;
+      sleepers = left_behind ending k.sleepers;
+    }) o refl
+    ∙ ap (λ (list : TaskTable). changed (closed_of ending.closes (parts m)) (record m {
+      tasks = exited list task ending.status;
+      sleepers = left_behind ending k.sleepers;
+    })) e
+    ∙ ap (λ (waiting : FutexList). changed (closed_of ending.closes (parts m)) (record m {
+      tasks = exited m.tasks task ending.status;
+      sleepers = left_behind ending waiting;
+    })) w
+effect_alike (SetsClear task address) group k m e w f o =
+    ap (λ (list : TaskTable). record m { tasks = clear_set task address list }) e
+effect_alike (Wakes key most) group k m e w f o =
+    ap (λ (waiting : FutexList). record m { sleepers = after_wake waiting key most }) w
+effect_alike (Reaps which) group k m e w f o =
+    ap (λ (list : TaskTable). record m { tasks = after_reap list (reap_end list.groups group which) }) e
 
 -- the parts of a kernel have no mounts, no key and no number of entries
 same_parts : (p : Cells) (beside : Beside) (seed : List ℕ) (m n : ℕ) (part : Part)
@@ -201,6 +220,9 @@ same_parts p beside seed m n OfTasks = refl
 same_parts p beside seed m n (OfTask q) = refl
 same_parts p beside seed m n (OfSpace q) = refl
 same_parts p beside seed m n (OfArea q) = refl
+same_parts p beside seed m n (OfTable q) = refl
+same_parts p beside seed m n (OfDescription q) = refl
+same_parts p beside seed m n (OfPipe q) = refl
 same_parts p beside seed m n (OfNode q) = refl
 same_parts p beside seed m n OfSleepers = refl
 same_parts p beside seed m n OfConsole = refl
@@ -231,7 +253,7 @@ entry_of row (Sleeps key) c k space areas comes = ap (λ (a : Answer). makes_ent
 entry_of row Waits c k space areas comes = ap (λ (a : Answer). makes_entry a.reply) comes
 
 -- what has become of a call of these registers
-pub at_registers : (number : ℕ) (args : Args) (r : Regs) (d : Called) (x : Caller) (k : Kernel) (space : AddressSpace)
+at_registers : (number : ℕ) (args : Args) (r : Regs) (d : Called) (x : Caller) (k : Kernel) (space : AddressSpace)
     (areas : NamedMap AreaState) → number ≡ call_of r → args ≡ args_of r
     → Comes (call_row (context_of k) x number args) d x k space areas
     → Comes (call_row (context_of k) x (call_of r) (args_of r)) d x k space areas
@@ -256,6 +278,10 @@ module _ (p : Cells) (task : ℕ) (standing : Standing) (stands : StandsAs p tas
   space_same after e =
       ap (with_named p.spaces standing.memory.place standing.memory.index) e
       ∙ with_same p.spaces standing.memory.place standing.memory.index stands.space stands.in_memory
+
+  pub own_same : (own after : AddressSpace) → Some own ≡ get_named p.spaces standing.memory.place standing.memory.index
+      → after ≡ own → with_named p.spaces standing.memory.place standing.memory.index after ≡ p.spaces
+  own_same own after there same = space_same after (same ∙ sym (own_space own (sym there)))
 
   pub registers_same : (after : Regs) → after ≡ standing.registers → map.insert p.registers task after ≡ p.registers
   registers_same after e =
@@ -304,6 +330,7 @@ module _ (p : Cells) (task : ℕ) (standing : Standing) (stands : StandsAs p tas
     task = sym is;
     group = sym known.group;
     memory = sym known.memory;
+    table = sym known.table;
     place = place;
     seed = seed;
     space = own_space own there;
@@ -314,23 +341,37 @@ module _ (p : Cells) (task : ℕ) (standing : Standing) (stands : StandsAs p tas
     console = sym count;
   }
 
-  -- so that its step is ready where the call has an entry
-  pub ready_called : (context : Context) (own : AddressSpace) (taken : ℕ) (d : Called) (space : AddressSpace)
-      (areas : NamedMap AreaState) → context.task ≡ task → IsOf context standing
+  -- and what has become of it
+  pub comes_here : (context : Context) (own : AddressSpace) (taken : ℕ) (was d : Called) (space : AddressSpace)
+      (areas : NamedMap AreaState) (number : ℕ) (args : Args) → context.task ≡ task → IsOf context standing
       → get_named p.spaces standing.memory.place standing.memory.index ≡ Some own → taken ≡ length p.console
-      → 0 < context.place → IsAwake p task → NextIn p task Calls
+      → number ≡ call_of standing.registers → args ≡ args_of standing.registers
       → ((x : Caller) (k : Kernel) → IsCalling x k context own p.areas p.tasks p.sleepers taken
-      → x.registers ≡ standing.registers
-      → Comes (call_row (context_of k) x (call_of standing.registers) (args_of standing.registers)) d x k space areas)
-      → ReadyIs p task (has_entry d)
-  ready_called context own taken d space areas is known there count later awake calls row =
+      → x.registers ≡ standing.registers → Comes (call_row (context_of k) x number args) was x k space areas)
+      → was ≡ d → (beside : Beside) (n : ℕ) → beside.seed ≡ context.seed.now → n + 1 ≡ context.place
+      → Comes (call_row (context_of (kernel_of p beside n)) c (call_of standing.registers) (args_of standing.registers))
+      d c (kernel_of p beside n) space areas
+  comes_here context own taken was d space areas number args is known there count numbered same row become =
+      λ beside n seed place.
+      let k : Kernel = kernel_of p beside n in
+      subst (λ (d : Called). Comes (call_row (context_of k) c (call_of standing.registers)
+      (args_of standing.registers)) d c k space areas) become
+      (at_registers number args standing.registers was c k space areas numbered same
+      (row c k (calling_here context own taken beside n is known there count seed place) refl))
+
+  -- so that its step is ready where the call has an entry
+  pub ready_called : (context : Context) (d : Called) (space : AddressSpace) (areas : NamedMap AreaState)
+      → 0 < context.place → IsAwake p task → NextIn p task Calls
+      → ((beside : Beside) (n : ℕ) → beside.seed ≡ context.seed.now → n + 1 ≡ context.place
+      → Comes (call_row (context_of (kernel_of p beside n)) c (call_of standing.registers) (args_of standing.registers))
+      d c (kernel_of p beside n) space areas) → ReadyIs p task (has_entry d)
+  ready_called context d space areas later awake calls comes =
       ready_anywhere p task (has_entry d) context.seed.now context.place later (λ beside n seed place.
       ready_call awake calls beside n
       (outcome_in (parts (kernel_of p beside n)) (call_row (context_of (kernel_of p beside n)) c
       (call_of standing.registers) (args_of standing.registers))) refl
       ∙ entry_of (call_row (context_of (kernel_of p beside n)) c (call_of standing.registers)
-      (args_of standing.registers)) d c (kernel_of p beside n) space areas
-      (row c (kernel_of p beside n) (calling_here context own taken beside n is known there count seed place) refl))
+      (args_of standing.registers)) d c (kernel_of p beside n) space areas (comes beside n seed place))
 
   -- ---- runs
 
@@ -398,8 +439,7 @@ module _ (p : Cells) (task : ℕ) (standing : Standing) (stands : StandsAs p tas
     -- what its task is then
     found_after : (h : Held) (beside : Beside) (n : ℕ) → h ≡ held_run
         → outcome_in (parts (kernel_with h beside n)) (caller_of task)
-        ≡ Some (caller_with task (record { group = standing.group; memory = standing.memory; registers = after })
-        runs.left)
+        ≡ Some (caller_with task (record standing { registers = after }) runs.left)
     found_after h beside n e =
         found_beside h beside n task
         ∙ ap (λ (x : Held). found_in x.tasks x.registers x.spaces task) e
@@ -410,29 +450,13 @@ module _ (p : Cells) (task : ℕ) (standing : Standing) (stands : StandsAs p tas
         (ap (λ (m : Made). get_named (with_named p.spaces standing.memory.place standing.memory.index runs.left)
         m.place m.index) (sym memory)
         ∙ get-with_same p.spaces standing.memory.place standing.memory.index runs.left)
-        ∙ ap (λ g. Some (record {
-          task = task;
-          group = g;
-          memory = before.group.memory;
-          registers = after;
-          space = runs.left;
-        })) (sym grouped)
-        ∙ ap (λ m. Some (record {
-          task = task;
-          group = standing.group;
-          memory = m;
-          registers = after;
-          space = runs.left;
-        })) (sym memory)
+        ∙ ap (λ (x : Caller). Some (record x { registers = after; space = runs.left })) (sym before.is)
       where
         before : Parted p.tasks p.registers p.spaces task (caller_with task standing stands.space)
         before = parted p.tasks p.registers p.spaces task (caller_with task standing stands.space) stands.found
 
         memory : standing.memory ≡ before.group.memory
         memory = ap (λ (x : Caller). x.memory) before.is
-
-        grouped : standing.group ≡ group_of p.tasks.tasks task
-        grouped = ap (λ (x : Caller). x.group) before.is
 
     -- a run that stopped is whole
     pub whole_run : (h : Held) (beside : Beside) (n : ℕ) (before : Kernel) (told : Next) → h ≡ held_run

@@ -39,8 +39,8 @@ pub record RunsIn (task : ℕ) (memory : Made) (count : ℕ) (before after : Reg
   pub put : spaces' ≡ with_named spaces memory.place memory.index left
   pub steps : ran count (going_in task space before) ≡ Some (going_in task left after)
 
--- cells that lacked memory: some whole instructions of one task have run, fewer than 10,000, and each shared area is as
--- it was
+-- cells that lacked memory: some whole instructions of one task have run, fewer than 10,000, and each shared area and
+-- what is open are as they were
 -- profile
 pub record HasRunPart (task : ℕ) (before after : Cells) : Type 0 where
   pub caller : Caller
@@ -52,6 +52,7 @@ pub record HasRunPart (task : ℕ) (before after : Cells) : Type 0 where
   pub kept_registers : after.registers ≡ set_at task (Some registers) before.registers
   pub kept_tasks : after.tasks ≡ before.tasks
   pub kept_areas : AreAlike after.areas before.areas
+  pub kept_files : after.files ≡ before.files
   pub kept_sleepers : after.sleepers ≡ before.sleepers
   pub kept_console : after.console ≡ before.console
 
@@ -74,6 +75,7 @@ is_touching p task = touches_next (caller_in p task)
 pub record IsOf (context : Context) (s : Standing) : Type 0 where
   pub group : context.group ≡ s.group
   pub memory : context.memory ≡ s.memory
+  pub table : context.table ≡ s.table
 
 -- whether a task's next step is ready, whatever stands beside the cells
 -- profile

@@ -45,9 +45,9 @@ puts_to_sleep (End task signal) = false
 puts_to_sleep (Sleep task) = true
 
 -- What an entry of a task with this memory leaves as it was. Where it leaves the task list, all other tasks have their
--- registers, and all other memories are as they were. Where it isn't told that it may change a shared area, none has
--- changed. Who lives has lived, but for one of a number above all. Who was
--- off the futex list is off it, but for the task itself where it was put to sleep, and who lives and is off it was.
+-- registers, and all other memories and what is open are as they were. Where it isn't told that it may change a shared
+-- area, none has changed. Who lives has lived, but for one of a number above all. Who was off the futex list is off it,
+-- but for the task itself where it was put to sleep, and who lives and is off it was.
 -- profile
 pub record Moves (task : ℕ) (memory : Made) (made : Entered) (before after : Cells) : Type 0 where
   pub tasks : made.tasks ≡ false → after.tasks ≡ before.tasks
@@ -56,6 +56,7 @@ pub record Moves (task : ℕ) (memory : Made) (made : Entered) (before after : C
   pub spaces : made.tasks ≡ false → (name : Made) → same_made name memory ≡ false
       → get_named after.spaces name.place name.index ≡ get_named before.spaces name.place name.index
   pub areas : made.areas ≡ false → after.areas ≡ before.areas
+  pub files : made.tasks ≡ false → after.files ≡ before.files
   pub last : before.tasks.last ≤ after.tasks.last
   pub lives : (other : ℕ) → is_live after.tasks.tasks other ≡ true → is_live before.tasks.tasks other ≡ false
       → (other ≡ after.tasks.last) × (before.tasks.last + 1 ≤ after.tasks.last)

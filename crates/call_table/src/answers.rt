@@ -54,6 +54,7 @@ pub(crate) fn go_on(cells: &mut Cells, task: u32, registers: Regs, value: i64)
     ensures tasks { cells.new.tasks ≡ cells.old.tasks }
     ensures spaces { cells.new.spaces ≡ cells.old.spaces }
     ensures areas { cells.new.areas ≡ cells.old.areas }
+    ensures files { cells.new.files ≡ cells.old.files }
     ensures sleepers { cells.new.sleepers ≡ cells.old.sleepers }
     ensures console { cells.new.console ≡ cells.old.console }
 {
@@ -77,8 +78,13 @@ pub(crate) fn finish(
     requires ended { EndsEach prepared.effect context.now.task context.now.group cells.old.tasks }
     requires registered { IsTrue (map.contains_key cells.old.registers context.now.task) }
     ensures does { IfOk result (λ _. (k : AKernel) → k.tasks ≡ cells.old.tasks → k.sleepers ≡ cells.old.sleepers →
-        k.console ≡ cells.old.console → changed (changes_of prepared.effect context.now.group (parts k)) k
-        ≡ record k { tasks = cells.new.tasks; sleepers = cells.new.sleepers; console = cells.new.console }) }
+        k.console ≡ cells.old.console → k.files ≡ cells.old.files →
+        changed (changes_of prepared.effect context.now.group (parts k)) k ≡ record k {
+          tasks = cells.new.tasks;
+          sleepers = cells.new.sleepers;
+          console = cells.new.console;
+          files = cells.new.files;
+        }) }
     ensures entry { IfOk result (λ made. made.entry ≡ ACall context.now.task (call_of registers) (args_of registers)
         (record { fresh = []; rises = [] }) prepared.reply) }
     ensures moves { IfOk result (λ made.
@@ -104,6 +110,7 @@ pub(crate) fn finish(
         &mut cells.tasks,
         &mut cells.sleepers,
         &mut cells.console,
+        &mut cells.files,
     )?;
     go_on(cells, context.task, registers, value);
     let entry = call_entry(alloc, context.task, &registers, value);
@@ -162,12 +169,14 @@ pub(crate) fn make_child(
         × (cells.new.registers
         ≡ map.insert between context.now.task (replied registers (pos (cells.old.tasks.last + 1))))
         × ((c : ACaller) (k : AKernel) → c.task ≡ context.now.task → c.memory ≡ context.now.memory →
-        k.tasks ≡ cells.old.tasks → k.registers ≡ cells.old.registers → k.spaces ≡ cells.old.spaces →
-        k.areas ≡ cells.old.areas → with_child child context.now.place c k ≡ record k {
+        c.table ≡ context.now.table → k.tasks ≡ cells.old.tasks → k.registers ≡ cells.old.registers →
+        k.spaces ≡ cells.old.spaces → k.areas ≡ cells.old.areas → k.files ≡ cells.old.files →
+        with_child child context.now.place c k ≡ record k {
           tasks = cells.new.tasks;
           registers = between;
           spaces = cells.new.spaces;
           areas = cells.new.areas;
+          files = cells.new.files;
         })) }
     ensures entry { IfOk result (λ made. made.entry ≡ ACall context.now.task (call_of registers) (args_of registers)
         (record { fresh = []; rises = [] }) (pos (cells.old.tasks.last + 1))) }
@@ -186,6 +195,7 @@ pub(crate) fn make_child(
         &mut cells.registers,
         &mut cells.spaces,
         &mut cells.areas,
+        &mut cells.files,
     )?;
     go_on(cells, context.task, registers, value);
     let entry = call_entry(alloc, context.task, &registers, value);
@@ -206,6 +216,7 @@ pub(crate) fn put_to_sleep(cells: &mut Cells, task: u32, key: FutexKey) -> Resul
     ensures tasks { cells.new.tasks ≡ cells.old.tasks }
     ensures spaces { cells.new.spaces ≡ cells.old.spaces }
     ensures areas { cells.new.areas ≡ cells.old.areas }
+    ensures files { cells.new.files ≡ cells.old.files }
     ensures console { cells.new.console ≡ cells.old.console }
     ensures err { OnErr result (AreKept cells.old cells.new) }
 {

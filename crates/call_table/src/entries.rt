@@ -99,6 +99,7 @@ pub(crate) fn advance(
         task,
         group: standing.group,
         memory: standing.memory,
+        table: standing.table,
         place,
         seed,
     };
@@ -370,6 +371,7 @@ fn end(
         &mut cells.tasks,
         &mut cells.sleepers,
         &mut cells.console,
+        &mut cells.files,
     )?;
     Ok(Entered {
         entry: Entry::End {

@@ -5,7 +5,8 @@
 //! Each turn is one call, one task put to sleep, one end by a signal or one run of instructions, of the least task
 //! above that of the last turn, or else of the least, of the live tasks whose next step is ready. An instruction that
 //! touches a shared area is a run of its own. The mount file's seed comes with each entry, as its place does. What the
-//! host gave stands beside: no entry so far reads or changes a node.
+//! host gave stands beside: no entry so far reads or changes a node. What is open goes along: an opening task opens its
+//! descriptors, a child process has a copy of its parent's, and a thread group that ends closes its own.
 //!
 //! A task that sleeps on a futex word is not looked at before it was woken, and one whose call waits not before the
 //! list of tasks has changed, another task of its memory made an entry, or, where the call lies in a shared area, an

@@ -6,8 +6,8 @@ ghost use Rattle.kernel_model.specs.Names.{with_named};
 ghost use Rattle.kernel_model.specs.entries.Steps.{task_of};
 ghost use Rattle.kernel_model.specs.files.Numbers.{numbers_in};
 ghost use Rattle.kernel_model.specs.opening.Arguments.{is_too_long};
-ghost use Rattle.kernel_model.specs.laws.Beginnings.{HasRoom, IsRoomFor};
-ghost use Rattle.kernel_model.specs.opening.Opening.{made_by, root_of, with_task};
+ghost use Rattle.kernel_model.specs.laws.Beginnings.{HasRoom, MayOpen};
+ghost use Rattle.kernel_model.specs.opening.Opening.{files_opened, made_by, root_of, with_task};
 ghost use Rattle.task_table.specs.Clones.{opened as opened_task};
 ghost use Rattle.task_table.specs.Table.{is_live, no_tasks};
 ghost use Rattle.proc_cells.specs.Beside.{Beside, kernel_with, nothing_held};
@@ -15,7 +15,7 @@ ghost use Rattle.proc_cells.specs.Cells.{AreKept, held_by, kernel_of as kernel_o
 ghost use Rattle.call_table.specs.Entries.{HasRunPart, IfEntered, IfParked, IsWholeTo, ReadyIs, StepsTo};
 
 use elf_image::Image;
-use kernel_calls::{Beginning, open_task, opened};
+use kernel_calls::{Beginning, open_files, open_task, opened};
 use mount_file::Program;
 use proc_cells::Cells;
 use sn_base::Memory;
@@ -54,7 +54,7 @@ impl Processes {
     ) -> Result<Processes, Memory>
         requires short { is_too_long program.now.args program.now.env ≡ false }
         requires pages { HasRoom image.now }
-        requires room { IsRoomFor self.cells.tasks }
+        requires room { MayOpen self.cells.tasks }
         ensures begun { IfOk result (λ p. (beside : Beside) (n : ℕ) → beside.seed ≡ seed.now →
             root_of beside.mounts ≡ root → kernel_of p beside n ≡
             with_task (self.cells.tasks.last + 1) program.now image.now (kernel_of self beside n)) }
@@ -71,7 +71,7 @@ impl Processes {
 }
 
 /// The cells with one task more, of the next number, that begins in that directory, with these registers and this
-/// memory.
+/// memory, and with the descriptors of an opening task.
 fn begin(
     alloc: Global,
     cells: Cells,
@@ -79,13 +79,14 @@ fn begin(
     root: u64,
     beginning: Beginning,
 ) -> Result<Cells, Memory>
-    requires room { IsRoomFor cells.tasks }
+    requires room { MayOpen cells.tasks }
     requires next { number ≡ cells.tasks.last + 1 }
     ensures { IfOk result (λ p. (beside : Beside) (n : ℕ) → kernel_of_cells p beside n ≡
         kernel_with (record (held_by cells) {
           tasks = opened_task cells.tasks (made_by number) (made_by number) root;
           registers = map.insert cells.registers number beginning.registers;
           spaces = with_named cells.spaces 0 number beginning.space;
+          files = files_opened number cells.files;
         }) beside n) }
 {
     let Cells {
@@ -93,6 +94,7 @@ fn begin(
         registers: mut all_registers,
         mut spaces,
         areas,
+        mut files,
         sleepers,
         console,
     } = cells;
@@ -100,11 +102,13 @@ fn begin(
     open_task(&mut tasks, number, root)?;
     all_registers.insert(u64::from(number), registers)?;
     spaces.insert(alloc, 0, number, space)?;
+    open_files(alloc, number, &mut files)?;
     Ok(Cells {
         tasks,
         registers: all_registers,
         spaces,
         areas,
+        files,
         sleepers,
         console,
     })

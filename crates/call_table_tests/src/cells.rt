@@ -2,9 +2,11 @@
 
 use crate::guests::processes_of;
 use crate::turns::expect_live;
+use call_table::Processes;
 use proc_cells::Cells;
 use sn_base::Made;
 use sn_vectors::words::EBREAK;
+use std::process::Abort;
 use std::test::Fail;
 
 #[test]
@@ -17,14 +19,23 @@ fn no_task_lives_in_new_cells(rt: HostRuntime) {
     assert_eq!(rt; kernel.entries, 7);
 }
 
-#[test]
-fn an_opening_task_stands_in_a_group_and_memory_of_its_number(rt: HostRuntime) -> Result<(), Fail> {
-    let processes = processes_of(rt.alloc(), &[&[EBREAK], &[EBREAK]])?;
-    expect_live(&rt, &processes, 2);
+/// That the second opening task stands so.
+fn expect_second(rt: &impl Abort, processes: &Processes) {
+    expect_live(rt, processes, 2);
     let standing = processes.cells.standing(2);
     assert_eq!(rt; standing.group, 2);
     let named_by_number = Made { place: 0, index: 2 };
     assert_eq!(rt; standing.memory, named_by_number);
+    assert_eq!(rt; standing.table, named_by_number);
+    assert!(rt; processes.cells.files.tables.contains(0, 2));
     assert_eq!(rt; standing.registers.pc, 65_656);
+}
+
+#[test]
+fn an_opening_task_stands_in_a_group_memory_and_table_of_its_number(
+    rt: HostRuntime,
+) -> Result<(), Fail> {
+    let processes = processes_of(rt.alloc(), &[&[EBREAK], &[EBREAK]])?;
+    expect_second(&rt, &processes);
     Ok(())
 }

@@ -27,6 +27,14 @@ fn image_in(alloc: Global, file: &[u8]) -> Result<Image, Fail>
     }
 }
 
+/// The image of a guest of these words.
+fn image_with(alloc: Global, words: &[u32]) -> Result<Image, Fail>
+    ensures { IfOk result HasRoom }
+{
+    let file = image_of(alloc, words)?;
+    image_in(alloc, file.as_slice())
+}
+
 /// A program with the argument `a`.
 fn program(alloc: Global) -> Result<Program, Fail>
     ensures { IfOk result (λ p. is_too_long p.args p.env ≡ false) }
@@ -51,8 +59,7 @@ pub fn processes_of(alloc: Global, guests: &[&[u32]]) -> Result<Processes, Fail>
     let program = program(alloc)?;
     let mut processes = Processes::new(alloc);
     for index in 0..guests.len() {
-        let file = image_of(alloc, guests[index])?;
-        let image = image_in(alloc, file.as_slice())?;
+        let image = image_with(alloc, guests[index])?;
         processes = processes.open(alloc, &SEED, 1, &program, &image)?;
     }
     Ok(processes)

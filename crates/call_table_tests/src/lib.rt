@@ -5,9 +5,10 @@
 //! Tried: a guest that writes to the console and exits, entry by entry and in turns; a trace that is full before the
 //! guest's end; a guest that traps; random bytes by two seeds; the time of a call's place; loads, stores and a call in
 //! a shared page; a call that waits in a shared page, where its child ends or the page changes; the kernel that is
-//! left; how an opening task stands in the cells; and the numbers and turns of up to 64 opening tasks.
+//! left; how an opening task stands in the cells; the numbers and turns of up to 64 opening tasks; and the descriptors
+//! of a process, of a thread, and of a group that ends.
 //!
-//! Not tried: threads, and tasks that sleep.
+//! Not tried: tasks that sleep.
 //!
 //! The expected entries follow from the guests' words, which an assembler made, and from the Linux man-pages write(2),
 //! exit_group(2), mmap(2), getrandom(2), clock_gettime(2), clone(2) and wait4(2); random bytes from another
@@ -19,6 +20,8 @@
 mod cells;
 #[cfg(test)]
 mod clock;
+#[cfg(test)]
+mod descriptors;
 #[cfg(test)]
 mod guests;
 #[cfg(test)]

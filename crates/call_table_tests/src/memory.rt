@@ -1,8 +1,8 @@
 //! Guests with random bytes and shared memory, in turns.
 
-use crate::guests::{SEED, processes_of};
-use crate::turns::{Line, call, end, expect_end, expect_lines, run, turns, turns_by};
-use call_table::{Processes, Ran, run_turns};
+use crate::guests::SEED;
+use crate::turns::{Line, call, end, expect_end, expect_lines, left, run, turns, turns_by};
+use call_table::Processes;
 use sn_vectors::programs::{
     JUMPS_INTO_A_SHARED_PAGE, STORES_IN_A_SHARED_PAGE, STORES_WITHOUT_THE_RIGHT,
     WRITES_RANDOM_BYTES,
@@ -64,16 +64,6 @@ fn an_instruction_on_a_shared_page_is_an_entry_of_its_own(rt: HostRuntime) -> Re
     );
     expect_end(&rt, &told, false, b"");
     Ok(())
-}
-
-/// The processes that a guest leaves that makes so many entries.
-fn left(alloc: Global, words: &[u32], entries: u64) -> Result<Processes, Fail> {
-    let processes = processes_of(alloc, &[words])?;
-    let Ran { processes, .. } = run_turns(alloc, processes, &SEED, entries);
-    match processes {
-        Some(processes) => Ok(processes),
-        None => Err(Fail::new("memory")),
-    }
 }
 
 /// The byte at the begin of the shared area that the call of the second entry made, or `None`.

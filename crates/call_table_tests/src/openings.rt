@@ -1,5 +1,7 @@
 //! More opening tasks than one: their numbers, and their turns.
 
+ghost use Rattle.std.specs.Prelude.{◌≤◌, length};
+
 use crate::guests::{SEED, processes_of};
 use crate::turns::{Told, call, end, expect_end, expect_lines, run, turns_of};
 use call_table::Processes;
@@ -31,13 +33,20 @@ fn no_processes_make_no_entries(rt: HostRuntime) -> Result<(), Fail> {
     Ok(())
 }
 
+/// That those of the opening tasks of these guests are.
+fn expect_opened(rt: &impl Abort, alloc: Global, guests: &[&[u32]]) -> Result<(), Fail>
+    requires { length guests.now ≤ 64 }
+{
+    let processes = processes_of(alloc, guests)?;
+    expect_live_up_to(rt, &processes, guests.len() as u32);
+    Ok(())
+}
+
 #[test]
 fn opening_tasks_are_numbered_1_up(rt: HostRuntime) -> Result<(), Fail> {
     expect_live_up_to(&rt, &Processes::new(rt.alloc()), 0);
-    expect_live_up_to(&rt, &processes_of(rt.alloc(), &[&[EBREAK]])?, 1);
-    let three = processes_of(rt.alloc(), &[&[EBREAK], &[EBREAK], &[EBREAK]])?;
-    expect_live_up_to(&rt, &three, 3);
-    Ok(())
+    expect_opened(&rt, rt.alloc(), &[&[EBREAK]])?;
+    expect_opened(&rt, rt.alloc(), &[&[EBREAK], &[EBREAK], &[EBREAK]])
 }
 
 #[test]

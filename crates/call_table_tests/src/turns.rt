@@ -5,7 +5,7 @@ ghost use Rattle.task_table.specs.Table.{is_live};
 
 use crate::guests::{SEED, processes_of};
 use call_table::{Processes, Ran, run_turns};
-use kernel_model::Entry;
+use kernel_model::{Entry, Kernel};
 use sn_base::List;
 use sn_vectors::programs::{STORES, WRITES_NOTHING};
 use sn_vectors::words::{EBREAK, JUMP_TO_ITSELF};
@@ -109,18 +109,40 @@ pub fn turns_of(
     let Some(processes) = processes else {
         return Err(Fail::new("memory"));
     };
-    let lines = lines_of(alloc, trace.as_slice())?;
-    let tasks = tasks_of(alloc, trace.as_slice())?;
-    let Processes { cells, .. } = processes;
-    let lives = cells.any_live();
-    let kernel = cells.into_kernel(alloc, trace.len() as u64);
+    let lives = processes.cells.any_live();
+    let Kernel {
+        console,
+        entries,
+        ..
+    } = processes.cells.into_kernel(alloc, trace.len() as u64);
+    told_of(alloc, trace.as_slice(), lives, console, entries)
+}
+
+/// What is told of a run that has made these entries.
+fn told_of(
+    alloc: Global,
+    trace: &[Entry],
+    lives: bool,
+    console: List<u8>,
+    entries: u64,
+) -> Result<Told, Fail> {
     Ok(Told {
-        lines,
-        tasks,
+        lines: lines_of(alloc, trace)?,
+        tasks: tasks_of(alloc, trace)?,
         lives,
-        console: kernel.console,
-        entries: kernel.entries,
+        console,
+        entries,
     })
+}
+
+/// The processes that a guest leaves that makes so many entries.
+pub fn left(alloc: Global, words: &[u32], entries: u64) -> Result<Processes, Fail> {
+    let processes = processes_of(alloc, &[words])?;
+    let Ran { processes, .. } = run_turns(alloc, processes, &SEED, entries);
+    match processes {
+        Some(processes) => Ok(processes),
+        None => Err(Fail::new("memory")),
+    }
 }
 
 pub fn expect_lines(rt: &impl Abort, told: &Told, lines: &[Line]) {

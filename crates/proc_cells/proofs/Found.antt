@@ -13,6 +13,17 @@ use Rattle.kernel_model.specs.calls.Callers.{in_memory, with_memory, in_group}
 use Rattle.kernel_model.specs.entries.Parts.{Parts, parts, done, outcome_in}
 use Rattle.proc_cells.specs.Beside.{nothing_beside, nothing_held, kernel_with, found_in}
 
+-- a task of a group, with these registers and this memory
+abbrev pub member_of : (task group : ℕ) → Group → Regs → AddressSpace → Caller
+member_of task group g registers space = record {
+  task = task;
+  group = group;
+  memory = g.memory;
+  table = g.table;
+  registers = registers;
+  space = space;
+}
+
 module _ (list : TaskTable) (registers : map.FinMap nat_cmp Regs) (spaces : NamedMap AddressSpace) (task : ℕ) where
   number : ℕ
   number = group_of list.tasks task
@@ -29,31 +40,19 @@ module _ (list : TaskTable) (registers : map.FinMap nat_cmp Regs) (spaces : Name
     pub grouped : map.get list.groups (group_of list.tasks task) ≡ Some group
     pub registered : map.get registers task ≡ Some c.registers
     pub remembered : get_named spaces c.memory.place c.memory.index ≡ Some c.space
-    pub is : c ≡ record {
-      task = task;
-      group = group_of list.tasks task;
-      memory = group.memory;
-      registers = c.registers;
-      space = c.space;
-    }
+    pub is : c ≡ member_of task (group_of list.tasks task) group c.registers c.space
 
   -- where all of them are there, the task is found
   pub found_by : (group : Group) (r : Regs) (space : AddressSpace) → is_live list.tasks task ≡ true
       → map.get list.groups (group_of list.tasks task) ≡ Some group → map.get registers task ≡ Some r
       → get_named spaces group.memory.place group.memory.index ≡ Some space
-      → found_in list registers spaces task ≡ Some (record {
-        task = task;
-        group = group_of list.tasks task;
-        memory = group.memory;
-        registers = r;
-        space = space;
-      })
+      → found_in list registers spaces task ≡ Some (member_of task (group_of list.tasks task) group r space)
   unfolding number s
   found_by group r space live grouped registered remembered =
       ap (λ b. outcome_in s (cond b (in_group task number (map.get list.groups number)) (done None))) live
       ∙ ap (λ o. outcome_in s (in_group task number o)) grouped
-      ∙ ap (λ o. outcome_in s (with_memory task number group.memory o)) registered
-      ∙ ap (in_memory task number group.memory r) remembered
+      ∙ ap (λ o. outcome_in s (with_memory task number group o)) registered
+      ∙ ap (in_memory task number group r) remembered
 
   -- and where it is found, they are there
   pub parted : (c : Caller) → found_in list registers spaces task ≡ Some c → Parted c
@@ -63,16 +62,10 @@ module _ (list : TaskTable) (registers : map.FinMap nat_cmp Regs) (spaces : Name
       by_space : (group : Group) (r : Regs) → is_live list.tasks task ≡ true
           → map.get list.groups number ≡ Some group → map.get registers task ≡ Some r
           → (o : Option AddressSpace) → get_named spaces group.memory.place group.memory.index ≡ o
-          → in_memory task number group.memory r o ≡ Some c → Parted c
+          → in_memory task number group r o ≡ Some c → Parted c
       by_space group r live grouped registered None e found = absurd (cc found)
       by_space group r live grouped registered (Some space) e found =
-          let is : c ≡ record {
-            task = task;
-            group = number;
-            memory = group.memory;
-            registers = r;
-            space = space;
-          } = cc found in
+          let is : c ≡ member_of task number group r space = cc found in
           record {
             live = live;
             group = group;
@@ -83,25 +76,13 @@ module _ (list : TaskTable) (registers : map.FinMap nat_cmp Regs) (spaces : Name
                 ∙ ap (λ (x : Caller). Some x.space) (sym is);
             is =
                 is
-                ∙ ap (λ x. record {
-                  task = task;
-                  group = number;
-                  memory = group.memory;
-                  registers = x;
-                  space = space;
-                }) (ap (λ (x : Caller). x.registers) (sym is))
-                ∙ ap (λ x. record {
-                  task = task;
-                  group = number;
-                  memory = group.memory;
-                  registers = c.registers;
-                  space = x;
-                }) (ap (λ (x : Caller). x.space) (sym is));
+                ∙ ap (λ x. member_of task number group x space) (ap (λ (x : Caller). x.registers) (sym is))
+                ∙ ap (λ x. member_of task number group c.registers x) (ap (λ (x : Caller). x.space) (sym is));
           }
 
       by_registers : (group : Group) → is_live list.tasks task ≡ true → map.get list.groups number ≡ Some group
           → (o : Option Regs) → map.get registers task ≡ o
-          → outcome_in s (with_memory task number group.memory o) ≡ Some c → Parted c
+          → outcome_in s (with_memory task number group o) ≡ Some c → Parted c
       by_registers group live grouped None e found = absurd (cc found)
       by_registers group live grouped (Some r) e found =
           by_space group r live grouped e (get_named spaces group.memory.place group.memory.index) refl found

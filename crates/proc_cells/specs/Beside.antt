@@ -11,6 +11,8 @@ use Rattle.task_table.specs.Table.{TaskTable, is_live, no_tasks}
 use Rattle.kernel_model.specs.Names.{NamedMap}
 use Rattle.kernel_model.specs.declared.caller.Caller.{Caller}
 use Rattle.kernel_model.specs.declared.kernel.Kernel.{Kernel}
+use Rattle.kernel_model.specs.declared.open_files.OpenFiles.{OpenFiles}
+use Rattle.kernel_model.specs.descriptors.OpenFiles.{nothing_open}
 use Rattle.kernel_model.specs.calls.Callers.{caller_of}
 use Rattle.kernel_model.specs.entries.Parts.{parts, outcome_in}
 use Rattle.kernel_model.specs.files.FileTree.{Nodes}
@@ -26,14 +28,15 @@ pub record Beside : Type 0 where
 abbrev pub nothing_beside : Beside
 nothing_beside = record { nodes = map.empty; failed = map.empty; mounts = []; seed = [] }
 
--- what cells hold: the task list, registers by task, address spaces and shared areas by name, the futex list, and
--- the console
+-- what cells hold: the task list, registers by task, address spaces and shared areas by name, what is open, the futex
+-- list, and the console
 -- profile
 pub record Held : Type 0 where
   pub tasks : TaskTable
   pub registers : map.FinMap nat_cmp Regs
   pub spaces : NamedMap AddressSpace
   pub areas : NamedMap AreaState
+  pub files : OpenFiles
   pub sleepers : FutexList
   pub console : List ℕ
 
@@ -43,6 +46,7 @@ nothing_held = record {
   registers = map.empty;
   spaces = map.empty;
   areas = map.empty;
+  files = nothing_open;
   sleepers = record { sleepers = []; woken = [] };
   console = [];
 }
@@ -55,6 +59,7 @@ kernel_with held beside entries = record {
   registers = held.registers;
   spaces = held.spaces;
   areas = held.areas;
+  files = held.files;
   nodes = beside.nodes;
   sleepers = held.sleepers;
   console = held.console;

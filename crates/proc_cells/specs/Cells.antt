@@ -17,6 +17,7 @@ held_by p = record {
   registers = p.registers;
   spaces = p.spaces;
   areas = p.areas;
+  files = p.files;
   sleepers = p.sleepers;
   console = p.console;
 }
@@ -29,13 +30,14 @@ kernel_of p beside entries = kernel_with (held_by p) beside entries
 abbrev pub caller_in : Cells → (task : ℕ) → Option Caller
 caller_in p task = found_in p.tasks p.registers p.spaces task
 
--- a live task is in this group, with this memory and these registers
--- credentials(7), Process ID (PID); clone(2), CLONE_VM
+-- a live task is in this group, with this memory, this descriptor table and these registers
+-- credentials(7), Process ID (PID); clone(2), CLONE_VM, CLONE_FILES
 abbrev pub caller_with : (task : ℕ) → Standing → AddressSpace → Caller
 caller_with task s space = record {
   task = task;
   group = s.group;
   memory = s.memory;
+  table = s.table;
   registers = s.registers;
   space = space;
 }
@@ -57,5 +59,6 @@ pub record AreKept (before after : Cells) : Type 0 where
   pub registers : after.registers ≡ before.registers
   pub spaces : after.spaces ≡ before.spaces
   pub areas : after.areas ≡ before.areas
+  pub files : after.files ≡ before.files
   pub sleepers : after.sleepers ≡ before.sleepers
   pub console : after.console ≡ before.console

@@ -1,4 +1,4 @@
-//! Tasks with their registers and memories, shared areas, the futex list, and the console.
+//! Tasks with their registers and memories, shared areas, what is open, the futex list, and the console.
 
 ghost use Rattle.std.specs.Prelude.{◌≡◌, ℕ, IsTrue, IsFalse};
 ghost use Rattle.std.specs.FinMap as map;
@@ -7,30 +7,32 @@ ghost use Rattle.task_table.specs.Table.{has_ended, is_live, live_numbers, no_ta
 ghost use Rattle.proc_cells.specs.Beside.{AreAtHome};
 
 use futex_core::Waiters;
-use kernel_model::{GuestArea, GuestSpace, Kernel, Named};
+use kernel_model::{GuestArea, GuestSpace, Kernel, Named, OpenFiles};
 use rv_table::Regs;
 use sn_base::{List, Made, Map};
 use std::alloc::Global;
 use task_table::Tasks;
 
-/// The task list, registers by task, address spaces and shared areas by the entry that made them, the futex list, and
-/// the console.
+/// The task list, registers by task, address spaces and shared areas by the entry that made them, what is open, the
+/// futex list, and the console.
 #[derive(Drop)]
 pub struct Cells {
     pub tasks: Tasks,
     pub registers: Map<Regs>,
     pub spaces: Named<GuestSpace>,
     pub areas: Named<GuestArea>,
+    pub files: OpenFiles,
     pub sleepers: Waiters,
     pub console: List<u8>,
     pub ghost at_home: { AreAtHome tasks registers spaces },
 }
 
-/// A live task: its thread group's number, the name of the group's memory, and its registers.
+/// A live task: its thread group's number, the names of the group's memory and descriptor table, and its registers.
 #[derive(Clone, Copy)]
 pub struct Standing {
     pub group: u32,
     pub memory: Made,
+    pub table: Made,
     pub registers: Regs,
 }
 
@@ -50,6 +52,7 @@ impl Cells {
             registers: Map::new(alloc),
             spaces: Named::new(alloc),
             areas: Named::new(alloc),
+            files: OpenFiles::new(alloc),
             sleepers: Waiters::new(alloc),
             console: List::new(alloc),
         }
@@ -62,10 +65,10 @@ impl Cells {
         self.tasks.live() > 0
     }
 
-    /// A live task's group, memory and registers.
+    /// A live task's group, memory, descriptor table and registers.
     ///
     /// The registers are those that the task has before its next instruction, and the memory is the one that all tasks
-    /// of its group share: credentials(7), clone(2).
+    /// of its group share, as they do the table: credentials(7), clone(2).
     pub fn standing(&self, task: u32) -> Standing
         requires { IsTrue (is_live self.now.tasks.tasks task) }
         ensures stands { StandsAs self.now task result }
@@ -81,12 +84,14 @@ impl Cells {
             unreachable!()
         };
         let memory = group.memory;
+        let table = group.table;
         let Some(registers) = self.registers.get(u64::from(task)).copied() else {
             unreachable!()
         };
         Standing {
             group: number,
             memory,
+            table,
             registers,
         }
     }
@@ -100,6 +105,7 @@ impl Cells {
             registers,
             spaces,
             areas,
+            files,
             sleepers,
             console,
         } = self;
@@ -108,6 +114,7 @@ impl Cells {
             registers,
             spaces,
             areas,
+            files,
             nodes: Map::new(alloc),
             sleepers,
             console,

@@ -5,7 +5,7 @@ ghost use Rattle.std.specs.Prelude.{OnErr};
 ghost use Rattle.host_node.specs.Tree.{Shape};
 ghost use Rattle.sn_errno.specs.declared.errno.Errno.TheVariants.{E2BIG};
 ghost use Rattle.kernel_model.proofs.OpenedTasks.{AreOpened};
-ghost use Rattle.kernel_model.specs.laws.Beginnings.{IsRoomFor};
+ghost use Rattle.kernel_model.specs.laws.Beginnings.{MayOpen};
 ghost use Rattle.kernel_model.specs.opening.Arguments.{is_too_long};
 ghost use Rattle.kernel_model.specs.opening.Opening.{bare};
 ghost use Rattle.mount_file.specs.Form.{AreNamed, HasForm};
@@ -61,7 +61,7 @@ fn begin(
 ) -> Result<Processes, OpenErr>
     requires long { is_too_long program.now.args program.now.env ≡ true → answer ≡ Answer.Refuses E2BIG }
     requires pages { is_roomy answer ≡ true }
-    requires room { IsRoomFor processes.cells.tasks }
+    requires room { MayOpen processes.cells.tasks }
     ensures { Begins seed.now root program.now answer processes result }
 {
     match answer {

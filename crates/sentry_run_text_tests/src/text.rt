@@ -1,7 +1,7 @@
 //! The text of a state: the console, the groups, and the lines of a trace.
 
 use futex_core::Waiters;
-use kernel_model::{Args, Entry, Given, Kernel, Named};
+use kernel_model::{Args, Entry, Given, Kernel, Named, OpenFiles};
 use sentry_run::printed_text;
 use sn_base::{List, Made, Map, Memory};
 use std::alloc::Global;
@@ -42,6 +42,7 @@ fn kernel(alloc: Global, console: &[u8], tasks: Tasks) -> Result<Kernel, Memory>
         registers: Map::new(alloc),
         spaces: Named::new(alloc),
         areas: Named::new(alloc),
+        files: OpenFiles::new(alloc),
         nodes: Map::new(alloc),
         sleepers: Waiters::new(alloc),
         console: List::from_slice(alloc, console)?,

@@ -3,12 +3,13 @@ use Rattle.std.proofs.Common.{◌≡◌, ap, sym, refl, ◌∙◌, subst}
 use Rattle.task_table.specs.Table.{TaskTable}
 use Rattle.kernel_model.specs.declared.kernel.Kernel.{Kernel}
 use Rattle.kernel_model.specs.Names.{get_named}
+use Rattle.kernel_calls.proofs.Effects.{kept}
 use Rattle.proc_cells.specs.Beside.{AreAtHome, kernel_with, nothing_beside, nothing_held}
 use Rattle.proc_cells.specs.Cells.{kernel_of}
 use Rattle.call_table.specs.Moves.{puts_to_sleep}
 use Rattle.call_table.proofs.Homes.{home_committed}
 use Rattle.call_table.proofs.Moves.{lists_of, moves_done, others_go_on}
-use Rattle.call_table.proofs.Moving.{Lists, lists_after, lists_are}
+use Rattle.call_table.proofs.Moving.{Lists, files_stay, lists_after, lists_are}
 use Rattle.call_table.proofs.Results.{by_result}
 use Rattle.call_table.proofs.answers.finish.Goals as goal
 
@@ -20,19 +21,18 @@ invariant_of-cells c =
       at_home =
           by_result c.commit.result c.commit.ensures.ok c.commit.ensures.err
           (λ does. home_committed c.args.prepared.effect c.args.context.now.group k c.commit.new.tasks p.registers
-          p.spaces (ap (λ (m : Kernel). m.tasks) (does k refl refl refl)) p.at_home)
+          p.spaces (ap (λ (m : Kernel). m.tasks) (does k refl refl refl refl)) p.at_home)
           (λ same. subst (λ (t : TaskTable). AreAtHome t p.registers p.spaces) (sym same) p.at_home);
     }
 
 pub returns-clause-does : goal.returns-clause-does
-returns-clause-does c = λ k e f g.
-    c.in_ok-commit.ensures.ok k e f g
-    ∙ ap (λ t. record k { tasks = t; sleepers = c.commit.new.sleepers; console = c.commit.new.console })
-    (sym c.go_on.ensures.tasks)
-    ∙ ap (λ w. record k { tasks = c.go_on.new.cells.tasks; sleepers = w; console = c.commit.new.console })
-    (sym c.go_on.ensures.sleepers)
-    ∙ ap (λ x. record k { tasks = c.go_on.new.cells.tasks; sleepers = c.go_on.new.cells.sleepers; console = x })
-    (sym c.go_on.ensures.console)
+returns-clause-does c = λ k e f g h.
+    let q = c.go_on.new.cells in
+    c.in_ok-commit.ensures.ok k e f g h
+    ∙ ap (λ t. kept k t c.commit.new.sleepers c.commit.new.console c.commit.new.files) (sym c.go_on.ensures.tasks)
+    ∙ ap (λ w. kept k q.tasks w c.commit.new.console c.commit.new.files) (sym c.go_on.ensures.sleepers)
+    ∙ ap (λ x. kept k q.tasks q.sleepers x c.commit.new.files) (sym c.go_on.ensures.console)
+    ∙ ap (kept k q.tasks q.sleepers q.console) (sym c.go_on.ensures.files)
 
 pub returns-clause-moves : goal.returns-clause-moves
 returns-clause-moves c =
@@ -42,17 +42,21 @@ returns-clause-moves c =
     let group = c.args.context.now.group in
     let effect = c.args.prepared.effect in
     let k : Kernel =
-    kernel_with (record nothing_held { tasks = p.tasks; sleepers = p.sleepers; console = p.console }) nothing_beside 0
+    kernel_with
+    (record nothing_held { tasks = p.tasks; sleepers = p.sleepers; console = p.console; files = p.files })
+    nothing_beside 0
     in
+    let does = c.in_ok-commit.ensures.ok k refl refl refl refl in
     let between : Lists = record { tasks = c.commit.new.tasks; sleepers = c.commit.new.sleepers } in
     let did : between ≡ lists_after effect group (lists_of p) =
-    lists_are task group (lists_of p) effect between p.console c.commit.new.console
-    (c.in_ok-commit.ensures.ok k refl refl refl) in
+    lists_are task group (lists_of p) effect between p.console c.commit.new.console p.files c.commit.new.files does in
     moves_done task c.args.context.now.memory _ p q effect group
     (ap (λ t. record { tasks = t; sleepers = q.sleepers }) c.go_on.ensures.tasks
     ∙ ap (λ w. record { tasks = c.commit.new.tasks; sleepers = w }) c.go_on.ensures.sleepers ∙ did)
     c.requires.own c.requires.ended c.requires.awake (ap puts_to_sleep c.call_entry-entry.ensures)
-    c.changes_list-tasks.ensures (λ e. c.go_on.ensures.areas) (record {
+    c.changes_list-tasks.ensures (λ e. c.go_on.ensures.areas)
+    (λ e. c.go_on.ensures.files ∙ files_stay effect group k c.commit.new.files (ap (λ (m : Kernel). m.files) does) e)
+    (record {
       registers = λ other apart.
           others_go_on p.registers q.registers task other _ c.go_on.ensures.registers apart;
       spaces = λ name apart. ap (λ m. get_named m name.place name.index) c.go_on.ensures.spaces;

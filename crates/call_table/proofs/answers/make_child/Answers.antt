@@ -26,6 +26,7 @@ invariant_of-cells c =
     record (at_home p.tasks p.registers p.spaces c.args.context.now.task p.at_home c.requires.lives).0 {
       task = c.args.context.now.task;
       memory = c.args.context.now.memory;
+      table = c.args.context.now.table;
     } in
     record {
       at_home =
@@ -39,7 +40,8 @@ invariant_of-cells c =
             registers = c.make.new.registers;
             spaces = c.make.new.spaces;
             areas = c.make.new.areas;
-          } = does x k refl refl refl refl refl refl in
+            files = c.make.new.files;
+          } = does x k refl refl refl refl refl refl refl refl in
           subst (λ (m : Kernel). AreAtHome m.tasks m.registers m.spaces) is
           (home_made c.into_inner.result c.args.context.now.place x k p.at_home c.requires.lives))
           (λ same.
@@ -56,8 +58,9 @@ go_on-requires c =
     record (at_home p.tasks p.registers p.spaces c.args.context.now.task p.at_home c.requires.lives).0 {
       task = c.args.context.now.task;
       memory = c.args.context.now.memory;
+      table = c.args.context.now.table;
     } in
-    let is = c.in_ok-make.ensures.ok x k refl refl refl refl refl refl in
+    let is = c.in_ok-make.ensures.ok x k refl refl refl refl refl refl refl refl in
     subst (λ r. IsTrue (map.contains_key r c.args.context.now.task))
     (sym (child_registers c.into_inner.result c.args.context.now.place x k) ∙ ap (λ (m : Kernel). m.registers) is)
     (key_stays p.registers (p.tasks.last + 1) c.into_inner.result.registers c.args.context.now.task
@@ -70,27 +73,37 @@ returns-clause-does c =
       c.go_on.ensures.registers
           ∙ ap (λ v. map.insert c.make.new.registers c.args.context.now.task (replied c.args.registers v))
           (to_z-of_z fits ∙ c.from-value.ensures ∙ ap (λ n. pos (n + 1)) c.last.ensures),
-      λ x k task memory tasks registers spaces areas.
+      λ x k task memory table tasks registers spaces areas files.
           ap (λ child. with_child child c.args.context.now.place x k) (sym c.into_inner.ensures)
-          ∙ c.in_ok-make.ensures.ok x k task memory tasks registers spaces areas
+          ∙ c.in_ok-make.ensures.ok x k task memory table tasks registers spaces areas files
           ∙ ap (λ t. record k {
             tasks = t;
             registers = c.make.new.registers;
             spaces = c.make.new.spaces;
             areas = c.make.new.areas;
+            files = c.make.new.files;
           }) (sym c.go_on.ensures.tasks)
           ∙ ap (λ s. record k {
             tasks = c.go_on.new.cells.tasks;
             registers = c.make.new.registers;
             spaces = s;
             areas = c.make.new.areas;
+            files = c.make.new.files;
           }) (sym c.go_on.ensures.spaces)
           ∙ ap (λ a. record k {
             tasks = c.go_on.new.cells.tasks;
             registers = c.make.new.registers;
             spaces = c.go_on.new.cells.spaces;
             areas = a;
-          }) (sym c.go_on.ensures.areas),
+            files = c.make.new.files;
+          }) (sym c.go_on.ensures.areas)
+          ∙ ap (λ f. record k {
+            tasks = c.go_on.new.cells.tasks;
+            registers = c.make.new.registers;
+            spaces = c.go_on.new.cells.spaces;
+            areas = c.go_on.new.cells.areas;
+            files = f;
+          }) (sym c.go_on.ensures.files),
     )
 
 pub returns-clause-moves : goal.returns-clause-moves
@@ -101,8 +114,9 @@ returns-clause-moves c =
     record (at_home p.tasks p.registers p.spaces c.args.context.now.task p.at_home c.requires.lives).0 {
       task = c.args.context.now.task;
       memory = c.args.context.now.memory;
+      table = c.args.context.now.table;
     } in
-    let is = c.in_ok-make.ensures.ok x k refl refl refl refl refl refl in
+    let is = c.in_ok-make.ensures.ok x k refl refl refl refl refl refl refl refl in
     moves_child c.args.context.now.task c.args.context.now.memory _ p c.go_on.new.cells
     (subst (λ (t : TaskTable). OneMore p.tasks t) (ap (λ (m : Kernel). m.tasks) is ∙ sym c.go_on.ensures.tasks)
     (more_by_child c.into_inner.result c.args.context.now.place x k))

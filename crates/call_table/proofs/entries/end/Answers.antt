@@ -5,7 +5,6 @@ use Rattle.task_table.specs.Table.{TaskTable}
 use Rattle.kernel_model.specs.declared.kernel.Kernel.{Kernel}
 use Rattle.kernel_model.specs.declared.traps.Next.TheVariants.{Traps}
 use Rattle.kernel_model.specs.Names.{with_named}
-use Rattle.kernel_model.specs.entries.Parts.{changed}
 use Rattle.kernel_calls.specs.declared.prepared.Effect.{Effect}
 use Rattle.kernel_calls.specs.declared.prepared.Effect.TheVariants.{EndsGroup}
 use Rattle.proc_cells.specs.Beside.{AreAtHome, kernel_with, nothing_beside, nothing_held}
@@ -16,7 +15,7 @@ use Rattle.call_table.proofs.Kept.{part_none}
 use Rattle.call_table.proofs.Moves.{lists_of, moves_done, others_stay}
 use Rattle.call_table.proofs.Moving.{Lists, lists_are}
 use Rattle.call_table.proofs.Results.{by_result, err_by}
-use Rattle.call_table.proofs.Steps.{calling_here, effect_alike, own_space, ready_next, space_same, step_end}
+use Rattle.call_table.proofs.Steps.{calling_here, effect_alike, own_same, ready_next, step_end}
 use Rattle.call_table.proofs.entries.end.Goals as goal
 
 pub invariant_of-cells : goal.invariant_of-cells
@@ -38,7 +37,7 @@ invariant_of-cells-2 c =
       at_home =
           by_result c.commit.result c.commit.ensures.ok c.commit.ensures.err
           (λ does. home_committed (EndsGroup c.in_ok-ending.ending) c.args.standing.group k c.commit.new.tasks
-          p.registers _ (ap (λ (m : Kernel). m.tasks) (does k refl refl refl)) home)
+          p.registers _ (ap (λ (m : Kernel). m.tasks) (does k refl refl refl refl)) home)
           (λ same. subst (λ (t : TaskTable). AreAtHome t p.registers
           (with_named p.spaces c.args.standing.memory.place c.args.standing.memory.index c.end_group.new.space))
           (sym same) home);
@@ -48,10 +47,8 @@ pub returns-in_err-ending-clause-memory : goal.returns-in_err-ending-clause-memo
 returns-in_err-ending-clause-memory c =
     err_by c.from_residual.result (part_none c.args.cells.now _ c.args.context.now.task c.args.standing
     c.requires.stands refl refl
-    (space_same c.args.cells.now c.args.context.now.task c.args.standing c.requires.stands c.end_group.new.space
-    (c.in_err-ending.ensures.err
-    ∙ sym (own_space c.args.cells.now c.args.context.now.task c.args.standing c.requires.stands c.in-Some.space.now
-    (sym c.in-Some.ensures.value)))) c.in_err-ending.ensures.err_areas refl refl)
+    (own_same c.args.cells.now c.args.context.now.task c.args.standing c.requires.stands c.in-Some.space.now
+    c.end_group.new.space c.in-Some.ensures.value c.in_err-ending.ensures.err) c.in_err-ending.ensures.err_areas refl refl refl)
 
 pub returns-clause-step : goal.returns-clause-step
 returns-clause-step c = λ beside n seed place.
@@ -70,13 +67,13 @@ returns-clause-step c = λ beside n seed place.
       tasks = c.commit.new.tasks;
       spaces = m.spaces;
       areas = m.areas;
+      files = c.commit.new.files;
       sleepers = c.commit.new.sleepers;
       console = c.commit.new.console;
     }) beside n c.requires.awake c.requires.traps
     (ends.done_is
-    ∙ ap (λ changes. changed changes m)
-    (effect_alike (EndsGroup c.in_ok-ending.ending) c.args.standing.group k m refl refl refl)
-    ∙ c.in_ok-commit.ensures.ok m refl refl refl)
+    ∙ effect_alike (EndsGroup c.in_ok-ending.ending) c.args.standing.group k m refl refl refl refl
+    ∙ c.in_ok-commit.ensures.ok m refl refl refl refl)
 
 pub returns-clause-ready : goal.returns-clause-ready
 returns-clause-ready c = λ beside n.
@@ -90,14 +87,16 @@ returns-clause-moves c =
     let group = c.args.standing.group in
     let effect : Effect = EndsGroup c.in_ok-ending.ending in
     let k : Kernel =
-    kernel_with (record nothing_held { tasks = p.tasks; sleepers = p.sleepers; console = p.console }) nothing_beside 0
+    kernel_with
+    (record nothing_held { tasks = p.tasks; sleepers = p.sleepers; console = p.console; files = p.files })
+    nothing_beside 0
     in
     let after : Lists = record { tasks = c.commit.new.tasks; sleepers = c.commit.new.sleepers } in
     moves_done task c.args.standing.memory _ p _ effect group
-    (lists_are task group (lists_of p) effect after p.console c.commit.new.console
-    (c.in_ok-commit.ensures.ok k refl refl refl)) tt
+    (lists_are task group (lists_of p) effect after p.console c.commit.new.console p.files c.commit.new.files
+    (c.in_ok-commit.ensures.ok k refl refl refl refl)) tt
     (c.in_ok-ending.ensures.ended ∙ ap (λ g. ended_tasks (is_member g) p.tasks.tasks) c.requires.known.group)
-    c.requires.awake refl refl (λ e. absurd (cc e)) (record {
+    c.requires.awake refl refl (λ e. absurd (cc e)) (λ e. absurd (cc e)) (record {
       registers = λ other apart. refl;
       spaces = λ name apart.
           others_stay p.spaces _ c.args.standing.memory name c.end_group.new.space refl apart;

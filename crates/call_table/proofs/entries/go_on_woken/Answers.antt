@@ -41,6 +41,7 @@ returns-clause-step c = λ beside n.
       spaces = c.go_on.new.cells.spaces;
       areas = x;
     }) (sym c.go_on.ensures.areas)
+    ∙ ap (λ x. record (held_by c.go_on.new.cells) { files = x; console = p.console }) (sym c.go_on.ensures.files)
     ∙ ap (λ x. record (held_by c.go_on.new.cells) { console = x }) (sym c.go_on.ensures.console))
 
 pub returns-clause-moves : goal.returns-clause-moves
@@ -49,7 +50,7 @@ returns-clause-moves c =
     let q = c.go_on.new.cells in
     moves_woken c.args.task c.args.standing.memory _ p q c.go_on.ensures.tasks
     (c.go_on.ensures.sleepers ∙ c.leave.ensures) (ap puts_to_sleep c.call_entry.ensures)
-    c.go_on.ensures.areas (record {
+    c.go_on.ensures.areas c.go_on.ensures.files (record {
       registers = λ other apart.
           others_go_on p.registers q.registers c.args.task other (replied c.args.standing.registers (pos 0))
           c.go_on.ensures.registers apart;

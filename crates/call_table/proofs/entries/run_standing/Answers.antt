@@ -75,7 +75,7 @@ returns-clause-moves c =
     with_ok _ _ _ c.run_in-ran.result (λ r runs within.
     moves_alone c.args.task c.args.standing.memory
     (record { entry = Run c.args.task r.count; tasks = false; areas = false }) c.args.cells.now _ refl refl
-    c.requires.awake refl (λ e. refl) (record {
+    c.requires.awake refl (λ e. refl) refl (record {
       registers = λ other apart.
           others_go_on c.args.cells.now.registers c.replace.new.self c.args.task other c.run_in-ran.new.registers
           (c.replace.ensures
@@ -98,6 +98,7 @@ returns-clause-none c =
           spaces_left c.args.cells.now c.args.task c.args.standing c.requires.stands r.count
           c.run_in-ran.new.registers c.run_in-ran.new.spaces runs none;
       areas = refl;
+      files = refl;
       sleepers = refl;
       console = refl;
     }) c.run_in-ran.ensures.runs c.run_in-ran.ensures.within
@@ -141,6 +142,7 @@ returns-clause-memory c =
           ∙ ap (λ k. map.insert c.args.cells.now.registers k c.run_in-ran.new.registers) c.from.ensures;
       kept_tasks = refl;
       kept_areas = λ place index. refl;
+      kept_files = refl;
       kept_sleepers = refl;
       kept_console = refl;
     }) c.run_in-ran.ensures.memory

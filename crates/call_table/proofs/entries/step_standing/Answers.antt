@@ -10,7 +10,7 @@ use Rattle.proc_cells.specs.Cells.{held_by, kernel_of, caller_with}
 use Rattle.proc_cells.proofs.Homes.{home_reached, home_run}
 use Rattle.call_table.proofs.Moves.{moves_alone, others_go_on, others_stay}
 use Rattle.call_table.proofs.Results.{err_by}
-use Rattle.call_table.proofs.Steps.{own_space, space_same, ready_next, registers_same, next_told, step_touching}
+use Rattle.call_table.proofs.Steps.{own_same, own_space, ready_next, registers_same, next_told, step_touching}
 use Rattle.call_table.proofs.entries.step_standing.Goals as goal
 
 pub invariant_of-cells : goal.invariant_of-cells
@@ -81,7 +81,7 @@ returns-clause-ready c = λ goes beside n.
 pub returns-clause-moves : goal.returns-clause-moves
 returns-clause-moves c =
     moves_alone c.args.task c.args.standing.memory _ c.args.cells.now _ refl refl c.requires.awake refl
-    (λ e. absurd (cc e)) (record {
+    (λ e. absurd (cc e)) refl (record {
       registers = λ other apart.
           others_go_on c.args.cells.now.registers c.replace.new.self c.args.task other c.step.new.registers
           (c.replace.ensures
@@ -100,11 +100,10 @@ returns-clause-kept c = λ off.
           ∙ ap (λ x. map.insert c.args.cells.now.registers x c.step.new.registers) c.from.ensures
           ∙ registers_same c.args.cells.now c.args.task c.args.standing c.requires.stands c.step.new.registers kept.0;
       spaces =
-          space_same c.args.cells.now c.args.task c.args.standing c.requires.stands c.step.new.space
-          (kept.1
-          ∙ sym (own_space c.args.cells.now c.args.task c.args.standing c.requires.stands c.in-Some.space.now
-          (sym c.in-Some.ensures.value)));
+          own_same c.args.cells.now c.args.task c.args.standing c.requires.stands c.in-Some.space.now c.step.new.space
+          c.in-Some.ensures.value kept.1;
       areas = kept.2;
+      files = refl;
       sleepers = refl;
       console = refl;
     }
@@ -115,11 +114,10 @@ returns-in_err-next-clause-err c =
       tasks = refl;
       registers = refl;
       spaces =
-          space_same c.args.cells.now c.args.task c.args.standing c.requires.stands c.step.new.space
-          (c.in_err-next.ensures.err.1
-          ∙ sym (own_space c.args.cells.now c.args.task c.args.standing c.requires.stands c.in-Some.space.now
-          (sym c.in-Some.ensures.value)));
+          own_same c.args.cells.now c.args.task c.args.standing c.requires.stands c.in-Some.space.now c.step.new.space
+          c.in-Some.ensures.value c.in_err-next.ensures.err.1;
       areas = c.in_err-next.ensures.err.2;
+      files = refl;
       sleepers = refl;
       console = refl;
     })

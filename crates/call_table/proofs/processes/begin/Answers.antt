@@ -3,6 +3,7 @@ use Rattle.std.proofs.Common.{◌≡◌, ◌+◌, ap, ◌∙◌}
 use Rattle.std.specs.FinMap as map
 use Rattle.std.specs.Prelude.{None}
 use Rattle.task_table.specs.Clones.{opened}
+use Rattle.kernel_model.specs.Names.{with_named}
 use Rattle.kernel_model.specs.opening.Opening.{made_by}
 use Rattle.proc_cells.specs.Beside.{kernel_with}
 use Rattle.proc_cells.specs.Cells.{held_by}
@@ -37,14 +38,23 @@ returns c = λ beside n.
       tasks = x;
       registers = c.insert.new.self;
       spaces = c.insert-2.new.self;
+      files = c.open_files.new.files;
     }) beside n) c.in_ok-open_task.ensures
     ∙ ap (λ x. kernel_with (record (held_by c.args.cells) {
       tasks = opened c.args.cells.tasks (made_by c.args.number) (made_by c.args.number) c.args.root;
       registers = x;
       spaces = c.insert-2.new.self;
+      files = c.open_files.new.files;
     }) beside n) registers
     ∙ ap (λ x. kernel_with (record (held_by c.args.cells) {
       tasks = opened c.args.cells.tasks (made_by c.args.number) (made_by c.args.number) c.args.root;
       registers = map.insert c.args.cells.registers c.args.number c.args.beginning.registers;
       spaces = x;
+      files = c.open_files.new.files;
     }) beside n) c.in_ok-insert-2.ensures.ok
+    ∙ ap (λ x. kernel_with (record (held_by c.args.cells) {
+      tasks = opened c.args.cells.tasks (made_by c.args.number) (made_by c.args.number) c.args.root;
+      registers = map.insert c.args.cells.registers c.args.number c.args.beginning.registers;
+      spaces = with_named c.args.cells.spaces 0 c.args.number c.args.beginning.space;
+      files = x;
+    }) beside n) c.in_ok-open_files.ensures

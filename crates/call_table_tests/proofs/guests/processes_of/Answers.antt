@@ -1,8 +1,8 @@
--- Each task that is opened is one more, and there is room for 64.
+-- Each task that is opened is one more, and 64 may be opened.
 use Rattle.std.proofs.Common.{◌+◌, sym, subst, arith}
 use Rattle.task_table.specs.Table.{TaskTable}
 use Rattle.kernel_model.specs.opening.Opening.{made_by}
-use Rattle.kernel_model.proofs.OpenedTasks.{AreOpened, opened_none, opened_more, room_for}
+use Rattle.kernel_model.proofs.OpenedTasks.{AreOpened, opened_none, opened_more, may_open}
 use Rattle.call_table_tests.proofs.guests.processes_of.Goals as goal
 
 pub loop-index-init : goal.loop-index-init
@@ -10,7 +10,7 @@ loop-index-init c = subst (λ (list : TaskTable). AreOpened 0 list) (sym c.new-p
 
 pub open-requires-clause-room : goal.open-requires-clause-room
 open-requires-clause-room c =
-    room_for c.loop-index.index c.loop-index.processes.cells.tasks (omega arith) c.loop-index.invariant
+    may_open c.loop-index.index c.loop-index.processes.cells.tasks (omega arith) c.loop-index.invariant
 
 pub loop-index-preserved : goal.loop-index-preserved
 loop-index-preserved c =

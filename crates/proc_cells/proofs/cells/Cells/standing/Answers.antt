@@ -9,7 +9,7 @@ use Rattle.task_table.specs.declared.task.Task.{Task}
 use Rattle.task_table.specs.Table.{group_of}
 use Rattle.kernel_model.specs.Names.{get_named}
 use Rattle.kernel_model.specs.declared.caller.Caller.{Caller}
-use Rattle.proc_cells.proofs.Found.{found_by}
+use Rattle.proc_cells.proofs.Found.{found_by, member_of}
 use Rattle.proc_cells.proofs.Homes.{at_home}
 use Rattle.proc_cells.proofs.cells.Cells.standing.Goals as goal
 
@@ -36,11 +36,5 @@ returns-clause-stands c =
       found =
           found_by p.tasks p.registers p.spaces task c.in-Some-group.group.now c.in-Some-copied.registers home.0.space
           c.requires group registered in_memory
-          ∙ ap (λ n. Some (record {
-            task = task;
-            group = n;
-            memory = c.in-Some-group.group.now.memory;
-            registers = c.in-Some-copied.registers;
-            space = home.0.space;
-          })) number;
+          ∙ ap (λ n. Some (member_of task n c.in-Some-group.group.now c.in-Some-copied.registers home.0.space)) number;
     }
