@@ -80,18 +80,18 @@ fn is_beyond(entries: u64, more: usize) -> bool
 /// Does a trace again from where a plain kernel stands, and compares its text then with another.
 fn done_again(
     alloc: Global,
-    mut plain: Plain,
+    plain: &mut Plain,
     trace: &Trace,
     flag: bool,
     text: &[u8],
 ) -> Result<Replayed, Memory>
     ensures { (mounts : Option MountFile) → IfOk result (Says mounts
-        (record { start = Some plain.kernel; trace = trace.now; flag = flag; text = text.now })) }
+        (record { start = Some plain.old.kernel; trace = trace.now; flag = flag; text = text.now })) }
 {
     if is_beyond(plain.kernel.entries, trace.len()) {
         return Ok(Replayed::Beyond);
     }
-    let done = fitting(alloc, &mut plain, trace.as_slice())?;
+    let done = fitting(alloc, plain, trace.as_slice())?;
     if done < trace.len() {
         return Ok(Replayed::Step { done });
     }
@@ -123,7 +123,7 @@ pub fn replay_run(
         return Ok(Replayed::Beyond);
     }
     match Plain::opening(alloc, mounts, trees, &outcome.opening) {
-        Ok(plain) => done_again(alloc, plain, &outcome.trace, flag, text),
+        Ok(mut plain) => done_again(alloc, &mut plain, &outcome.trace, flag, text),
         Err(OpeningErr::Memory) => Err(Memory),
         Err(OpeningErr::Image { task, .. }) => Ok(Replayed::Unopened { task }),
         Err(OpeningErr::Misfit { task }) => Ok(Replayed::Unopened { task }),

@@ -10,7 +10,7 @@ use Rattle.run_replay.proofs.replays.done_again.Goals as goal
 
 pub returns-then-done-len : goal.returns-then-done-len
 returns-then-done-len c =
-    let start = c.args.plain.kernel in
+    let start = c.args.plain.now.kernel in
     let after = c.fitting.new.plain.kernel in
     let trace = c.args.trace.now in
     let done = c.in_ok-done.done in
@@ -21,7 +21,7 @@ returns-then-done-len c =
 
 pub returns : goal.returns
 returns c =
-    let start = c.args.plain.kernel in
+    let start = c.args.plain.now.kernel in
     let after = c.fitting.new.plain.kernel in
     let trace = c.args.trace.now in
     let flag = c.args.flag in
