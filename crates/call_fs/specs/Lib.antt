@@ -1,0 +1,3 @@
+-- What contracts of this crate say, by subject.
+pub mod Looked
+pub mod Prepared

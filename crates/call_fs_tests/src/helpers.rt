@@ -1,0 +1,88 @@
+//! What is open where the tests begin, and how a call is done.
+
+use call_fs::{FilePrepared, commit_files};
+use fd_table::{Access, Description, Descriptor, Object, PipeSide};
+use kernel_calls::open_files;
+use kernel_model::{OpenFile, OpenFiles};
+use pipe_core::Pipe;
+use sn_base::Made;
+use std::alloc::Global;
+use std::test::Fail;
+
+/// The caller's table.
+pub(crate) const TABLE: Made = Made { place: 0, index: 1 };
+
+/// A pipe.
+const PIPE: Made = Made { place: 9, index: 0 };
+
+/// Opens the lowest free number, with a description of its own.
+pub(crate) fn open(
+    alloc: Global,
+    files: &mut OpenFiles,
+    index: u32,
+    object: Object,
+    access: Access,
+) -> Result<(), Fail> {
+    let description = Description {
+        object,
+        access,
+        append: false,
+        nonblock: false,
+        position: 0,
+    };
+    let file = OpenFile {
+        description,
+        descriptors: 1,
+    };
+    files.descriptions.insert(alloc, 9, index, file)?;
+    let descriptor = Descriptor {
+        description: Made { place: 9, index },
+        cloexec: false,
+    };
+    if let Some(numbers) = files.tables.get_mut(TABLE.place, TABLE.index) {
+        let _ = numbers.install(0, descriptor)?;
+    }
+    Ok(())
+}
+
+/// Five numbers are open: 0 is of an empty input, 1 and 2 of the console, 3 and 4 of a pipe, to read and to write.
+pub(crate) fn five_open(alloc: Global) -> Result<OpenFiles, Fail> {
+    let mut files = OpenFiles::new(alloc);
+    open_files(alloc, 1, &mut files)?;
+    let pipe = Pipe::new(alloc)?;
+    files.pipes.insert(alloc, PIPE.place, PIPE.index, pipe)?;
+    let read = Object::PipeEnd {
+        pipe: PIPE,
+        end: PipeSide::Read,
+    };
+    let write = Object::PipeEnd {
+        pipe: PIPE,
+        end: PipeSide::Write,
+    };
+    open(alloc, &mut files, 0, read, Access::Read)?;
+    open(alloc, &mut files, 1, write, Access::Write)?;
+    Ok(files)
+}
+
+/// Does what a call comes to, and answers its reply.
+pub(crate) fn done(files: &mut OpenFiles, call: FilePrepared) -> i64 {
+    commit_files(call.change, TABLE, files);
+    call.reply
+}
+
+/// What a number stands for.
+pub(crate) fn open_at(files: &OpenFiles, fd: u32) -> Option<Descriptor> {
+    files.tables.get(TABLE.place, TABLE.index)?.get(fd)
+}
+
+/// How many descriptors have the description that a number has.
+pub(crate) fn counted(files: &OpenFiles, fd: u32) -> Option<u64> {
+    let name = open_at(files, fd)?.description;
+    Some(files.descriptions.get(name.place, name.index)?.descriptors)
+}
+
+/// How many ends of the pipe are open, to read and to write; nothing where it's gone.
+pub(crate) fn ends(files: &OpenFiles) -> Option<(u64, u64)> {
+    let pipe = files.pipes.get(PIPE.place, PIPE.index)?;
+    Some((pipe.readers(), pipe.writers()))
+}
