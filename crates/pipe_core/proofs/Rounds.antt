@@ -1,7 +1,8 @@
 -- Bytes in a ring of 65,536 slots: which slot each lies in, and what two moves put there.
-use Rattle.std.proofs.Common.{◌≡◌, ℕ, ◌+◌, ◌-◌, ◌%◌, ◌<◌, ◌≤◌, ◌⊎◌, List, ◌++◌, length, get_or, take, drop, min, ap, sym, ◌∙◌, inl, inr, mod-eq_of_lt, arith, length-append, length-drop, length-take-le, get_or-drop, get_or-take}
+use Rattle.std.proofs.Common.{◌≡◌, ℕ, ◌+◌, ◌-◌, ◌%◌, ◌<◌, ◌≤◌, ◌⊎◌, List, ◌++◌, length, get_or, take, drop, min, ap, sym, ◌∙◌, inl, inr, mod-eq_of_lt, arith, append-nil, length-append, length-drop, length-take-le, get_or-drop, get_or-take}
 use native.Mathlib.Nat.{mod-eq-sub-mod}
-use Rattle.std.proofs.lemmas.List.{same_lists, get_or_append_left, get_or-append_right}
+use Rattle.std.proofs.lemmas.List.{same_lists, get_or_append_left, get_or-append_right, take-append-le, take-append-drop, take_all}
+use Rattle.std.proofs.Math.Seq.{take-append-add}
 use Rattle.std.proofs.lemmas.Bool.{cases_lt}
 use Rattle.std.proofs.lemmas.Grind.{same_number_lists}
 use Rattle.pipe_core.specs.Rings.{bytes_from}
@@ -147,3 +148,32 @@ module _ (start first : ℕ) (slots bytes : List ℕ) (begins : start < 65536) (
     where
       at : ℕ
       at = (start + i) % 65536
+
+-- the two runs of slots in which the bytes lie, the first up to the last slot
+pub two_runs : (start count first : ℕ) (slots : List ℕ) → start < 65536 → count ≤ 65536 → length slots ≡ 65536
+    → first ≡ min count (65536 - start)
+    → take first (drop start slots) ++ take (count - first) slots ≡ bytes_from start count slots
+two_runs start count first slots begins fits whole cut = elim (cases_lt (65536 - start) count) [
+  | inr one ↦
+      let all : first ≡ count = omega arith in
+      let none : count - first ≡ 0 = omega arith in
+      ap (λ n. take first (drop start slots) ++ take n slots) none
+      ∙ append-nil (take first (drop start slots))
+      ∙ ap (λ n. take n (drop start slots)) all
+      ∙ sym (take-append-le count (drop start slots) (take start slots) (omega (arith, long)))
+  | inl two ↦
+      let left : count ≡ length (drop start slots) + (count - first) = omega (arith, long) in
+      ap (λ xs. xs ++ take (count - first) slots) (take_all first (drop start slots) (omega (arith, long)))
+      ∙ ap (λ ys. drop start slots ++ ys) (front_of (count - first) (omega arith))
+      ∙ sym (ap (λ n. take n (drop start slots ++ take start slots)) left
+      ∙ take-append-add (drop start slots) (take start slots) (count - first))
+]
+  where
+    long : length (drop start slots) ≡ 65536 - start
+    long = length-drop start slots ∙ ap (λ n. n - start) whole
+
+    front_of : (n : ℕ) → n ≤ start → take n slots ≡ take n (take start slots)
+    front_of n within =
+        ap (take n) (sym (take-append-drop start slots))
+        ∙ take-append-le n (take start slots) (drop start slots)
+        (omega (arith, length-take-le start slots (omega arith)))

@@ -102,6 +102,29 @@ impl Pipe {
         PipeWrite::Put(count)
     }
 
+    /// The bytes that are there, oldest first, as two runs: the second is behind the first.
+    pub fn oldest(&self) -> (&[u8], &[u8])
+        ensures { result.0.now ++ result.1.now ≡ self.now.bytes }
+    {
+        self.ring.oldest()
+    }
+
+    /// Drops so many of the oldest bytes, or all where fewer are there: a read that has looked at them takes them so.
+    pub fn skip(&mut self, count: usize)
+        ensures { self.new ≡ after_read self.old count }
+    {
+        self.ring.skip(count.min(self.ring.len()));
+    }
+
+    /// Puts bytes behind those that are there, for which there is room: a write that has made sure of it puts so one
+    /// run after another. It takes no memory.
+    pub fn put(&mut self, bytes: &[u8])
+        requires { length self.old.bytes + length bytes.now ≤ CAPACITY }
+        ensures { self.new ≡ after_write self.old bytes.now }
+    {
+        self.ring.append(bytes);
+    }
+
     /// How many bytes are in the pipe.
     pub fn len(&self) -> usize
         ensures len { result ≡ length self.now.bytes }

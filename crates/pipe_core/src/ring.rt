@@ -52,6 +52,27 @@ impl Ring {
         self.len
     }
 
+    /// Its bytes, oldest first, as the two runs of slots that they lie in: up to the last slot, and from the first on.
+    pub(crate) fn oldest(&self) -> (&[u8], &[u8])
+        ensures { result.0.now ++ result.1.now ≡ self.now }
+    {
+        let first = self.len.min(CAPACITY - self.start);
+        let slots = self.slots.as_slice();
+        (
+            &slots[self.start..self.start + first],
+            &slots[..self.len - first],
+        )
+    }
+
+    /// Drops so many of the oldest bytes.
+    pub(crate) fn skip(&mut self, count: usize)
+        requires { count ≤ length self.old }
+        ensures { self.new ≡ drop count self.old }
+    {
+        self.start = (self.start + count) % CAPACITY;
+        self.len -= count;
+    }
+
     /// Moves the oldest bytes out, as many as there is room for.
     pub(crate) fn take_into(&mut self, to: &mut [u8])
         requires { length to.old ≤ length self.old }

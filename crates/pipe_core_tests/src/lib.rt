@@ -2,7 +2,7 @@
 //!
 //! The contracts of `pipe_core` say what each call does at every pipe; here it's tried at the edges: a pipe that is
 //! full, or full but for one byte, or whose bytes lie over the end of its room; reads of one byte and of all; writes of
-//! 4,096 bytes and of one more or less; ends that are closed in each order.
+//! 4,096 bytes and of one more or less; runs that are lent, skipped and put; ends that are closed in each order.
 //!
 //! Expected values are those that pipe(7), read(2) and write(2) give, worked out by hand.
 #![tactic(auto)]
@@ -15,3 +15,5 @@ mod helpers;
 mod order;
 #[cfg(test)]
 mod room;
+#[cfg(test)]
+mod runs;
