@@ -6,7 +6,7 @@ use Rattle.std.specs.FinMap as map
 use Rattle.rv_atomic.specs.Reservations.{is_held, without}
 use Rattle.rv_atomic.specs.declared.reservations.Reservation.{Reservation}
 use Rattle.mm_areas.specs.declared.areas.Areas.{Areas}
-use Rattle.mm_areas.specs.Mappings.{Mapping, mapping}
+use Rattle.mm_areas.specs.Mappings.{mapping}
 use Rattle.mm_areas.specs.Own.{owns}
 use Rattle.mm_areas.specs.Pages.{Mapped, Pages}
 use Rattle.mm_space.specs.Accesses.{page_number, page_offset}

@@ -44,6 +44,32 @@ module _ (space : Space) (handed : Handed) where
       (ready_split (behind at) n rest (omega arith) parts.1
       (ap (λ a. is_ready space handed a rest) (omega arith) ∙ there))
 
+  -- and then so are both
+  pub first_ready : (at first rest : ℕ) → at < 2 ^ 64 → is_ready space handed at (first + rest) ≡ true
+      → is_ready space handed at first ≡ true
+  unfolding is_ready
+  first_ready at zero rest small ready = refl
+  first_ready at (suc n) rest small ready =
+      let number : suc (n + rest) ≡ suc n + rest = omega arith in
+      let parts : (is_ready_at space handed at ≡ true) × (is_ready space handed (behind at) (n + rest) ≡ true) =
+      and_parts (is_ready_at space handed at) (is_ready space handed (behind at) (n + rest))
+      (ap (is_ready space handed at) number ∙ ready) in
+      and_from (is_ready_at space handed at) (is_ready space handed (behind at) n) parts.0
+      (first_ready (behind at) n rest (omega arith) parts.1)
+
+  pub rest_ready : (at first rest : ℕ) → at < 2 ^ 64 → is_ready space handed at (first + rest) ≡ true
+      → is_ready space handed ((at + first) % 2 ^ 64) rest ≡ true
+  unfolding is_ready
+  rest_ready at zero rest small ready =
+      ap (λ a. is_ready space handed a rest) (omega (arith, small))
+      ∙ ap (is_ready space handed at) (sym (zero-add rest)) ∙ ready
+  rest_ready at (suc n) rest small ready =
+      let number : suc (n + rest) ≡ suc n + rest = omega arith in
+      let parts : (is_ready_at space handed at ≡ true) × (is_ready space handed (behind at) (n + rest) ≡ true) =
+      and_parts (is_ready_at space handed at) (is_ready space handed (behind at) (n + rest))
+      (ap (is_ready space handed at) number ∙ ready) in
+      ap (λ a. is_ready space handed a rest) (omega arith) ∙ rest_ready (behind at) n rest (omega arith) parts.1
+
   -- each byte of a run that is ready is so
   pub byte_ready : (at count done : ℕ) → at < 2 ^ 64 → done < count → is_ready space handed at count ≡ true
       → is_ready_at space handed ((at + done) % 2 ^ 64) ≡ true

@@ -1,6 +1,6 @@
 //! Pages as accesses see them.
 
-ghost use Rattle.std.specs.Prelude.{◌≡◌, ℕ, ◌+◌, ◌≤◌, length};
+ghost use Rattle.std.specs.Prelude.{◌≡◌, ℕ, ◌+◌, ◌≤◌, length, replicate};
 ghost use Rattle.std.specs.FinMap as map_of;
 ghost use Rattle.mm_areas.specs.Pages.{mapped_by};
 ghost use Rattle.mm_space.specs.Accesses.{area_byte, mapped_byte, page_byte};
@@ -30,6 +30,20 @@ impl<'a> PageSight<'a> {
             PageSight::InArea(area) => Some(*area),
             PageSight::Barred => None,
             PageSight::Bytes(_) => None,
+        }
+    }
+
+    /// So many of the page's bytes from an offset on, and 0 for each that may not be accessed.
+    pub(crate) fn run(&self, offset: usize, count: usize) -> &'a [u8]
+        requires whole { IsWhole self.now }
+        requires fits { offset + count ≤ 4096 }
+        ensures bytes { result.now ≡ sight_bytes self.now offset count }
+        ensures count { length result.now ≡ count }
+    {
+        match self {
+            PageSight::Bytes(bytes) => &bytes[offset..offset + count],
+            PageSight::Barred => zeros(count),
+            PageSight::InArea(_) => zeros(count),
         }
     }
 
@@ -64,6 +78,24 @@ impl Space {
             None => PageSight::Barred,
         }
     }
+}
+
+static ZEROS: [u8; 4096] = [0; 4096];
+
+/// The bytes of a page of zeros.
+fn page_of_zeros() -> &'static [u8; 4096]
+    ensures { result.now ≡ replicate 4096 0 }
+{
+    &ZEROS
+}
+
+/// So many zeros.
+fn zeros(count: usize) -> &'static [u8]
+    requires { count ≤ 4096 }
+    ensures { result.now ≡ replicate count 0 }
+{
+    let page = page_of_zeros();
+    &page[..count]
 }
 
 /// A page, where it has that right.

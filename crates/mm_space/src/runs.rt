@@ -63,6 +63,18 @@ impl Space {
         Ok(())
     }
 
+    /// The bytes from an address on that lie in its page, so many at most, and 0 for each that may not be read. It takes
+    /// no memory: a run of bytes is so many of these, one behind another.
+    pub fn piece<'a>(&'a self, handed: &'a Handed, at: u64, count: usize) -> &'a [u8]
+        ensures bytes { result.now ≡ bytes_from (byte_at readable (reach self.now handed.now)) at (length result.now) }
+        ensures within { length result.now ≤ count }
+        ensures some { 0 < count → 0 < length result.now }
+    {
+        let piece = in_page(at, count);
+        let sight = self.page_sight(handed, Rights::READ, at / 4096);
+        sight.run((at % 4096) as usize, piece)
+    }
+
     /// Puts the bytes from an address on into a buffer, and 0 for each that may not be read.
     fn copy_run(&self, handed: &Handed, at: u64, buffer: &mut [u8])
         ensures { buffer.new ≡ bytes_from (byte_at readable (reach self.now handed.now)) at (length buffer.old) }

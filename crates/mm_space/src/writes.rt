@@ -1,6 +1,6 @@
 //! Runs of bytes put into memory.
 
-ghost use Rattle.std.specs.Prelude.{◌≡◌, ◌≢◌, ℕ, ◌+◌, ◌%◌, ◌≤◌, true, false, length, OnOk, OnErr, Ok, Err};
+ghost use Rattle.std.specs.Prelude.{◌≡◌, ◌≢◌, ℕ, ◌+◌, ◌%◌, ◌^◌, ◌<◌, ◌≤◌, ◌++◌, true, false, length, OnOk, OnErr, Ok, Err};
 ghost use Rattle.rv_table.specs.Bytes.{AllowsAs, loaded};
 ghost use Rattle.rv_table.specs.declared.error.MemErr.TheVariants as MemErr;
 ghost use Rattle.mm_space.specs.Accesses.{byte_at, writable};
@@ -50,6 +50,47 @@ impl Space {
         }
     }
 
+    /// The same, of two runs of bytes, the second behind the first.
+    pub fn write_two(
+        &mut self,
+        alloc: Global,
+        handed: &mut Handed,
+        task: u32,
+        at: u64,
+        first: &[u8],
+        second: &[u8],
+    ) -> Result<(), MemErr>
+        requires { length first.now + length second.now < 2 ^ 63 }
+        ensures room { AllowsAs (loaded (byte_at writable (reach self.old handed.old)) at
+            (length first.now + length second.now)) result }
+        ensures lean { is_ready self.old handed.old at (length first.now + length second.now) ≡ true →
+            result ≢ Err MemErr.Memory }
+        ensures ok { OnOk result (reach self.new handed.new ≡
+            after_run_stored task at (first.now ++ second.now) (reach self.old handed.old)) }
+        ensures err { OnErr result (reach self.new handed.new ≡ reach self.old handed.old) }
+    {
+        let count = first.len() + second.len();
+        self.allowed(handed, Rights::WRITE, at, count)?;
+        match self.own_run(alloc, handed, at, count) {
+            Ok(()) => {
+                self.put_two(handed, task, at, first, second);
+                self.reservations.stored_run(task, at, count as u64);
+                Ok(())
+            }
+            Err(_) => Err(MemErr::Memory),
+        }
+    }
+
+    /// Puts two runs of bytes from an address on, whose pages have their bytes for themselves.
+    fn put_two(&mut self, handed: &mut Handed, task: u32, at: u64, first: &[u8], second: &[u8])
+        requires { is_ready self.old handed.old at (length first.now + length second.now) ≡ true }
+        ensures { reach self.new handed.new ≡ put_run task at (first.now ++ second.now) (reach self.old handed.old) }
+    {
+        self.put_run(handed, task, at, first);
+        let behind = at.wrapping_add(first.len() as u64);
+        self.put_run(handed, task, behind, second);
+    }
+
     /// Makes the bytes of the pages of so many bytes from an address on their own.
     fn own_run(
         &mut self,
@@ -74,7 +115,8 @@ impl Space {
     /// Puts bytes from an address on, whose pages have their bytes for themselves.
     fn put_run(&mut self, handed: &mut Handed, task: u32, at: u64, bytes: &[u8])
         requires { is_ready self.old handed.old at (length bytes.now) ≡ true }
-        ensures { reach self.new handed.new ≡ put_run task at bytes.now (reach self.old handed.old) }
+        ensures put { reach self.new handed.new ≡ put_run task at bytes.now (reach self.old handed.old) }
+        ensures ready { AreAsReady self.old self.new handed.old handed.new }
     {
         let mut done = 0;
         while done < bytes.len() {

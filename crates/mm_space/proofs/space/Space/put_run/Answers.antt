@@ -1,4 +1,4 @@
-use Rattle.std.proofs.Common.{◌≡◌, ◌+◌, ◌-◌, ◌%◌, ◌^◌, ◌++◌, length, take, drop, sym, ap, ◌∙◌, arith}
+use Rattle.std.proofs.Common.{◌≡◌, ◌+◌, ◌-◌, ◌%◌, ◌^◌, ◌++◌, length, take, drop, refl, sym, ap, ◌∙◌, arith}
 use Rattle.std.proofs.lemmas.List.{length-take-le}
 use Rattle.std.proofs.Math.Seq.{take-add}
 use Rattle.mm_space.specs.Puts.{put_run}
@@ -14,6 +14,7 @@ loop-done-init c =
       within = omega arith;
       put = sym (put_none c.args.task c.args.at (reach c.args.self.now c.args.handed.now));
       ready = c.requires;
+      alike = λ address. refl;
     }
 
 pub put_piece-requires-clause-ready : goal.put_piece-requires-clause-ready
@@ -44,4 +45,5 @@ loop-done-preserved c =
           ∙ ap (λ bs. put_run c.args.task c.args.at bs r) (sym parts);
       ready = ready_same c.loop-done.self c.put_piece.new.self c.loop-done.handed c.put_piece.new.handed
           c.put_piece.ensures.ready c.args.at _ ∙ c.loop-done.invariant.ready;
+      alike = λ address. c.put_piece.ensures.ready address ∙ c.loop-done.invariant.alike address;
     }
