@@ -19,7 +19,7 @@ use Rattle.kernel_model.specs.files.FileTree.{Nodes, Child, Missing, Known, Unnu
 use Rattle.kernel_model.specs.files.FileTree.{child_node, numbered_in, number_in, known}
 use Rattle.kernel_model.specs.entries.Given.{Nodes_so_far, node_in, node_by, node_now, given_number, number_at}
 use Rattle.kernel_model.specs.entries.Given.{number_one, number_next, number_all, node_changes, is_unused}
-use Rattle.kernel_model.specs.entries.Parts.{Parts, parts, done, outcome_in, ◌>>=◌, Change, put, changed}
+use Rattle.kernel_model.specs.entries.Parts.{Parts, parts, done, outcome_in, Change, put, changed}
 use Rattle.kernel_model.specs.laws.Children.{HasUnnumbered, is_given_to}
 use Rattle.kernel_model.proofs.Trees.{outcome-bind}
 

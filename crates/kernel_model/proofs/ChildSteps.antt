@@ -1,7 +1,7 @@
 -- No row changes a node, so that a child without a number stays as it is through each step that gives it none.
 use Rattle.std.proofs.Common.{◌≡◌, ℕ, ℤ, Bool, true, false, cond, List, [], ◌∷◌, ◌++◌, length, Option, Some, None, ap}
 use Rattle.std.proofs.Common.{refl, sym, ◌∙◌, inl, inr, subst, option_map, pos, nat_cmp}
-use Rattle.std.specs.Prelude.{nat_le, nat_lt, ◌+◌, ◌-◌, ◌==◌, ◌%◌, ◌^◌, ◌&&◌, ◌||◌, min, not}
+use Rattle.std.specs.Prelude.{nat_le, nat_lt, ◌+◌, ◌==◌, ◌%◌, ◌^◌, ◌&&◌, ◌||◌, min, not}
 use Rattle.std.specs.Int.{from_le_bytes, to_le_bytes, w32}
 use Rattle.std.specs.List.{list_all, list_any}
 use Rattle.std.specs.Ordering.{int_eq}
@@ -11,6 +11,7 @@ use Rattle.sn_errno.specs.declared.errno.Errno.TheVariants.{EIO, ENFILE, EFAULT,
 use Rattle.sn_errno.specs.declared.errno.Errno.TheVariants.{EAGAIN, ECHILD}
 use Rattle.sn_errno.specs.declared.calls.CallNo.{CallNo}
 use Rattle.sn_errno.specs.declared.calls.CallNo.TheVariants.{Write, Exit, ExitGroup, SetTidAddress, SetRobustList}
+use Rattle.sn_errno.specs.declared.calls.CallNo.TheVariants.{Dup, Dup3, Fcntl, Ioctl, Close, Lseek, Pread64, Pwrite64}
 use Rattle.sn_errno.specs.declared.calls.CallNo.TheVariants.{Futex, ClockGettime, Clone, Wait4}
 use Rattle.sn_errno.specs.declared.calls.CallNo.TheVariants.{SchedYield, Uname, Getpid, Getppid, Getuid, Geteuid}
 use Rattle.sn_errno.specs.declared.calls.CallNo.TheVariants.{Getgid, Getegid, Gettid, Brk, Munmap, Mmap, Mprotect}
@@ -32,6 +33,11 @@ use Rattle.task_table.specs.Reaps.{after_reap, reap_end}
 use Rattle.task_table.specs.Status.{status_number}
 use Rattle.task_table.specs.Table.{TaskTable}
 use Rattle.quantum.specs.Instructions.{Going, ran}
+use Rattle.fd_table.specs.Flags.{may_write}
+use Rattle.fd_table.specs.declared.description.Description.{Description}
+use Rattle.fd_table.specs.declared.description.Object.{Object}
+use Rattle.fd_table.specs.declared.description.Object.TheVariants as object
+use Rattle.fd_table.specs.declared.flags.Access.{Access}
 use Rattle.mm_space.specs.Spaces.{AddressSpace, Reach, unreserved}
 use Rattle.futex_core.specs.declared.keys.FutexKey.{FutexKey}
 use Rattle.futex_core.specs.FutexLists.{FutexList, after_leave, after_sleep}
@@ -40,8 +46,8 @@ use Rattle.kernel_model.specs.declared.entry.Args.{Args}
 use Rattle.kernel_model.specs.declared.entry.Entry.{Entry}
 use Rattle.kernel_model.specs.declared.entry.Entry.TheVariants.{Run, Call, Sleep, End}
 use Rattle.kernel_model.specs.declared.kernel.Kernel.{Kernel}
-use Rattle.kernel_model.specs.declared.kernel.Part.TheVariants.{OfTasks, OfSpace, OfArea, OfNode, OfSleepers}
-use Rattle.kernel_model.specs.declared.kernel.Part.TheVariants.{OfConsole, OfFaults}
+use Rattle.kernel_model.specs.declared.kernel.Part.TheVariants.{OfTasks, OfArea, OfNode, OfSleepers}
+use Rattle.kernel_model.specs.declared.kernel.Part.TheVariants.{OfConsole, OfFaults, OfTable, OfDescription}
 use Rattle.kernel_model.specs.declared.opening.Given.{Given}
 use Rattle.kernel_model.specs.declared.traps.Next.{Next}
 use Rattle.kernel_model.specs.declared.traps.Next.TheVariants.{Goes, Calls, Traps, Touches}
@@ -56,13 +62,15 @@ use Rattle.kernel_model.specs.calls.ClearWords.{Cleared, nothing_cleared, words_
 use Rattle.kernel_model.specs.calls.Clone.{Cloning, caller_word, clone_of, cloning_of, is_full, is_process, is_thread}
 use Rattle.kernel_model.specs.calls.Clone.{made_for_child, process_by, process_made, process_row, process_with}
 use Rattle.kernel_model.specs.calls.Clone.{sets_child_word, thread_by, thread_made, thread_row, word_set}
-use Rattle.kernel_model.specs.calls.Console.{is_written_to, descriptor, to_console, appended, write_row}
+use Rattle.kernel_model.specs.calls.Console.{appended, write_row, writes, written_to}
 use Rattle.kernel_model.specs.calls.Ending.{closed_if, end_changes, ends_as, ends_with, exit_row, exit_group_row}
 use Rattle.kernel_model.specs.calls.Ending.{group_end, set_tid_address_row, task_end}
 use Rattle.kernel_model.specs.calls.Futex.{by_word, futex_of, is_wait, is_wake, sleeps_on, wakes_on}
 use Rattle.kernel_model.specs.calls.Identity.{owner, parent_of, utsname}
 use Rattle.kernel_model.specs.calls.Memory.{mmap_row}
-use Rattle.kernel_model.specs.calls.Memory.{remaps, unless_refused, fault_errno, map_refusal, protect_refusal}
+use Rattle.kernel_model.specs.calls.Lookups.{descriptor, if_may, opened_for, or_refuse, with_file}
+use Rattle.kernel_model.specs.calls.Memory.{remaps, unless_refused, fault_errno, file_refusal, map_refusal, maps}
+use Rattle.kernel_model.specs.calls.Memory.{protect_refusal}
 use Rattle.kernel_model.specs.calls.Memory.{is_shared, area_made_at, area_made_by, maps_at, address_in, asked_place}
 use Rattle.kernel_model.specs.calls.Memory.{rights_in}
 use Rattle.kernel_model.specs.calls.Table.{call_row, row_of_call, row_if_known}
@@ -82,6 +90,8 @@ use Rattle.kernel_model.specs.entries.Steps.{may_enter, step, stands_at, sleep_a
 use Rattle.kernel_model.specs.entries.Waiting.{Wait, Awake, Asleep, Woken, wait_of}
 use Rattle.kernel_model.specs.laws.Children.{HasUnnumbered, is_given_to, numbers_child}
 use Rattle.kernel_model.proofs.FileChanges.{closed_open, copied_open, open_leaves}
+use Rattle.kernel_model.proofs.OpenRows.{close_open, dup3_open, dup_open, fcntl_open, ioctl_open, lseek_open}
+use Rattle.kernel_model.proofs.OpenRows.{pread64_open, pwrite64_open}
 use Rattle.kernel_model.proofs.Trees.{outcome-bind}
 use Rattle.kernel_model.proofs.LocalityLaws.{entered}
 use Rattle.kernel_model.proofs.PartChanges.{changed_other}
@@ -158,17 +168,38 @@ module _ (s : Parts) where
       by true ino (inr is) = is
       by false ino is = is
 
-  console_leaves : (bytes : Option (List ℕ)) → Leaves (to_console bytes)
-  console_leaves None = refused_leaves EFAULT
-  console_leaves (Some bytes) = appended_leaves bytes (s OfConsole)
+  -- what is there goes on
+  found_leaves : {A : Type 0} (errno : Errno) (row : A → Prog Answer) → ((x : A) → Leaves (row x)) → (o : Option A)
+      → Leaves (or_refuse errno row o)
+  found_leaves errno row each None = refused_leaves errno
+  found_leaves errno row each (Some x) = each x
 
-  write_leaves : (fd buffer count : ℕ) (space : AddressSpace) → Leaves (write_row fd buffer count space)
-  write_leaves fd buffer count space =
-      either_leaves (is_written_to (descriptor fd)) _ _
-      (either_leaves (count == 0) _ _ (λ ino is. is)
-      (behind_leaves (bytes_read space buffer (min count 65536)) to_console
-      (console_leaves (outcome_in s (bytes_read space buffer (min count 65536))))))
-      (refused_leaves EBADF)
+  opened_leaves : (may : Access → Bool) (c : Caller) (fd : ℕ) (row : Description → Prog Answer)
+      → ((d : Description) → Leaves (row d)) → Leaves (opened_for may c fd row)
+  opened_leaves may c fd row each ino is =
+      found_leaves EBADF (λ t. or_refuse EBADF (λ d. with_file d.description (if_may may row))
+      (map.get t (descriptor fd)))
+      (λ t. found_leaves EBADF (λ d. with_file d.description (if_may may row))
+      (λ d. λ ino is. at_file d.description ino is) (map.get t (descriptor fd))) (s (OfTable c.table)) ino is
+    where
+      at_file : (name : Made) → Leaves (with_file name (if_may may row))
+      at_file name ino is =
+          found_leaves EBADF (if_may may row)
+          (λ file. either_leaves (may file.description.access) _ _ (each file.description) (refused_leaves EBADF))
+          (s (OfDescription name)) ino is
+
+  written_leaves : (o : Object) (bytes : List ℕ) → Leaves (written_to o bytes)
+  written_leaves (object.Node n) bytes = refused_leaves ENOSYS
+  written_leaves (object.PipeEnd name side) bytes = refused_leaves ENOSYS
+  written_leaves object.Console bytes = λ ino is. appended_leaves bytes (s OfConsole) ino is
+  written_leaves object.EmptyInput bytes = λ ino is. appended_leaves bytes (s OfConsole) ino is
+
+  write_leaves : (fd buffer count : ℕ) (c : Caller) → Leaves (write_row fd buffer count c)
+  write_leaves fd buffer count c =
+      opened_leaves may_write c fd (writes c buffer count)
+      (λ d. either_leaves (count == 0) _ _ (λ ino is. is)
+      (behind_leaves (bytes_read c.space buffer (min count 65536)) (or_refuse EFAULT (written_to d.object))
+      (found_leaves EFAULT (written_to d.object) (written_leaves d.object) _)))
 
   -- ends
   ends_leave : (c : Caller) (ended : List EndedTask) (after : TaskTable)
@@ -360,9 +391,11 @@ module _ (s : Parts) where
   mmap_leaves : (context : Context) (address length protection flags fd offset : ℕ) (c : Caller)
       → Leaves (mmap_row context address length protection flags fd offset c)
   mmap_leaves context address length protection flags fd offset c =
-      unless_leaves (map_refusal c.space address length protection flags fd offset)
+      behind_leaves (file_refusal flags fd c) (λ file. done (maps context c address length protection flags offset file))
+      (unless_leaves (map_refusal c.space address length protection flags offset
+      (outcome_in s (file_refusal flags fd c)))
       (maps_at context c (address_in c.space (asked_place address flags) length) length protection flags)
-      (maps_leave context c (address_in c.space (asked_place address flags) length) length protection flags)
+      (maps_leave context c (address_in c.space (asked_place address flags) length) length protection flags))
 
   -- and bytes that are put an address space and areas
   filled_leave : (memory : Made) (reply : ℕ) (reach : Option Reach) → LeavesNodes (filled memory reply reach).changes
@@ -376,7 +409,15 @@ module _ (s : Parts) where
       (filled_leave c.memory reply (outcome_in s (bytes_written c.task c.space at bytes)))
 
   row_leaves : (context : Context) (c : Caller) (args : Args) (call : CallNo) → Leaves (row_of_call context c args call)
-  row_leaves context c args Write = write_leaves args.a0 args.a1 args.a2 c.space
+  row_leaves context c args Dup = open_leaves _ (dup_open s c args.a0)
+  row_leaves context c args Dup3 = open_leaves _ (dup3_open s c args.a0 args.a1 args.a2)
+  row_leaves context c args Fcntl = open_leaves _ (fcntl_open s c args.a0 args.a1 args.a2)
+  row_leaves context c args Ioctl = open_leaves _ (ioctl_open s c args.a0)
+  row_leaves context c args Close = open_leaves _ (close_open s c args.a0)
+  row_leaves context c args Lseek = open_leaves _ (lseek_open s c args.a0)
+  row_leaves context c args Pread64 = open_leaves _ (pread64_open s c args.a0)
+  row_leaves context c args Pwrite64 = open_leaves _ (pwrite64_open s c args.a0)
+  row_leaves context c args Write = write_leaves args.a0 args.a1 args.a2 c
   row_leaves context c args Exit = exit_leaves args.a0 c
   row_leaves context c args ExitGroup = exit_group_leaves args.a0 c
   row_leaves context c args Futex = futex_leaves args.a0 (args.a1 % 2 ^ 32) (args.a2 % 2 ^ 32) args.a3 c

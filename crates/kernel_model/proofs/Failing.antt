@@ -3,7 +3,7 @@ use Rattle.std.proofs.Common.{◌≡◌, []}
 use Rattle.kernel_model.specs.declared.kernel.Part.TheVariants.{OfFaults}
 use Rattle.kernel_model.specs.declared.opening.Given.{Given}
 use Rattle.kernel_model.specs.entries.Given.{faulted, met, number_all}
-use Rattle.kernel_model.specs.entries.Parts.{Parts, done, look, outcome_in, ◌>>=◌}
+use Rattle.kernel_model.specs.entries.Parts.{Parts, done, look, outcome_in}
 use Rattle.kernel_model.proofs.Trees.{outcome-bind}
 
 -- what is left of a failed call, by its parts

@@ -16,7 +16,7 @@ use Rattle.kernel_model.specs.declared.open_files.OpenFiles.{OpenFiles}
 use Rattle.kernel_model.specs.descriptors.Counts.{closed_as, copied_as, counted, dropped, file_dropped}
 use Rattle.kernel_model.specs.descriptors.Counts.{object_closed, table_closed, table_copied}
 use Rattle.kernel_model.specs.entries.InTurn.{followed, in_turn}
-use Rattle.kernel_model.specs.entries.Parts.{Holds, Parts, parts, Prog, done, look, outcome_in, ◌>>=◌, IsIn, Change}
+use Rattle.kernel_model.specs.entries.Parts.{Holds, Parts, parts, Prog, done, outcome_in, ◌>>=◌, IsIn, Change}
 use Rattle.kernel_model.specs.entries.Parts.{set_named, put, changed, parts_of}
 use Rattle.kernel_model.specs.laws.Files.{all_counted, all_dropped, closed_by, copied_by, dropped_by, with_copy}
 use Rattle.kernel_model.specs.laws.Files.{with_one_fewer, with_one_more, without_object, without_table}
@@ -107,7 +107,7 @@ changed_behind changes k other files are same leaves =
 abbrev pub AllOpen : Prog (List Change) → Type 0
 AllOpen piece = (s : Parts) → AreOpenParts (outcome_in s piece)
 
-followed_open : (first second : Prog (List Change)) → AllOpen first → AllOpen second → AllOpen (followed first second)
+pub followed_open : (first second : Prog (List Change)) → AllOpen first → AllOpen second → AllOpen (followed first second)
 followed_open first second here there s =
     subst AreOpenParts
     (sym (outcome_followed s first second

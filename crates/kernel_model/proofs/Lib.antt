@@ -8,6 +8,7 @@ pub mod FileChanges
 pub mod LocalityLaws
 pub mod NamedMaps
 pub mod OpenedTasks
+pub mod OpenRows
 pub mod PartChanges
 pub mod Trees
 pub mod Turns

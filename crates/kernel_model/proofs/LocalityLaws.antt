@@ -1,7 +1,7 @@
 -- What a step reads and changes: a decision tree comes to the same where the parts that it looks at are the same, and
 -- changes leave every other part as it was.
-use Rattle.std.proofs.Common.{◌≡◌, ◌≢◌, ℕ, ◌+◌, ◌^◌, List, [], ◌∷◌, length, Bool, true, false, Option, Some, None}
-use Rattle.std.proofs.Common.{cond, refl, ap, sym, ◌∙◌, ◌⊎◌, inl, inr, option_map}
+use Rattle.std.proofs.Common.{◌≡◌, ℕ, ◌+◌, ◌^◌, List, Bool, true, false, Option, Some, None}
+use Rattle.std.proofs.Common.{cond, refl, ap, sym, ◌∙◌, inl, option_map}
 use Rattle.std.specs.Prelude.{nat_lt, ◌%◌, min, is_some}
 use Rattle.sn_errno.specs.declared.calls.CallNo.{CallNo}
 use Rattle.sn_errno.specs.declared.calls.CallNo.TheVariants.{ClockGettime, Clone, Mmap, Getrandom}
@@ -26,7 +26,7 @@ use Rattle.kernel_model.specs.calls.Clone.{Cloning, cloning_of, caller_word, is_
 use Rattle.kernel_model.specs.calls.Clone.{made_for_child, process_by, process_with, sets_child_word, thread_by}
 use Rattle.kernel_model.specs.calls.Clone.{thread_made, word_set}
 use Rattle.kernel_model.specs.descriptors.Counts.{table_copied}
-use Rattle.kernel_model.specs.calls.Memory.{unless_refused, map_refusal}
+use Rattle.kernel_model.specs.calls.Memory.{file_refusal, map_refusal, maps, unless_refused}
 use Rattle.kernel_model.specs.calls.Table.{call_row, row_of_call, row_if_known}
 use Rattle.kernel_model.specs.calls.Time.{timespec, time_at}
 use Rattle.kernel_model.specs.entries.Areas.{Stands, next_row, bytes_written}
@@ -148,7 +148,10 @@ module _ (s : Parts) (context : Context) (caller : Caller) (args : Args) where
 
   map_answers : Answers (row_of_call context caller args Mmap)
   map_answers =
-      refused_replies (map_refusal caller.space args.a0 args.a1 args.a2 args.a3 args.a4 args.a5) _ refl
+      behind_answers (file_refusal args.a3 args.a4 caller)
+      (λ file. done (maps context caller args.a0 args.a1 args.a2 args.a3 args.a5 file))
+      (refused_replies (map_refusal caller.space args.a0 args.a1 args.a2 args.a3 args.a5
+      (outcome_in s (file_refusal args.a3 args.a4 caller))) _ refl)
 
   random_answers : Answers (row_of_call context caller args Getrandom)
   random_answers =

@@ -1,8 +1,6 @@
 -- A write reads no context: it comes to the same whatever the mounts, the key of the random stream and the number of
 -- entries are.
-use Rattle.std.proofs.Common.{◌≡◌, ℕ, ℤ, Option, Some, None, cond, List, ◌∷◌, ◌++◌, refl, ap, sym, ◌∙◌}
-use Rattle.sn_errno.specs.declared.calls.CallNo.TheVariants.{Write}
-use Rattle.sn_errno.specs.Calls.{call_of, row_of as row_of_number}
+use Rattle.std.proofs.Common.{◌≡◌, ℕ, ℤ, Option, Some, None, cond, List, ◌∷◌, ◌++◌, refl, ap, sym, ◌∙◌, inl, inr}
 use Rattle.kernel_model.specs.declared.caller.Caller.{Caller}
 use Rattle.kernel_model.specs.declared.entry.Args.{Args}
 use Rattle.kernel_model.specs.declared.entry.Entry.{Entry}
@@ -17,27 +15,26 @@ use Rattle.kernel_model.specs.calls.Table.{call_row, row_if_known}
 use Rattle.kernel_model.specs.entries.Areas.{Stands, next_row}
 use Rattle.kernel_model.specs.entries.Given.{has_any, is_in_order}
 use Rattle.kernel_model.specs.entries.Parts.{Parts, parts, Prog, done, outcome_in, uses, ◌>>=◌, AgreeOn, Change}
-use Rattle.kernel_model.specs.entries.Steps.{by_given, by_answer, call_entry, failing, stands_at, if_live, row_of}
+use Rattle.kernel_model.specs.entries.Steps.{by_given, by_answer, failing, stands_at, if_live, row_of}
 use Rattle.kernel_model.specs.entries.Steps.{entry_row, used}
 use Rattle.kernel_model.specs.entries.Waiting.{Wait, Awake, Asleep, Woken, wait_of}
+use Rattle.kernel_model.specs.laws.Writes.{IsWrite}
 use Rattle.kernel_model.proofs.Trees.{outcome_alike, outcome-bind, uses-bind}
 
--- 64 is the number of write
-number_of_write : call_of 64 ≡ Some Write
-unfolding call_of row_of_number
-number_of_write = refl
-
-module _ (c d : Context) (args : Args) where
-  row_alike : (caller : Caller) → call_row c caller 64 args ≡ call_row d caller 64 args
-  row_alike caller =
-      ap (row_if_known c caller args) number_of_write ∙ sym (ap (row_if_known d caller args) number_of_write)
+module _ (c d : Context) (number : ℕ) (args : Args) (writes : IsWrite number) where
+  row_alike : (caller : Caller) → call_row c caller number args ≡ call_row d caller number args
+  row_alike caller = by writes
+    where
+      by : IsWrite number → call_row c caller number args ≡ call_row d caller number args
+      by (inl is) = ap (row_if_known c caller args) is ∙ sym (ap (row_if_known d caller args) is)
+      by (inr is) = ap (row_if_known c caller args) is ∙ sym (ap (row_if_known d caller args) is)
 
   module _ (task : ℕ) (given : Given) (reply : ℤ) where
     abbrev entry : Entry
-    entry = Call task 64 args given reply
+    entry = Call task number args given reply
 
     given_alike : (caller : Caller)
-        → by_given c caller 64 args reply given ≡ by_given d caller 64 args reply given
+        → by_given c caller number args reply given ≡ by_given d caller number args reply given
     given_alike caller =
         ap (λ (row : Prog Answer). cond (is_in_order given)
         (cond (has_any given.rises) (failing caller reply given) (row >>= by_answer caller reply given)) (done None))
@@ -48,7 +45,7 @@ module _ (c d : Context) (args : Args) where
     entry_alike caller Woken = refl
     entry_alike caller Awake =
         ap (λ (row : Prog (Option (List Change))). next_row caller
-        >>= λ (x : Stands). cond (stands_at 64 args caller.registers x.next) row (done None)) (given_alike caller)
+        >>= λ (x : Stands). cond (stands_at number args caller.registers x.next) row (done None)) (given_alike caller)
 
     uses_live : (s : Parts) (caller : Option Caller) → uses s (if_live c entry caller) ≡ uses s (if_live d entry caller)
     uses_live s None = refl
@@ -75,13 +72,13 @@ module _ (c d : Context) (args : Args) where
         ∙ comes_live s (outcome_in s (caller_of task))
         ∙ sym (outcome-bind s (caller_of task) (if_live d entry))
 
-pub write_reads : (a b : Kernel) (task : ℕ) (args : Args) (given : Given) (reply : ℤ) →
-    let e : Entry = Call task 64 args given reply in AgreeOn (used a e) (parts a) (parts b)
+pub write_reads : (a b : Kernel) (task number : ℕ) (args : Args) (given : Given) (reply : ℤ) → IsWrite number →
+    let e : Entry = Call task number args given reply in AgreeOn (used a e) (parts a) (parts b)
     → (used b e ≡ used a e)
     × (outcome_in (parts b) (entry_row (context_of b) e) ≡ outcome_in (parts a) (entry_row (context_of a) e))
-write_reads a b task args given reply same =
-    let e : Entry = Call task 64 args given reply in
+write_reads a b task number args given reply writes same =
+    let e : Entry = Call task number args given reply in
     let here = outcome_alike (parts a) (parts b) (entry_row (context_of a) e) same in (
-      uses_alike (context_of b) (context_of a) args task given reply (parts b) ∙ here.0,
-      comes_alike (context_of b) (context_of a) args task given reply (parts b) ∙ here.1,
+      uses_alike (context_of b) (context_of a) number args writes task given reply (parts b) ∙ here.0,
+      comes_alike (context_of b) (context_of a) number args writes task given reply (parts b) ∙ here.1,
     )

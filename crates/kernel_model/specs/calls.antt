@@ -16,3 +16,6 @@ pub mod Wait
 pub mod Lookups
 pub mod Descriptors
 pub mod Seek
+pub mod Vectors
+pub mod Pipes
+pub mod ReadWrite

@@ -3,3 +3,4 @@ pub mod InPlace
 pub mod Beginnings
 pub mod Children
 pub mod Files
+pub mod Writes

@@ -14,6 +14,7 @@ ghost use Rattle.kernel_model.specs.entries.Parts.{IsIn, AgreeOn, parts, outcome
 ghost use Rattle.kernel_model.specs.entries.Ready.{ready_row, is_ready};
 ghost use Rattle.kernel_model.specs.entries.Steps.{step, entry_row, may_enter, used, touches};
 ghost use Rattle.kernel_model.specs.laws.Children.{HasUnnumbered, numbers_child};
+ghost use Rattle.kernel_model.specs.laws.Writes.{IsWrite};
 
 /// The law of locality, which holds of every kernel and entry. It does nothing.
 ///
@@ -24,7 +25,8 @@ ghost use Rattle.kernel_model.specs.laws.Children.{HasUnnumbered, numbers_child}
 /// - `fits`: whether an entry fits depends on nothing but the parts that it reads, in kernels in which its fresh
 ///   numbers are unused and each node whose count rose has a number, or gets one of them.
 /// - `ready`: whether a task's next step is ready depends on the parts that it reads, and on nothing else.
-/// - `write`: for a write (call number 64) `same` holds also of kernels with other mounts, keys and numbers of entries.
+/// - `write`: for a write (`write`, `pwrite64`) `same` holds also of kernels with other mounts, keys and numbers of
+///   entries.
 /// - `unnumbered`: a child without an inode number stays as it is through each entry that gives it none.
 pub fn locality()
     ensures same { (a b : AKernel) (e : AnEntry) → context_of b ≡ context_of a →
@@ -41,8 +43,8 @@ pub fn locality()
     ensures ready { (a b : AKernel) (task : ℕ) →
         AgreeOn (uses (parts a) (ready_row (context_of a) task)) (parts a) (parts b) →
         is_ready b task ≡ is_ready a task }
-    ensures write { (a b : AKernel) (task : ℕ) (args : AnArgs) (given : AGiven) (reply : ℤ) →
-        let e : AnEntry = ACall task 64 args given reply in
+    ensures write { (a b : AKernel) (task number : ℕ) (args : AnArgs) (given : AGiven) (reply : ℤ) → IsWrite number →
+        let e : AnEntry = ACall task number args given reply in
         AgreeOn (used a e) (parts a) (parts b) → (used b e ≡ used a e)
         × (outcome_in (parts b) (entry_row (context_of b) e) ≡ outcome_in (parts a) (entry_row (context_of a) e)) }
     ensures unnumbered { (k next : AKernel) (e : AnEntry) (dir : ℕ) (name : Items ℕ) (shape : Shape) →

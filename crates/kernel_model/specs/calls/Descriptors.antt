@@ -12,7 +12,7 @@ use Rattle.kernel_model.specs.declared.kernel.Part.TheVariants.{OfTable, OfDescr
 use Rattle.kernel_model.specs.declared.open_files.OpenFile.{OpenFile}
 use Rattle.kernel_model.specs.descriptors.Counts.{counted, dropped}
 use Rattle.kernel_model.specs.calls.Answers.{Answer, replies, refuses}
-use Rattle.kernel_model.specs.calls.Console.{descriptor}
+use Rattle.kernel_model.specs.calls.Lookups.{descriptor}
 use Rattle.kernel_model.specs.calls.Lookups.{lowest_free, or_refuse, with_descriptor, with_file}
 use Rattle.kernel_model.specs.entries.InTurn.{followed}
 use Rattle.kernel_model.specs.entries.Parts.{Change, Prog, done, ◌>>=◌}

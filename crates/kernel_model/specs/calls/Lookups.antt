@@ -1,5 +1,5 @@
 -- What a caller's descriptors stand for.
-use Rattle.std.specs.Prelude.{ℕ, ◌-◌, Bool, not, Option, Some, None, find, if◌then◌else◌}
+use Rattle.std.specs.Prelude.{ℕ, ◌-◌, ◌%◌, ◌^◌, Bool, not, Option, Some, None, find, if◌then◌else◌}
 use Rattle.std.specs.List.{range_with_len}
 use Rattle.std.specs.FinMap as map
 use Rattle.sn_errno.specs.declared.errno.Errno.{Errno}
@@ -14,8 +14,12 @@ use Rattle.kernel_model.specs.declared.caller.Caller.{Caller}
 use Rattle.kernel_model.specs.declared.kernel.Part.TheVariants.{OfTable, OfDescription}
 use Rattle.kernel_model.specs.declared.open_files.OpenFile.{OpenFile}
 use Rattle.kernel_model.specs.calls.Answers.{Answer, refuses}
-use Rattle.kernel_model.specs.calls.Console.{descriptor}
 use Rattle.kernel_model.specs.entries.Parts.{Prog, done, look}
+
+-- a descriptor is the low 32 bits of its register
+-- the C calling convention of int
+abbrev pub descriptor : ℕ → ℕ
+descriptor register = register % 2 ^ 32
 
 -- what is there goes on, and else the call is refused
 -- syscall(2)

@@ -1,8 +1,10 @@
 -- brk, mmap, munmap and mprotect: what is mapped in the caller's address space.
-use Rattle.std.specs.Prelude.{ℕ, ℤ, ◌/◌, ◌%◌, ◌^◌, ◌==◌, ◌||◌, nat_le, nat_lt, Bool, true, false, not, List, [], ◌∷◌}
-use Rattle.std.specs.Prelude.{Option, Some, None, pos, unwrap_or, option_map, if◌then◌else◌}
+use Rattle.std.specs.Prelude.{ℕ, ℤ, ◌/◌, ◌%◌, ◌==◌, ◌||◌, nat_lt, Bool, not, List, [], ◌∷◌}
+use Rattle.std.specs.Prelude.{Option, Some, None, is_some, pos, unwrap_or, option_and_then, option_map, if◌then◌else◌}
+use Rattle.std.specs.FinMap as map
 use Rattle.sn_errno.specs.declared.errno.Errno.{Errno}
 use Rattle.sn_errno.specs.declared.errno.Errno.TheVariants.{EINVAL, ENOMEM, ENODEV, EBADF}
+use Rattle.fd_table.specs.Tables.{Table}
 use Rattle.rv_table.specs.declared.error.Area.{Area}
 use Rattle.mm_areas.specs.declared.fault.AreaErr.{AreaErr}
 use Rattle.mm_areas.specs.declared.fault.AreaErr.TheVariants.{Invalid, Hole, Limit, NoRange, Memory}
@@ -14,11 +16,11 @@ use Rattle.mm_space.specs.Changes.{broken_in, mapped_in, unmapped_in, righted_in
 use Rattle.mm_space.specs.Handing.{zero_area}
 use Rattle.mm_space.specs.Spaces.{AddressSpace}
 use Rattle.kernel_model.specs.declared.caller.Caller.{Caller}
-use Rattle.kernel_model.specs.declared.kernel.Part.TheVariants.{OfSpace, OfArea}
+use Rattle.kernel_model.specs.declared.kernel.Part.TheVariants.{OfSpace, OfArea, OfTable}
 use Rattle.kernel_model.specs.calls.Answers.{Answer, replies, refuses, address_reply}
 use Rattle.kernel_model.specs.calls.Callers.{Context}
-use Rattle.kernel_model.specs.calls.Console.{descriptor}
-use Rattle.kernel_model.specs.entries.Parts.{Prog, done, Change}
+use Rattle.kernel_model.specs.calls.Lookups.{descriptor}
+use Rattle.kernel_model.specs.entries.Parts.{Prog, done, look, ◌>>=◌, Change}
 
 -- a call that replies a value, and leaves its caller such an address space
 -- syscall(2)
@@ -113,10 +115,15 @@ is_no_mapping address length protection flags offset =
     is_no_protection protection || not (is_of_one_kind flags) || not (offset % 4096 == 0)
     || is_no_place (asked_place address flags) length
 
--- a mapping of a file: the descriptors 0 to 2 have none that can be mapped, and no other is open so far
+-- a mapping of a file: nothing that is open can be mapped so far; where no table is there nothing is open
 -- mmap(2), ENODEV, EBADF
-abbrev pub file_errno : (fd : ℕ) → Errno
-file_errno fd = if nat_le (descriptor fd) 2 then ENODEV else EBADF
+abbrev pub file_errno : (fd : ℕ) → Option Table → Errno
+file_errno fd table =
+    if is_some (option_and_then (λ t. map.get t (descriptor fd)) table) then ENODEV else EBADF
+
+abbrev pub file_refusal : (flags fd : ℕ) → Caller → Prog (Option Errno)
+file_refusal flags fd c =
+    if is_anonymous flags then done None else look (OfTable c.table) (λ table. done (Some (file_errno fd table)))
 
 -- what is mapped: zeros of its own, or the pages of an area that the call makes
 -- mmap(2), MAP_PRIVATE, MAP_SHARED and MAP_ANONYMOUS
@@ -144,13 +151,18 @@ address_in space asked length = unwrap_or (address_of (place_in space.mapping.pa
 
 -- mmap(address, length, protection, flags, fd, offset)
 -- mmap(2), ERRORS: EINVAL, EBADF, ENODEV, ENOMEM; their order: profile
-abbrev pub map_refusal : AddressSpace → (address length protection flags fd offset : ℕ) → Option Errno
-map_refusal space address length protection flags fd offset =
+abbrev pub map_refusal : AddressSpace → (address length protection flags offset : ℕ) → (file : Option Errno)
+    → Option Errno
+map_refusal space address length protection flags offset file =
     if is_no_mapping address length protection flags offset then Some EINVAL
-    else if not (is_anonymous flags) then Some (file_errno fd)
+    else if is_some file then file
     else fault_errno (map_fault space.mapping (asked_place address flags) length)
+
+abbrev pub maps : Context → Caller → (address length protection flags offset : ℕ) → (file : Option Errno) → Answer
+maps context c address length protection flags offset file =
+    unless_refused (map_refusal c.space address length protection flags offset file)
+    (maps_at context c (address_in c.space (asked_place address flags) length) length protection flags)
 
 abbrev pub mmap_row : Context → (address length protection flags fd offset : ℕ) → Caller → Prog Answer
 mmap_row context address length protection flags fd offset c =
-    done (unless_refused (map_refusal c.space address length protection flags fd offset)
-    (maps_at context c (address_in c.space (asked_place address flags) length) length protection flags))
+    file_refusal flags fd c >>= λ file. done (maps context c address length protection flags offset file)

@@ -7,6 +7,7 @@ use Rattle.sn_errno.specs.declared.calls.CallNo.TheVariants.{Futex, ClockGettime
 use Rattle.sn_errno.specs.declared.calls.CallNo.TheVariants.{SchedYield, Uname, Getpid, Getppid, Getuid, Geteuid}
 use Rattle.sn_errno.specs.declared.calls.CallNo.TheVariants.{Getgid, Getegid, Gettid, Brk, Munmap, Mmap, Mprotect}
 use Rattle.sn_errno.specs.declared.calls.CallNo.TheVariants.{Getrandom}
+use Rattle.sn_errno.specs.declared.calls.CallNo.TheVariants.{Dup, Dup3, Fcntl, Ioctl, Close, Lseek, Pread64, Pwrite64}
 use Rattle.sn_errno.specs.Calls.{call_of}
 use Rattle.kernel_model.specs.declared.caller.Caller.{Caller}
 use Rattle.kernel_model.specs.declared.entry.Args.{Args}
@@ -14,11 +15,13 @@ use Rattle.kernel_model.specs.calls.Answers.{Answer, refuses}
 use Rattle.kernel_model.specs.calls.Callers.{Context}
 use Rattle.kernel_model.specs.calls.Clone.{clone_row}
 use Rattle.kernel_model.specs.calls.Console.{write_row}
+use Rattle.kernel_model.specs.calls.Descriptors.{close_row, dup3_row, dup_row, fcntl_row, ioctl_row}
 use Rattle.kernel_model.specs.calls.Ending.{exit_row, exit_group_row, set_tid_address_row, set_robust_list_row}
 use Rattle.kernel_model.specs.calls.Futex.{futex_row}
 use Rattle.kernel_model.specs.calls.Identity.{getpid_row, getppid_row, gettid_row, owner_row, uname_row}
 use Rattle.kernel_model.specs.calls.Memory.{brk_row, munmap_row, mmap_row, mprotect_row}
 use Rattle.kernel_model.specs.calls.RandomBytes.{getrandom_row}
+use Rattle.kernel_model.specs.calls.Seek.{lseek_row, pread64_row, pwrite64_row}
 use Rattle.kernel_model.specs.calls.Time.{clock_gettime_row, sched_yield_row}
 use Rattle.kernel_model.specs.calls.Wait.{wait4_row}
 use Rattle.kernel_model.specs.entries.Parts.{Prog, done}
@@ -26,7 +29,15 @@ use Rattle.kernel_model.specs.entries.Parts.{Prog, done}
 -- the row of a call; one that the kernel does not have answers ENOSYS
 -- syscall(2)
 abbrev pub row_of_call : Context → Caller → Args → CallNo → Prog Answer
-row_of_call context caller args Write = write_row args.a0 args.a1 args.a2 caller.space
+row_of_call context caller args Dup = dup_row args.a0 caller
+row_of_call context caller args Dup3 = dup3_row args.a0 args.a1 args.a2 caller
+row_of_call context caller args Fcntl = fcntl_row args.a0 args.a1 args.a2 caller
+row_of_call context caller args Ioctl = ioctl_row args.a0 caller
+row_of_call context caller args Close = close_row args.a0 caller
+row_of_call context caller args Lseek = lseek_row args.a0 caller
+row_of_call context caller args Write = write_row args.a0 args.a1 args.a2 caller
+row_of_call context caller args Pread64 = pread64_row args.a0 caller
+row_of_call context caller args Pwrite64 = pwrite64_row args.a0 caller
 row_of_call context caller args Exit = exit_row args.a0 caller
 row_of_call context caller args ExitGroup = exit_group_row args.a0 caller
 row_of_call context caller args SetTidAddress = set_tid_address_row args.a0 caller

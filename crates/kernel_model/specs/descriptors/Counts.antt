@@ -1,5 +1,5 @@
 -- The descriptors that have an open file description, as they are copied and closed.
-use Rattle.std.specs.Prelude.{ℕ, ◌+◌, ◌-◌, ◌==◌, nat_lt, nat_le, List, [], ◌∷◌, ◌++◌, ◌&&◌, Option, Some, None}
+use Rattle.std.specs.Prelude.{◌+◌, ◌-◌, ◌==◌, nat_le, List, [], ◌∷◌, ◌++◌, ◌&&◌, Option, Some, None}
 use Rattle.std.specs.Prelude.{if◌then◌else◌, option_map, option_and_then}
 use Rattle.fd_table.specs.Tables.{Table, descriptions_of}
 use Rattle.fd_table.specs.declared.description.Object.{Object}

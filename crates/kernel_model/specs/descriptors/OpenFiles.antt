@@ -1,5 +1,5 @@
 -- Open file descriptions and the descriptors that have them, as they are made.
-use Rattle.std.specs.Prelude.{ℕ, Bool, false}
+use Rattle.std.specs.Prelude.{Bool, false}
 use Rattle.std.specs.FinMap as map
 use Rattle.fd_table.specs.declared.description.Object.{Object}
 use Rattle.fd_table.specs.declared.descriptor.Descriptor.{Descriptor}

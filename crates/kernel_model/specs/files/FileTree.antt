@@ -7,7 +7,6 @@ use Rattle.std.specs.FinMap as map
 use Rattle.host_node.specs.Tree.{Shape, mode_of, faults_of, with_faults, child_of, with_child, lend_child}
 use Rattle.kernel_model.specs.declared.kernel.Node.{Node}
 use Rattle.kernel_model.specs.declared.kernel.Numbered.{Numbered}
-use Rattle.kernel_model.specs.declared.limits.TheConstants.{LAST_NUMBER}
 
 -- the nodes that have a number
 -- inode(7), st_ino

@@ -1,5 +1,5 @@
 -- What is open, once descriptors were counted: told without the changes.
-use Rattle.std.specs.Prelude.{ℕ, ◌-◌, nat_le, List, [], ◌∷◌, Option, Some, None, if◌then◌else◌, option_map}
+use Rattle.std.specs.Prelude.{◌-◌, nat_le, List, [], ◌∷◌, Option, Some, None, if◌then◌else◌, option_map}
 use Rattle.fd_table.specs.Tables.{Table, descriptions_of}
 use Rattle.fd_table.specs.declared.description.Object.{Object}
 use Rattle.fd_table.specs.declared.description.Object.TheVariants.{Node, PipeEnd, Console, EmptyInput}

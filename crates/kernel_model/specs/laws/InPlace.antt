@@ -1,14 +1,13 @@
 -- Steps done in place: the kernel that changes leave, told without the changes.
-use Rattle.std.specs.Prelude.{◌≡◌, List, [], ◌∷◌, Bool, ◌&&◌, Option, Some, None, if◌then◌else◌, option_map}
-use Rattle.std.specs.Prelude.{option_and_then, not}
+use Rattle.std.specs.Prelude.{◌≡◌, List, [], ◌∷◌, Option, Some, None, if◌then◌else◌, option_map}
+use Rattle.std.specs.Prelude.{option_and_then}
 use Rattle.std.specs.FinMap as map
 use Rattle.host_node.specs.Tree.{Shape, child_of}
 use Rattle.kernel_model.specs.declared.kernel.Kernel.{Kernel}
 use Rattle.kernel_model.specs.declared.kernel.Node.{Node}
 use Rattle.kernel_model.specs.declared.opening.Fresh.{Fresh}
-use Rattle.kernel_model.specs.declared.opening.Given.{Given}
 use Rattle.kernel_model.specs.files.FileTree.{number_in}
-use Rattle.kernel_model.specs.entries.Given.{has_any, Nodes_so_far, is_unused, number_at, node_changes}
+use Rattle.kernel_model.specs.entries.Given.{Nodes_so_far, is_unused, number_at, node_changes}
 use Rattle.kernel_model.specs.entries.Parts.{parts, Prog, outcome_in, Change, changed}
 
 -- the kernel that a piece leaves
