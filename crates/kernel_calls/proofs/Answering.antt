@@ -1,33 +1,33 @@
 -- What calls come to, as their rows have it.
-use Rattle.std.proofs.Common.{◌≡◌, ◌≢◌, ◌==◌, ℕ, ℤ, min, true, false, List, [], ◌∷◌, Option, Some, None, Result, Ok}
+use Rattle.std.proofs.Common.{◌≡◌, ℕ, ℤ, pos, min, length, List, [], ◌∷◌, Option, Some, None, Result, Ok}
 use Rattle.std.proofs.Common.{Err, refl, ap, sym, ◌∙◌}
 use Rattle.std.specs.Prelude.{IfSome}
-use Rattle.std.proofs.lemmas.Bool.{ne_eqb}
 use Rattle.mm_areas.specs.declared.fault.AreaErr.{AreaErr}
 use Rattle.sn_errno.specs.declared.errno.Errno.{Errno}
 use Rattle.sn_errno.specs.declared.errno.Errno.TheVariants.{ENOSYS}
 use Rattle.sn_errno.specs.Errors.{reply_of}
 use Rattle.mm_space.specs.Handing.{AreaState, InHand}
 use Rattle.mm_space.specs.Spaces.{AddressSpace}
-use Rattle.futex_core.specs.FutexLists.{FutexList}
+use Rattle.futex_core.specs.FutexLists.{FutexList, after_wake, waiters_on}
+use Rattle.futex_core.specs.declared.keys.FutexKey.{FutexKey}
 use Rattle.task_table.specs.Table.{TaskTable}
 use Rattle.kernel_model.specs.Names.{NamedMap, get_named, with_named}
 use Rattle.kernel_model.specs.declared.caller.Caller.{Caller}
 use Rattle.kernel_model.specs.declared.kernel.Kernel.{Kernel}
-use Rattle.kernel_model.specs.declared.kernel.Part.TheVariants.{OfArea, OfSpace}
+use Rattle.kernel_model.specs.declared.kernel.Part.TheVariants.{OfArea, OfSleepers, OfSpace, OfTasks}
 use Rattle.kernel_model.specs.calls.Answers.{Answer, replies, refuses}
-use Rattle.kernel_model.specs.calls.Console.{descriptor, is_written_to, to_console, write_row}
+use Rattle.kernel_model.specs.calls.Ending.{clear_set, set_tid_address_row}
+use Rattle.kernel_model.specs.calls.Futex.{wakes_on}
 use Rattle.kernel_model.specs.calls.Memory.{remaps, unless_refused}
-use Rattle.kernel_model.specs.entries.Areas.{area_changes, bytes_read}
-use Rattle.kernel_model.specs.entries.Parts.{Parts, parts, Prog, done, outcome_in, Change, changed}
+use Rattle.kernel_model.specs.entries.Areas.{area_changes}
+use Rattle.kernel_model.specs.entries.Parts.{parts, Prog, done, outcome_in, Change, changed}
 use Rattle.kernel_model.proofs.ChildLaws.{changed-append}
 use Rattle.kernel_model.proofs.NamedMaps.{with_same}
-use Rattle.kernel_model.proofs.Trees.{outcome-bind}
 use Rattle.kernel_calls.specs.Lending.{with_hand, AreThose}
 use Rattle.kernel_calls.specs.Memories.{with_memory}
-use Rattle.kernel_calls.specs.Prepared.{Answers, HasSpace, IsCalling, answer_of, changes_of}
+use Rattle.kernel_calls.specs.Prepared.{Answers, AnswersKept, HasSpace, IsCalling, with_effect}
 use Rattle.kernel_calls.specs.declared.context.Context.{Context}
-use Rattle.kernel_calls.specs.declared.prepared.Effect.TheVariants.{Nothing}
+use Rattle.kernel_calls.specs.declared.prepared.Effect.TheVariants.{Nothing, SetsClear, Wakes}
 use Rattle.kernel_calls.specs.declared.prepared.Prepared.{Prepared}
 
 -- a task that calls has its address space in the kernel
@@ -49,16 +49,60 @@ kept_memory c k space areas there same shared =
     ∙ ap (λ m. record k { spaces = m; areas = areas }) (with_same k.spaces c.memory.place c.memory.index c.space there)
     ∙ ap (λ m. record k { areas = m }) shared
 
+-- ---- what leaves memory as it is
+
+module _ (row : Prog Answer) (p : Prepared) (group : ℕ) (k : Kernel) where
+  -- what comes to the same as another row
+  pub kept_alike : (other : Prog Answer) → outcome_in (parts k) row ≡ outcome_in (parts k) other
+      → AnswersKept other p group k → AnswersKept row p group k
+  kept_alike other is kept =
+      record { changes = kept.changes; row_is = is ∙ kept.row_is; done_is = kept.done_is }
+
+  -- what is told its reply, and changes nothing,
+  pub kept_told : outcome_in (parts k) row ≡ replies p.reply [] → p.effect ≡ Nothing → AnswersKept row p group k
+  kept_told is none =
+      record { changes = []; row_is = is; done_is = ap (λ e. with_effect e group k) (sym none) }
+
+  -- and what is refused
+  pub kept_refused : (errno : Errno) → outcome_in (parts k) row ≡ refuses errno → p.reply ≡ reply_of errno
+      → p.effect ≡ Nothing → AnswersKept row p group k
+  kept_refused errno is reply none = kept_told (is ∙ ap (λ v. replies v []) (sym reply)) none
+
+-- a clear word that is set, and tasks that are woken
+module _ (p : Prepared) (c : Caller) (k : Kernel) (group : ℕ) where
+  pub answers_set : (task address : ℕ) → c.task ≡ task → p.reply ≡ pos task → p.effect ≡ SetsClear task address
+      → AnswersKept (set_tid_address_row address c) p group k
+  answers_set task address same reply does = record {
+    changes = (OfTasks, clear_set task address k.tasks) ∷ [];
+    row_is =
+        ap (λ t. replies (pos t) ((OfTasks, clear_set t address k.tasks) ∷ [])) same
+        ∙ ap (λ v. replies v ((OfTasks, clear_set task address k.tasks) ∷ [])) (sym reply);
+    done_is = ap (λ e. with_effect e group k) (sym does);
+  }
+
+  pub answers_woken : (list : FutexList) (key : FutexKey) (most : ℕ) → k.sleepers ≡ list
+      → p.reply ≡ pos (min most (length (waiters_on list.sleepers key))) → p.effect ≡ Wakes key most
+      → AnswersKept (wakes_on key most) p group k
+  answers_woken list key most same reply does = record {
+    changes = (OfSleepers, after_wake k.sleepers key most) ∷ [];
+    row_is =
+        ap (λ v. replies v ((OfSleepers, after_wake k.sleepers key most) ∷ []))
+        (ap (λ (l : FutexList). pos (min most (length (waiters_on l.sleepers key)))) same ∙ sym reply);
+    done_is = ap (λ e. with_effect e group k) (sym does);
+  }
+
+-- ---- what a call comes to
+
 module _ (row : Prog Answer) (p : Prepared) (c : Caller) (k : Kernel) (old space : AddressSpace)
     (areas : NamedMap AreaState) (has : HasSpace c k old) where
   -- a call that leaves memory as it is
-  pub answers_kept : outcome_in (parts k) row ≡ answer_of p c.group (parts k) → space ≡ old → areas ≡ k.areas
-      → Answers row p c k space areas
-  answers_kept is same shared = record {
-    changes = changes_of p.effect c.group (parts k);
-    row_is = is;
+  pub answers_kept : AnswersKept row p c.group k → space ≡ old → areas ≡ k.areas → Answers row p c k space areas
+  answers_kept kept same shared = record {
+    changes = kept.changes;
+    row_is = kept.row_is;
     done_is =
-        ap (changed (changes_of p.effect c.group (parts k)))
+        kept.done_is
+        ∙ ap (with_effect p.effect c.group)
         (sym (kept_memory c k space areas has.there (same ∙ sym has.space) shared));
   }
 
@@ -66,15 +110,12 @@ module _ (row : Prog Answer) (p : Prepared) (c : Caller) (k : Kernel) (old space
   pub answers_refused : (errno : Errno) → outcome_in (parts k) row ≡ refuses errno → p.reply ≡ reply_of errno
       → p.effect ≡ Nothing → space ≡ old → areas ≡ k.areas → Answers row p c k space areas
   answers_refused errno is reply none same shared =
-      answers_kept
-      (is ∙ ap (λ v. replies v []) (sym reply)
-      ∙ ap (λ e. replies p.reply (changes_of e c.group (parts k))) (sym none)) same shared
+      answers_kept (kept_refused row p c.group k errno is reply none) same shared
 
   -- one that is told its reply, and changes nothing
   pub answers_told_as : outcome_in (parts k) row ≡ replies p.reply [] → p.effect ≡ Nothing → space ≡ old
       → areas ≡ k.areas → Answers row p c k space areas
-  answers_told_as is none same shared =
-      answers_kept (is ∙ ap (λ e. replies p.reply (changes_of e c.group (parts k))) (sym none)) same shared
+  answers_told_as is none same shared = answers_kept (kept_told row p c.group k is none) same shared
 
   -- one that leaves another address space, with these changes of areas
   pub answers_remapped : (changes : List Change) → outcome_in (parts k) row ≡ remaps c space p.reply changes
@@ -84,7 +125,7 @@ module _ (row : Prog Answer) (p : Prepared) (c : Caller) (k : Kernel) (old space
   answers_remapped changes is none does = record {
     changes = (OfSpace c.memory, Some space) ∷ changes;
     row_is = is;
-    done_is = does ∙ ap (λ e. changed (changes_of e c.group (parts k)) (with_memory c space areas k)) (sym none);
+    done_is = does ∙ ap (λ e. with_effect e c.group (with_memory c space areas k)) (sym none);
   }
 
 -- a call that is told a number, in a state that has the caller's address space
@@ -140,15 +181,3 @@ areas_changed [] k = refl
 areas_changed (h ∷ hand) k =
     changed-append (area_changes hand) ((OfArea h.name, Some h.state) ∷ []) k
     ∙ ap (λ m. changed ((OfArea h.name, Some h.state) ∷ []) m) (areas_changed hand k)
-
--- ---- the console
-
--- a write of bytes to a descriptor that is open for it
-pub console_written : (s : Parts) (fd buffer count : ℕ) (space : AddressSpace) (o : Option (List ℕ))
-    → is_written_to (descriptor fd) ≡ true → count ≢ 0
-    → outcome_in s (bytes_read space buffer (min count 65536)) ≡ o
-    → outcome_in s (write_row fd buffer count space) ≡ outcome_in s (to_console o)
-console_written s fd buffer count space o out some is =
-    let more : (count == 0) ≡ false = ne_eqb count 0 some in
-    rw (out, more) (outcome-bind s (bytes_read space buffer (min count 65536)) to_console
-    ∙ ap (λ x. outcome_in s (to_console x)) is)

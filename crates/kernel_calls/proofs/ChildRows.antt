@@ -21,11 +21,11 @@ use Rattle.kernel_model.specs.declared.kernel.Part.TheVariants.{OfTasks}
 use Rattle.kernel_model.specs.calls.Answers.{replies, refuses}
 use Rattle.kernel_model.specs.calls.Wait.{asked_child, by_child, is_child_asked, is_option, reaps, reaps_at, wait4_of}
 use Rattle.kernel_model.specs.entries.Areas.{bytes_written, reach_changes}
-use Rattle.kernel_model.specs.entries.Parts.{Parts, parts, done, outcome_in, Change, changed}
+use Rattle.kernel_model.specs.entries.Parts.{Parts, parts, done, outcome_in, Change}
 use Rattle.kernel_model.proofs.Trees.{outcome-bind}
 use Rattle.kernel_calls.specs.Lending.{with_hand}
 use Rattle.kernel_calls.specs.Memories.{with_memory}
-use Rattle.kernel_calls.specs.Prepared.{Answers, IsCalling, changes_of}
+use Rattle.kernel_calls.specs.Prepared.{Answers, IsCalling, with_effect}
 use Rattle.kernel_calls.specs.Trying.{Wrote}
 use Rattle.kernel_calls.specs.declared.context.Context.{Context}
 use Rattle.kernel_calls.specs.declared.prepared.Effect.TheVariants.{Nothing, Reaps}
@@ -56,14 +56,14 @@ module _ (p : Prepared) (c : Caller) (k : Kernel) (context : Context) (own space
     (shared areas : NamedMap AreaState) (list : TaskTable) (waiting : FutexList) (console address child : ℕ)
     (status : Status) (which : Option ℕ) (calling : IsCalling c k context own shared list waiting console)
     (ended : reap_end list.groups context.group which ≡ Reaped child status) where
-  -- what the effect of the call changes
-  reaping : p.effect ≡ Reaps which
-      → changes_of p.effect c.group (parts k) ≡ listed (after_reap list (Reaped child status))
-  reaping does =
-      ap (λ e. changes_of e c.group (parts k)) does
-      ∙ ap (λ (t : TaskTable). listed (after_reap t (reap_end t.groups c.group which))) calling.tasks
-      ∙ ap (λ g. listed (after_reap list (reap_end list.groups g which))) calling.group
-      ∙ ap (λ e. listed (after_reap list e)) ended
+  -- what the effect of the call leaves
+  reaping : p.effect ≡ Reaps which → (m : Kernel) → m.tasks ≡ list
+      → with_effect p.effect c.group m ≡ record m { tasks = after_reap list (Reaped child status) }
+  reaping does m same =
+      ap (λ e. with_effect e c.group m) does
+      ∙ ap (λ (t : TaskTable). record m { tasks = after_reap t (reap_end t.groups c.group which) }) same
+      ∙ ap (λ g. record m { tasks = after_reap list (reap_end list.groups g which) }) calling.group
+      ∙ ap (λ e. record m { tasks = after_reap list e }) ended
 
   -- a status that is put nowhere
   pub answers_reaped : address ≡ 0 → p.reply ≡ pos child → p.effect ≡ Reaps which
@@ -72,8 +72,11 @@ module _ (p : Prepared) (c : Caller) (k : Kernel) (context : Context) (own space
       let is : (address == 0) ≡ true = eq-eqb address 0 nowhere in
       answers_kept (reaps_at c list address child status) p c k own own shared
       (has_space c k context own shared list waiting console calling)
-      (rw is (ap (λ v. replies v (listed (after_reap list (Reaped child status)))) (sym told)
-      ∙ ap (replies p.reply) (sym (reaping does)))) refl (sym calling.areas)
+      (record {
+        changes = listed (after_reap list (Reaped child status));
+        row_is = rw is (ap (λ v. replies v (listed (after_reap list (Reaped child status)))) (sym told));
+        done_is = sym (reaping does k calling.tasks);
+      }) refl (sym calling.areas)
 
   -- what the code reaches
   abbrev reached : Option Reach
@@ -104,7 +107,7 @@ module _ (p : Prepared) (c : Caller) (k : Kernel) (context : Context) (own space
             ∙ ap (λ m. record (with_memory c r.space m k) { tasks = after })
             (ap (with_hand r.hand) calling.areas ∙ sym w.2)
             ∙ ap (λ s. record (with_memory c s areas k) { tasks = after }) (sym w.1)
-            ∙ ap (λ changes. changed changes (with_memory c space areas k)) (sym (reaping does));
+            ∙ sym (reaping does (with_memory c space areas k) calling.tasks);
       }
 
   unput_by : (o : Option Reach) (wrote : Bool) → reached ≡ o → Wrote o wrote own space shared areas → wrote ≡ false

@@ -1,14 +1,11 @@
--- What a call leaves of a kernel's parts, by its effect.
-use Rattle.std.proofs.Common.{◌≡◌, ℕ, List, Option, Some, None, refl, ap, sym, ◌∙◌}
+-- What a call leaves of a kernel, by its effect.
+use Rattle.std.proofs.Common.{◌≡◌, ℕ, List, ap, sym, ◌∙◌}
 use Rattle.futex_core.specs.FutexLists.{FutexList}
-use Rattle.sn_base.specs.declared.made.Made.{Made}
 use Rattle.task_table.specs.Ends.{exited, group_ended}
 use Rattle.task_table.specs.Table.{TaskTable}
 use Rattle.kernel_model.specs.declared.kernel.Kernel.{Kernel}
 use Rattle.kernel_model.specs.declared.open_files.OpenFiles.{OpenFiles}
-use Rattle.kernel_model.specs.entries.Parts.{parts, changed}
-use Rattle.kernel_model.proofs.FileChanges.{closed_behind}
-use Rattle.kernel_calls.specs.Prepared.{changes_of, closed_of, left_behind, with_closed}
+use Rattle.kernel_calls.specs.Prepared.{left_behind, with_closed, with_effect}
 use Rattle.kernel_calls.specs.declared.prepared.Effect.{Effect}
 use Rattle.kernel_calls.specs.declared.prepared.Effect.TheVariants.{EndsGroup, EndsTask}
 use Rattle.kernel_calls.specs.declared.prepared.Ending.{Ending}
@@ -17,12 +14,6 @@ use Rattle.kernel_calls.specs.declared.prepared.Ending.{Ending}
 abbrev pub kept : Kernel → TaskTable → FutexList → List ℕ → OpenFiles → Kernel
 kept k list waiting console files =
     record k { tasks = list; sleepers = waiting; console = console; files = files }
-
--- what the closing of a table leaves behind changes of other parts
-has_closed : (closes : Option Made) (k other : Kernel) → other.files ≡ k.files
-    → changed (closed_of closes (parts k)) other ≡ record other { files = with_closed closes k.files }
-has_closed None k other same = ap (λ f. record other { files = f }) same
-has_closed (Some name) k other same = closed_behind name k other same
 
 module _ (k : Kernel) (list : TaskTable) (waiting : FutexList) (console : List ℕ) (files : OpenFiles)
     (e : k.tasks ≡ list) (f : k.sleepers ≡ waiting) (g : k.console ≡ console) (h : k.files ≡ files) where
@@ -35,34 +26,30 @@ module _ (k : Kernel) (list : TaskTable) (waiting : FutexList) (console : List �
   -- and so where an effect changes some of them
   module _ (effect : Effect) (group : ℕ) (list' : TaskTable) (waiting' : FutexList) (console' : List ℕ)
       (files' : OpenFiles) where
-    pub has_changed : changed (changes_of effect group (parts (kept k list waiting console files)))
-        (kept k list waiting console files)
+    pub has_changed : with_effect effect group (kept k list waiting console files)
         ≡ kept (kept k list waiting console files) list' waiting' console' files'
-        → changed (changes_of effect group (parts k)) k ≡ kept k list' waiting' console' files'
-    has_changed is = ap (λ m. changed (changes_of effect group (parts m)) m) same_kernel ∙ is
+        → with_effect effect group k ≡ kept k list' waiting' console' files'
+    has_changed is = ap (with_effect effect group) same_kernel ∙ is
 
   -- and where tasks end
   module _ (ending : Ending) (group : ℕ) (list' : TaskTable) (waiting' : FutexList) (files' : OpenFiles)
       (left : waiting' ≡ left_behind ending waiting) (shut : files' ≡ with_closed ending.closes files) where
     ended_as : (after : TaskTable) → list' ≡ after
-        → changed (closed_of ending.closes (parts (kept k list waiting console files)))
-        (kept k after (left_behind ending waiting) console files)
+        → kept k after (left_behind ending waiting) console (with_closed ending.closes files)
         ≡ kept k list' waiting' console files'
     ended_as after is =
-        has_closed ending.closes (kept k list waiting console files)
-        (kept k after (left_behind ending waiting) console files) refl
-        ∙ ap (λ t. kept k t (left_behind ending waiting) console (with_closed ending.closes files)) (sym is)
+        ap (λ t. kept k t (left_behind ending waiting) console (with_closed ending.closes files)) (sym is)
         ∙ ap (λ w. kept k list' w console (with_closed ending.closes files)) (sym left)
         ∙ ap (kept k list' waiting' console) (sym shut)
 
     pub group_has_ended : list' ≡ group_ended list group ending.status
-        → changed (changes_of (EndsGroup ending) group (parts k)) k ≡ kept k list' waiting' console files'
+        → with_effect (EndsGroup ending) group k ≡ kept k list' waiting' console files'
     group_has_ended is =
         has_changed (EndsGroup ending) group list' waiting' console files'
         (ended_as (group_ended list group ending.status) is)
 
     pub task_has_ended : (task : ℕ) → list' ≡ exited list task ending.status
-        → changed (changes_of (EndsTask task ending) group (parts k)) k ≡ kept k list' waiting' console files'
+        → with_effect (EndsTask task ending) group k ≡ kept k list' waiting' console files'
     task_has_ended task is =
         has_changed (EndsTask task ending) group list' waiting' console files'
         (ended_as (exited list task ending.status) is)

@@ -1,5 +1,5 @@
 -- What the ends of tasks come to, as they were prepared.
-use Rattle.std.proofs.Common.{◌≡◌, ℕ, pos, Bool, true, false, cond, List, [], ◌∷◌, ◌++◌, Some, None, ap, sym, ◌∙◌}
+use Rattle.std.proofs.Common.{◌≡◌, ℕ, refl, pos, Bool, true, false, cond, List, ◌++◌, Some, None, ap, sym, ◌∙◌}
 use Rattle.futex_core.specs.FutexLists.{FutexList}
 use Rattle.mm_space.specs.Handing.{AreaState}
 use Rattle.mm_space.specs.Spaces.{AddressSpace}
@@ -10,7 +10,7 @@ use Rattle.task_table.specs.Table.{TaskTable}
 use Rattle.kernel_model.specs.Names.{NamedMap}
 use Rattle.kernel_model.specs.declared.caller.Caller.{Caller}
 use Rattle.kernel_model.specs.declared.kernel.Kernel.{Kernel}
-use Rattle.kernel_model.specs.declared.kernel.Part.TheVariants.{OfTasks, OfSleepers}
+use Rattle.kernel_model.specs.declared.kernel.Part.TheVariants.{OfSleepers}
 use Rattle.kernel_model.specs.calls.Answers.{replies}
 use Rattle.kernel_model.specs.calls.ClearWords.{Cleared, nothing_cleared, words_cleared}
 use Rattle.kernel_model.specs.calls.Ending.{and_closed, closed_if, end_changes, ends_as, ends_with, left_by, task_end}
@@ -18,12 +18,13 @@ use Rattle.kernel_model.specs.calls.Ending.{woken_on}
 use Rattle.kernel_model.specs.descriptors.Counts.{table_closed}
 use Rattle.kernel_model.specs.entries.Parts.{parts, Prog, done, look, outcome_in, Change, changed, ◌>>=◌}
 use Rattle.kernel_model.proofs.ChildLaws.{changed-append}
+use Rattle.kernel_model.proofs.FileChanges.{closed_behind}
 use Rattle.kernel_model.proofs.Trees.{outcome-bind}
 use Rattle.kernel_calls.specs.ClearWords.{IsCleared}
 use Rattle.kernel_calls.specs.Ends.{Ends}
 use Rattle.kernel_calls.specs.Lending.{with_hand}
 use Rattle.kernel_calls.specs.Memories.{with_memory}
-use Rattle.kernel_calls.specs.Prepared.{Answers, EndsGroupAs, IsCalling, changes_of, closed_of, left_behind}
+use Rattle.kernel_calls.specs.Prepared.{Answers, EndsGroupAs, IsCalling, left_behind, with_closed, with_effect}
 use Rattle.kernel_calls.specs.declared.context.Context.{Context}
 use Rattle.kernel_calls.specs.declared.prepared.Effect.TheVariants.{EndsTask}
 use Rattle.kernel_calls.specs.declared.prepared.Ending.{Ending}
@@ -34,7 +35,7 @@ use Rattle.kernel_calls.proofs.Answering.{areas_changed}
 pub answers_ended : (tree : Prog (List Change)) (p : Prepared) (c : Caller) (k : Kernel) (space : AddressSpace)
     (areas : NamedMap AreaState) → p.reply ≡ pos 0
     → changed (outcome_in (parts k) tree) k
-    ≡ changed (changes_of p.effect c.group (parts k)) (with_memory c space areas k)
+    ≡ with_effect p.effect c.group (with_memory c space areas k)
     → Answers (tree >>= ends_with) p c k space areas
 answers_ended tree p c k space areas reply does = record {
   changes = outcome_in (parts k) tree;
@@ -69,22 +70,27 @@ module _ (c : Caller) (k : Kernel) (ended : List EndedTask) (e : Ending) (space 
 -- an end, and the closing of its descriptors behind it
 module _ (c : Caller) (k : Kernel) where
   pub then_closed : (tree : Prog (List Change)) (after : Kernel) → changed (outcome_in (parts k) tree) k ≡ after
-      → changed (outcome_in (parts k) (tree >>= and_closed c)) k ≡ changed (closed_of (Some c.table) (parts k)) after
-  then_closed tree after is =
+      → after.files ≡ k.files → changed (outcome_in (parts k) (tree >>= and_closed c)) k
+      ≡ record after { files = with_closed (Some c.table) k.files }
+  then_closed tree after is same =
       let before : List Change = outcome_in (parts k) tree in
+      let closed : List Change = outcome_in (parts k) (table_closed c.table) in
       ap (λ changes. changed changes k)
       (outcome-bind (parts k) tree (and_closed c)
       ∙ outcome-bind (parts k) (table_closed c.table) (λ closed. done (before ++ closed)))
-      ∙ changed-append before (closed_of (Some c.table) (parts k)) k
-      ∙ ap (changed (closed_of (Some c.table) (parts k))) is
+      ∙ changed-append before closed k
+      ∙ ap (changed closed) is
+      ∙ closed_behind c.table k after same
 
   pub then_closed_if : (last : Bool) (tree : Prog (List Change)) (after : Kernel)
-      → changed (outcome_in (parts k) tree) k ≡ after
+      → changed (outcome_in (parts k) tree) k ≡ after → after.files ≡ k.files
       → changed (outcome_in (parts k) (tree >>= closed_if last c)) k
-      ≡ changed (closed_of (cond last (Some c.table) None) (parts k)) after
-  then_closed_if true tree after is = then_closed tree after is
-  then_closed_if false tree after is =
-      ap (λ changes. changed changes k) (outcome-bind (parts k) tree (closed_if false c)) ∙ is
+      ≡ record after { files = with_closed (cond last (Some c.table) None) k.files }
+  then_closed_if true tree after is same = then_closed tree after is same
+  then_closed_if false tree after is same =
+      ap (λ changes. changed changes k) (outcome-bind (parts k) tree (closed_if false c))
+      ∙ is
+      ∙ ap (λ f. record after { files = f }) same
 
 module _ (c : Caller) (k : Kernel) (context : Context) (own : AddressSpace) (shared : NamedMap AreaState)
     (list : TaskTable) (waiting : FutexList) (console : ℕ)
@@ -112,34 +118,47 @@ module _ (c : Caller) (k : Kernel) (context : Context) (own : AddressSpace) (sha
           (ap (λ g. ended_tasks (is_member g) k.tasks.tasks) calling.group
           ∙ ap (λ (t : TaskTable). ended_tasks (is_member context.group) t.tasks) calling.tasks ∙ sym are)
           ∙ then_closed c k (ends_as c ended (group_ended k.tasks c.group status)) _
-          (ends (group_ended k.tasks c.group status))
-          ∙ ap (λ o. changed (closed_of o (parts k))
-          (changed ((OfTasks, group_ended k.tasks c.group status) ∷ (OfSleepers, left_behind e k.sleepers) ∷ [])
-          (with_memory c space areas k))) (ap Some calling.table ∙ sym shut)
-          ∙ ap (λ st. changed ((OfTasks, group_ended k.tasks c.group st) ∷ (OfSleepers, left_behind e k.sleepers)
-          ∷ closed_of e.closes (parts k)) (with_memory c space areas k)) (sym so);
+          (ends (group_ended k.tasks c.group status)) refl
+          ∙ ap (λ o. record (with_memory c space areas k) {
+            tasks = group_ended k.tasks c.group status;
+            sleepers = left_behind e k.sleepers;
+            files = with_closed o k.files;
+          }) (ap Some calling.table ∙ sym shut)
+          ∙ ap (λ st. record (with_memory c space areas k) {
+            tasks = group_ended k.tasks c.group st;
+            sleepers = left_behind e k.sleepers;
+            files = with_closed e.closes k.files;
+          }) (sym so);
     }
 
     -- and a task, with whose group they are
     pub task_ends : ended ≡ ended_tasks (is_itself context.task) list.tasks
         → e.closes ≡ cond (is_last list.tasks context.task) (Some context.table) None
         → changed (outcome_in (parts k) (task_end c status)) k
-        ≡ changed (changes_of (EndsTask context.task e) c.group (parts k)) (with_memory c space areas k)
+        ≡ with_effect (EndsTask context.task e) c.group (with_memory c space areas k)
     task_ends are shut =
         ap (λ l. changed (outcome_in (parts k) (ends_as c l (exited k.tasks c.task status)
         >>= closed_if (is_last k.tasks.tasks c.task) c)) k)
         (ap (λ n. ended_tasks (is_itself n) k.tasks.tasks) calling.task
         ∙ ap (λ (t : TaskTable). ended_tasks (is_itself context.task) t.tasks) calling.tasks ∙ sym are)
         ∙ then_closed_if c k (is_last k.tasks.tasks c.task) (ends_as c ended (exited k.tasks c.task status)) _
-        (ends (exited k.tasks c.task status))
-        ∙ ap (λ o. changed (closed_of o (parts k))
-        (changed ((OfTasks, exited k.tasks c.task status) ∷ (OfSleepers, left_behind e k.sleepers) ∷ [])
-        (with_memory c space areas k)))
+        (ends (exited k.tasks c.task status)) refl
+        ∙ ap (λ o. record (with_memory c space areas k) {
+          tasks = exited k.tasks c.task status;
+          sleepers = left_behind e k.sleepers;
+          files = with_closed o k.files;
+        })
         (ap (λ t. cond (is_last k.tasks.tasks c.task) (Some t) None) calling.table
         ∙ ap (λ n. cond (is_last k.tasks.tasks n) (Some context.table) None) calling.task
         ∙ ap (λ (t : TaskTable). cond (is_last t.tasks context.task) (Some context.table) None) calling.tasks
         ∙ sym shut)
-        ∙ ap (λ n. changed ((OfTasks, exited k.tasks n status) ∷ (OfSleepers, left_behind e k.sleepers)
-        ∷ closed_of e.closes (parts k)) (with_memory c space areas k)) calling.task
-        ∙ ap (λ st. changed ((OfTasks, exited k.tasks context.task st) ∷ (OfSleepers, left_behind e k.sleepers)
-        ∷ closed_of e.closes (parts k)) (with_memory c space areas k)) (sym so)
+        ∙ ap (λ n. record (with_memory c space areas k) {
+          tasks = exited k.tasks n status;
+          sleepers = left_behind e k.sleepers;
+          files = with_closed e.closes k.files;
+        }) calling.task
+        ∙ ap (λ st. record (with_memory c space areas k) {
+          tasks = exited k.tasks context.task st;
+          sleepers = left_behind e k.sleepers;
+          files = with_closed e.closes k.files;
+        }) (sym so)

@@ -10,16 +10,15 @@ pub mod Coming
 pub mod Effects
 pub mod Endings
 pub mod Executables
-pub mod FileCounts
 pub mod Filling
 pub mod FutexRows
 pub mod Keys
 pub mod Lendings
-pub mod LowestNumbers
 pub mod Overlays
 pub mod RandomRows
 pub mod RandomWords
 pub mod Runs
+pub mod Sendings
 pub mod SteppedLaws
 pub mod Strings
 pub mod TimeRows

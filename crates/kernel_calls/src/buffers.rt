@@ -1,6 +1,6 @@
 //! Guests' buffers, which may lie in shared areas: these are handed in as they are asked for.
 
-ghost use Rattle.std.specs.Prelude.{◌≡◌, ℕ, [], length, IfOk, IfSome, OnErr};
+ghost use Rattle.std.specs.Prelude.{◌≡◌, ℕ, ◌+◌, ◌^◌, ◌<◌, [], ◌++◌, length, is_some, IfOk, IfSome, OnErr};
 ghost use Rattle.std.specs.Bool.{OnTrue, OnFalse};
 ghost use Rattle.futex_core.specs.FutexLists.{FutexList};
 ghost use Rattle.task_table.specs.Table.{TaskTable};
@@ -9,7 +9,7 @@ ghost use Rattle.mm_space.specs.Handing.{hand_of};
 ghost use Rattle.kernel_model.specs.declared.caller.Caller.{Caller as ACaller};
 ghost use Rattle.kernel_model.specs.declared.kernel.Kernel.{Kernel as AKernel};
 ghost use Rattle.kernel_model.specs.calls.Buffers.{fills};
-ghost use Rattle.kernel_model.specs.entries.Areas.{bytes_read, bytes_with, bytes_written};
+ghost use Rattle.kernel_model.specs.entries.Areas.{access_row, bytes_read, bytes_with, bytes_written};
 ghost use Rattle.kernel_model.specs.entries.Parts.{Parts, outcome_in};
 ghost use Rattle.kernel_calls.specs.Lending.{AreThere, AreThose, with_hand};
 ghost use Rattle.kernel_calls.specs.Prepared.{Answers, IsCalling};
@@ -32,7 +32,7 @@ use std::alloc::Global;
 /// stay as they are.
 ///
 /// write(2), EFAULT.
-pub(crate) fn read(
+pub fn read(
     alloc: Global,
     space: &GuestSpace,
     areas: &mut Named<GuestArea>,
@@ -114,7 +114,7 @@ pub(crate) fn fill(
 /// and on `Err`, nothing changes.
 ///
 /// read(2), EFAULT.
-pub(crate) fn write(
+pub fn write(
     alloc: Global,
     task: u32,
     space: &mut GuestSpace,
@@ -170,9 +170,102 @@ fn write_with(
     }
 }
 
+/// The same, of two runs of bytes, the second behind the first.
+pub fn write_two(
+    alloc: Global,
+    task: u32,
+    space: &mut GuestSpace,
+    areas: &mut Named<GuestArea>,
+    at: u64,
+    first: &[u8],
+    second: &[u8],
+) -> Result<bool, Memory>
+    requires { length first.now + length second.now < 2 ^ 63 }
+    ensures wrote { IfOk result (λ b. (s : Parts) → AreThose s areas.old →
+        Wrote (outcome_in s (bytes_written task space.old at (first.now ++ second.now))) b space.old space.new
+        areas.old areas.new) }
+    ensures err { OnErr result ((space.new ≡ space.old) × (areas.new ≡ areas.old)) }
+{
+    let mut handed = Handed::none(alloc);
+    let wrote = write_two_with(alloc, task, space, areas, &mut handed, at, first, second);
+    take_back(areas, &mut handed);
+    wrote
+}
+
+/// The same, with the areas left in hand that were asked for.
+fn write_two_with(
+    alloc: Global,
+    task: u32,
+    space: &mut GuestSpace,
+    areas: &mut Named<GuestArea>,
+    handed: &mut Handed,
+    at: u64,
+    first: &[u8],
+    second: &[u8],
+) -> Result<bool, Memory>
+    requires none { hand_of handed.old ≡ [] }
+    requires fits { length first.now + length second.now < 2 ^ 63 }
+    ensures wrote { IfOk result (λ b. (s : Parts) → AreThose s areas.old →
+        Wrote (outcome_in s (bytes_written task space.old at (first.now ++ second.now))) b space.old space.new
+        areas.old (with_hand (hand_of handed.new) areas.new)) }
+    ensures there { AreThere (hand_of handed.new) areas.new }
+    ensures err { OnErr result
+        ((space.new ≡ space.old) × (with_hand (hand_of handed.new) areas.new ≡ areas.old)) }
+{
+    let count = (first.len() + second.len()) as u64;
+    if !access(
+        alloc,
+        space,
+        areas,
+        handed,
+        Rights::WRITE,
+        at,
+        count,
+        MOST_AREAS,
+    )? {
+        return Ok(false);
+    }
+    match space
+        .space
+        .write_two(alloc, handed, task, at, first, second)
+    {
+        Ok(()) => Ok(true),
+        Err(MemErr::Memory) => Err(Memory),
+        Err(_) => unreachable!(),
+    }
+}
+
+/// Whether each of so many bytes from an address on may be accessed by a right. The areas stay as they are.
+pub fn is_accessible(
+    alloc: Global,
+    space: &GuestSpace,
+    areas: &mut Named<GuestArea>,
+    right: Rights,
+    at: u64,
+    count: u64,
+) -> Result<bool, Memory>
+    ensures row { IfOk result (λ b. (s : Parts) → AreThose s areas.old →
+        is_some (outcome_in s (access_row right space.now at count)) ≡ b) }
+    ensures kept { areas.new ≡ areas.old }
+{
+    let mut handed = Handed::none(alloc);
+    let allowed = access(
+        alloc,
+        space,
+        areas,
+        &mut handed,
+        right,
+        at,
+        count,
+        MOST_AREAS,
+    );
+    take_back(areas, &mut handed);
+    allowed
+}
+
 /// Hands in the shared areas that an access to so many bytes by a right asks for, so many at most, and answers whether
 /// each of the bytes may be accessed so.
-fn access(
+pub(crate) fn access(
     alloc: Global,
     space: &GuestSpace,
     areas: &mut Named<GuestArea>,

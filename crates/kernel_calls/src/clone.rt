@@ -78,7 +78,7 @@ pub(crate) fn clone(
     ensures few { IfOk result (λ d. RepliesFew d) }
     ensures own { IfOk result (λ d. EndsCaller d context.now.task) }
     ensures ended { IfOk result (λ d. EndsTheirs d context.now.task context.now.group tasks.now) }
-    ensures goes { IfOk result (λ d. IfWaits d ⊥) }
+    ensures goes { IfOk result (λ d. IfWaits d (λ awaited. ⊥)) }
     ensures room { IfOk result (λ d. HasRoomFor d tasks.now) }
     ensures kept { space.new ≡ space.old }
     ensures kept_areas { areas.new ≡ areas.old }

@@ -9,11 +9,10 @@ ghost use Rattle.task_table.specs.Table.{TaskTable, is_live};
 ghost use Rattle.kernel_model.specs.declared.caller.Caller.{Caller as ACaller};
 ghost use Rattle.kernel_model.specs.declared.kernel.Kernel.{Kernel as AKernel};
 ghost use Rattle.kernel_model.specs.calls.Ending.{exit_group_row, exit_row, set_robust_list_row, set_tid_address_row};
-ghost use Rattle.kernel_model.specs.entries.Parts.{Parts, outcome_in};
 ghost use Rattle.kernel_calls.specs.Ends.{Ends};
 ghost use Rattle.kernel_calls.specs.Lending.{AreAlike};
-ghost use Rattle.kernel_calls.specs.Prepared.{Answers, EndsEach, EndsGroupAs, EndsOnly, HasSpace};
-ghost use Rattle.kernel_calls.specs.Prepared.{IsCalling, MayLack, TakesFew, answer_of};
+ghost use Rattle.kernel_calls.specs.Prepared.{Answers, AnswersKept, EndsEach, EndsGroupAs, EndsOnly, HasSpace};
+ghost use Rattle.kernel_calls.specs.Prepared.{IsCalling, MayLack, TakesFew};
 ghost use Rattle.kernel_calls.specs.declared.prepared.Effect.TheVariants.{Nothing};
 
 use crate::clear_words::clear_words;
@@ -156,9 +155,10 @@ fn ending_of(
 
 /// set_tid_address(address): the caller's clear word is there, or nowhere where that is 0. It replies the caller's task
 /// number.
+#[tactic(auto, using(crate::proofs::Answering::answers_set))]
 pub(crate) fn set_tid_address(context: &Context<'_>, address: u64) -> Prepared
-    ensures row { (s : Parts) (c : ACaller) (group : ℕ) → c.task ≡ context.now.task →
-        outcome_in s (set_tid_address_row address c) ≡ answer_of result group s }
+    ensures row { (c : ACaller) (k : AKernel) (group : ℕ) → c.task ≡ context.now.task →
+        AnswersKept (set_tid_address_row address c) result group k }
     ensures few { TakesFew result.effect }
     ensures own { (task : ℕ) → EndsOnly result.effect task }
     ensures ended { (task group : ℕ) (list : TaskTable) → EndsEach result.effect task group list }

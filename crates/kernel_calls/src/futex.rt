@@ -11,10 +11,10 @@ ghost use Rattle.kernel_model.specs.declared.kernel.Kernel.{Kernel as AKernel};
 ghost use Rattle.kernel_model.specs.machine.FutexWords.{key_at};
 ghost use Rattle.kernel_model.specs.calls.Futex.{futex_row, is_wait, is_wake, sleeps_on, wakes_on};
 ghost use Rattle.kernel_model.specs.entries.Areas.{bytes_read};
-ghost use Rattle.kernel_model.specs.entries.Parts.{Parts, outcome_in, parts};
+ghost use Rattle.kernel_model.specs.entries.Parts.{Parts, outcome_in};
 ghost use Rattle.kernel_calls.specs.Lending.{AreThose};
-ghost use Rattle.kernel_calls.specs.Prepared.{Comes, EndsCaller, EndsTheirs, HasRoomFor, HasSpace, IfWaits};
-ghost use Rattle.kernel_calls.specs.Prepared.{IsCalling, RepliesFew, answer_of};
+ghost use Rattle.kernel_calls.specs.Prepared.{AnswersKept, Comes, EndsCaller, EndsTheirs, HasRoomFor, HasSpace, IfWaits};
+ghost use Rattle.kernel_calls.specs.Prepared.{IsCalling, RepliesFew};
 ghost use Rattle.kernel_calls.specs.declared.prepared.Effect.TheVariants.{Wakes};
 
 use crate::Context;
@@ -48,7 +48,7 @@ pub(crate) fn futex(
     ensures few { IfOk result (λ d. RepliesFew d) }
     ensures own { IfOk result (λ d. EndsCaller d context.now.task) }
     ensures ended { IfOk result (λ d. (task group : ℕ) (list : TaskTable) → EndsTheirs d task group list) }
-    ensures goes { IfOk result (λ d. IfWaits d ⊥) }
+    ensures goes { IfOk result (λ d. IfWaits d (λ awaited. ⊥)) }
     ensures room { IfOk result (λ d. (list : TaskTable) → HasRoomFor d list) }
     ensures kept { areas.new ≡ areas.old }
 {
@@ -152,7 +152,7 @@ fn by_word(key: FutexKey, operation: u32, word: u32, value: u32, sleepers: &Wait
     ensures few { RepliesFew result }
     ensures own { (task : ℕ) → EndsCaller result task }
     ensures ended { (task group : ℕ) (list : TaskTable) → EndsTheirs result task group list }
-    ensures goes { IfWaits result ⊥ }
+    ensures goes { IfWaits result (λ awaited. ⊥) }
     ensures room { (list : TaskTable) → HasRoomFor result list }
 {
     if !is_wait(operation) {
@@ -165,9 +165,10 @@ fn by_word(key: FutexKey, operation: u32, word: u32, value: u32, sleepers: &Wait
 }
 
 /// A FUTEX_WAKE of so many at most.
+#[tactic(auto, using(crate::proofs::Answering::answers_woken))]
 fn woken(key: FutexKey, most: u32, sleepers: &Waiters) -> Prepared
     ensures row { (c : ACaller) (k : AKernel) → k.sleepers ≡ sleepers.now →
-        outcome_in (parts k) (wakes_on key most) ≡ answer_of result c.group (parts k) }
+        AnswersKept (wakes_on key most) result c.group k }
     ensures effect { result.effect ≡ Wakes key most }
 {
     let count = u64::from(most).min(sleepers.count_on(key)) as u32;

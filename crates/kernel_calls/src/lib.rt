@@ -6,8 +6,8 @@
 //! puts a task to sleep. `end_group` prepares the end of a thread group by a signal. `args_of`, `call_of` and `reply`
 //! are of the registers at a call; `run` does a task's instructions up to one that calls, traps or touches a shared
 //! area, and `step` one with the shared areas that it touches; and of execve there are `is_too_long`,
-//! `read_executable`, `opened`, `opening_random`, `open_task`, `open_files` and `root_of`. They know no host and no
-//! trace; of other tasks' registers `make` alone knows, which puts a child's among them.
+//! `read_executable`, `opened`, `opening_random`, `open_task` and `root_of`. They know no host and no trace; of other
+//! tasks' registers `make` alone knows, which puts a child's among them. What is open changes by `file_changes`.
 //!
 //! Proved, by the definitions of `kernel_model`: `call` comes to what its row says, in every state that has what was
 //! handed in (`row`). Where what is left may lack memory, and where the call waits, memory is as it was (`apart`); no
@@ -17,8 +17,7 @@
 //! (`steps`), up to its limit or to one that stops it (`within`, `stopped`), or fewer (`memory`). `step` tells what the
 //! next instruction does (`next`), leaves what its row leaves where it goes on (`goes`), and else what was there
 //! (`kept`, `err`). `read_executable` is the image as execve takes it (`image`, `pages`), `opened` what an opening task
-//! begins with (`registers`, `space`), and the last four are of its random bytes, its place, the table and the
-//! descriptions of its descriptors, and its directory.
+//! begins with (`registers`, `space`), and the last three are of its random bytes, its place, and its directory.
 //!
 //! Not said: which tasks there are, what a host is, and what an entry changes.
 //!
@@ -30,11 +29,9 @@ mod buffers;
 mod calls;
 mod clear_words;
 mod clone;
-mod console;
 mod context;
 mod ending;
 mod executable;
-mod files;
 mod futex;
 mod identity;
 mod instructions;
@@ -42,27 +39,27 @@ mod lending;
 mod making;
 mod mapping;
 mod memory;
-mod opened_files;
 mod opened_task;
 mod prepared;
 mod random;
 mod registers;
+mod sending;
 mod stepping;
 mod time;
 mod wait;
 
 pub use arguments::is_too_long;
-pub use calls::call;
+pub use buffers::{is_accessible, read, write, write_two};
+pub use calls::{call, refused};
 pub use clone::{Child, Words};
 pub use context::Context;
 pub use ending::end_group;
 pub use executable::read_executable;
-pub use files::{count_one, drop_one};
 pub use instructions::{Ran, run};
 pub use making::make;
-pub use opened_files::open_files;
 pub use opened_task::{Beginning, open_task, opened, root_of};
-pub use prepared::{Called, Effect, Ending, Prepared, commit, sleep};
+pub use prepared::{Awaited, Called, Effect, Ending, Prepared, UsedEnd, commit, sleep};
 pub use random::opening_random;
 pub use registers::{args_of, call_of, reply};
+pub use sending::send;
 pub use stepping::step;

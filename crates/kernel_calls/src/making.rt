@@ -15,7 +15,7 @@ ghost use Rattle.kernel_calls.specs.Children.{with_child, with_task, with_words}
 
 use crate::Context;
 use crate::clone::{Child, Words};
-use crate::files::copy_table;
+use file_changes::copy_table;
 use kernel_model::{GuestArea, GuestSpace, Named, OpenFiles};
 use rv_table::Regs;
 use sn_base::{Made, Map, Memory};

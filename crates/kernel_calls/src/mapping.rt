@@ -1,27 +1,30 @@
 //! mmap.
 
-ghost use Rattle.std.specs.Prelude.{◌≡◌, ◌+◌, None, IfOk, OnOk, OnErr};
+ghost use Rattle.std.specs.Prelude.{◌≡◌, ◌+◌, None, Some, IfOk, OnOk, OnErr};
 ghost use Rattle.mm_areas.specs.Mappings.{map_fault, pages_in};
 ghost use Rattle.mm_space.specs.Changes.{mapped_in};
 ghost use Rattle.mm_space.specs.Handing.{zero_area};
-ghost use Rattle.kernel_model.specs.Names.{with_named};
+ghost use Rattle.kernel_model.specs.Names.{get_named, with_named};
 ghost use Rattle.kernel_model.specs.declared.caller.Caller.{Caller as ACaller};
 ghost use Rattle.kernel_model.specs.declared.kernel.Kernel.{Kernel as AKernel};
 ghost use Rattle.kernel_model.specs.calls.Callers.{context_of};
-ghost use Rattle.kernel_model.specs.calls.Memory.{address_in, area_made_at, asked_place, file_errno, is_anonymous};
-ghost use Rattle.kernel_model.specs.calls.Memory.{is_fixed, is_of_one_kind, is_private, is_shared, map_refusal};
-ghost use Rattle.kernel_model.specs.calls.Memory.{mmap_row};
+ghost use Rattle.kernel_model.specs.calls.Memory.{address_in, area_made_at, asked_place, file_errno, file_refusal};
+ghost use Rattle.kernel_model.specs.calls.Memory.{is_anonymous, is_fixed, is_of_one_kind, is_private, is_shared};
+ghost use Rattle.kernel_model.specs.calls.Memory.{map_refusal, maps, mmap_row};
+ghost use Rattle.kernel_model.specs.entries.Parts.{done, outcome_in, parts};
 ghost use Rattle.kernel_calls.specs.Lending.{AreAlike};
 ghost use Rattle.kernel_calls.specs.Prepared.{Answers, HasSpace};
 ghost use Rattle.kernel_calls.specs.declared.prepared.Effect.TheVariants.{Nothing};
 
+use crate::Context;
 use crate::calls::refused;
 use crate::memory::{area_errno, is_no_protection, replied, rights_in};
 use crate::prepared::Prepared;
-use kernel_model::{Args, GuestArea, GuestSpace, Named};
+use fd_table::FdTable;
+use kernel_model::{Args, GuestArea, GuestSpace, Named, OpenFiles};
 use mm_areas::{AreaErr, Backing, Rights};
 use rv_table::Area;
-use sn_base::Memory;
+use sn_base::{Made, Memory};
 use sn_errno::Errno;
 use std::alloc::Global;
 
@@ -38,23 +41,45 @@ struct Asked {
 ///
 /// EINVAL: a protection above 7, not just one of MAP_SHARED and MAP_PRIVATE, an offset that is no multiple of 4,096, no
 /// length or one that passes 2^63 in whole pages, with MAP_FIXED an address below 4,096 or no multiple of 4,096, or an
-/// end above 2^38. Without MAP_ANONYMOUS: ENODEV for the descriptors 0 to 2, and EBADF. ENOMEM: more than 16,384 pages,
-/// or no free range.
+/// end above 2^38. Without MAP_ANONYMOUS: ENODEV for a descriptor that is open, and EBADF. ENOMEM: more than 16,384
+/// pages, or no free range.
 pub(crate) fn mmap(
     alloc: Global,
-    place: u64,
+    context: &Context<'_>,
     args: &Args,
     space: &mut GuestSpace,
     areas: &mut Named<GuestArea>,
+    files: &OpenFiles,
 ) -> Result<Prepared, Memory>
     ensures row { IfOk result (λ p. (c : ACaller) (k : AKernel) → HasSpace c k space.old → k.areas ≡ areas.old →
-        k.entries + 1 ≡ place → Answers (mmap_row (context_of k) args.now.a0 args.now.a1 args.now.a2 args.now.a3
-        args.now.a4 args.now.a5 c) p c k space.new areas.new) }
+        k.entries + 1 ≡ context.now.place → c.table ≡ context.now.table → k.files ≡ files.now →
+        Answers (mmap_row (context_of k) args.now.a0 args.now.a1 args.now.a2 args.now.a3 args.now.a4 args.now.a5 c)
+        p c k space.new areas.new) }
     ensures effect { IfOk result (λ p. p.effect ≡ Nothing) }
     ensures err { OnErr result (space.new ≡ space.old) }
     ensures err_areas { OnErr result (AreAlike areas.new areas.old) }
 {
-    if let Some(errno) = refusal(space, args) {
+    let file = file_refusal(context.table, args.a3, args.a4, files);
+    map(alloc, context.place, args, file, space, areas)
+}
+
+/// The same, with why a file can't be mapped, where one is asked for.
+fn map(
+    alloc: Global,
+    place: u64,
+    args: &Args,
+    file: Option<Errno>,
+    space: &mut GuestSpace,
+    areas: &mut Named<GuestArea>,
+) -> Result<Prepared, Memory>
+    ensures row { IfOk result (λ p. (c : ACaller) (k : AKernel) → HasSpace c k space.old → k.areas ≡ areas.old →
+        k.entries + 1 ≡ place → Answers (done (maps (context_of k) c args.now.a0 args.now.a1 args.now.a2 args.now.a3
+        args.now.a5 file)) p c k space.new areas.new) }
+    ensures effect { IfOk result (λ p. p.effect ≡ Nothing) }
+    ensures err { OnErr result (space.new ≡ space.old) }
+    ensures err_areas { OnErr result (AreAlike areas.new areas.old) }
+{
+    if let Some(errno) = refusal(space, args, file) {
         return Ok(refused(errno));
     }
     let asked = Asked {
@@ -71,8 +96,8 @@ pub(crate) fn mmap(
 }
 
 /// Why a mapping is refused.
-fn refusal(space: &GuestSpace, args: &Args) -> Option<Errno>
-    ensures { result ≡ map_refusal space.now args.now.a0 args.now.a1 args.now.a2 args.now.a3 args.now.a4 args.now.a5 }
+fn refusal(space: &GuestSpace, args: &Args, file: Option<Errno>) -> Option<Errno>
+    ensures { result ≡ map_refusal space.now args.now.a0 args.now.a1 args.now.a2 args.now.a3 args.now.a5 file }
 {
     let place = space
         .space
@@ -85,8 +110,8 @@ fn refusal(space: &GuestSpace, args: &Args) -> Option<Errno>
     {
         return Some(Errno::EINVAL);
     }
-    if !is_anonymous(args.a3) {
-        return Some(file_errno(args.a4));
+    if file.is_some() {
+        return file;
     }
     match place {
         Ok(_) => None,
@@ -193,11 +218,33 @@ fn is_of_one_kind(flags: u64) -> bool
     is_shared(flags) != is_private(flags)
 }
 
-/// The error of a mapping of a file: the console can't be mapped, and no other file is open so far.
-fn file_errno(fd: u64) -> Errno
-    ensures { result ≡ file_errno fd }
+/// Why a file can't be mapped, where one is asked for.
+fn file_refusal(table: Made, flags: u64, fd: u64, files: &OpenFiles) -> Option<Errno>
+    ensures { (c : ACaller) (k : AKernel) → c.table ≡ table → k.files ≡ files.now →
+        outcome_in (parts k) (file_refusal flags fd c) ≡ result }
 {
-    if fd % (1 << 32) <= 2 {
+    if is_anonymous(flags) {
+        None
+    } else {
+        Some(file_errno(table, fd, files))
+    }
+}
+
+/// The error of a mapping of a file: nothing that is open can be mapped so far.
+fn file_errno(table: Made, fd: u64, files: &OpenFiles) -> Errno
+    ensures { result ≡ file_errno fd (get_named files.now.tables table.place table.index) }
+{
+    match files.tables.get(table.place, table.index) {
+        Some(numbers) => open_errno(numbers, fd),
+        None => Errno::EBADF,
+    }
+}
+
+/// The same, of a table that is there.
+fn open_errno(numbers: &FdTable, fd: u64) -> Errno
+    ensures { result ≡ file_errno fd (Some numbers.now) }
+{
+    if numbers.get((fd % (1 << 32)) as u32).is_some() {
         Errno::ENODEV
     } else {
         Errno::EBADF

@@ -4,11 +4,10 @@ ghost use Rattle.std.specs.Prelude.{◌≡◌, IsTrue, IsFalse, OnOk, OnErr};
 ghost use Rattle.futex_core.specs.FutexLists.{after_sleep, is_asleep, is_woken};
 ghost use Rattle.kernel_model.specs.declared.kernel.Kernel.{Kernel as AKernel};
 ghost use Rattle.kernel_model.specs.calls.Ending.{clear_set, left_by, woken_on};
-ghost use Rattle.kernel_model.specs.entries.Parts.{changed, parts};
-ghost use Rattle.kernel_calls.specs.Prepared.{EndsLive, MayLack, changes_of, with_closed};
+ghost use Rattle.kernel_calls.specs.Prepared.{EndsLive, MayLack, with_closed, with_effect};
 
 use crate::clone::Child;
-use crate::files::close_table;
+use file_changes::{FileChange, change_files, close_table};
 use futex_core::{FutexKey, Waited, Waiters};
 use kernel_model::OpenFiles;
 use sn_base::{Boxed, List, Made, Memory};
@@ -27,7 +26,8 @@ pub struct Ending {
 
 /// What a call is to do beside its reply: nothing, or the console takes bytes, or the caller's thread group ends, or a
 /// task does, or a task's clear word is at another address, or so many at most are woken who sleep on a word, or the
-/// ended child that the group waits for, the one of a number or any, is nobody's child any more.
+/// ended child that the group waits for, the one of a number or any, is nobody's child any more, or what is open changes,
+/// for a caller of that descriptor table.
 #[derive(Debug, Drop)]
 pub enum Effect {
     Nothing,
@@ -37,6 +37,7 @@ pub enum Effect {
     SetsClear { task: u32, address: u64 },
     Wakes { key: FutexKey, most: u32 },
     Reaps { which: Option<u32> },
+    ChangesFiles { table: Made, change: FileChange },
 }
 
 /// What a call comes to: its reply (a negative one is an error's number), and what is to be done.
@@ -46,14 +47,30 @@ pub struct Prepared {
     pub effect: Effect,
 }
 
+/// The end of a pipe that a call used, as its caller's descriptor table has it: an open file description and the pipe,
+/// by name.
+#[derive(Clone, Copy, Debug)]
+pub struct UsedEnd {
+    pub description: Made,
+    pub pipe: Made,
+}
+
+/// What a call used that waits, beside the task list, its caller's registers and memory: an end of a pipe, and with it
+/// the caller's descriptor table, where it used one; and the shared areas, where it looked into any.
+#[derive(Clone, Copy, Debug)]
+pub struct Awaited {
+    pub end: Option<UsedEnd>,
+    pub areas: bool,
+}
+
 /// What becomes of a call: it replies, or makes a child and replies its number, or puts its task to sleep on a futex
-/// word, or waits.
+/// word, or waits as long as what it used is what it is.
 #[derive(Drop)]
 pub enum Called {
     Replies(Prepared),
     Makes(Boxed<Child>),
     Sleeps(FutexKey),
-    Waits,
+    Waits(Awaited),
 }
 
 /// Does what a call of a thread group comes to, to the parts that it changes. Want of memory leaves them, and comes
@@ -70,7 +87,7 @@ pub fn commit(
 ) -> Result<(), Memory>
     requires lives { EndsLive effect group tasks.old }
     ensures ok { OnOk result ((k : AKernel) → k.tasks ≡ tasks.old → k.sleepers ≡ sleepers.old →
-        k.console ≡ console.old → k.files ≡ files.old → changed (changes_of effect group (parts k)) k
+        k.console ≡ console.old → k.files ≡ files.old → with_effect effect group k
         ≡ record k { tasks = tasks.new; sleepers = sleepers.new; console = console.new; files = files.new }) }
     ensures err { OnErr result (tasks.new ≡ tasks.old) }
     ensures err_sleepers { OnErr result (sleepers.new ≡ sleepers.old) }
@@ -103,6 +120,10 @@ pub fn commit(
         }
         Effect::Reaps { which } => {
             let _ = tasks.reap(group, which);
+            Ok(())
+        }
+        Effect::ChangesFiles { table, change } => {
+            change_files(change, table, files);
             Ok(())
         }
     }

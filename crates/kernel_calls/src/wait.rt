@@ -12,7 +12,7 @@ ghost use Rattle.kernel_model.specs.declared.caller.Caller.{Caller as ACaller};
 ghost use Rattle.kernel_model.specs.declared.kernel.Kernel.{Kernel as AKernel};
 ghost use Rattle.kernel_model.specs.calls.Answers.{not_ready, replies};
 ghost use Rattle.kernel_model.specs.calls.Wait.{asked_child, is_child_asked, is_option, reaps_at, wait4_row};
-ghost use Rattle.kernel_model.specs.entries.Parts.{done};
+ghost use Rattle.kernel_model.specs.entries.Parts.{done, parts};
 ghost use Rattle.kernel_calls.specs.Prepared.{Answers, Comes, EndsCaller, EndsEach, EndsOnly, EndsTheirs, HasRoomFor};
 ghost use Rattle.kernel_calls.specs.Prepared.{HasSpace, IfWaits, IsApart, IsCalling, MayLack, RepliesFew, TakesFew};
 ghost use Rattle.kernel_calls.specs.Prepared.{WaitsWith};
@@ -22,7 +22,7 @@ use crate::Context;
 use crate::buffers::write;
 use crate::calls::refused;
 use crate::memory::replied;
-use crate::prepared::{Called, Effect, Prepared};
+use crate::prepared::{Awaited, Called, Effect, Prepared};
 use kernel_model::{Args, GuestArea, GuestSpace, Named};
 use sn_base::Memory;
 use sn_errno::Errno;
@@ -54,9 +54,10 @@ pub(crate) fn wait4(
     ensures few { IfOk result (λ d. RepliesFew d) }
     ensures own { IfOk result (λ d. EndsCaller d context.now.task) }
     ensures ended { IfOk result (λ d. EndsTheirs d context.now.task context.now.group tasks.now) }
-    ensures waits { IfOk result (λ d. IfWaits d
-        (WaitsWith context.now.group tasks.now
-        (λ context c. wait4_row args.now.a0 args.now.a1 args.now.a2 args.now.a3 c))) }
+    ensures waits { IfOk result (λ d. (c : ACaller) (k : AKernel) (waiting : FutexList) (console : ℕ) →
+        IsCalling c k context.now space.old areas.old tasks.now waiting console → IfWaits d (λ awaited.
+        WaitsWith awaited c.table (parts k)
+        (λ context. wait4_row args.now.a0 args.now.a1 args.now.a2 args.now.a3 c))) }
     ensures room { IfOk result (λ d. HasRoomFor d tasks.now) }
     ensures err { OnErr result ((space.new ≡ space.old) × (areas.new ≡ areas.old)) }
 {
@@ -115,13 +116,16 @@ fn not_yet(options: u32) -> Called
     ensures few { RepliesFew result }
     ensures own { (task : ℕ) → EndsCaller result task }
     ensures ended { (task group : ℕ) (list : TaskTable) → EndsTheirs result task group list }
-    ensures waits { IfWaits result (IsFalse (options == 1)) }
+    ensures waits { IfWaits result (λ awaited. IsFalse (options == 1)) }
     ensures room { (list : TaskTable) → HasRoomFor result list }
 {
     if options == 1 {
         Called::Replies(replied(0))
     } else {
-        Called::Waits
+        Called::Waits(Awaited {
+            end: None,
+            areas: false,
+        })
     }
 }
 

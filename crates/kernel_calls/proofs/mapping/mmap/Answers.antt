@@ -1,14 +1,24 @@
--- A mapping that is refused.
-use Rattle.std.proofs.Common.{refl, sym, ◌∙◌}
+-- A mapping, once it is told whether a file is asked for.
+use Rattle.std.proofs.Common.{ap, ◌∙◌}
+use Rattle.std.proofs.lemmas.Result.{IfOk-weaker}
 use Rattle.kernel_model.specs.calls.Callers.{context_of}
-use Rattle.kernel_model.specs.calls.Memory.{address_in, asked_place, map_refusal, maps_at}
-use Rattle.kernel_calls.proofs.Answering.{answers_if_refused}
+use Rattle.kernel_model.specs.calls.Memory.{file_refusal, maps}
+use Rattle.kernel_model.specs.entries.Parts.{done, parts}
+use Rattle.kernel_model.proofs.Trees.{outcome-bind}
 use Rattle.kernel_calls.proofs.mapping.mmap.Goals as goal
 
-pub returns-in-Some-clause-row : goal.returns-in-Some-clause-row
-returns-in-Some-clause-row c caller k has shared place =
+pub returns-clause-row : goal.returns-clause-row
+returns-clause-row c =
     let a = c.args.args.now in
-    answers_if_refused (λ space. map_refusal space a.a0 a.a1 a.a2 a.a3 a.a4 a.a5) c.refused.result caller k
-    c.args.space.now c.args.space.now c.args.areas.now has c.refused.ensures.effect
-    (maps_at (context_of k) caller (address_in caller.space (asked_place a.a0 a.a3) a.a1) a.a1 a.a2 a.a3)
-    c.in-Some.errno (sym c.refusal.ensures ∙ c.in-Some.is) c.refused.ensures.reply refl (sym shared)
+    IfOk-weaker c.map.result _ _ (λ p row caller k has shared place same files.
+    let answers = row caller k has shared place in
+    record {
+      changes = answers.changes;
+      row_is =
+          outcome-bind (parts k) (file_refusal a.a3 a.a4 caller)
+          (λ file. done (maps (context_of k) caller a.a0 a.a1 a.a2 a.a3 a.a5 file))
+          ∙ ap (λ file. maps (context_of k) caller a.a0 a.a1 a.a2 a.a3 a.a5 file)
+          (c.file_refusal-file.ensures caller k same files)
+          ∙ answers.row_is;
+      done_is = answers.done_is;
+    }) c.map.ensures.row

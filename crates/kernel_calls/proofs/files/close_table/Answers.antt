@@ -1,8 +1,0 @@
--- Where there is no such table nothing is closed.
-use Rattle.std.proofs.Common.{sym}
-use Rattle.kernel_calls.proofs.FileCounts.{no_table}
-use Rattle.kernel_calls.proofs.files.close_table.Goals as goal
-
-pub returns-in_default : goal.returns-in_default
-returns-in_default c =
-    no_table c.args.name c.args.files.now c.remove.new.self (sym c.in_default.ensures.value) c.in_default.ensures.after
