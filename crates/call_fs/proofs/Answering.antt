@@ -12,7 +12,7 @@ use Rattle.kernel_model.specs.declared.kernel.Kernel.{Kernel}
 use Rattle.kernel_model.specs.declared.open_files.OpenFile.{OpenFile}
 use Rattle.kernel_model.specs.declared.open_files.OpenFiles.{OpenFiles}
 use Rattle.kernel_model.specs.calls.Answers.{Answer, refuses}
-use Rattle.kernel_model.specs.calls.Console.{descriptor}
+use Rattle.kernel_model.specs.calls.Lookups.{descriptor}
 use Rattle.kernel_model.specs.calls.Lookups.{or_refuse, with_descriptor, with_file}
 use Rattle.kernel_model.specs.entries.Parts.{Prog, done, outcome_in, parts}
 use Rattle.call_fs.specs.Looked.{IsOpen, descriptor_in, file_at, file_in}
@@ -68,7 +68,7 @@ answers_at_file row p c k name file is answers =
     answers_alike (with_file name row) (or_refuse EBADF row file) p c k
     (ap (λ o. outcome_in (parts k) (or_refuse EBADF row o)) is) answers
 
-module _ (row : OpenFile → Prog Answer) (p : FilePrepared) (c : Caller) (k : Kernel) (fd : ℕ) where
+module _ (row : OpenFile → Prog Answer) (k : Kernel) (fd : ℕ) where
   by_file : (d : Option Descriptor) → outcome_in (parts k) (or_refuse EBADF (λ e. with_file e.description row) d)
       ≡ outcome_in (parts k) (or_refuse EBADF row (option_and_then (file_at k.files) d))
   by_file None = refl
@@ -81,13 +81,21 @@ module _ (row : OpenFile → Prog Answer) (p : FilePrepared) (c : Caller) (k : K
   by_table None = refl
   by_table (Some t) = by_file (map.get t (descriptor fd))
 
-  pub answers_by_file : (table : Made) (files : OpenFiles) (file : Option OpenFile) → c.table ≡ table
+  -- what a register's descriptor has open
+  pub at_open_file : (c : Caller) (table : Made) (files : OpenFiles) (file : Option OpenFile) → c.table ≡ table
       → k.files ≡ files → file ≡ file_in files table (descriptor fd)
-      → AnswersFiles (or_refuse EBADF row file) p c k
-      → AnswersFiles (with_descriptor c fd (λ t d. with_file d.description row)) p c k
-  answers_by_file table files file same files_are is answers =
-      answers_alike (with_descriptor c fd (λ t d. with_file d.description row)) (or_refuse EBADF row file) p c k
-      (by_table (get_named k.files.tables c.table.place c.table.index)
+      → outcome_in (parts k) (with_descriptor c fd (λ t d. with_file d.description row))
+      ≡ outcome_in (parts k) (or_refuse EBADF row file)
+  at_open_file c table files file same files_are is =
+      by_table (get_named k.files.tables c.table.place c.table.index)
       ∙ ap (λ o. outcome_in (parts k) (or_refuse EBADF row o))
       (ap (λ (n : Made). file_in k.files n (descriptor fd)) same
-      ∙ ap (λ f. file_in f table (descriptor fd)) files_are ∙ sym is)) answers
+      ∙ ap (λ f. file_in f table (descriptor fd)) files_are ∙ sym is)
+
+  pub answers_by_file : (p : FilePrepared) (c : Caller) (table : Made) (files : OpenFiles) (file : Option OpenFile)
+      → c.table ≡ table → k.files ≡ files → file ≡ file_in files table (descriptor fd)
+      → AnswersFiles (or_refuse EBADF row file) p c k
+      → AnswersFiles (with_descriptor c fd (λ t d. with_file d.description row)) p c k
+  answers_by_file p c table files file same files_are is answers =
+      answers_alike (with_descriptor c fd (λ t d. with_file d.description row)) (or_refuse EBADF row file) p c k
+      (at_open_file c table files file same files_are is) answers

@@ -25,11 +25,11 @@ use Rattle.kernel_model.specs.laws.Files.{with_one_fewer, with_one_more}
 use Rattle.kernel_model.proofs.FileChanges.{dropped_one}
 use Rattle.kernel_model.proofs.Trees.{outcome-bind}
 use Rattle.kernel_model.proofs.Turns.{done_followed, outcome_changed, outcome_followed}
+use Rattle.file_changes.specs.Changes.{by_descriptor, closed, freed, given, given_to, with_table}
+use Rattle.file_changes.specs.declared.change.FileChange.TheVariants.{Gives, Marks, SetsStatus, Closes}
 use Rattle.call_fs.specs.Looked.{IsOpen}
-use Rattle.call_fs.specs.Prepared.{AnswersFiles, by_descriptor, closed, freed, given, given_to}
-use Rattle.call_fs.specs.Prepared.{with_table}
+use Rattle.call_fs.specs.Prepared.{AnswersFiles}
 use Rattle.call_fs.specs.declared.lookups.Looked.{Looked}
-use Rattle.call_fs.specs.declared.prepared.FileChange.TheVariants.{Gives, Marks, SetsStatus, Closes}
 
 -- a kernel with other tables
 abbrev retabled : Kernel → NamedMap Table → Kernel

@@ -1,5 +1,11 @@
 -- Lemmas of the calls on descriptors, by subject.
 pub mod Answering
+pub mod Calling
 pub mod Changes
+pub mod ConsoleWrites
 pub mod Lowest
-pub mod Unchanged
+pub mod MadePipes
+pub mod Opened
+pub mod Reading
+pub mod Transferring
+pub mod Writing

@@ -1,5 +1,5 @@
 -- The lowest free number of a table, from another on.
-use Rattle.std.proofs.Common.{◌≡◌, ◌≢◌, ℕ, zero, suc, ◌+◌, ◌-◌, ◌<◌, ◌≤◌, Bool, true, false, cond, Some, None}
+use Rattle.std.proofs.Common.{◌≡◌, ◌≢◌, ℕ, zero, suc, ◌+◌, ◌-◌, ◌<◌, ◌≤◌, Bool, true, false, cond, Option, Some, None}
 use Rattle.std.proofs.Common.{refl, ap, sym, ◌∙◌, arith}
 use Rattle.std.specs.Prelude.{find, is_some, not}
 use Rattle.std.specs.List.{range_with_len}
@@ -46,6 +46,32 @@ module _ (test : ℕ → Bool) (number : ℕ) where
   some_at : (from len : ℕ) → find test (range_with_len from len) ≡ Some number → 0 < len
   some_at from zero is = absurd (cc is)
   some_at from (suc len) is = omega arith
+
+  above_at : (from len : ℕ) → (find test (range_with_len (from + 1) len) ≡ Some number → from + 1 ≤ number)
+      → (b : Bool) → test from ≡ b
+      → cond b (Some from) (find test (range_with_len (from + 1) len)) ≡ Some number → from ≤ number
+  above_at from len rest true passes found = let e : from ≡ number = cc found in omega (arith, e)
+  above_at from len rest false passes found = omega (arith, rest found)
+
+  above_in : (from len : ℕ) → find test (range_with_len from len) ≡ Some number → from ≤ number
+  above_in from zero is = absurd (cc is)
+  above_in from (suc len) is = above_at from len (above_in (from + 1) len) (test from) refl is
+
+not_there : (o : Option Descriptor) → not (is_some o) ≡ true → o ≡ None
+not_there None is = refl
+not_there (Some d) is = absurd (cc is)
+
+-- what is found is free, from there on, and a number that a table may have
+pub free_there : (table : Table) (from number : ℕ) → Some number ≡ lowest_free table from
+    → (map.get table number ≡ None) × (from ≤ number) × (number < 256)
+free_there table from number is =
+    let test : ℕ → Bool = λ q. not (map.contains_key table q) in
+    let at = found_in test number from (256 - from) (sym is) in
+    let some = some_at test number from (256 - from) (sym is) in (
+      not_there (map.get table number) at.0,
+      above_in test number from (256 - from) (sym is),
+      omega (arith, at.1, some),
+    )
 
 pub possible : (table : Table) (old number : ℕ) (d : Descriptor) → map.get table old ≡ Some d → old ≢ number
     → number < 256 → dup3_fault table old number ≡ None

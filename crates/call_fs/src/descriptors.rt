@@ -13,8 +13,9 @@ ghost use Rattle.call_fs.specs.Looked.{IsOpen};
 ghost use Rattle.call_fs.specs.Prepared.{AnswersFiles};
 
 use crate::lookups::{Looked, descriptor, file_of, look, lowest_free};
-use crate::prepared::{FileChange, FilePrepared, refused, replied};
+use crate::prepared::{FilePrepared, refused, replied};
 use fd_table::{Descriptor, OPEN_MAX};
+use file_changes::FileChange;
 use kernel_model::OpenFiles;
 use sn_base::Made;
 use sn_errno::Errno;

@@ -1,25 +1,43 @@
-//! The system calls on descriptors, as functions over the parts that their rows use.
+//! The system calls on descriptors, as functions over the parts that their rows use, and the table of all calls.
 //!
-//! A caller sees `dup`, `dup3`, `fcntl`, `ioctl`, `close`, `lseek`, `pread64` and `pwrite64`. Each is told the name of
-//! the caller's descriptor table and the registers of its arguments, reads what is open (`OpenFiles`), and prepares
-//! what it comes to (`FilePrepared`): its reply, and what it changes (`FileChange`), which `commit_files` does. Nothing
-//! is done before, and doing it takes no memory. `specs/` has what is open after a change (`files_after`).
+//! A caller sees `call`, which tells what becomes of a call of a live task: one on what is open is prepared here, and
+//! each other by `kernel_calls`, whose `commit` does either. `dup`, `dup3`, `fcntl`, `ioctl`, `close`, `lseek`,
+//! `pread64` and `pwrite64` are told the name of the caller's descriptor table and the registers of their arguments,
+//! read what is open (`OpenFiles`), and prepare what they come to (`FilePrepared`): a reply, and a `FileChange` of
+//! `file_changes`. Beside the table stand the calls on pipes. `read` and `write` reply with a `Transfer`, or wait
+//! (`Transferred`): a read has put bytes into memory then, and what a pipe or the console loses or gets
+//! `commit_transfer` does, from the guest's pages straight into the pipe (`after_transfer`). `pipe2` prepares a
+//! `NewPipe`, and `make_pipe` makes it.
 //!
-//! Proved, by the definitions of `kernel_model`: the row of each call comes to the reply that was prepared, and its
-//! changes leave what is open after the change that was prepared, in every state whose open files these are and for
-//! every caller with that table (`row`). `commit_files` leaves just that, and so what the row leaves.
+//! Proved, by the definitions of `kernel_model`: `call` comes to what its row says, for every number (`row`), with the
+//! clauses of `kernel_calls` beside it (`apart`, `few`, `own`, `ended`, `waits`, `room`, `err`, `err_areas`). The row
+//! of each call here comes to the reply that was prepared, and its changes leave what the prepared change leaves, in
+//! every state whose parts these are and for every caller with that table (`row`). `commit_transfer` and `make_pipe`
+//! leave that (`ok`). A call that waits leaves memory as it was, and want of memory changes nothing (`err`).
 //!
 //! Not said: which task calls, what its registers hold afterwards, and which entry is made.
 //!
-//! Standards: dup(2), fcntl(2), ioctl(2), close(2), lseek(2) and pread(2) of the Linux manual pages; Linux's
-//! asm-generic/fcntl.h. Which commands fcntl takes, and the order of two errors, are choices of this project. No locks.
+//! Standards: dup(2), fcntl(2), ioctl(2), close(2), lseek(2), pread(2), read(2), write(2), pipe(2) and pipe(7) of the
+//! Linux manual pages; Linux's asm-generic/fcntl.h. Which commands fcntl takes, and the order of two errors, are
+//! choices of this project. No locks.
 #![tactic(auto)]
 
+mod calls;
+mod console;
 mod descriptors;
 mod lookups;
+mod pipes;
 mod prepared;
+mod reads;
 mod seek;
+mod transfers;
+mod writes;
 
+pub use calls::call;
 pub use descriptors::{close, dup, dup3, fcntl, ioctl};
-pub use prepared::{FileChange, FilePrepared, commit_files};
+pub use pipes::{Ends, NewPipe, PipeCall, make_pipe, pipe2};
+pub use prepared::FilePrepared;
+pub use reads::read;
 pub use seek::{lseek, pread64, pwrite64};
+pub use transfers::{Transfer, Transferred, commit_transfer};
+pub use writes::write;

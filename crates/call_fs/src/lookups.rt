@@ -5,7 +5,7 @@ ghost use Rattle.fd_table.specs.Tables.{IsWithinLimit};
 ghost use Rattle.kernel_model.specs.Names.{get_named};
 ghost use Rattle.kernel_model.specs.declared.caller.Caller.{Caller as ACaller};
 ghost use Rattle.kernel_model.specs.declared.kernel.Kernel.{Kernel as AKernel};
-ghost use Rattle.kernel_model.specs.calls.Console.{descriptor};
+ghost use Rattle.kernel_model.specs.calls.Lookups.{descriptor};
 ghost use Rattle.kernel_model.specs.calls.Lookups.{lowest_free};
 ghost use Rattle.call_fs.specs.Looked.{IsOpen, descriptor_in, file_in};
 

@@ -1,41 +1,14 @@
-//! What a call on descriptors comes to, before it is done, and the doing of it.
+//! What a call on descriptors comes to, before it is done.
 
-ghost use Rattle.std.specs.Prelude.{◌≡◌, pos, []};
+ghost use Rattle.std.specs.Prelude.{pos, []};
 ghost use Rattle.kernel_model.specs.declared.caller.Caller.{Caller as ACaller};
 ghost use Rattle.kernel_model.specs.declared.kernel.Kernel.{Kernel as AKernel};
 ghost use Rattle.kernel_model.specs.calls.Answers.{refuses, replies};
 ghost use Rattle.kernel_model.specs.entries.Parts.{done};
-ghost use Rattle.fd_table.specs.Tables.{marked};
-ghost use Rattle.call_fs.specs.Prepared.{AnswersFiles, by_table, closed, files_after, given, with_flags, with_table};
+ghost use Rattle.call_fs.specs.Prepared.{AnswersFiles};
 
-use kernel_calls::{count_one, drop_one};
-use kernel_model::OpenFiles;
-use sn_base::Made;
+use file_changes::FileChange;
 use sn_errno::{Errno, Reply};
-
-/// What a call changes of what is open: nothing; or a number gets what another, `from`, stands for, in the place of
-/// what it had; or execve(2) closes a number from then on, or no longer; or an open file description has other status
-/// flags; or a number is closed.
-#[derive(Clone, Copy, Debug, Drop, PartialEq, Eq)]
-pub enum FileChange {
-    Nothing,
-    Gives {
-        from: u32,
-        number: u32,
-        cloexec: bool,
-    },
-    Marks {
-        number: u32,
-        cloexec: bool,
-    },
-    SetsStatus {
-        description: Made,
-        flags: u32,
-    },
-    Closes {
-        number: u32,
-    },
-}
 
 /// What a call comes to: its reply (a negative one is an error's number), and what it changes.
 #[derive(Clone, Copy, Debug, Drop, PartialEq, Eq)]
@@ -62,74 +35,4 @@ pub(crate) fn refused(errno: Errno) -> FilePrepared
         reply: Reply::of(errno).number(),
         change: FileChange::Nothing,
     }
-}
-
-/// Does what a call changes, to what is open, for a caller of that table. It takes no memory.
-pub fn commit_files(change: FileChange, table: Made, files: &mut OpenFiles)
-    ensures { files.new ≡ files_after change table files.old }
-{
-    match change {
-        FileChange::Nothing => {}
-        FileChange::Gives {
-            from,
-            number,
-            cloexec,
-        } => give(table, from, number, cloexec, files),
-        FileChange::Marks { number, cloexec } => mark(table, number, cloexec, files),
-        FileChange::SetsStatus { description, flags } => set_status(description, flags, files),
-        FileChange::Closes { number } => close(table, number, files),
-    }
-}
-
-/// A number gets what another stands for. What it had is closed.
-fn give(table: Made, from: u32, number: u32, cloexec: bool, files: &mut OpenFiles)
-    ensures { files.new ≡ by_table (given from number cloexec table) table files.old }
-{
-    let Some(numbers) = files.tables.get_mut(table.place, table.index) else {
-        return;
-    };
-    let Some(descriptor) = numbers.get(from) else {
-        return;
-    };
-    let Ok(before) = numbers.dup3(from, number, cloexec) else {
-        return;
-    };
-    count_one(descriptor.description, &mut files.descriptions);
-    if let Some(before) = before {
-        drop_one(before.description, files);
-    }
-}
-
-/// Sets whether execve(2) closes a number.
-fn mark(table: Made, number: u32, cloexec: bool, files: &mut OpenFiles)
-    ensures { files.new ≡ by_table (λ t. with_table table (marked t number cloexec)) table files.old }
-{
-    if let Some(numbers) = files.tables.get_mut(table.place, table.index) {
-        let _ = numbers.set_cloexec(number, cloexec);
-    }
-}
-
-/// Sets the status flags of an open file description.
-fn set_status(description: Made, flags: u32, files: &mut OpenFiles)
-    ensures { files.new ≡ with_flags description flags files.old }
-{
-    if let Some(file) = files
-        .descriptions
-        .get_mut(description.place, description.index)
-    {
-        file.description.set_status(flags);
-    }
-}
-
-/// Closes a number.
-fn close(table: Made, number: u32, files: &mut OpenFiles)
-    ensures { files.new ≡ by_table (closed number table) table files.old }
-{
-    let Some(numbers) = files.tables.get_mut(table.place, table.index) else {
-        return;
-    };
-    let Ok(descriptor) = numbers.close(number) else {
-        return;
-    };
-    drop_one(descriptor.description, files);
 }

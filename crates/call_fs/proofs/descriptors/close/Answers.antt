@@ -1,6 +1,6 @@
 -- A register's descriptor that isn't open, or is.
 use Rattle.std.specs.FinMap as map
-use Rattle.kernel_model.specs.calls.Console.{descriptor}
+use Rattle.kernel_model.specs.calls.Lookups.{descriptor}
 use Rattle.kernel_model.specs.calls.Descriptors.{leaves}
 use Rattle.kernel_model.specs.descriptors.Counts.{dropped}
 use Rattle.kernel_model.specs.entries.Parts.{done, ◌>>=◌}

@@ -3,7 +3,7 @@ use Rattle.std.proofs.Common.{rules, tests, ◌≡◌, ◌%◌, ◌^◌, ◌==�
 use Rattle.std.specs.Prelude.{not}
 use Rattle.sn_errno.specs.declared.errno.Errno.TheVariants.{EINVAL}
 use Rattle.kernel_model.specs.calls.Answers.{refuses}
-use Rattle.kernel_model.specs.calls.Console.{descriptor}
+use Rattle.kernel_model.specs.calls.Lookups.{descriptor}
 use Rattle.kernel_model.specs.calls.Descriptors.{gives_at, is_cloexec_or_none}
 use Rattle.kernel_model.specs.calls.Lookups.{with_descriptor}
 use Rattle.kernel_model.specs.entries.Parts.{done, outcome_in, parts}

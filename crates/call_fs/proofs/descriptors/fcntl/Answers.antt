@@ -1,6 +1,6 @@
 -- A register's descriptor that isn't open.
 use Rattle.std.proofs.Common.{◌%◌, ◌^◌}
-use Rattle.kernel_model.specs.calls.Console.{descriptor}
+use Rattle.kernel_model.specs.calls.Lookups.{descriptor}
 use Rattle.kernel_model.specs.calls.Descriptors.{by_command}
 use Rattle.call_fs.proofs.Answering.{answers_missing}
 use Rattle.call_fs.proofs.descriptors.fcntl.Goals as goal

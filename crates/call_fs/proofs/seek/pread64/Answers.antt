@@ -12,7 +12,7 @@ use Rattle.call_fs.proofs.seek.pread64.Goals as goal
 pub returns-in-None : goal.returns-in-None
 returns-in-None c = record {
   row = λ caller k same files.
-      answers_by_file (if_may may_read (λ d. positioned d.object)) c.refused.result caller k c.args.fd c.args.table
+      answers_by_file (if_may may_read (λ d. positioned d.object)) k c.args.fd c.refused.result caller c.args.table
       c.args.files.now None same files c.in-None.ensures (c.refused.ensures.row caller k);
 }
 
@@ -21,7 +21,7 @@ returns-in-Some c = record {
   row = λ caller k same files.
       let file = c.in-Some.file in
       let at = λ (b : Bool). cond b (positioned file.description.object) (done (refuses EBADF)) in
-      answers_by_file (if_may may_read (λ d. positioned d.object)) c.if_may.result caller k c.args.fd c.args.table
+      answers_by_file (if_may may_read (λ d. positioned d.object)) k c.args.fd c.if_may.result caller c.args.table
       c.args.files.now (Some file) same files c.in-Some.ensures
       (answers_alike _ (at c.may_read.result) c.if_may.result caller k
       (ap (λ b. outcome_in (parts k) (at b)) (sym c.may_read.ensures)) (c.if_may.ensures.row caller k));

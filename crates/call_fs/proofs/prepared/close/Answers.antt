@@ -1,9 +1,0 @@
--- A number that isn't open.
-use Rattle.std.proofs.Common.{refl, sym}
-use Rattle.call_fs.proofs.Unchanged.{not_closed}
-use Rattle.call_fs.proofs.prepared.close.Goals as goal
-
-pub returns-in_default-close : goal.returns-in_default-close
-returns-in_default-close c =
-    not_closed c.args.table c.args.files.now c.in-Some.numbers.now c.close.new.self (sym c.in-Some.ensures.value)
-    c.in_default-close.ensures.err c.args.number c.in_default-close.field-0 _ refl c.in_default-close.ensures.answer

@@ -1,0 +1,37 @@
+-- A buffer of which each byte may be written, or one may not.
+use Rattle.std.proofs.Common.{[], ◌∷◌, ◌∙◌}
+use Rattle.std.proofs.lemmas.Result.{IfOk-weaker}
+use Rattle.sn_errno.specs.declared.errno.Errno.TheVariants.{EFAULT}
+use Rattle.kernel_model.specs.calls.Answers.{refuses}
+use Rattle.kernel_model.specs.calls.ReadWrite.{reads_into, reads_of}
+use Rattle.kernel_model.specs.entries.Parts.{done, parts}
+use Rattle.kernel_calls.proofs.Answering.{are_those}
+use Rattle.call_fs.proofs.Reading.{into_by, moving_on}
+use Rattle.call_fs.proofs.Transferring.{moves_alike}
+use Rattle.call_fs.proofs.reads.reads_into.Goals as goal
+
+pub returns-then-branch-clause-row : goal.returns-then-branch-clause-row
+returns-then-branch-clause-row c =
+    let a = c.args in
+    let d = a.description.now in
+    IfOk-weaker c.reads_of.result _ _
+    (λ t gives caller k console moving.
+    moves_alike (reads_into caller d (a.buffer ∷ [])) (reads_of caller d.nonblock (a.buffer ∷ []) d.object) t caller k
+    c.reads_of.new.space c.reads_of.new.areas
+    (into_by caller k a.space.now d a.buffer _ moving.memory.space
+    (c.in_ok-is_accessible.ensures.row (parts k) (are_those k a.areas.now moving.memory.areas) ∙ c.if-branch.true))
+    (gives caller k console
+    (moving_on caller k a.context.now a.space.now a.areas.now c.is_accessible.new.areas a.files.now console
+    c.is_accessible.ensures.kept moving))) c.reads_of.ensures.row
+
+pub returns-else-branch-clause-row : goal.returns-else-branch-clause-row
+returns-else-branch-clause-row c caller k console moving =
+    let a = c.args in
+    let d = a.description.now in
+    let on = moving_on caller k a.context.now a.space.now a.areas.now c.is_accessible.new.areas a.files.now console
+    c.is_accessible.ensures.kept moving in
+    moves_alike (reads_into caller d (a.buffer ∷ [])) (done (refuses EFAULT)) c.denied.result caller k a.space.now
+    c.is_accessible.new.areas
+    (into_by caller k a.space.now d a.buffer _ moving.memory.space
+    (c.in_ok-is_accessible.ensures.row (parts k) (are_those k a.areas.now moving.memory.areas) ∙ c.if-branch.false))
+    (c.denied.ensures.row caller k a.space.now c.is_accessible.new.areas on.memory)

@@ -1,0 +1,10 @@
+-- A refusal, and nothing else.
+use Rattle.std.proofs.Common.{rules}
+use Rattle.kernel_model.specs.calls.Answers.{refuses}
+use Rattle.kernel_model.specs.entries.Parts.{done}
+use Rattle.call_fs.proofs.Transferring.{answers_nothing}
+use Rattle.call_fs.proofs.transfers.denied.Goals as goal
+
+pub returns-clause-row : goal.returns-clause-row
+returns-clause-row c caller k own shared has =
+    answers_nothing (done (refuses c.args.errno)) _ caller k own shared has (search rules)

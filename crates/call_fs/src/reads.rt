@@ -1,0 +1,291 @@
+//! read, on pipes, the console and the empty input.
+
+ghost use Rattle.std.specs.Prelude.{◌≡◌, ◌≢◌, ℕ, ◌+◌, ◌≤◌, ◌∷◌, [], ◌++◌, Some, length, min, take, true, IfOk, OnErr, if◌then◌else◌};
+ghost use Rattle.sn_errno.specs.declared.errno.Errno.TheVariants.{EBADF};
+ghost use Rattle.fd_table.specs.Flags.{may_read};
+ghost use Rattle.pipe_core.specs.Pipes.{after_read};
+ghost use Rattle.stat_layout.specs.IoVecs.{total_of};
+ghost use Rattle.kernel_model.specs.Names.{get_named};
+ghost use Rattle.kernel_model.specs.declared.caller.Caller.{Caller as ACaller};
+ghost use Rattle.kernel_model.specs.declared.kernel.Kernel.{Kernel as AKernel};
+ghost use Rattle.kernel_model.specs.declared.open_files.OpenFiles.{OpenFiles as AFiles};
+ghost use Rattle.kernel_model.specs.declared.kernel.Part.TheVariants.{OfPipe};
+ghost use Rattle.kernel_model.specs.calls.Answers.{refuses};
+ghost use Rattle.kernel_model.specs.calls.ReadWrite.{from_pipe, is_awaited, put_into, read_row, reads, reads_into};
+ghost use Rattle.kernel_model.specs.calls.ReadWrite.{reads_of};
+ghost use Rattle.kernel_model.specs.calls.Vectors.{cut};
+ghost use Rattle.kernel_model.specs.entries.Parts.{done};
+ghost use Rattle.call_fs.specs.Transfers.{HasMemory, IsMoving, IsSure, Moves};
+
+use crate::lookups::open_file;
+use crate::transfers::{Transfer, Transferred, denied, told, waits};
+use fd_table::{Description, Object};
+use kernel_calls::{Context, is_accessible, write_two};
+use kernel_model::{GuestArea, GuestSpace, MOST_WRITTEN, Named, OpenFiles};
+use mm_areas::Rights;
+use pipe_core::Pipe;
+use sn_base::{Made, Memory};
+use sn_errno::Errno;
+use stat_layout::IoVec;
+use std::alloc::Global;
+
+/// read(fd, buffer, count): the oldest bytes of a pipe, as many as are there and fit, go into the buffer, and their
+/// number is the reply: 0 where no write end is left. It waits for bytes. The console and the empty input are at their
+/// end. No call moves more than 65,536 bytes. An `Err` changes nothing.
+///
+/// EBADF: the descriptor isn't open, or not for reading; EFAULT: a byte of the buffer that may not be written; EAGAIN:
+/// with O_NONBLOCK, where it would wait.
+pub fn read(
+    alloc: Global,
+    context: &Context<'_>,
+    fd: u64,
+    buffer: u64,
+    count: u64,
+    space: &mut GuestSpace,
+    areas: &mut Named<GuestArea>,
+    files: &OpenFiles,
+) -> Result<Transferred, Memory>
+    ensures row { IfOk result (λ t. (c : ACaller) (k : AKernel) (console : ℕ) →
+        IsMoving c k context.now space.old areas.old files.now console →
+        Moves (read_row fd buffer count c) t c k space.new areas.new) }
+    ensures sure { IfOk result (λ t. IsSure t files.now) }
+    ensures err { OnErr result ((space.new ≡ space.old) × (areas.new ≡ areas.old)) }
+{
+    let buffer = IoVec {
+        base: buffer,
+        length: count,
+    };
+    match open_file(context.table, fd, files) {
+        None => Ok(denied(Errno::EBADF)),
+        Some(file) => read_open(
+            alloc,
+            context,
+            &file.description,
+            buffer,
+            space,
+            areas,
+            files,
+        ),
+    }
+}
+
+/// A read of what is open, where the access lets the caller read.
+fn read_open(
+    alloc: Global,
+    context: &Context<'_>,
+    description: &Description,
+    buffer: IoVec,
+    space: &mut GuestSpace,
+    areas: &mut Named<GuestArea>,
+    files: &OpenFiles,
+) -> Result<Transferred, Memory>
+    ensures row { IfOk result (λ t. (c : ACaller) (k : AKernel) (console : ℕ) →
+        IsMoving c k context.now space.old areas.old files.now console →
+        Moves (if may_read description.now.access then reads c (buffer ∷ []) description.now else done (refuses EBADF))
+        t c k space.new areas.new) }
+    ensures sure { IfOk result (λ t. IsSure t files.now) }
+    ensures err { OnErr result ((space.new ≡ space.old) × (areas.new ≡ areas.old)) }
+{
+    if description.access.may_read() {
+        reads(alloc, context, description, buffer, space, areas, files)
+    } else {
+        Ok(denied(Errno::EBADF))
+    }
+}
+
+/// A read into a buffer: none of no bytes.
+fn reads(
+    alloc: Global,
+    context: &Context<'_>,
+    description: &Description,
+    buffer: IoVec,
+    space: &mut GuestSpace,
+    areas: &mut Named<GuestArea>,
+    files: &OpenFiles,
+) -> Result<Transferred, Memory>
+    ensures row { IfOk result (λ t. (c : ACaller) (k : AKernel) (console : ℕ) →
+        IsMoving c k context.now space.old areas.old files.now console →
+        Moves (reads c (buffer ∷ []) description.now) t c k space.new areas.new) }
+    ensures sure { IfOk result (λ t. IsSure t files.now) }
+    ensures err { OnErr result ((space.new ≡ space.old) × (areas.new ≡ areas.old)) }
+{
+    if buffer.length == 0 {
+        Ok(told(0))
+    } else {
+        reads_into(
+            alloc,
+            context,
+            description,
+            cut(buffer),
+            space,
+            areas,
+            files,
+        )
+    }
+}
+
+/// The first bytes of a buffer, as many as one call moves.
+pub(crate) fn cut(buffer: IoVec) -> IoVec
+    ensures cut { result ∷ [] ≡ cut MOST_WRITTEN (buffer ∷ []) }
+    ensures within { result.length ≤ MOST_WRITTEN }
+{
+    IoVec {
+        base: buffer.base,
+        length: buffer.length.min(MOST_WRITTEN),
+    }
+}
+
+/// A read into a buffer, whose bytes are all tested before.
+fn reads_into(
+    alloc: Global,
+    context: &Context<'_>,
+    description: &Description,
+    buffer: IoVec,
+    space: &mut GuestSpace,
+    areas: &mut Named<GuestArea>,
+    files: &OpenFiles,
+) -> Result<Transferred, Memory>
+    requires { buffer.length ≤ MOST_WRITTEN }
+    ensures row { IfOk result (λ t. (c : ACaller) (k : AKernel) (console : ℕ) →
+        IsMoving c k context.now space.old areas.old files.now console →
+        Moves (reads_into c description.now (buffer ∷ [])) t c k space.new areas.new) }
+    ensures sure { IfOk result (λ t. IsSure t files.now) }
+    ensures err { OnErr result ((space.new ≡ space.old) × (areas.new ≡ areas.old)) }
+{
+    if is_accessible(
+        alloc,
+        space,
+        areas,
+        Rights::WRITE,
+        buffer.base,
+        buffer.length,
+    )? {
+        reads_of(alloc, context, description, buffer, space, areas, files)
+    } else {
+        Ok(denied(Errno::EFAULT))
+    }
+}
+
+/// What is read of an object.
+fn reads_of(
+    alloc: Global,
+    context: &Context<'_>,
+    description: &Description,
+    buffer: IoVec,
+    space: &mut GuestSpace,
+    areas: &mut Named<GuestArea>,
+    files: &OpenFiles,
+) -> Result<Transferred, Memory>
+    requires { buffer.length ≤ MOST_WRITTEN }
+    ensures row { IfOk result (λ t. (c : ACaller) (k : AKernel) (console : ℕ) →
+        IsMoving c k context.now space.old areas.old files.now console →
+        Moves (reads_of c description.now.nonblock (buffer ∷ []) description.now.object) t c k space.new areas.new) }
+    ensures sure { IfOk result (λ t. IsSure t files.now) }
+    ensures err { OnErr result ((space.new ≡ space.old) × (areas.new ≡ areas.old)) }
+{
+    match description.object {
+        Object::Node(_) => Ok(denied(Errno::ENOSYS)),
+        Object::PipeEnd { pipe: name, .. } => match files.pipes.get(name.place, name.index) {
+            None => Ok(denied(Errno::EBADF)),
+            Some(pipe) => from_pipe(
+                alloc,
+                context,
+                description.nonblock,
+                buffer,
+                name,
+                pipe,
+                space,
+                areas,
+            ),
+        },
+        Object::Console => Ok(told(0)),
+        Object::EmptyInput => Ok(told(0)),
+    }
+}
+
+/// A read of a pipe.
+fn from_pipe(
+    alloc: Global,
+    context: &Context<'_>,
+    nonblock: bool,
+    buffer: IoVec,
+    name: Made,
+    pipe: &Pipe,
+    space: &mut GuestSpace,
+    areas: &mut Named<GuestArea>,
+) -> Result<Transferred, Memory>
+    requires { buffer.length ≤ MOST_WRITTEN }
+    ensures row { IfOk result (λ t. (c : ACaller) (k : AKernel) → c.task ≡ context.now.task →
+        HasMemory c k space.old areas.old → get_named k.files.pipes name.place name.index ≡ Some pipe.now →
+        Moves (from_pipe c nonblock (buffer ∷ []) name pipe.now) t c k space.new areas.new) }
+    ensures sure { IfOk result (λ t. (open_files : AFiles) → IsSure t open_files) }
+    ensures err { OnErr result ((space.new ≡ space.old) × (areas.new ≡ areas.old)) }
+{
+    if is_awaited(pipe) {
+        Ok(waits(nonblock, name))
+    } else {
+        take_from(alloc, context, buffer, name, pipe, space, areas)
+    }
+}
+
+/// Whether a pipe has no bytes, and may get some.
+fn is_awaited(pipe: &Pipe) -> bool
+    ensures { result ≡ is_awaited pipe.now }
+{
+    pipe.len() == 0 && pipe.writers() > 0
+}
+
+/// A pipe's oldest bytes go into a buffer.
+fn take_from(
+    alloc: Global,
+    context: &Context<'_>,
+    buffer: IoVec,
+    name: Made,
+    pipe: &Pipe,
+    space: &mut GuestSpace,
+    areas: &mut Named<GuestArea>,
+) -> Result<Transferred, Memory>
+    requires { buffer.length ≤ MOST_WRITTEN }
+    ensures row { IfOk result (λ t. (c : ACaller) (k : AKernel) → c.task ≡ context.now.task →
+        HasMemory c k space.old areas.old → get_named k.files.pipes name.place name.index ≡ Some pipe.now →
+        Moves (put_into c (buffer ∷ []) (take (total_of (buffer ∷ [])) pipe.now.bytes)
+        ((OfPipe name, Some (after_read pipe.now (total_of (buffer ∷ [])))) ∷ [])) t c k space.new areas.new) }
+    ensures sure { IfOk result (λ t. (open_files : AFiles) → IsSure t open_files) }
+    ensures err { OnErr result ((space.new ≡ space.old) × (areas.new ≡ areas.old)) }
+{
+    let (first, second) = front(pipe, buffer.length as usize);
+    let count = first.len() + second.len();
+    if write_two(
+        alloc,
+        context.task,
+        space,
+        areas,
+        buffer.base,
+        first,
+        second,
+    )? {
+        Ok(Transferred::Replies {
+            reply: count as i64,
+            transfer: Transfer::Takes {
+                pipe: name,
+                count: buffer.length,
+            },
+        })
+    } else {
+        Ok(denied(Errno::EFAULT))
+    }
+}
+
+/// So many of a pipe's oldest bytes at most, as two runs.
+fn front(pipe: &Pipe, count: usize) -> (&[u8], &[u8])
+    ensures bytes { result.0.now ++ result.1.now ≡ take count pipe.now.bytes }
+    ensures within { length result.0.now + length result.1.now ≤ count }
+{
+    let (first, second) = pipe.oldest();
+    if count <= first.len() {
+        (&first[..count], &second[..0])
+    } else {
+        let rest = (count - first.len()).min(second.len());
+        (first, &second[..rest])
+    }
+}

@@ -1,0 +1,267 @@
+//! write, on pipes and the console.
+
+ghost use Rattle.std.specs.Prelude.{◌≡◌, ℕ, ◌≤◌, ◌∷◌, [], ◌++◌, List, Some, pos, min, take, length, IfOk, if◌then◌else◌};
+ghost use Rattle.sn_errno.specs.declared.errno.Errno.TheVariants.{EBADF};
+ghost use Rattle.fd_table.specs.Flags.{may_write};
+ghost use Rattle.mm_space.specs.Handing.{AreaState};
+ghost use Rattle.mm_space.specs.Spaces.{AddressSpace};
+ghost use Rattle.kernel_model.specs.Names.{NamedMap, get_named};
+ghost use Rattle.kernel_model.specs.declared.caller.Caller.{Caller as ACaller};
+ghost use Rattle.kernel_model.specs.declared.kernel.Kernel.{Kernel as AKernel};
+ghost use Rattle.kernel_model.specs.declared.open_files.OpenFiles.{OpenFiles as AFiles};
+ghost use Rattle.kernel_model.specs.declared.kernel.Part.TheVariants.{OfConsole, OfPipe};
+ghost use Rattle.pipe_core.specs.Pipes.{after_write, room_in, room_wanted};
+ghost use Rattle.kernel_model.specs.calls.Answers.{refuses, replies};
+ghost use Rattle.kernel_model.specs.calls.Console.{appended};
+ghost use Rattle.kernel_model.specs.calls.ReadWrite.{to_pipe, write_open_row, writes, writes_of};
+ghost use Rattle.kernel_model.specs.entries.Parts.{done};
+ghost use Rattle.call_fs.specs.Transfers.{HasMemory, IsBuffer, IsMoving, IsSure, Moves, writes_from};
+
+use crate::lookups::open_file;
+use crate::reads::cut;
+use crate::transfers::{Transfer, Transferred, denied, told, waits};
+use fd_table::{Description, Object};
+use kernel_calls::{Context, is_accessible};
+use kernel_model::{CONSOLE_ROOM, GuestArea, GuestSpace, MOST_WRITTEN, Named, OpenFiles};
+use mm_areas::Rights;
+use pipe_core::{ATOMIC, CAPACITY, Pipe};
+use sn_base::{Made, Memory};
+use sn_errno::Errno;
+use stat_layout::IoVec;
+use std::alloc::Global;
+
+/// write(fd, buffer, count): the bytes of the buffer go behind those of a pipe, all of up to 4,096 and of more as many
+/// as fit, and their number is the reply; it waits for room. The console takes all of them, or none. No call moves more
+/// than 65,536 bytes. Nothing is read before it is done but which bytes may be.
+///
+/// EBADF: the descriptor isn't open, or not for writing; EFAULT: a byte of the buffer that may not be read; EPIPE: no
+/// read end is left; EAGAIN: with O_NONBLOCK, where it would wait; ENOSPC: the console has no room.
+pub fn write(
+    alloc: Global,
+    context: &Context<'_>,
+    fd: u64,
+    buffer: u64,
+    count: u64,
+    space: &GuestSpace,
+    areas: &mut Named<GuestArea>,
+    files: &OpenFiles,
+    console: usize,
+) -> Result<Transferred, Memory>
+    ensures row { IfOk result (λ t. (c : ACaller) (k : AKernel) →
+        IsMoving c k context.now space.now areas.old files.now console →
+        Moves (write_open_row fd buffer count c) t c k space.now areas.old) }
+    ensures sure { IfOk result (λ t. IsSure t files.now) }
+    ensures kept { areas.new ≡ areas.old }
+{
+    let buffer = IoVec {
+        base: buffer,
+        length: count,
+    };
+    match open_file(context.table, fd, files) {
+        None => Ok(denied(Errno::EBADF)),
+        Some(file) => write_open(
+            alloc,
+            &file.description,
+            buffer,
+            space,
+            areas,
+            files,
+            console,
+        ),
+    }
+}
+
+/// A write to what is open, where the access lets the caller write.
+fn write_open(
+    alloc: Global,
+    description: &Description,
+    buffer: IoVec,
+    space: &GuestSpace,
+    areas: &mut Named<GuestArea>,
+    files: &OpenFiles,
+    console: usize,
+) -> Result<Transferred, Memory>
+    ensures row { IfOk result (λ t. (c : ACaller) (k : AKernel) →
+        HasMemory c k space.now areas.old → k.files ≡ files.now → length k.console ≡ console →
+        Moves (if may_write description.now.access then writes c (buffer ∷ []) description.now
+        else done (refuses EBADF)) t c k space.now areas.old) }
+    ensures sure { IfOk result (λ t. IsSure t files.now) }
+    ensures kept { areas.new ≡ areas.old }
+{
+    if description.access.may_write() {
+        writes(alloc, description, buffer, space, areas, files, console)
+    } else {
+        Ok(denied(Errno::EBADF))
+    }
+}
+
+/// A write from a buffer: none of no bytes.
+fn writes(
+    alloc: Global,
+    description: &Description,
+    buffer: IoVec,
+    space: &GuestSpace,
+    areas: &mut Named<GuestArea>,
+    files: &OpenFiles,
+    console: usize,
+) -> Result<Transferred, Memory>
+    ensures row { IfOk result (λ t. (c : ACaller) (k : AKernel) →
+        HasMemory c k space.now areas.old → k.files ≡ files.now → length k.console ≡ console →
+        Moves (writes c (buffer ∷ []) description.now) t c k space.now areas.old) }
+    ensures sure { IfOk result (λ t. IsSure t files.now) }
+    ensures kept { areas.new ≡ areas.old }
+{
+    if buffer.length == 0 {
+        Ok(told(0))
+    } else {
+        writes_from(
+            alloc,
+            description,
+            cut(buffer),
+            space,
+            areas,
+            files,
+            console,
+        )
+    }
+}
+
+/// A write from a buffer, whose bytes are all tested before.
+fn writes_from(
+    alloc: Global,
+    description: &Description,
+    buffer: IoVec,
+    space: &GuestSpace,
+    areas: &mut Named<GuestArea>,
+    files: &OpenFiles,
+    console: usize,
+) -> Result<Transferred, Memory>
+    requires { buffer.length ≤ MOST_WRITTEN }
+    ensures row { IfOk result (λ t. (c : ACaller) (k : AKernel) → HasMemory c k space.now areas.old →
+        k.files ≡ files.now → length k.console ≡ console →
+        Moves (writes_from c description.now (buffer ∷ [])) t c k space.now areas.old) }
+    ensures sure { IfOk result (λ t. IsSure t files.now) }
+    ensures kept { areas.new ≡ areas.old }
+{
+    if is_accessible(
+        alloc,
+        space,
+        areas,
+        Rights::READ,
+        buffer.base,
+        buffer.length,
+    )? {
+        Ok(writes_of(description, buffer, files, console))
+    } else {
+        Ok(denied(Errno::EFAULT))
+    }
+}
+
+/// What is written to an object, from a buffer that may be read.
+fn writes_of(
+    description: &Description,
+    buffer: IoVec,
+    files: &OpenFiles,
+    console: usize,
+) -> Transferred
+    requires { buffer.length ≤ MOST_WRITTEN }
+    ensures row { (c : ACaller) (k : AKernel) (own : AddressSpace) (shared : NamedMap AreaState) (bytes : List ℕ) →
+        HasMemory c k own shared → k.files ≡ files.now → length k.console ≡ console →
+        IsBuffer buffer own k bytes →
+        Moves (writes_of description.now.nonblock bytes description.now.object) result c k own shared }
+    ensures sure { IsSure result files.now }
+{
+    match description.object {
+        Object::Node(_) => denied(Errno::ENOSYS),
+        Object::PipeEnd { pipe: name, .. } => match files.pipes.get(name.place, name.index) {
+            None => denied(Errno::EBADF),
+            Some(pipe) => to_pipe(description.nonblock, buffer, name, pipe),
+        },
+        Object::Console => to_console(buffer, console),
+        Object::EmptyInput => to_console(buffer, console),
+    }
+}
+
+/// A write to a pipe.
+fn to_pipe(nonblock: bool, buffer: IoVec, name: Made, pipe: &Pipe) -> Transferred
+    requires { buffer.length ≤ MOST_WRITTEN }
+    ensures row { (c : ACaller) (k : AKernel) (own : AddressSpace) (shared : NamedMap AreaState) (bytes : List ℕ) →
+        HasMemory c k own shared → get_named k.files.pipes name.place name.index ≡ Some pipe.now →
+        IsBuffer buffer own k bytes →
+        Moves (done (to_pipe nonblock bytes name pipe.now)) result c k own shared }
+    ensures sure { (files : AFiles) → get_named files.pipes name.place name.index ≡ Some pipe.now →
+        IsSure result files }
+{
+    if pipe.readers() == 0 {
+        return denied(Errno::EPIPE);
+    }
+    let room = (CAPACITY - pipe.len()) as u64;
+    if room < room_wanted(buffer.length) {
+        return waits(nonblock, name);
+    }
+    puts(buffer, name, room, pipe)
+}
+
+/// The room without which a write of so many bytes waits.
+fn room_wanted(count: u64) -> u64
+    ensures { result ≡ room_wanted count }
+{
+    if count <= ATOMIC as u64 { count } else { 1 }
+}
+
+/// As many bytes of a buffer as there is room for go into a pipe.
+fn puts(buffer: IoVec, name: Made, room: u64, pipe: &Pipe) -> Transferred
+    requires few { buffer.length ≤ MOST_WRITTEN }
+    requires room { room ≡ room_in pipe.now }
+    requires within { length pipe.now.bytes ≤ CAPACITY }
+    ensures row { (c : ACaller) (k : AKernel) (own : AddressSpace) (shared : NamedMap AreaState) (bytes : List ℕ) →
+        HasMemory c k own shared → get_named k.files.pipes name.place name.index ≡ Some pipe.now →
+        IsBuffer buffer own k bytes →
+        Moves (done (replies (pos (min (length bytes) (room_in pipe.now)))
+        ((OfPipe name, Some (after_write pipe.now (take (room_in pipe.now) bytes))) ∷ []))) result c k own shared }
+    ensures sure { (files : AFiles) → get_named files.pipes name.place name.index ≡ Some pipe.now →
+        IsSure result files }
+{
+    let taken = buffer.length.min(room);
+    Transferred::Replies {
+        reply: taken as i64,
+        transfer: Transfer::Puts {
+            pipe: name,
+            at: buffer.base,
+            count: buffer.length,
+            taken,
+        },
+    }
+}
+
+/// A write to the console, by how many bytes that has.
+fn to_console(buffer: IoVec, console: usize) -> Transferred
+    requires { buffer.length ≤ MOST_WRITTEN }
+    ensures row { (c : ACaller) (k : AKernel) (own : AddressSpace) (shared : NamedMap AreaState) (bytes : List ℕ) →
+        HasMemory c k own shared → length k.console ≡ console → IsBuffer buffer own k bytes →
+        Moves (done (appended bytes k.console)) result c k own shared }
+    ensures sure { (files : AFiles) → IsSure result files }
+{
+    if console <= CONSOLE_ROOM && buffer.length <= (CONSOLE_ROOM - console) as u64 {
+        appends(buffer)
+    } else {
+        denied(Errno::ENOSPC)
+    }
+}
+
+/// The console gets the bytes of a buffer.
+fn appends(buffer: IoVec) -> Transferred
+    requires { buffer.length ≤ MOST_WRITTEN }
+    ensures row { (c : ACaller) (k : AKernel) (own : AddressSpace) (shared : NamedMap AreaState) (bytes : List ℕ) →
+        HasMemory c k own shared → IsBuffer buffer own k bytes →
+        Moves (done (replies (pos (length bytes)) ((OfConsole, k.console ++ bytes) ∷ []))) result c k own shared }
+    ensures sure { (files : AFiles) → IsSure result files }
+{
+    Transferred::Replies {
+        reply: buffer.length as i64,
+        transfer: Transfer::Appends {
+            at: buffer.base,
+            count: buffer.length,
+        },
+    }
+}
