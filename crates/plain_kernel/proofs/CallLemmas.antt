@@ -29,24 +29,19 @@ use Rattle.kernel_model.specs.entries.Given.{met, node_changes, may_meet}
 use Rattle.kernel_model.specs.entries.Parts.{Parts, parts, Prog, done, outcome_in, Change, put, changed, ◌>>=◌}
 use Rattle.kernel_model.specs.entries.Steps.{by_answer, by_given, call_at, call_entry, failing, refused_with, going_on}
 use Rattle.kernel_model.specs.entries.Steps.{replied_by, replied_to, stands_at}
-use Rattle.kernel_model.specs.laws.Files.{without_table}
 use Rattle.kernel_model.specs.laws.InPlace.{with_nodes, changed_by}
 use Rattle.kernel_model.specs.machine.Registers.{replied}
 use Rattle.kernel_model.proofs.CallLemmas.{call_disordered, call_failing}
 use Rattle.kernel_model.proofs.Failing.{faulted_is}
-use Rattle.kernel_model.proofs.FileChanges.{closed_behind}
 use Rattle.kernel_model.proofs.NamedMaps.{same_or_other}
 use Rattle.kernel_model.proofs.Trees.{outcome-bind}
 use Rattle.kernel_calls.specs.Children.{with_child, with_registers, with_task, with_words}
 use Rattle.kernel_calls.specs.Memories.{with_memory}
-use Rattle.kernel_calls.specs.Prepared.{Comes, changes_of, closed_of, left_behind}
+use Rattle.kernel_calls.specs.Prepared.{Comes}
 use Rattle.kernel_calls.specs.declared.clone.Child.{Child}
 use Rattle.kernel_calls.specs.declared.clone.Words.{Words}
 use Rattle.kernel_calls.specs.declared.prepared.Called.{Called}
 use Rattle.kernel_calls.specs.declared.prepared.Called.TheVariants as called
-use Rattle.kernel_calls.specs.declared.prepared.Effect.{Effect}
-use Rattle.kernel_calls.specs.declared.prepared.Effect.TheVariants.{Nothing, TakesBytes, EndsGroup, EndsTask, SetsClear}
-use Rattle.kernel_calls.specs.declared.prepared.Effect.TheVariants.{Wakes, Reaps}
 use Rattle.plain_kernel.specs.Doing.{Does}
 use Rattle.plain_kernel.specs.Unused.{AreUnused}
 use Rattle.plain_kernel.proofs.FaultLemmas.{ordered_unused}
@@ -60,7 +55,7 @@ pub comes_unnamed : (row : Prog Answer) (d : Called) (c : Caller) (k : Kernel) (
 comes_unnamed row (called.Replies p) c k space areas comes = ap (λ (a : Answer). a.fresh) comes.row_is
 comes_unnamed row (called.Makes child) c k space areas comes = ap (λ (a : Answer). a.fresh) comes.row_is
 comes_unnamed row (called.Sleeps key) c k space areas comes = ap (λ (a : Answer). a.fresh) comes
-comes_unnamed row called.Waits c k space areas comes = ap (λ (a : Answer). a.fresh) comes
+comes_unnamed row (called.Waits awaited) c k space areas comes = ap (λ (a : Answer). a.fresh) comes
 
 -- so a call that drew a number and met no fault fits nothing,
 answer_drawing : (s : Parts) (c : Caller) (reply : ℤ) (given : Given) (answer : Answer) → answer.fresh ≡ []
@@ -219,7 +214,7 @@ comes_alike row (called.Makes child) c own k space areas comes = record {
   done_is = comes.done_is ∙ sym (child_alike child (k.entries + 1) c own k);
 }
 comes_alike row (called.Sleeps key) c own k space areas comes = comes
-comes_alike row called.Waits c own k space areas comes = comes
+comes_alike row (called.Waits awaited) c own k space areas comes = comes
 
 -- what a call does for its task as the call left it, it does for the task as it was before
 pub finished : (k left : Kernel) (row : Prog Answer) (d : Called) (c after : Caller) (areas : NamedMap AreaState)
@@ -247,38 +242,6 @@ call_done k c reply value changes after left agrees does goes =
     ∙ ap (λ x. Some x) (changed-append changes (going_on c value) k)
     ∙ ap (λ x. Some (put (OfTask c.task) (Some (replied c.registers value)) x)) does
     ∙ ap (λ x. Some x) (sym goes)
-
--- the closing of a table leaves the same, in whichever of two states with the same open files it is looked at,
-closed_apart : (closes : Option Made) (k other after : Kernel) → other.files ≡ k.files → after.files ≡ k.files
-    → changed (closed_of closes (parts k)) after ≡ changed (closed_of closes (parts other)) after
-closed_apart None k other after same stays = refl
-closed_apart (Some name) k other after same stays =
-    closed_behind name k after stays
-    ∙ ap (λ f. record after { files = without_table name f }) (sym same)
-    ∙ sym (closed_behind name other after (stays ∙ sym same))
-
--- and a call's effect leaves the same as in a state with other memory
-pub effect_apart : (effect : Effect) (group : ℕ) (k : Kernel) (c : Caller) (space : AddressSpace)
-    (areas : NamedMap AreaState)
-    → changed (changes_of effect group (parts k)) (with_memory c space areas k)
-    ≡ changed (changes_of effect group (parts (with_memory c space areas k))) (with_memory c space areas k)
-effect_apart Nothing group k c space areas = refl
-effect_apart (TakesBytes bytes) group k c space areas = refl
-effect_apart (EndsGroup ending) group k c space areas =
-    closed_apart ending.closes k (with_memory c space areas k)
-    (record (with_memory c space areas k) {
-      tasks = group_ended k.tasks group ending.status;
-      sleepers = left_behind ending k.sleepers;
-    }) refl refl
-effect_apart (EndsTask task ending) group k c space areas =
-    closed_apart ending.closes k (with_memory c space areas k)
-    (record (with_memory c space areas k) {
-      tasks = exited k.tasks task ending.status;
-      sleepers = left_behind ending k.sleepers;
-    }) refl refl
-effect_apart (SetsClear task address) group k c space areas = refl
-effect_apart (Wakes key most) group k c space areas = refl
-effect_apart (Reaps which) group k c space areas = refl
 
 -- ---- a call in which a host call failed
 

@@ -30,7 +30,7 @@ abbrev pub slept : Called → Caller → Kernel → Option (List Change)
 slept (called.Replies p) c k = None
 slept (called.Makes child) c k = None
 slept (called.Sleeps key) c k = Some ((OfSleepers, after_sleep k.sleepers c.task key) ∷ [])
-slept called.Waits c k = None
+slept (called.Waits awaited) c k = None
 
 slept_so : (row : Prog Answer) (d : Called) (c : Caller) (k : Kernel) (space : AddressSpace)
     (areas : NamedMap AreaState) → Comes row d c k space areas
@@ -38,7 +38,7 @@ slept_so : (row : Prog Answer) (d : Called) (c : Caller) (k : Kernel) (space : A
 slept_so row (called.Replies p) c k space areas comes = ap (λ (a : Answer). slept_by a a.reply) comes.row_is
 slept_so row (called.Makes child) c k space areas comes = ap (λ (a : Answer). slept_by a a.reply) comes.row_is
 slept_so row (called.Sleeps key) c k space areas comes = ap (λ (a : Answer). slept_by a a.reply) comes
-slept_so row called.Waits c k space areas comes = ap (λ (a : Answer). slept_by a a.reply) comes
+slept_so row (called.Waits awaited) c k space areas comes = ap (λ (a : Answer). slept_by a a.reply) comes
 
 module _ (c : Caller) (k : Kernel) where
   -- a task that stands at a call sleeps where the call puts it to sleep

@@ -6,7 +6,7 @@ ghost use Rattle.sn_errno.specs.Errors.{reply_of};
 ghost use Rattle.sn_errno.specs.declared.errno.Errno.TheVariants.{EIO};
 ghost use Rattle.kernel_calls.specs.Children.{with_child};
 ghost use Rattle.kernel_calls.specs.Memories.{with_memory};
-ghost use Rattle.kernel_calls.specs.Prepared.{Comes, EndsCaller, EndsOnly, HasRoomFor, changes_of};
+ghost use Rattle.kernel_calls.specs.Prepared.{Comes, EndsCaller, EndsOnly, HasRoomFor, with_effect};
 ghost use Rattle.kernel_model.specs.Names.{get_named};
 ghost use Rattle.kernel_model.specs.declared.kernel.Kernel.{Kernel as AKernel};
 ghost use Rattle.kernel_model.specs.declared.traps.Next.TheVariants.{Calls};
@@ -24,7 +24,8 @@ ghost use Rattle.plain_kernel.specs.Unused.{AreUnused};
 use crate::callers::{context, copied_areas};
 use crate::effects::{go_on, settle};
 use crate::faults::{faulted, is_in_order};
-use kernel_calls::{Called, Child, Prepared, args_of, call, call_of, make, step};
+use call_fs::call;
+use kernel_calls::{Called, Child, Prepared, args_of, call_of, make, step};
 use kernel_model::{Args, Caller, Given, GuestArea, Kernel, Named, Next};
 use mount_file::MOST_ENTRIES;
 use rv_table::Regs;
@@ -143,6 +144,7 @@ pub(crate) fn prepare(
         &kernel.tasks,
         &kernel.sleepers,
         kernel.console.len(),
+        &kernel.files,
     )
 }
 
@@ -167,7 +169,7 @@ fn finish(
         Called::Replies(prepared) => answer(alloc, kernel, caller, areas, reply, prepared),
         Called::Makes(child) => make_child(alloc, kernel, caller, reply, child),
         Called::Sleeps(_) => Ok(false),
-        Called::Waits => Ok(false),
+        Called::Waits(_) => Ok(false),
     }
 }
 
@@ -184,8 +186,7 @@ fn answer(
     requires there { IsThere caller kernel.old }
     requires own { EndsOnly prepared.effect caller.task }
     ensures { (changes : Items Change) → changed changes kernel.old
-        ≡ changed (changes_of prepared.effect caller.group (parts kernel.old))
-        (with_memory caller caller.space areas kernel.old) →
+        ≡ with_effect prepared.effect caller.group (with_memory caller caller.space areas kernel.old) →
         Does (replied_by caller reply changes (Replies prepared.reply)) kernel.old kernel.new result }
 {
     if reply != prepared.reply {

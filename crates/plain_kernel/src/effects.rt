@@ -3,9 +3,9 @@
 ghost use Rattle.std.specs.Prelude.{◌≡◌, Some, IsTrue, OnErr, OnOk};
 ghost use Rattle.std.specs.FinMap as map;
 ghost use Rattle.kernel_calls.specs.Memories.{with_memory};
-ghost use Rattle.kernel_calls.specs.Prepared.{EndsOnly, changes_of};
+ghost use Rattle.kernel_calls.specs.Prepared.{EndsOnly, with_effect};
 ghost use Rattle.kernel_model.specs.declared.kernel.Part.TheVariants.{OfTask};
-ghost use Rattle.kernel_model.specs.entries.Parts.{changed, parts, put};
+ghost use Rattle.kernel_model.specs.entries.Parts.{put};
 ghost use Rattle.kernel_model.specs.machine.Registers.{replied};
 ghost use Rattle.plain_kernel.specs.Doing.{IsThere};
 
@@ -25,8 +25,8 @@ pub(crate) fn settle(
 ) -> Result<(), Memory>
     requires there { IsThere caller kernel.old }
     requires own { EndsOnly effect caller.task }
-    ensures ok { OnOk result (kernel.new ≡ changed (changes_of effect caller.group (parts kernel.old))
-        (with_memory caller caller.space areas kernel.old)) }
+    ensures ok { OnOk result (kernel.new ≡
+        with_effect effect caller.group (with_memory caller caller.space areas kernel.old)) }
     ensures registers { kernel.new.registers ≡ kernel.old.registers }
     ensures err { OnErr result (kernel.new ≡ kernel.old) }
 {

@@ -71,7 +71,7 @@ fn sleep_in(
         }
         Called::Replies(_) => Ok(false),
         Called::Makes(_) => Ok(false),
-        Called::Waits => Ok(false),
+        Called::Waits(_) => Ok(false),
     }
 }
 

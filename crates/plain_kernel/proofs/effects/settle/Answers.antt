@@ -2,7 +2,6 @@
 use Rattle.std.proofs.Common.{refl, ap, sym, ◌∙◌}
 use Rattle.kernel_calls.specs.Memories.{with_memory}
 use Rattle.kernel_model.specs.declared.kernel.Kernel.{Kernel}
-use Rattle.plain_kernel.proofs.CallLemmas.{effect_apart}
 use Rattle.plain_kernel.proofs.effects.settle.Goals as goal
 
 pub returns-clause-ok : goal.returns-clause-ok
@@ -15,6 +14,4 @@ returns-clause-ok c =
       files = c.commit.new.files;
     } in
     ap (λ s. record after { spaces = s }) c.replace.ensures
-    ∙ sym (effect_apart c.args.effect c.args.caller.group c.args.kernel.now c.args.caller c.args.caller.space
-    c.args.areas
-    ∙ c.in_ok-commit.ensures.ok memory refl refl refl refl)
+    ∙ sym (c.in_ok-commit.ensures.ok memory refl refl refl refl)
