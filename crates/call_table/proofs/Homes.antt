@@ -12,41 +12,39 @@ use Rattle.kernel_model.specs.Names.{NamedMap, with_named}
 use Rattle.kernel_model.specs.declared.caller.Caller.{Caller}
 use Rattle.kernel_model.specs.declared.kernel.Kernel.{Kernel}
 use Rattle.kernel_model.specs.calls.Clone.{made_for_child}
-use Rattle.kernel_model.specs.entries.Parts.{parts, changed}
 use Rattle.kernel_calls.specs.Children.{with_child, with_task, with_words}
-use Rattle.kernel_calls.specs.Prepared.{changes_of}
+use Rattle.kernel_calls.specs.Prepared.{with_effect}
 use Rattle.kernel_calls.specs.declared.clone.Child.{Child}
 use Rattle.kernel_calls.specs.declared.clone.Words.{Words}
 use Rattle.kernel_calls.specs.declared.prepared.Effect.{Effect}
 use Rattle.kernel_calls.specs.declared.prepared.Effect.TheVariants.{Nothing, TakesBytes, EndsGroup, EndsTask, SetsClear}
-use Rattle.kernel_calls.specs.declared.prepared.Effect.TheVariants.{Wakes, Reaps}
+use Rattle.kernel_calls.specs.declared.prepared.Effect.TheVariants.{Wakes, Reaps, ChangesFiles}
 use Rattle.proc_cells.specs.Beside.{AreAtHome}
 use Rattle.proc_cells.proofs.Homes.{home_cleared, home_ended, home_exited, home_reached, home_released, registers_stay}
 use Rattle.proc_cells.proofs.NewHomes.{home_begun, home_threaded}
-use Rattle.call_table.proofs.Closings.{group_left, task_left}
 
 -- where a call was done
 pub home_committed : (effect : Effect) (group : ℕ) (k : Kernel) (after : TaskTable)
     (registers : map.FinMap nat_cmp Regs) (spaces : NamedMap AddressSpace)
-    → (changed (changes_of effect group (parts k)) k).tasks ≡ after → AreAtHome k.tasks registers spaces
+    → (with_effect effect group k).tasks ≡ after → AreAtHome k.tasks registers spaces
     → AreAtHome after registers spaces
 home_committed Nothing group k after registers spaces is home =
     subst (λ (x : TaskTable). AreAtHome x registers spaces) is home
 home_committed (TakesBytes bytes) group k after registers spaces is home =
     subst (λ (x : TaskTable). AreAtHome x registers spaces) is home
 home_committed (EndsGroup ending) group k after registers spaces is home =
-    subst (λ (x : TaskTable). AreAtHome x registers spaces)
-    (ap (λ (m : Kernel). m.tasks) (sym (group_left k ending group)) ∙ is)
+    subst (λ (x : TaskTable). AreAtHome x registers spaces) is
     (home_ended k.tasks registers spaces home group ending.status)
 home_committed (EndsTask task ending) group k after registers spaces is home =
-    subst (λ (x : TaskTable). AreAtHome x registers spaces)
-    (ap (λ (m : Kernel). m.tasks) (sym (task_left k ending group task)) ∙ is)
+    subst (λ (x : TaskTable). AreAtHome x registers spaces) is
     (home_exited k.tasks registers spaces home task ending.status)
 home_committed (Wakes key most) group k after registers spaces is home =
     subst (λ (x : TaskTable). AreAtHome x registers spaces) is home
 home_committed (Reaps which) group k after registers spaces is home =
     subst (λ (x : TaskTable). AreAtHome x registers spaces) is
     (home_released k.tasks registers spaces home (reap_end k.tasks.groups group which))
+home_committed (ChangesFiles table change) group k after registers spaces is home =
+    subst (λ (x : TaskTable). AreAtHome x registers spaces) is home
 home_committed (SetsClear task address) group k after registers spaces is home =
     subst (λ (x : TaskTable). AreAtHome x registers spaces) is (home_cleared k.tasks registers spaces home task address)
 

@@ -1,8 +1,7 @@
 -- Lemmas of processes and their entries, by subject.
-pub mod ByMemory
-pub mod Closings
 pub mod Histories
 pub mod Homes
+pub mod Indexes
 pub mod Kept
 pub mod Moves
 pub mod Moving
@@ -14,5 +13,8 @@ pub mod Parkings
 pub mod Parks
 pub mod Results
 pub mod Settling
-pub mod Spots
 pub mod Steps
+pub mod TouchedFiles
+pub mod TouchedThings
+pub mod UserLists
+pub mod Woken

@@ -24,11 +24,11 @@ use Rattle.kernel_calls.specs.declared.clone.Child.{Child}
 use Rattle.kernel_calls.specs.declared.clone.Words.{Words}
 use Rattle.kernel_calls.specs.declared.prepared.Effect.{Effect}
 use Rattle.kernel_calls.specs.declared.prepared.Effect.TheVariants.{Nothing, TakesBytes, EndsGroup, EndsTask, SetsClear}
-use Rattle.kernel_calls.specs.declared.prepared.Effect.TheVariants.{Wakes, Reaps}
+use Rattle.kernel_calls.specs.declared.prepared.Effect.TheVariants.{Wakes, Reaps, ChangesFiles}
 use Rattle.proc_cells.specs.declared.cells.Cells.{Cells}
 use Rattle.proc_cells.specs.Cells.{AreKept, IsAwake}
-use Rattle.call_table.specs.Moves.{Moves, changes_list, may_store, puts_to_sleep}
-use Rattle.call_table.specs.Parked.{same_made}
+use Rattle.call_table.specs.Moves.{FilesMove, Moves, changes_list, may_store, puts_to_sleep}
+use Rattle.call_table.specs.Used.{same_made}
 use Rattle.call_table.specs.declared.entered.Entered.{Entered}
 use Rattle.call_table.proofs.Moving.{Left, Lists, left_after, left_same, list_stays, lists_after}
 use Rattle.call_table.proofs.OffList.{left_off, off_before_leave, off_before_sleep, off_leave, off_sleep, sleeper_on}
@@ -118,7 +118,8 @@ module _ (task : ℕ) (memory : Made) (made : Entered) (p q : Cells) where
   -- one that is no sleep, where nobody comes to the task list, and who goes from the futex list has ended
   moves_left : Left (lists_of p) (lists_of q) → IsAwake p task → puts_to_sleep made.entry ≡ false
       → (made.tasks ≡ false → q.tasks ≡ p.tasks) → (made.areas ≡ false → q.areas ≡ p.areas)
-      → (made.tasks ≡ false → q.files ≡ p.files) → Others task memory p q → Moves task memory made p q
+      → (made.tasks ≡ false → FilesMove made.touched p.files q.files) → Others task memory p q
+      → Moves task memory made p q
   moves_left left awake entered tasks areas files others = record {
     tasks = tasks;
     registers = λ same. others.registers;
@@ -135,7 +136,7 @@ module _ (task : ℕ) (memory : Made) (made : Entered) (p q : Cells) where
 
   -- one that leaves the task list and the futex list
   pub moves_alone : q.tasks ≡ p.tasks → q.sleepers ≡ p.sleepers → IsAwake p task → puts_to_sleep made.entry ≡ false
-      → (made.areas ≡ false → q.areas ≡ p.areas) → q.files ≡ p.files → Others task memory p q
+      → (made.areas ≡ false → q.areas ≡ p.areas) → FilesMove made.touched p.files q.files → Others task memory p q
       → Moves task memory made p q
   moves_alone tasks sleepers awake entered areas files others =
       moves_left (subst (Left (lists_of p)) (sym same) (left_same (lists_of p))) awake entered (λ e. tasks) areas
@@ -150,7 +151,8 @@ module _ (task : ℕ) (memory : Made) (made : Entered) (p q : Cells) where
   pub moves_done : (effect : Effect) (group : ℕ) → lists_of q ≡ lists_after effect group (lists_of p)
       → EndsOnly effect task → EndsEach effect task group p.tasks → IsAwake p task → puts_to_sleep made.entry ≡ false
       → made.tasks ≡ changes_list effect → (made.areas ≡ false → q.areas ≡ p.areas)
-      → (changes_list effect ≡ false → q.files ≡ p.files) → Others task memory p q → Moves task memory made p q
+      → (changes_list effect ≡ false → FilesMove made.touched p.files q.files) → Others task memory p q
+      → Moves task memory made p q
   moves_done effect group is own ended awake entered told areas files others =
       moves_left (subst (Left (lists_of p)) (sym is) (left_after task group (lists_of p) effect own ended)) awake
       entered (λ e. ap (λ (l : Lists). l.tasks) is ∙ list_stays task group (lists_of p) effect (sym told ∙ e)) areas
@@ -175,7 +177,8 @@ module _ (task : ℕ) (memory : Made) (made : Entered) (p q : Cells) where
 
   -- that of a task that was woken
   pub moves_woken : q.tasks ≡ p.tasks → q.sleepers ≡ after_leave p.sleepers task → puts_to_sleep made.entry ≡ false
-      → q.areas ≡ p.areas → q.files ≡ p.files → Others task memory p q → Moves task memory made p q
+      → q.areas ≡ p.areas → FilesMove made.touched p.files q.files → Others task memory p q
+      → Moves task memory made p q
   moves_woken tasks sleepers entered areas files others = record {
     tasks = λ same. tasks;
     registers = λ same. others.registers;
@@ -194,7 +197,8 @@ module _ (task : ℕ) (memory : Made) (made : Entered) (p q : Cells) where
 
   -- one that puts its task to sleep
   pub moves_asleep : (key : FutexKey) → q.tasks ≡ p.tasks → q.sleepers ≡ after_sleep p.sleepers task key
-      → puts_to_sleep made.entry ≡ true → q.areas ≡ p.areas → q.files ≡ p.files → Others task memory p q
+      → puts_to_sleep made.entry ≡ true → q.areas ≡ p.areas → FilesMove made.touched p.files q.files
+      → Others task memory p q
       → Moves task memory made p q
   moves_asleep key tasks sleepers entered areas files others = record {
     tasks = λ same. tasks;
@@ -222,7 +226,7 @@ moves_behind task memory own made p b q did known tasks sleepers areas files oth
   registers = λ e other apart. moves.registers e other apart ∙ others.registers other apart;
   spaces = λ e name apart. moves.spaces e name apart ∙ others.spaces name apart;
   areas = λ e. moves.areas e ∙ areas e;
-  files = λ e. moves.files e ∙ files;
+  files = λ e. subst (λ f. FilesMove made.touched f q.files) files (moves.files e);
   last = omega (arith, moves.last, ap (λ (t : TaskTable). t.last) tasks);
   lives = λ other lives before.
       let is = moves.lives other lives (ap (λ (t : TaskTable). is_live t.tasks other) tasks ∙ before) in
@@ -257,3 +261,4 @@ takes_bytes (EndsTask task ending) e = absurd (cc e)
 takes_bytes (SetsClear task address) e = absurd (cc e)
 takes_bytes (Wakes key most) e = absurd (cc e)
 takes_bytes (Reaps which) e = absurd (cc e)
+takes_bytes (ChangesFiles table change) e = absurd (cc e)

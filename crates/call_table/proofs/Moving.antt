@@ -10,16 +10,14 @@ use Rattle.task_table.proofs.Endings.{live_before_end}
 use Rattle.kernel_model.specs.declared.kernel.Kernel.{Kernel}
 use Rattle.kernel_model.specs.declared.open_files.OpenFiles.{OpenFiles}
 use Rattle.kernel_model.specs.calls.Ending.{clear_set, left_by}
-use Rattle.kernel_model.specs.entries.Parts.{changed, parts}
 use Rattle.kernel_model.specs.entries.Waiting.{Awake, wait_of}
-use Rattle.kernel_calls.specs.Prepared.{EndsEach, EndsOnly, changes_of, left_behind}
+use Rattle.kernel_calls.specs.Prepared.{EndsEach, EndsOnly, left_behind, with_effect}
 use Rattle.kernel_calls.specs.declared.prepared.Effect.{Effect}
 use Rattle.kernel_calls.specs.declared.prepared.Effect.TheVariants.{Nothing, TakesBytes, EndsGroup, EndsTask, SetsClear}
-use Rattle.kernel_calls.specs.declared.prepared.Effect.TheVariants.{Wakes, Reaps}
+use Rattle.kernel_calls.specs.declared.prepared.Effect.TheVariants.{Wakes, Reaps, ChangesFiles}
 use Rattle.proc_cells.specs.Beside.{kernel_with, nothing_beside, nothing_held}
-use Rattle.call_table.specs.Moves.{changes_list}
+use Rattle.call_table.specs.Moves.{changes_list, files_left}
 use Rattle.proc_cells.proofs.Ends.{live_cleared, tasks_released}
-use Rattle.call_table.proofs.Closings.{group_left, task_left}
 use Rattle.call_table.proofs.OffList.{lives_on, off_before_left_by, off_before_wake, off_before_woken_on, off_left_by}
 use Rattle.call_table.proofs.OffList.{off_wake, off_woken_on, IsNone}
 
@@ -61,6 +59,7 @@ lists_after (Wakes key most) group lists =
     record lists { sleepers = after_wake lists.sleepers key most }
 lists_after (Reaps which) group lists =
     record lists { tasks = after_reap lists.tasks (reap_end lists.tasks.groups group which) }
+lists_after (ChangesFiles table change) group lists = lists
 
 last_released : (list : TaskTable) (end : ReapEnd) → (after_reap list end).last ≡ list.last
 last_released list NotYet = refl
@@ -72,6 +71,7 @@ module _ (task group : ℕ) (lists : Lists) where
       → Left lists (lists_after e group lists)
   left_after Nothing own ended = left_same lists
   left_after (TakesBytes bytes) own ended = left_same lists
+  left_after (ChangesFiles table change) own ended = left_same lists
   left_after (EndsGroup ending) own ended = record {
     lives = λ q live. live_before_end (is_member group) lists.tasks.tasks q live;
     last = refl;
@@ -121,6 +121,7 @@ module _ (task group : ℕ) (lists : Lists) where
   list_stays (SetsClear setter address) same = absurd (cc same)
   list_stays (Wakes key most) same = refl
   list_stays (Reaps which) same = absurd (cc same)
+  list_stays (ChangesFiles table change) same = refl
 
   -- the kernel that an effect leaves has these lists
   abbrev pub at : (console : List ℕ) → OpenFiles → Kernel
@@ -133,7 +134,7 @@ module _ (task group : ℕ) (lists : Lists) where
   lists_in k = record { tasks = k.tasks; sleepers = k.sleepers }
 
   pub lists_are : (e : Effect) (after : Lists) (console console' : List ℕ) (files files' : OpenFiles)
-      → changed (changes_of e group (parts (at console files))) (at console files)
+      → with_effect e group (at console files)
       ≡ record (at console files) {
         tasks = after.tasks;
         sleepers = after.sleepers;
@@ -143,23 +144,23 @@ module _ (task group : ℕ) (lists : Lists) where
       → after ≡ lists_after e group lists
   lists_are e after console console' files files' does = ap lists_in (sym does) ∙ by e
     where
-      by : (e : Effect) → lists_in (changed (changes_of e group (parts (at console files))) (at console files))
-          ≡ lists_after e group lists
+      by : (e : Effect) → lists_in (with_effect e group (at console files)) ≡ lists_after e group lists
       by Nothing = refl
       by (TakesBytes bytes) = refl
-      by (EndsGroup ending) = ap lists_in (group_left (at console files) ending group)
-      by (EndsTask ended_task ending) = ap lists_in (task_left (at console files) ending group ended_task)
+      by (EndsGroup ending) = refl
+      by (EndsTask ended_task ending) = refl
       by (SetsClear setter address) = refl
       by (Wakes key most) = refl
       by (Reaps which) = refl
+      by (ChangesFiles table change) = refl
 
--- what is open stays where an effect leaves the task list
-pub files_stay : (e : Effect) (group : ℕ) (k : Kernel) (files : OpenFiles)
-    → (changed (changes_of e group (parts k)) k).files ≡ files → changes_list e ≡ false → files ≡ k.files
-files_stay Nothing group k files is same = sym is
-files_stay (TakesBytes bytes) group k files is same = sym is
-files_stay (EndsGroup ending) group k files is same = absurd (cc same)
-files_stay (EndsTask ended_task ending) group k files is same = absurd (cc same)
-files_stay (SetsClear setter address) group k files is same = absurd (cc same)
-files_stay (Wakes key most) group k files is same = sym is
-files_stay (Reaps which) group k files is same = absurd (cc same)
+-- what is open behind an effect is what the effect leaves of it
+pub files_by : (e : Effect) (group : ℕ) (k : Kernel) → files_left e k.files ≡ (with_effect e group k).files
+files_by Nothing group k = refl
+files_by (TakesBytes bytes) group k = refl
+files_by (EndsGroup ending) group k = refl
+files_by (EndsTask ended_task ending) group k = refl
+files_by (SetsClear setter address) group k = refl
+files_by (Wakes key most) group k = refl
+files_by (Reaps which) group k = refl
+files_by (ChangesFiles table change) group k = refl

@@ -12,7 +12,7 @@ use Rattle.proc_cells.specs.Cells.{AreKept, IsAwake}
 use Rattle.call_table.specs.Parking.{AreAlike, IsParkedAt, parked_at}
 use Rattle.call_table.specs.Parks.{Parks}
 use Rattle.call_table.specs.Schedules.{AreParked, AreParkedBut, is_covered}
-use Rattle.call_table.specs.declared.parked.Spot.{Spot}
+use Rattle.call_table.specs.declared.used.Spot.{Spot}
 use Rattle.call_table.specs.declared.parking.Parking.{Parking}
 use Rattle.call_table.proofs.Parks.{parks_still}
 

@@ -17,7 +17,7 @@ use Rattle.proc_cells.specs.Cells.{caller_in, kernel_of}
 use Rattle.call_table.specs.Entries.{ReadyIs}
 use Rattle.call_table.specs.Parking.{parked_at}
 use Rattle.call_table.specs.Schedules.{AreParked, MayNotTurn, is_off}
-use Rattle.call_table.specs.declared.parked.Spot.{Spot}
+use Rattle.call_table.specs.declared.used.Spot.{Spot}
 use Rattle.call_table.specs.declared.parking.Parking.{Parking}
 use Rattle.call_table.proofs.Parks.{parks_wait, ready_by_wait}
 

@@ -2,7 +2,11 @@
 use Rattle.std.proofs.Common.{◌≡◌, subst}
 use Rattle.std.specs.Prelude.{Result, Ok, Err, IfOk, OnOk, OnErr, Option, Some, None, IfSome, IfNone}
 use Rattle.sn_base.specs.declared.memory.Memory.{Memory}
-use Rattle.call_table.specs.Entries.{IfEntered, IfParked}
+use Rattle.call_table.specs.Entries.{IfEntered, IfEnters, IfParked, IfWaits}
+use Rattle.call_table.specs.declared.entered.Entered.{Entered}
+use Rattle.call_table.specs.declared.entered.Turn.{Turn}
+use Rattle.call_table.specs.declared.entered.Turn.TheVariants.{Enters, Waits}
+use Rattle.call_table.specs.declared.used.Spot.{Spot}
 
 -- on success
 pub on_ok : {A E : Type 0} (P Q : A → Type 0) (r : Result A E) → ((x : A) → P x → Q x) → IfOk r P → IfOk r Q
@@ -49,6 +53,19 @@ pub parked_both : {A P Q S : Type 0} (r : Result (Option A) Memory) → (P → Q
 parked_both (Ok None) f p q = f p q
 parked_both (Ok (Some made)) f p q = tt
 parked_both (Err e) f p q = tt
+
+-- and of what a turn came to
+pub enters_behind : (r : Result Turn Memory) (P Q : Entered → Type 0) → ((made : Entered) → P made → Q made)
+    → IfEnters r P → IfEnters r Q
+enters_behind (Ok (Enters made)) P Q f p = f made p
+enters_behind (Ok (Waits spot)) P Q f p = tt
+enters_behind (Err e) P Q f p = tt
+
+pub waits_behind : (r : Result Turn Memory) (P Q : Spot → Type 0) → ((spot : Spot) → P spot → Q spot) → IfWaits r P
+    → IfWaits r Q
+waits_behind (Ok (Enters made)) P Q f p = tt
+waits_behind (Ok (Waits spot)) P Q f p = f spot p
+waits_behind (Err e) P Q f p = tt
 
 -- of what was made, where it is known to be something, or nothing
 pub is_some_of : {A : Type 0} (made : Option A) (P : A → Type 0) (one : A) → made ≡ Some one → IfSome made P → P one

@@ -1,7 +1,6 @@
 -- After an entry, tasks are looked at and parked as they are to be.
 use Rattle.std.proofs.Common.{◌≡◌, ◌≢◌, ℕ, ◌<◌, Bool, true, false, refl, ap, sym, ◌∙◌, ◌⊎◌, inl, inr, arith}
 use Rattle.std.specs.Prelude.{Option, Some, None, is_some, nat_lt, ◌==◌, ◌&&◌, ◌||◌, if◌then◌else◌}
-use Rattle.std.specs.Option.{option_map_or}
 use Rattle.std.specs.FinMap as map
 use Rattle.std.proofs.lemmas.Bool.{and_parts, eqb-true, eq-eqb, lt-ltb, ltb-true, or_parts}
 use Rattle.sn_base.proofs.Maps.{get-remove_same, get-remove_other}
@@ -11,13 +10,14 @@ use Rattle.kernel_model.specs.entries.Waiting.{wait_of}
 use Rattle.kernel_model.proofs.NamedMaps.{same_or_other}
 use Rattle.proc_cells.specs.declared.cells.Cells.{Cells}
 use Rattle.proc_cells.specs.Cells.{IsAwake}
-use Rattle.call_table.specs.Moves.{Moves, puts_to_sleep}
-use Rattle.call_table.specs.Parked.{same_made}
-use Rattle.call_table.specs.Parking.{AreAlike, AreWoken, is_parked_by, parked_at}
+use Rattle.call_table.specs.Moves.{Moves, is_woken_by, puts_to_sleep}
+use Rattle.call_table.specs.Parking.{AreAlike, AreWoken, parked_at}
 use Rattle.call_table.specs.Parks.{Parks}
 use Rattle.call_table.specs.Schedules.{AreParked, AreParkedBut, is_child, is_covered, is_off}
+use Rattle.call_table.specs.Touched.{is_touched}
+use Rattle.call_table.specs.Used.{same_made, uses_areas}
 use Rattle.call_table.specs.declared.entered.Entered.{Entered}
-use Rattle.call_table.specs.declared.parked.Spot.{Spot}
+use Rattle.call_table.specs.declared.used.Spot.{Spot}
 use Rattle.call_table.specs.declared.parking.Parking.{Parking}
 use Rattle.call_table.proofs.Parkings.{awake_off, off_awake}
 use Rattle.call_table.proofs.Parks.{parks_on}
@@ -37,54 +37,36 @@ second_of false b e = e
 
 -- ---- a task that is parked or not
 
--- what a parked task used passes
-passed : (test : Spot → Bool) (o : Option Spot) → option_map_or test o false ≡ true
-    → (spot : Spot) × (o ≡ Some spot) × (test spot ≡ true)
-passed test None e = absurd (cc e)
-passed test (Some spot) e = (spot, refl, e)
+there_of : (o : Option Spot) → is_some o ≡ true → (spot : Spot) × (o ≡ Some spot)
+there_of None e = absurd (cc e)
+there_of (Some spot) e = (spot, refl)
 
--- one that was passed over has failed it
-failed : (test : Spot → Bool) (o : Option Spot) (spot : Spot)
-    → (if option_map_or test o false then None else o) ≡ Some spot → (o ≡ Some spot) × (test spot ≡ false)
-failed test None spot e = absurd (cc e)
-failed test (Some s) spot e = by (test s) refl e
-  where
-    by : (b : Bool) → test s ≡ b → (if b then None else Some s) ≡ Some spot
-        → (Some s ≡ Some spot) × (test spot ≡ false)
-    by true is e = absurd (cc e)
-    by false is e = let same : s ≡ spot = cc e in (e, ap test (sym same) ∙ is)
+-- one that was passed over
+left_of : (b : Bool) (o : Option Spot) (spot : Spot) → (if b then None else o) ≡ Some spot
+    → (b ≡ false) × (o ≡ Some spot)
+left_of true o spot e = absurd (cc e)
+left_of false o spot e = (refl, e)
 
--- and where none is parked any more, none is
-none_left : (test : Spot → Bool) (o : Option Spot) → ((spot : Spot) → test spot ≡ true)
-    → (if option_map_or test o false then None else o) ≡ None
-none_left test None all = refl
-none_left test (Some s) all = ap (λ b. if b then None else Some s) (all s)
-
-taken_out : (test : Spot → Bool) (o : Option Spot) → option_map_or test o false ≡ true
-    → (if option_map_or test o false then None else o) ≡ None
-taken_out test o e = ap (λ b. if b then None else o) e
-
-stays_none : (test : Spot → Bool) (o : Option Spot) → o ≡ None
-    → (if option_map_or test o false then None else o) ≡ None
-stays_none test o e = ap (λ x. if option_map_or test x false then None else x) e
+stays_none : (b : Bool) (o : Option Spot) → o ≡ None → (if b then None else o) ≡ None
+stays_none true o e = refl
+stays_none false o e = e
 
 -- ---- an entry of a task with a memory
 
--- whether one that is parked with what it used is looked at again
-abbrev pub is_woken_by : Entered → (own : Made) → Spot → Bool
-is_woken_by made own spot = made.tasks || ((spot.in_area && made.areas) || same_made spot.memory own)
-
 module _ (task : ℕ) (memory : Made) (made : Entered) (before after : Cells)
     (moves : Moves task memory made before after) (p q : Parking) (but : AreParkedBut task before p)
-    (kept : (t : ℕ) → parked_at q t
-    ≡ (if is_parked_by (is_woken_by made memory) p t then None else parked_at p t))
+    (woken : ℕ → Bool)
+    (passing : (t : ℕ) (spot : Spot) → parked_at p t ≡ Some spot → is_woken_by made memory spot ≡ true
+    → woken t ≡ true)
+    (only : (t : ℕ) → woken t ≡ true → is_some (parked_at p t) ≡ true)
+    (kept : (t : ℕ) → parked_at q t ≡ (if woken t then None else parked_at p t))
     (between : ℕ → Bool)
     (rests : (t : ℕ) → between t ≡ true → (map.contains_key p.awake t ≡ true)
     × (puts_to_sleep made.entry ≡ true → task ≢ t))
     (stays : (t : ℕ) → map.contains_key p.awake t ≡ true → (puts_to_sleep made.entry ≡ false) ⊎ (task ≢ t)
     → between t ≡ true)
-    (looked_at : (t : ℕ) → map.contains_key q.awake t ≡ ((between t || is_child after before.tasks.last t)
-    || is_parked_by (is_woken_by made memory) p t)) where
+    (looked_at : (t : ℕ) → map.contains_key q.awake t
+    ≡ ((between t || is_child after before.tasks.last t) || woken t)) where
   -- the task itself isn't parked
   not_itself : (t : ℕ) (m : Spot) → parked_at p t ≡ Some m → task ≢ t
   not_itself t m is same = cc (is, ap (parked_at p) (sym same) ∙ but.apart task but.looked_at)
@@ -125,15 +107,15 @@ module _ (task : ℕ) (memory : Made) (made : Entered) (before after : Cells)
           let same : after.tasks.last ≡ before.tasks.last = ap (λ (x : TaskTable). x.last) (moves.tasks is) in
           absurd (omega (arith, same, child.1))
 
-  woken_off : (t : ℕ) → is_parked_by (is_woken_by made memory) p t ≡ true → IsAwake after t
+  woken_off : (t : ℕ) → woken t ≡ true → IsAwake after t
   woken_off t e =
-      let m = passed (is_woken_by made memory) (parked_at p t) e in
+      let m = there_of (parked_at p t) (only t e) in
       moves.off t (not_itself t m.0 m.1) (but.parked t m.0 m.1).awake
 
   -- of those that are looked at
   settled_awake : (t : ℕ) → map.contains_key q.awake t ≡ true → IsAwake after t
   settled_awake t e =
-      elim (either (between t || is_child after before.tasks.last t) (is_parked_by (is_woken_by made memory) p t)
+      elim (either (between t || is_child after before.tasks.last t) (woken t)
       (sym (looked_at t) ∙ e)) [
         | inl f ↦ elim (either (between t) (is_child after before.tasks.last t) f) [
           | inl g ↦ rested_off t g
@@ -142,53 +124,69 @@ module _ (task : ℕ) (memory : Made) (made : Entered) (before after : Cells)
         | inr f ↦ woken_off t f
       ]
 
-  all_woken : made.tasks ≡ true → (m : Spot) → is_woken_by made memory m ≡ true
-  all_woken is m = ap (λ b. b || ((m.in_area && made.areas) || same_made m.memory memory)) is
+  -- where the task list may have changed, none is parked any more
+  none_left : made.tasks ≡ true → (t : ℕ) → (if woken t then None else parked_at p t) ≡ None
+  none_left is t = by (woken t) (parked_at p t) refl refl
+    where
+      by : (b : Bool) (o : Option Spot) → woken t ≡ b → parked_at p t ≡ o → (if b then None else o) ≡ None
+      by true o stays there = refl
+      by false None stays there = refl
+      by false (Some m) stays there =
+          let all : is_woken_by made memory m ≡ true =
+          ap (λ b. b || ((same_made m.memory memory || (uses_areas m && made.areas)) || is_touched made.touched m))
+          is in
+          absurd (cc (stays, passing t m there all))
 
   settled_apart : (t : ℕ) → map.contains_key q.awake t ≡ true → parked_at q t ≡ None
   settled_apart t e =
       kept t
-      ∙ elim (either (between t || is_child after before.tasks.last t) (is_parked_by (is_woken_by made memory) p t)
+      ∙ elim (either (between t || is_child after before.tasks.last t) (woken t)
       (sym (looked_at t) ∙ e)) [
         | inl f ↦ elim (either (between t) (is_child after before.tasks.last t) f) [
-          | inl g ↦ stays_none (is_woken_by made memory) (parked_at p t) (but.apart t (rests t g).0)
-          | inr g ↦ none_left (is_woken_by made memory) (parked_at p t) (all_woken (child_listed t g))
+          | inl g ↦ stays_none (woken t) (parked_at p t) (but.apart t (rests t g).0)
+          | inr g ↦ none_left (child_listed t g) t
         ]
-        | inr f ↦ taken_out (is_woken_by made memory) (parked_at p t) f
+        | inr f ↦ ap (λ b. if b then None else parked_at p t) f
       ]
 
   -- of those that are parked
+  not_woken : (t : ℕ) (m : Spot) → parked_at p t ≡ Some m → woken t ≡ false → is_woken_by made memory m ≡ false
+  not_woken t m there stays = by (is_woken_by made memory m) refl
+    where
+      by : (b : Bool) → is_woken_by made memory m ≡ b → is_woken_by made memory m ≡ false
+      by true is = absurd (cc (stays, passing t m there is))
+      by false is = is
+
   settled_parked : (t : ℕ) (m : Spot) → parked_at q t ≡ Some m → Parks after t m
   settled_parked t m e =
-      let was = failed (is_woken_by made memory) (parked_at p t) m (sym (kept t) ∙ e) in
-      let parts = or_parts made.tasks ((m.in_area && made.areas) || same_made m.memory memory) was.1 in
-      let others = or_parts (m.in_area && made.areas) (same_made m.memory memory) parts.1 in
-      parks_on task memory made before after t m moves parts.0 (not_itself t m was.0) others.0 others.1
-      (but.parked t m was.0)
+      let was = left_of (woken t) (parked_at p t) m (sym (kept t) ∙ e) in
+      let parts = or_parts made.tasks
+      ((same_made m.memory memory || (uses_areas m && made.areas)) || is_touched made.touched m)
+      (not_woken t m was.1 was.0) in
+      let met = or_parts (same_made m.memory memory || (uses_areas m && made.areas)) (is_touched made.touched m)
+      parts.1 in
+      let others = or_parts (same_made m.memory memory) (uses_areas m && made.areas) met.0 in
+      parks_on task memory made before after t m moves parts.0 (not_itself t m was.1) others.1 others.0 met.1
+      (but.parked t m was.1)
 
   -- and of all others
   looked_at_again : (t : ℕ) → between t ≡ true → is_covered q t ≡ true
   looked_at_again t e =
       first_of (map.contains_key q.awake t) (is_some (parked_at q t))
       (looked_at t
-      ∙ first_of (between t || is_child after before.tasks.last t) (is_parked_by (is_woken_by made memory) p t)
+      ∙ first_of (between t || is_child after before.tasks.last t) (woken t)
       (first_of (between t) (is_child after before.tasks.last t) e))
 
   was_parked : (t : ℕ) (m : Spot) → parked_at p t ≡ Some m → is_covered q t ≡ true
-  was_parked t m is = by (is_woken_by made memory m) refl
+  was_parked t m is = by (woken t) refl
     where
-      woken : is_parked_by (is_woken_by made memory) p t ≡ is_woken_by made memory m
-      woken = ap (λ o. option_map_or (is_woken_by made memory) o false) is
-
-      by : (b : Bool) → is_woken_by made memory m ≡ b → is_covered q t ≡ true
+      by : (b : Bool) → woken t ≡ b → is_covered q t ≡ true
       by true e =
           first_of (map.contains_key q.awake t) (is_some (parked_at q t))
-          (looked_at t
-          ∙ second_of (between t || is_child after before.tasks.last t)
-          (is_parked_by (is_woken_by made memory) p t) (woken ∙ e))
+          (looked_at t ∙ second_of (between t || is_child after before.tasks.last t) (woken t) e)
       by false e =
           second_of (map.contains_key q.awake t) (is_some (parked_at q t))
-          (ap is_some (kept t ∙ ap (λ b. if b then None else parked_at p t) (woken ∙ e) ∙ is))
+          (ap is_some (kept t ∙ ap (λ b. if b then None else parked_at p t) e ∙ is))
 
   covered_before : (t : ℕ) → task ≢ t → (b : Bool) (o : Option Spot) → map.contains_key p.awake t ≡ b
       → parked_at p t ≡ o → (b || is_some o) ≡ true → is_covered q t ≡ true
@@ -209,7 +207,7 @@ module _ (task : ℕ) (memory : Made) (made : Entered) (before after : Cells)
       ∙ eq-eqb t after.tasks.last child.0 in
       first_of (map.contains_key q.awake t) (is_some (parked_at q t))
       (looked_at t
-      ∙ first_of (between t || is_child after before.tasks.last t) (is_parked_by (is_woken_by made memory) p t)
+      ∙ first_of (between t || is_child after before.tasks.last t) (woken t)
       (second_of (between t) (is_child after before.tasks.last t) is))
 
   settled_covers : (t : ℕ) → is_live after.tasks.tasks t ≡ true → IsAwake after t → is_covered q t ≡ true
@@ -242,8 +240,7 @@ module _ (task : ℕ) (memory : Made) (made : Entered) (before after : Cells)
 
 module _ (task : ℕ) (memory : Made) (made : Entered) (before after : Cells)
     (moves : Moves task memory made before after) (p r s q : Parking) (but : AreParkedBut task before p) (last : ℕ)
-    (same : last ≡ before.tasks.last) (test : Spot → Bool) (woken_by : is_woken_by made memory ≡ test)
-    (woken : AreWoken test s q) (parked : AreAlike p s)
+    (same : last ≡ before.tasks.last) (did : AreWoken (is_woken_by made memory) s q) (parked : AreAlike p s)
     (rested : r.awake ≡ (if puts_to_sleep made.entry then map.remove p.awake task else p.awake))
     (child : (t : ℕ) → map.contains_key s.awake t ≡ (map.contains_key r.awake t || is_child after last t)) where
   removed : (b : Bool) → puts_to_sleep made.entry ≡ b → r.awake ≡ (if b then map.remove p.awake task else p.awake)
@@ -279,18 +276,13 @@ module _ (task : ℕ) (memory : Made) (made : Entered) (before after : Cells)
       by true is (inr apart) =
           ap (λ m. map.contains_key m t) (removed true is) ∙ ap is_some (get-remove_other p.awake task t apart) ∙ e
 
-  among : (t : ℕ) → is_parked_by test s t ≡ is_parked_by (is_woken_by made memory) p t
-  among t = ap (λ o. option_map_or test o false) (parked t) ∙ ap (λ f. is_parked_by f p t) (sym woken_by)
-
   pub settled_by : AreParked after q
   settled_by =
-      settled task memory made before after moves p q but
-      (λ t. woken.parked t
-      ∙ ap (λ b. if b then None else parked_at s t) (among t)
-      ∙ ap (λ o. if is_parked_by (is_woken_by made memory) p t then None else o) (parked t))
+      settled task memory made before after moves p q but did.woken
+      (λ t spot there passes. did.passing t spot (parked t ∙ there) passes)
+      (λ t e. ap is_some (sym (parked t)) ∙ did.only t e)
+      (λ t. did.parked t ∙ ap (λ o. if did.woken t then None else o) (parked t))
       (map.contains_key r.awake) rests stays
-      (λ t. woken.looked_at t
-      ∙ ap (λ b. b || is_parked_by test s t) (child t)
-      ∙ ap (λ b. (map.contains_key r.awake t || is_child after last t) || b) (among t)
-      ∙ ap (λ n. (map.contains_key r.awake t || is_child after n t)
-      || is_parked_by (is_woken_by made memory) p t) same)
+      (λ t. did.looked_at t
+      ∙ ap (λ b. b || did.woken t) (child t)
+      ∙ ap (λ n. (map.contains_key r.awake t || is_child after n t) || did.woken t) same)

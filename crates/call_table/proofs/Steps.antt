@@ -52,7 +52,7 @@ use Rattle.kernel_model.proofs.CallLemmas.{call_quiet}
 use Rattle.kernel_model.proofs.LocalityLaws.{ready_alike}
 use Rattle.kernel_model.proofs.NamedMaps.{get-with_same, with_same}
 use Rattle.kernel_model.proofs.Trees.{outcome-bind}
-use Rattle.kernel_calls.specs.Prepared.{Comes, IsCalling, Steps, changes_of, closed_of, left_behind}
+use Rattle.kernel_calls.specs.Prepared.{Comes, IsCalling, Steps}
 use Rattle.kernel_calls.specs.declared.context.Context.{Context}
 use Rattle.kernel_calls.specs.declared.prepared.Called.{Called}
 use Rattle.kernel_calls.specs.declared.prepared.Called.TheVariants.{Replies, Makes, Sleeps, Waits}
@@ -67,7 +67,6 @@ use Rattle.proc_cells.specs.Beside.{Beside, Held, nothing_beside, nothing_held, 
 use Rattle.proc_cells.specs.Cells.{held_by, kernel_of, caller_with, StandsAs, IsAwake}
 use Rattle.proc_cells.proofs.Found.{Parted, found_by, parted}
 use Rattle.call_table.specs.Entries.{RunsIn, NextIn, IsNextOf, IsOf, ReadyIs, is_touching}
-use Rattle.call_table.proofs.Closings.{closed_alike}
 
 -- ---- numbers and arguments are themselves
 
@@ -173,46 +172,6 @@ area_touched Calls e = absurd (cc e)
 area_touched (Traps signal) e = absurd (cc e)
 area_touched (Touches area) e = (area, refl)
 
--- an effect does the same by the parts of kernels with the same task list, futex list and console, in which the same is
--- open
-pub effect_alike : (effect : Effect) (group : ℕ) (k m : Kernel) → k.tasks ≡ m.tasks → k.sleepers ≡ m.sleepers
-    → k.console ≡ m.console → k.files ≡ m.files
-    → changed (changes_of effect group (parts k)) m ≡ changed (changes_of effect group (parts m)) m
-effect_alike Nothing group k m e w f o = refl
-effect_alike (TakesBytes bytes) group k m e w f o = ap (λ (x : List ℕ). record m { console = x ++ bytes }) f
-effect_alike (EndsGroup ending) group k m e w f o =
-    closed_alike ending.closes k m (record m {
-      tasks = group_ended k.tasks group ending.status;
-      sleepers = left_behind ending k.sleepers;
-    }) o refl
-    ∙ ap (λ (list : TaskTable). changed (closed_of ending.closes (parts m)) (record m {
-      tasks = group_ended list group ending.status;
-      sleepers = left_behind ending k.sleepers;
-    })) e
-    ∙ ap (λ (waiting : FutexList). changed (closed_of ending.closes (parts m)) (record m {
-      tasks = group_ended m.tasks group ending.status;
-      sleepers = left_behind ending waiting;
-    })) w
-effect_alike (EndsTask task ending) group k m e w f o =
-    closed_alike ending.closes k m (record m {
-      tasks = exited k.tasks task ending.status;
-      sleepers = left_behind ending k.sleepers;
-    }) o refl
-    ∙ ap (λ (list : TaskTable). changed (closed_of ending.closes (parts m)) (record m {
-      tasks = exited list task ending.status;
-      sleepers = left_behind ending k.sleepers;
-    })) e
-    ∙ ap (λ (waiting : FutexList). changed (closed_of ending.closes (parts m)) (record m {
-      tasks = exited m.tasks task ending.status;
-      sleepers = left_behind ending waiting;
-    })) w
-effect_alike (SetsClear task address) group k m e w f o =
-    ap (λ (list : TaskTable). record m { tasks = clear_set task address list }) e
-effect_alike (Wakes key most) group k m e w f o =
-    ap (λ (waiting : FutexList). record m { sleepers = after_wake waiting key most }) w
-effect_alike (Reaps which) group k m e w f o =
-    ap (λ (list : TaskTable). record m { tasks = after_reap list (reap_end list.groups group which) }) e
-
 -- the parts of a kernel have no mounts, no key and no number of entries
 same_parts : (p : Cells) (beside : Beside) (seed : List ℕ) (m n : ℕ) (part : Part)
     → parts (kernel_of p (record beside { seed = seed }) m) part ≡ parts (kernel_of p beside n) part
@@ -242,7 +201,7 @@ abbrev pub has_entry : Called → Bool
 has_entry (Replies p) = true
 has_entry (Makes child) = true
 has_entry (Sleeps key) = true
-has_entry Waits = false
+has_entry (Waits awaited) = false
 
 pub entry_of : (row : Prog Answer) (d : Called) (c : Caller) (k : Kernel) (space : AddressSpace)
     (areas : NamedMap AreaState) → Comes row d c k space areas
@@ -250,7 +209,7 @@ pub entry_of : (row : Prog Answer) (d : Called) (c : Caller) (k : Kernel) (space
 entry_of row (Replies p) c k space areas comes = ap (λ (a : Answer). makes_entry a.reply) comes.row_is
 entry_of row (Makes child) c k space areas comes = ap (λ (a : Answer). makes_entry a.reply) comes.row_is
 entry_of row (Sleeps key) c k space areas comes = ap (λ (a : Answer). makes_entry a.reply) comes
-entry_of row Waits c k space areas comes = ap (λ (a : Answer). makes_entry a.reply) comes
+entry_of row (Waits awaited) c k space areas comes = ap (λ (a : Answer). makes_entry a.reply) comes
 
 -- what has become of a call of these registers
 at_registers : (number : ℕ) (args : Args) (r : Regs) (d : Called) (x : Caller) (k : Kernel) (space : AddressSpace)
@@ -346,7 +305,7 @@ module _ (p : Cells) (task : ℕ) (standing : Standing) (stands : StandsAs p tas
       (areas : NamedMap AreaState) (number : ℕ) (args : Args) → context.task ≡ task → IsOf context standing
       → get_named p.spaces standing.memory.place standing.memory.index ≡ Some own → taken ≡ length p.console
       → number ≡ call_of standing.registers → args ≡ args_of standing.registers
-      → ((x : Caller) (k : Kernel) → IsCalling x k context own p.areas p.tasks p.sleepers taken
+      → ((x : Caller) (k : Kernel) → IsCalling x k context own p.areas p.tasks p.sleepers taken → k.files ≡ p.files
       → x.registers ≡ standing.registers → Comes (call_row (context_of k) x number args) was x k space areas)
       → was ≡ d → (beside : Beside) (n : ℕ) → beside.seed ≡ context.seed.now → n + 1 ≡ context.place
       → Comes (call_row (context_of (kernel_of p beside n)) c (call_of standing.registers) (args_of standing.registers))
@@ -357,7 +316,7 @@ module _ (p : Cells) (task : ℕ) (standing : Standing) (stands : StandsAs p tas
       subst (λ (d : Called). Comes (call_row (context_of k) c (call_of standing.registers)
       (args_of standing.registers)) d c k space areas) become
       (at_registers number args standing.registers was c k space areas numbered same
-      (row c k (calling_here context own taken beside n is known there count seed place) refl))
+      (row c k (calling_here context own taken beside n is known there count seed place) refl refl))
 
   -- so that its step is ready where the call has an entry
   pub ready_called : (context : Context) (d : Called) (space : AddressSpace) (areas : NamedMap AreaState)

@@ -27,7 +27,7 @@ use Rattle.proc_cells.specs.Cells.{caller_in, kernel_of}
 use Rattle.call_table.specs.declared.entered.Entered.{Entered}
 use Rattle.call_table.specs.declared.entered.Turn.{Turn}
 use Rattle.call_table.specs.declared.entered.Turn.TheVariants.{Enters, Waits}
-use Rattle.call_table.specs.declared.parked.Spot.{Spot}
+use Rattle.call_table.specs.declared.used.Spot.{Spot}
 
 -- so many instructions of a task ran over its group's memory, and nothing else changed there
 -- RISC-V Unprivileged ISA 20191213, 1.2

@@ -6,4 +6,7 @@ pub mod Parking
 pub mod Parks
 pub mod Processes
 pub mod Schedules
+pub mod Touched
 pub mod Turns
+pub mod Used
+pub mod Users

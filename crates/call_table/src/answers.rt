@@ -12,14 +12,14 @@ ghost use Rattle.kernel_model.specs.declared.entry.Entry.TheVariants.{Call as AC
 ghost use Rattle.kernel_model.specs.declared.kernel.Kernel.{Kernel as AKernel};
 ghost use Rattle.kernel_model.specs.laws.Beginnings.{IsRoomFor};
 ghost use Rattle.kernel_model.specs.machine.Registers.{args_of, call_of, replied};
-ghost use Rattle.kernel_model.specs.entries.Parts.{changed, parts};
 ghost use Rattle.kernel_calls.specs.Children.{with_child};
-ghost use Rattle.kernel_calls.specs.Prepared.{EndsEach, EndsLive, EndsOnly, MayLack, changes_of};
+ghost use Rattle.kernel_calls.specs.Prepared.{EndsEach, EndsLive, EndsOnly, MayLack, with_effect};
 ghost use Rattle.proc_cells.specs.Cells.{AreKept, IsAwake};
 ghost use Rattle.call_table.specs.Moves.{Moves, changes_list, may_store};
 ghost use Rattle.sn_base.specs.declared.made.Made.{Made as AMade};
 
 use crate::entered::Entered;
+use crate::touched::touched_by;
 use futex_core::FutexKey;
 use kernel_calls::{
     Child, Context, Effect, Prepared, args_of, call_of, commit, make, reply, sleep,
@@ -79,7 +79,7 @@ pub(crate) fn finish(
     requires registered { IsTrue (map.contains_key cells.old.registers context.now.task) }
     ensures does { IfOk result (λ _. (k : AKernel) → k.tasks ≡ cells.old.tasks → k.sleepers ≡ cells.old.sleepers →
         k.console ≡ cells.old.console → k.files ≡ cells.old.files →
-        changed (changes_of prepared.effect context.now.group (parts k)) k ≡ record k {
+        with_effect prepared.effect context.now.group k ≡ record k {
           tasks = cells.new.tasks;
           sleepers = cells.new.sleepers;
           console = cells.new.console;
@@ -103,6 +103,7 @@ pub(crate) fn finish(
     } = prepared;
     let tasks = changes_list(&effect);
     let areas = may_store(&effect);
+    let touched = touched_by(&effect, &cells.files);
     commit(
         alloc,
         effect,
@@ -118,6 +119,7 @@ pub(crate) fn finish(
         entry,
         tasks,
         areas,
+        touched,
     })
 }
 
@@ -133,6 +135,7 @@ fn changes_list(effect: &Effect) -> bool
         Effect::SetsClear { .. } => true,
         Effect::Wakes { .. } => false,
         Effect::Reaps { .. } => true,
+        Effect::ChangesFiles { .. } => false,
     }
 }
 
@@ -147,7 +150,8 @@ fn may_store(effect: &Effect) -> bool
         | Effect::EndsTask { .. }
         | Effect::SetsClear { .. }
         | Effect::Wakes { .. }
-        | Effect::Reaps { .. } => true,
+        | Effect::Reaps { .. }
+        | Effect::ChangesFiles { .. } => true,
     }
 }
 
@@ -203,6 +207,7 @@ pub(crate) fn make_child(
         entry,
         tasks: true,
         areas: true,
+        touched: None,
     })
 }
 
@@ -225,5 +230,6 @@ pub(crate) fn put_to_sleep(cells: &mut Cells, task: u32, key: FutexKey) -> Resul
         entry: Entry::Sleep { task },
         tasks: false,
         areas: false,
+        touched: None,
     })
 }

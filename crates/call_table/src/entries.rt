@@ -1,6 +1,6 @@
 //! The entries of one task: runs of its instructions, its calls, and its end by a signal.
 
-ghost use Rattle.std.specs.Prelude.{◌≡◌, ℕ, ◌+◌, ◌<◌, ◌≤◌, [], true, false, IsTrue, IsFalse, Some, IfOk, OnErr};
+ghost use Rattle.std.specs.Prelude.{◌≡◌, ℕ, ◌+◌, ◌<◌, ◌≤◌, [], true, false, IsTrue, IsFalse, Some, None, IfOk, OnErr};
 ghost use Rattle.std.specs.FinMap as map;
 ghost use Rattle.task_table.specs.Table.{has_ended, is_live};
 ghost use Rattle.mm_space.specs.Spaces.{AddressSpace};
@@ -14,17 +14,16 @@ ghost use Rattle.kernel_model.specs.declared.kernel.Kernel.{Kernel as AKernel};
 ghost use Rattle.kernel_model.specs.entries.Waiting.{Woken, wait_of};
 ghost use Rattle.proc_cells.specs.Beside.{Beside};
 ghost use Rattle.proc_cells.specs.Cells.{AreKept, IsAwake, StandsAs, kernel_of};
-ghost use Rattle.call_table.specs.Entries.{HasRunPart, IfEntered, IfEnters, IfParked, IfWaits, IsOf};
+ghost use Rattle.call_table.specs.Entries.{HasRunPart, IfEnters, IfWaits, IsOf};
 ghost use Rattle.call_table.specs.Entries.{IsWholeTo, NextIn, ReadyIs, RunsIn, StepsTo, is_touching};
 ghost use Rattle.call_table.specs.Moves.{Moves};
 ghost use Rattle.call_table.specs.Parks.{Parks};
 
 use crate::answers::{call_entry, finish, go_on, make_child, put_to_sleep};
 use crate::entered::{Entered, Turn};
-use crate::parked::Spot;
-use kernel_calls::{
-    Called, Context, Effect, Ran, args_of, call, call_of, commit, end_group, run, step,
-};
+use crate::used::Spot;
+use call_fs::call;
+use kernel_calls::{Called, Context, Effect, Ran, args_of, call_of, commit, end_group, run, step};
 use kernel_model::{Entry, GuestSpace, Named, Next};
 use proc_cells::{Cells, Standing};
 use quantum::QUANTUM;
@@ -93,6 +92,7 @@ pub(crate) fn advance(
             entry: Entry::Run { task, n: ran.count },
             tasks: false,
             areas: false,
+            touched: None,
         }));
     }
     let context = Context {
@@ -105,21 +105,9 @@ pub(crate) fn advance(
     };
     match ran.next {
         Next::Goes => unreachable!(),
-        Next::Calls => match answer(alloc, cells, &context, standing)? {
-            Some(made) => Ok(Turn::Enters(made)),
-            None => Ok(Turn::Waits(Spot {
-                memory: standing.memory,
-                in_area: false,
-            })),
-        },
+        Next::Calls => answer(alloc, cells, &context, standing, false),
         Next::Traps(signal) => Ok(Turn::Enters(end(alloc, cells, &context, standing, signal)?)),
-        Next::Touches(_) => match touch(alloc, cells, &context, standing)? {
-            Some(made) => Ok(Turn::Enters(made)),
-            None => Ok(Turn::Waits(Spot {
-                memory: standing.memory,
-                in_area: true,
-            })),
-        },
+        Next::Touches(_) => touch(alloc, cells, &context, standing),
     }
 }
 
@@ -147,6 +135,7 @@ pub(crate) fn go_on_woken(
         entry: call_entry(alloc, task, &standing.registers, 0),
         tasks: false,
         areas: false,
+        touched: None,
     }
 }
 
@@ -166,7 +155,7 @@ fn run_standing(
     ensures whole { IfOk result (λ r. (beside : Beside) (n m : ℕ) →
         is_whole (Entry.Run task r.count) (kernel_of cells.old beside n) (kernel_of cells.new beside m) ≡ true) }
     ensures moves { IfOk result (λ r. Moves task standing.memory
-        (record { entry = Entry.Run task r.count; tasks = false; areas = false }) cells.old cells.new) }
+        (record { entry = Entry.Run task r.count; tasks = false; areas = false; touched = None }) cells.old cells.new) }
     ensures none { IfOk result (λ r. r.count ≡ 0 → AreKept cells.old cells.new) }
     ensures next { IfOk result (λ r. r.count ≡ 0 → touches_area r.next ≡ false → NextIn cells.old task r.next) }
     ensures touching { IfOk result (λ r. r.count ≡ 0 → is_touching cells.old task ≡ touches_area r.next) }
@@ -192,7 +181,7 @@ fn touch(
     cells: &mut Cells,
     context: &Context<'_>,
     standing: Standing,
-) -> Result<Option<Entered>, Memory>
+) -> Result<Turn, Memory>
     requires stands { StandsAs cells.old context.now.task standing }
     requires known { IsOf context.now standing }
     requires place { 0 < context.now.place }
@@ -202,29 +191,29 @@ fn touch(
     requires there { IsTrue (map.contains_key cells.old.tasks.groups standing.group) }
     requires lives { IsFalse (has_ended cells.old.tasks.groups standing.group) }
     requires registers { IsTrue (map.contains_key cells.old.registers context.now.task) }
-    ensures step { IfEntered result (λ made.
+    ensures step { IfEnters result (λ made.
         StepsTo cells.old cells.new context.now.seed.now context.now.place made.entry) }
-    ensures whole { IfEntered result (λ made. IsWholeTo cells.old cells.new made.entry) }
-    ensures task { IfEntered result (λ made. task_of made.entry ≡ context.now.task) }
-    ensures numbers { IfEntered result (λ made. numbers_in made.entry ≡ []) }
-    ensures ready { IfEntered result (λ made. ReadyIs cells.old context.now.task true) }
-    ensures moves { IfEntered result (λ made.
+    ensures whole { IfEnters result (λ made. IsWholeTo cells.old cells.new made.entry) }
+    ensures task { IfEnters result (λ made. task_of made.entry ≡ context.now.task) }
+    ensures numbers { IfEnters result (λ made. numbers_in made.entry ≡ []) }
+    ensures ready { IfEnters result (λ made. ReadyIs cells.old context.now.task true) }
+    ensures moves { IfEnters result (λ made.
         Moves context.now.task standing.memory made cells.old cells.new) }
-    ensures waits { IfParked result (ReadyIs cells.old context.now.task false) }
-    ensures parks { IfParked result (Parks cells.old context.now.task
-        (record { memory = standing.memory; in_area = true })) }
-    ensures kept { IfParked result (AreKept cells.old cells.new) }
+    ensures waits { IfWaits result (λ _. ReadyIs cells.old context.now.task false) }
+    ensures parks { IfWaits result (Parks cells.old context.now.task) }
+    ensures kept { IfWaits result (λ _. AreKept cells.old cells.new) }
     ensures memory { OnErr result (HasRunPart context.now.task cells.old cells.new) }
 {
     let task = context.task;
     match step_standing(alloc, cells, task, standing)? {
-        Next::Goes => Ok(Some(Entered {
+        Next::Goes => Ok(Turn::Enters(Entered {
             entry: Entry::Run { task, n: 1 },
             tasks: false,
             areas: true,
+            touched: None,
         })),
-        Next::Calls => answer(alloc, cells, context, standing),
-        Next::Traps(signal) => Ok(Some(end(alloc, cells, context, standing, signal)?)),
+        Next::Calls => answer(alloc, cells, context, standing, true),
+        Next::Traps(signal) => Ok(Turn::Enters(end(alloc, cells, context, standing, signal)?)),
         Next::Touches(_) => unreachable!(),
     }
 }
@@ -245,7 +234,7 @@ fn step_standing(
     ensures step { IfOk result (λ next. next ≡ Next.Goes → (beside : Beside) (n : ℕ) →
         step (kernel_of cells.old beside n) (Entry.Run task 1) ≡ Some (kernel_of cells.new beside (n + 1))) }
     ensures moves { IfOk result (λ next. Moves task standing.memory
-        (record { entry = Entry.Run task 1; tasks = false; areas = true }) cells.old cells.new) }
+        (record { entry = Entry.Run task 1; tasks = false; areas = true; touched = None }) cells.old cells.new) }
     ensures next { IfOk result (λ next. NextIn cells.old task next) }
     ensures told { IfOk result (λ next. touches_area next ≡ false) }
     ensures kept { IfOk result (λ next. goes_on next ≡ false → AreKept cells.old cells.new) }
@@ -263,16 +252,18 @@ fn step_standing(
     Ok(next)
 }
 
-/// Answers the call that a live task stands at, or puts the task to sleep, or leaves it waiting. Want of memory
-/// leaves what was there.
+/// Answers the call that a live task stands at, whose instruction may lie in a shared area, or puts the task to sleep,
+/// or leaves it waiting. Want of memory leaves what was there.
 fn answer(
     alloc: Global,
     cells: &mut Cells,
     context: &Context<'_>,
     standing: Standing,
-) -> Result<Option<Entered>, Memory>
+    in_area: bool,
+) -> Result<Turn, Memory>
     requires stands { StandsAs cells.old context.now.task standing }
     requires known { IsOf context.now standing }
+    requires told { in_area ≡ is_touching cells.old context.now.task }
     requires place { 0 < context.now.place }
     requires alive { IsTrue (is_live cells.old.tasks.tasks context.now.task) }
     requires awake { IsAwake cells.old context.now.task }
@@ -280,18 +271,17 @@ fn answer(
     requires there { IsTrue (map.contains_key cells.old.tasks.groups standing.group) }
     requires lives { IsFalse (has_ended cells.old.tasks.groups standing.group) }
     requires registers { IsTrue (map.contains_key cells.old.registers context.now.task) }
-    ensures step { IfEntered result (λ made.
+    ensures step { IfEnters result (λ made.
         StepsTo cells.old cells.new context.now.seed.now context.now.place made.entry) }
-    ensures whole { IfEntered result (λ made. IsWholeTo cells.old cells.new made.entry) }
-    ensures task { IfEntered result (λ made. task_of made.entry ≡ context.now.task) }
-    ensures numbers { IfEntered result (λ made. numbers_in made.entry ≡ []) }
-    ensures ready { IfEntered result (λ made. ReadyIs cells.old context.now.task true) }
-    ensures moves { IfEntered result (λ made.
+    ensures whole { IfEnters result (λ made. IsWholeTo cells.old cells.new made.entry) }
+    ensures task { IfEnters result (λ made. task_of made.entry ≡ context.now.task) }
+    ensures numbers { IfEnters result (λ made. numbers_in made.entry ≡ []) }
+    ensures ready { IfEnters result (λ made. ReadyIs cells.old context.now.task true) }
+    ensures moves { IfEnters result (λ made.
         Moves context.now.task standing.memory made cells.old cells.new) }
-    ensures waits { IfParked result (ReadyIs cells.old context.now.task false) }
-    ensures parks { IfParked result (Parks cells.old context.now.task
-        (record { memory = standing.memory; in_area = is_touching cells.old context.now.task })) }
-    ensures kept { IfParked result (AreKept cells.old cells.new) }
+    ensures waits { IfWaits result (λ _. ReadyIs cells.old context.now.task false) }
+    ensures parks { IfWaits result (Parks cells.old context.now.task) }
+    ensures kept { IfWaits result (λ _. AreKept cells.old cells.new) }
     ensures memory { OnErr result (HasRunPart context.now.task cells.old cells.new) }
 {
     let registers = standing.registers;
@@ -313,14 +303,22 @@ fn answer(
         &cells.tasks,
         &cells.sleepers,
         console,
+        &cells.files,
     )?;
     match called {
         Called::Replies(prepared) => {
-            Ok(Some(finish(alloc, cells, context, registers, prepared)?))
+            Ok(Turn::Enters(finish(alloc, cells, context, registers, prepared)?))
         }
-        Called::Makes(child) => Ok(Some(make_child(alloc, cells, context, registers, child)?)),
-        Called::Sleeps(key) => Ok(Some(put_to_sleep(cells, context.task, key)?)),
-        Called::Waits => Ok(None),
+        Called::Makes(child) => Ok(Turn::Enters(make_child(
+            alloc, cells, context, registers, child,
+        )?)),
+        Called::Sleeps(key) => Ok(Turn::Enters(put_to_sleep(cells, context.task, key)?)),
+        Called::Waits(awaited) => Ok(Turn::Waits(Spot {
+            memory: standing.memory,
+            table: standing.table,
+            in_area,
+            awaited,
+        })),
     }
 }
 
@@ -380,5 +378,6 @@ fn end(
         },
         tasks: true,
         areas: true,
+        touched: None,
     })
 }

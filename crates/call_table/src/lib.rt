@@ -9,8 +9,9 @@
 //! descriptors, a child process has a copy of its parent's, and a thread group that ends closes its own.
 //!
 //! A task that sleeps on a futex word is not looked at before it was woken, and one whose call waits not before the
-//! list of tasks has changed, another task of its memory made an entry, or, where the call lies in a shared area, an
-//! area may have changed; who that is is found without a walk over all tasks.
+//! list of tasks has changed, another task of its memory made an entry, or something else may have changed that the
+//! call used: a shared area, or a pipe, its description or the descriptor table that it was found by. Who that is is
+//! found without a walk over all tasks.
 //!
 //! Proved: with an opening task more the processes are the kernel with that task (`begun`). A run of turns is a history
 //! of the kernel that the processes are with that seed, whatever else stands beside them (`history`), each of whose
@@ -27,11 +28,15 @@
 mod answers;
 mod entered;
 mod entries;
+mod index;
 mod parked;
 mod parking;
 mod processes;
 mod schedule;
+mod touched;
 mod turns;
+mod used;
+mod users;
 
 pub use processes::Processes;
 pub use turns::{Ran, run_turns};

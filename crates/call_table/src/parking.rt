@@ -1,11 +1,17 @@
 //! Which tasks are looked at for the next turn, and which are parked until something that they used changes.
 
-ghost use Rattle.std.specs.Prelude.{◌≡◌, ◌||◌, ◌&&◌, ℕ, None, OnErr, OnOk, true};
+ghost use Rattle.std.specs.Prelude.{◌≡◌, ◌||◌, ◌&&◌, ℕ, None, Some, OnErr, OnOk, true, if◌then◌else◌};
+ghost use Rattle.std.specs.Option.{option_map};
 ghost use Rattle.std.specs.FinMap as map;
 ghost use Rattle.sn_base.specs.MapKeys.{IsLeastAbove};
-ghost use Rattle.call_table.specs.Parked.{AreApart, AreNumbers, same_made};
+ghost use Rattle.call_table.specs.Touched.{are_named, is_touched_by, is_used};
+ghost use Rattle.call_table.specs.Used.{has_description, has_pipe, same_made, uses_areas};
+ghost use Rattle.call_table.specs.Users.{AreNumbers};
+ghost use Rattle.call_table.specs.declared.used.Used.{Used as AUsed};
 
-use crate::parked::{Parked, Spot};
+use crate::entered::{Touched, UpToTwo};
+use crate::parked::Parked;
+use crate::used::{Spot, Used};
 use sn_base::{Made, Map, Memory};
 use std::alloc::Global;
 
@@ -15,12 +21,8 @@ use std::alloc::Global;
 pub(crate) struct Parking {
     /// The tasks that are looked at, by number.
     pub(crate) awake: Map<()>,
-    /// The parked tasks whose call lies in their own memory.
-    pub(crate) alone: Parked,
-    /// The parked tasks whose call lies in a shared area.
-    pub(crate) in_areas: Parked,
+    pub(crate) parked: Parked,
     ghost numbers: { AreNumbers awake },
-    ghost apart: { AreApart alone.tasks in_areas.tasks },
 }
 
 impl Parking {
@@ -33,8 +35,7 @@ impl Parking {
     {
         Parking {
             awake: Map::new(alloc),
-            alone: Parked::new(alloc),
-            in_areas: Parked::new(alloc),
+            parked: Parked::new(alloc),
         }
     }
 
@@ -67,39 +68,57 @@ impl Parking {
 
     /// Parks a task with what it used: it is looked at no more.
     pub(crate) fn park(&mut self, alloc: Global, task: u32, spot: Spot) -> Result<(), Memory>
-        requires { parked_at self.old task ≡ None }
         ensures awake { OnOk result (self.new.awake ≡ map.remove self.old.awake task) }
         ensures parked { OnOk result (IsParkedAt task spot self.old self.new) }
     {
-        self.list(alloc, task, spot)?;
+        self.parked.park(alloc, task, spot)?;
         self.rest(task);
         Ok(())
     }
 
-    /// Parks a task with what it used, and leaves who is looked at.
-    fn list(&mut self, alloc: Global, task: u32, spot: Spot) -> Result<(), Memory>
-        requires { parked_at self.old task ≡ None }
-        ensures awake { self.new.awake ≡ self.old.awake }
-        ensures parked { OnOk result (IsParkedAt task spot self.old self.new) }
+    /// Has the tasks be looked at again that are parked with a memory, and where areas may have changed, those that
+    /// used any. Where there are none, this is two look-ups.
+    pub(crate) fn wake_in(&mut self, alloc: Global, memory: Made, areas: bool) -> Result<(), Memory>
+        ensures { OnOk result (AreWoken
+            (λ spot. same_made spot.memory memory || (uses_areas spot && areas)) self.old self.new) }
     {
-        if spot.in_area {
-            self.in_areas.park(alloc, task, spot.memory)
-        } else {
-            self.alone.park(alloc, task, spot.memory)
-        }
+        self.wake_users(alloc, Some(Used::Memory(memory)))?;
+        self.wake_users(alloc, areas_if(areas))
     }
 
-    /// Has the tasks be looked at again that are parked with a memory, and where areas may have changed, those whose
-    /// call lies in one. Where there are none, this is two look-ups.
-    pub(crate) fn wake_in(&mut self, alloc: Global, memory: Made, areas: bool) -> Result<(), Memory>
-        ensures { OnOk result
-            (AreWoken (λ s. (s.in_area && areas) || same_made s.memory memory) self.old self.new) }
+    /// Has the tasks be looked at again that are parked with what an entry touched of what is open.
+    pub(crate) fn wake_touched(&mut self, alloc: Global, touched: &Touched) -> Result<(), Memory>
+        ensures { OnOk result (AreWoken (λ spot. is_touched_by touched.now spot) self.old self.new) }
     {
-        self.alone.wake_in(alloc, memory, &mut self.awake)?;
-        if areas {
-            self.in_areas.wake_all(alloc, &mut self.awake)
-        } else {
-            self.in_areas.wake_in(alloc, memory, &mut self.awake)
+        self.wake_users(alloc, Some(Used::Table(touched.table)))?;
+        self.wake_descriptions(alloc, touched.descriptions)?;
+        self.wake_pipes(alloc, touched.pipes)
+    }
+
+    /// Has the tasks be looked at again that are parked with one of these open file descriptions.
+    fn wake_descriptions(&mut self, alloc: Global, names: UpToTwo) -> Result<(), Memory>
+        ensures { OnOk result
+            (AreWoken (λ spot. has_description (are_named names) spot) self.old self.new) }
+    {
+        self.wake_users(alloc, description(names.first))?;
+        self.wake_users(alloc, description(names.second))
+    }
+
+    /// Has the tasks be looked at again that are parked with one of these pipes.
+    fn wake_pipes(&mut self, alloc: Global, names: UpToTwo) -> Result<(), Memory>
+        ensures { OnOk result (AreWoken (λ spot. has_pipe (are_named names) spot) self.old self.new) }
+    {
+        self.wake_users(alloc, pipe(names.first))?;
+        self.wake_users(alloc, pipe(names.second))
+    }
+
+    /// Has the tasks be looked at again that are parked with something that they used, where there is such a thing.
+    fn wake_users(&mut self, alloc: Global, used: Option<Used>) -> Result<(), Memory>
+        ensures { OnOk result (AreWoken (λ spot. is_used used spot) self.old self.new) }
+    {
+        match used {
+            Some(used) => self.parked.wake(alloc, used, &mut self.awake),
+            None => Ok(()),
         }
     }
 
@@ -107,7 +126,33 @@ impl Parking {
     pub(crate) fn wake_all(&mut self, alloc: Global) -> Result<(), Memory>
         ensures { OnOk result (AreWoken (λ _. true) self.old self.new) }
     {
-        self.alone.wake_all(alloc, &mut self.awake)?;
-        self.in_areas.wake_all(alloc, &mut self.awake)
+        self.parked.wake_all(alloc, &mut self.awake)
+    }
+}
+
+/// The shared areas, where they may have changed.
+fn areas_if(changed: bool) -> Option<Used>
+    ensures { result ≡ (if changed then Some AUsed.Areas else None) }
+{
+    if changed { Some(Used::Areas) } else { None }
+}
+
+/// An open file description of that name, where there is one.
+fn description(name: Option<Made>) -> Option<Used>
+    ensures { result ≡ option_map AUsed.Description name }
+{
+    match name {
+        Some(name) => Some(Used::Description(name)),
+        None => None,
+    }
+}
+
+/// A pipe of that name, where there is one.
+fn pipe(name: Option<Made>) -> Option<Used>
+    ensures { result ≡ option_map AUsed.Pipe name }
+{
+    match name {
+        Some(name) => Some(Used::Pipe(name)),
+        None => None,
     }
 }

@@ -15,7 +15,8 @@ ghost use Rattle.proc_cells.specs.Cells.{AreKept, held_by, kernel_of as kernel_o
 ghost use Rattle.call_table.specs.Entries.{HasRunPart, IfEntered, IfParked, IsWholeTo, ReadyIs, StepsTo};
 
 use elf_image::Image;
-use kernel_calls::{Beginning, open_files, open_task, opened};
+use file_changes::open_files;
+use kernel_calls::{Beginning, open_task, opened};
 use mount_file::Program;
 use proc_cells::Cells;
 use sn_base::Memory;

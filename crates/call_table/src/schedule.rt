@@ -13,8 +13,8 @@ ghost use Rattle.proc_cells.specs.Beside.{Beside};
 ghost use Rattle.proc_cells.specs.declared.cells.Cells.{Cells as ACells};
 ghost use Rattle.proc_cells.specs.Cells.{AreKept, StandsAs, kernel_of};
 ghost use Rattle.call_table.specs.Entries.{IfEntered, IfParked, IsWholeTo, ReadyIs, StepsTo};
-ghost use Rattle.call_table.specs.Moves.{Moves, puts_to_sleep};
-ghost use Rattle.call_table.specs.Parking.{AreAlike};
+ghost use Rattle.call_table.specs.Moves.{Moves, is_woken_by, puts_to_sleep};
+ghost use Rattle.call_table.specs.Parking.{AreAlike, AreWoken};
 ghost use Rattle.call_table.specs.Schedules.{AreParked, AreParkedBut, IsCandidate, IsNextAbove, is_child, is_off};
 
 use crate::entered::{Entered, Turn};
@@ -194,10 +194,21 @@ fn settle(
 {
     rest_asleep(parking, task, &made.entry);
     look_at_child(parking, cells, last)?;
+    wake_by(alloc, parking, memory, made)
+}
+
+/// Has the parked tasks be looked at again that used something which an entry of a task with this memory may have
+/// changed.
+fn wake_by(alloc: Global, parking: &mut Parking, memory: Made, made: &Entered) -> Result<(), Memory>
+    ensures { OnOk result (AreWoken (is_woken_by made.now memory) parking.old parking.new) }
+{
     if made.tasks {
-        parking.wake_all(alloc)
-    } else {
-        parking.wake_in(alloc, memory, made.areas)
+        return parking.wake_all(alloc);
+    }
+    parking.wake_in(alloc, memory, made.areas)?;
+    match &made.touched {
+        Some(touched) => parking.wake_touched(alloc, touched),
+        None => Ok(()),
     }
 }
 

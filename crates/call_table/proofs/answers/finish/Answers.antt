@@ -6,10 +6,10 @@ use Rattle.kernel_model.specs.Names.{get_named}
 use Rattle.kernel_calls.proofs.Effects.{kept}
 use Rattle.proc_cells.specs.Beside.{AreAtHome, kernel_with, nothing_beside, nothing_held}
 use Rattle.proc_cells.specs.Cells.{kernel_of}
-use Rattle.call_table.specs.Moves.{puts_to_sleep}
+use Rattle.call_table.specs.Moves.{FilesMove, puts_to_sleep}
 use Rattle.call_table.proofs.Homes.{home_committed}
 use Rattle.call_table.proofs.Moves.{lists_of, moves_done, others_go_on}
-use Rattle.call_table.proofs.Moving.{Lists, files_stay, lists_after, lists_are}
+use Rattle.call_table.proofs.Moving.{Lists, files_by, lists_after, lists_are}
 use Rattle.call_table.proofs.Results.{by_result}
 use Rattle.call_table.proofs.answers.finish.Goals as goal
 
@@ -55,7 +55,9 @@ returns-clause-moves c =
     ∙ ap (λ w. record { tasks = c.commit.new.tasks; sleepers = w }) c.go_on.ensures.sleepers ∙ did)
     c.requires.own c.requires.ended c.requires.awake (ap puts_to_sleep c.call_entry-entry.ensures)
     c.changes_list-tasks.ensures (λ e. c.go_on.ensures.areas)
-    (λ e. c.go_on.ensures.files ∙ files_stay effect group k c.commit.new.files (ap (λ (m : Kernel). m.files) does) e)
+    (λ e. subst (FilesMove c.touched_by-touched.result p.files)
+    (files_by effect group k ∙ ap (λ (m : Kernel). m.files) does ∙ sym c.go_on.ensures.files)
+    (c.touched_by-touched.ensures e))
     (record {
       registers = λ other apart.
           others_go_on p.registers q.registers task other _ c.go_on.ensures.registers apart;

@@ -6,11 +6,10 @@ use Rattle.kernel_model.specs.declared.entry.Entry.{Entry}
 use Rattle.kernel_model.specs.declared.kernel.Kernel.{Kernel}
 use Rattle.kernel_model.specs.Names.{NamedMap, get_named, with_named}
 use Rattle.kernel_model.specs.machine.Registers.{args_of, call_of}
-use Rattle.kernel_model.specs.calls.Table.{call_row}
-use Rattle.kernel_model.specs.entries.Parts.{parts, changed}
+use Rattle.kernel_model.specs.entries.Parts.{parts}
 use Rattle.kernel_model.specs.entries.Steps.{step}
 use Rattle.kernel_calls.specs.Children.{with_child}
-use Rattle.kernel_calls.specs.Prepared.{IfWaits, IsApart, WaitsWith, changes_of}
+use Rattle.kernel_calls.specs.Prepared.{IsApart, with_effect}
 use Rattle.kernel_calls.specs.declared.prepared.Called.TheVariants.{Replies, Makes, Sleeps, Waits}
 use Rattle.proc_cells.specs.Beside.{Held, kernel_with}
 use Rattle.proc_cells.specs.Cells.{held_by, kernel_of, caller_with}
@@ -19,7 +18,7 @@ use Rattle.call_table.proofs.Kept.{part_none}
 use Rattle.call_table.proofs.Moves.{moves_behind, others_stay, takes_bytes}
 use Rattle.call_table.proofs.Parks.{parks_of}
 use Rattle.call_table.proofs.Results.{err_by}
-use Rattle.call_table.proofs.Steps.{comes_here, effect_alike, own_same, ready_called, step_call, step_sleep}
+use Rattle.call_table.proofs.Steps.{comes_here, own_same, ready_called, step_call, step_sleep}
 use Rattle.call_table.proofs.entries.answer.Goals as goal
 
 pub invariant_of-cells : goal.invariant_of-cells
@@ -105,8 +104,7 @@ returns-in_ok-finish-in-Replies-clause-step c = λ beside n seed place.
     (record { fresh = []; rises = [] }) c.in-Replies.prepared.reply answers.changes h p.registers
     c.finish.new.cells.registers beside n c.requires.awake c.requires.calls refl refl refl answers.row_is
     (answers.done_is
-    ∙ effect_alike effect c.args.standing.group k m refl refl refl refl
-    ∙ ap (λ g. changed (changes_of effect g (parts m)) m) (sym c.requires.known.group)
+    ∙ ap (λ g. with_effect effect g m) (sym c.requires.known.group)
     ∙ c.in_ok-finish-in-Replies.ensures.does m refl refl refl refl)
     c.in_ok-finish-in-Replies.ensures.registers
     ∙ ap (λ (y : Held). Some (kernel_with y beside (n + 1))) (
@@ -212,7 +210,7 @@ returns-in_ok-put_to_sleep-in-Sleeps-clause-ready c =
 pub returns-in-Waits-clause-waits : goal.returns-in-Waits-clause-waits
 returns-in-Waits-clause-waits c =
     ready_called c.args.cells.now c.args.context.now.task c.args.standing c.requires.stands c.args.context.now
-    Waits c.call.new.space c.call.new.areas c.requires.place c.requires.awake c.requires.calls
+    (Waits c.in-Waits.awaited) c.call.new.space c.call.new.areas c.requires.place c.requires.awake c.requires.calls
     (comes_here c.args.cells.now c.args.context.now.task c.args.standing c.requires.stands c.args.context.now
     c.in-Some.space.now c.len-console.result c.in_ok-called.called _ c.call.new.space c.call.new.areas c.call_of.result
     c.args_of.result refl c.requires.known (sym c.in-Some.ensures.value) c.len-console.ensures c.call_of.ensures
@@ -270,8 +268,8 @@ returns-in_ok-put_to_sleep-in-Sleeps-clause-moves c =
 
 pub returns-in-Waits-clause-parks : goal.returns-in-Waits-clause-parks
 returns-in-Waits-clause-parks c =
-    parks_of c.args.cells.now c.args.context.now.task c.args.standing c.call_of.result c.args.context.now.group
-    c.args_of.result c.requires.stands c.requires.awake c.requires.calls c.requires.known.group
-    c.call_of.ensures c.args_of.ensures
-    (subst (λ d. IfWaits d (WaitsWith c.args.context.now.group c.args.cells.now.tasks
-    (λ context x. call_row context x c.call_of.result c.args_of.result))) c.in-Waits.is c.in_ok-called.ensures.waits)
+    parks_of c.args.cells.now c.args.context.now.task c.args.standing c.call_of.result c.args_of.result
+    c.args.context.now c.in-Some.space.now c.len-console.result c.in_ok-called.called c.in-Waits.awaited c.args.in_area
+    c.requires.stands c.requires.awake c.requires.calls c.requires.told refl c.requires.known c.requires.place
+    (sym c.in-Some.ensures.value) c.len-console.ensures c.call_of.ensures c.args_of.ensures
+    c.in_ok-called.ensures.waits c.in-Waits.is

@@ -15,7 +15,7 @@ use Rattle.call_table.proofs.Kept.{part_none}
 use Rattle.call_table.proofs.Moves.{lists_of, moves_done, others_stay}
 use Rattle.call_table.proofs.Moving.{Lists, lists_are}
 use Rattle.call_table.proofs.Results.{by_result, err_by}
-use Rattle.call_table.proofs.Steps.{calling_here, effect_alike, own_same, ready_next, step_end}
+use Rattle.call_table.proofs.Steps.{calling_here, own_same, ready_next, step_end}
 use Rattle.call_table.proofs.entries.end.Goals as goal
 
 pub invariant_of-cells : goal.invariant_of-cells
@@ -72,7 +72,6 @@ returns-clause-step c = λ beside n seed place.
       console = c.commit.new.console;
     }) beside n c.requires.awake c.requires.traps
     (ends.done_is
-    ∙ effect_alike (EndsGroup c.in_ok-ending.ending) c.args.standing.group k m refl refl refl refl
     ∙ c.in_ok-commit.ensures.ok m refl refl refl refl)
 
 pub returns-clause-ready : goal.returns-clause-ready

@@ -1,6 +1,6 @@
 -- A run of a task's instructions is a step of the kernel, or nothing.
 use Rattle.std.proofs.Common.{◌≡◌, ℕ, ◌<◌, false, refl, ap, ◌∙◌, arith}
-use Rattle.std.specs.Prelude.{Result, Ok, Err, IfOk, OnErr}
+use Rattle.std.specs.Prelude.{Result, Ok, Err, IfOk, OnErr, None}
 use Rattle.std.specs.FinMap as map
 use Rattle.rv_table.specs.declared.regs.Regs.{Regs}
 use Rattle.mm_space.specs.Spaces.{AddressSpace}
@@ -74,8 +74,8 @@ pub returns-clause-moves : goal.returns-clause-moves
 returns-clause-moves c =
     with_ok _ _ _ c.run_in-ran.result (λ r runs within.
     moves_alone c.args.task c.args.standing.memory
-    (record { entry = Run c.args.task r.count; tasks = false; areas = false }) c.args.cells.now _ refl refl
-    c.requires.awake refl (λ e. refl) refl (record {
+    (record { entry = Run c.args.task r.count; tasks = false; areas = false; touched = None })
+    c.args.cells.now _ refl refl c.requires.awake refl (λ e. refl) refl (record {
       registers = λ other apart.
           others_go_on c.args.cells.now.registers c.replace.new.self c.args.task other c.run_in-ran.new.registers
           (c.replace.ensures

@@ -1,18 +1,24 @@
 -- An instruction that touches a shared area is an entry of its own, or the task calls or traps by it.
-use Rattle.std.proofs.Common.{ap, true, false, ◌∙◌}
+use Rattle.std.proofs.Common.{ap, sym, true, false, ◌∙◌}
 use Rattle.kernel_model.specs.machine.Instructions.{goes_on}
-use Rattle.call_table.specs.Entries.{ReadyIs, is_touching}
+use Rattle.call_table.specs.Entries.{ReadyIs}
 use Rattle.call_table.specs.Moves.{Moves}
+use Rattle.call_table.specs.Parks.{Parks}
 use Rattle.call_table.proofs.Kept.{stands_kept, part_kept, part_behind, ready_kept}
 use Rattle.call_table.proofs.Moves.{moves_kept}
-use Rattle.call_table.proofs.Parks.{parks_kept, parks_told, touching_kept}
-use Rattle.call_table.proofs.Results.{entered_behind, parked_behind, on_err, err_by}
+use Rattle.call_table.proofs.Parks.{parks_kept, touching_kept}
+use Rattle.call_table.proofs.Results.{enters_behind, waits_behind, on_err, err_by}
 use Rattle.call_table.proofs.entries.touch.Goals as goal
 
 pub answer-requires-clause-stands : goal.answer-requires-clause-stands
 answer-requires-clause-stands c =
     stands_kept c.args.cells.now c.step_standing.new.cells c.args.context.now.task c.args.standing
     (c.in_ok-step_standing.ensures.kept (ap goes_on c.in-Calls.is)) c.requires.stands
+
+pub answer-requires-clause-told : goal.answer-requires-clause-told
+answer-requires-clause-told c =
+    sym (touching_kept c.args.cells.now c.step_standing.new.cells c.args.context.now.task
+    (c.in_ok-step_standing.ensures.kept (ap goes_on c.in-Calls.is)) ∙ c.requires.touches)
 
 pub end-requires-clause-stands : goal.end-requires-clause-stands
 end-requires-clause-stands c =
@@ -42,15 +48,16 @@ returns-in-Goes-clause-ready c = c.in_ok-step_standing.ensures.ready c.in-Goes.i
 
 pub returns-in-Calls-clause-ready : goal.returns-in-Calls-clause-ready
 returns-in-Calls-clause-ready c =
-    entered_behind c.answer.result (λ entry. ReadyIs c.step_standing.new.cells c.args.context.now.task true)
+    enters_behind c.answer.result (λ entry. ReadyIs c.step_standing.new.cells c.args.context.now.task true)
     (λ entry. ReadyIs c.args.cells.now c.args.context.now.task true)
     (λ entry. ready_kept c.args.cells.now c.step_standing.new.cells c.args.context.now.task true
     (c.in_ok-step_standing.ensures.kept (ap goes_on c.in-Calls.is))) c.answer.ensures.ready
 
 pub returns-in-Calls-clause-waits : goal.returns-in-Calls-clause-waits
 returns-in-Calls-clause-waits c =
-    parked_behind c.answer.result
-    (ready_kept c.args.cells.now c.step_standing.new.cells c.args.context.now.task false
+    waits_behind c.answer.result (λ spot. ReadyIs c.step_standing.new.cells c.args.context.now.task false)
+    (λ spot. ReadyIs c.args.cells.now c.args.context.now.task false)
+    (λ spot. ready_kept c.args.cells.now c.step_standing.new.cells c.args.context.now.task false
     (c.in_ok-step_standing.ensures.kept (ap goes_on c.in-Calls.is))) c.answer.ensures.waits
 
 pub returns-in_ok-end-in-Traps-clause-ready : goal.returns-in_ok-end-in-Traps-clause-ready
@@ -67,7 +74,7 @@ returns-in-Calls-clause-moves c =
     let q = c.answer.new.cells in
     let task = c.args.context.now.task in
     let memory = c.args.standing.memory in
-    entered_behind c.answer.result (λ made. Moves task memory made b q) (λ made. Moves task memory made p q)
+    enters_behind c.answer.result (λ made. Moves task memory made b q) (λ made. Moves task memory made p q)
     (λ made. moves_kept task memory made p b q (c.in_ok-step_standing.ensures.kept (ap goes_on c.in-Calls.is)))
     c.answer.ensures.moves
 
@@ -78,8 +85,6 @@ returns-in-Calls-clause-parks c =
     let p = c.args.cells.now in
     let b = c.step_standing.new.cells in
     let task = c.args.context.now.task in
-    let kept = c.in_ok-step_standing.ensures.kept (ap goes_on c.in-Calls.is) in
-    parked_behind c.answer.result (λ parks.
-    parks_kept p b task (record { memory = c.args.standing.memory; in_area = true }) kept
-    (parks_told b task c.args.standing.memory (is_touching b task) true
-    (touching_kept p b task kept ∙ c.requires.touches) parks)) c.answer.ensures.parks
+    waits_behind c.answer.result (Parks b task) (Parks p task)
+    (λ spot. parks_kept p b task spot (c.in_ok-step_standing.ensures.kept (ap goes_on c.in-Calls.is)))
+    c.answer.ensures.parks

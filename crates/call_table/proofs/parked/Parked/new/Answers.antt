@@ -1,9 +1,10 @@
--- Where none is parked, none is listed.
-use Rattle.call_table.proofs.ByMemory.{linked_none, numbers_of_none}
+-- Where none is parked, none is to be listed.
+use Rattle.call_table.proofs.UserLists.{numbers_of_none}
+use Rattle.call_table.proofs.Woken.{listed_none, none_parked}
 use Rattle.call_table.proofs.parked.Parked.new.Goals as goal
 
 pub invariant_of-result : goal.invariant_of-result
 invariant_of-result c = record {
-  linked = linked_none c.new.result c.new-2.result c.new.ensures c.new-2.ensures;
+  listed = listed_none c.new.result c.new-2.result (none_parked c.new.result c.new.ensures);
   numbers = numbers_of_none c.new.result c.new.ensures;
 }

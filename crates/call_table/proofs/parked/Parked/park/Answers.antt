@@ -1,52 +1,31 @@
--- A task that is parked is listed with its memory, or neither.
-use Rattle.std.proofs.Common.{◌≡◌, ◌∙◌, ℕ, ap, sym, subst, arith}
-use Rattle.std.specs.Prelude.{None}
+-- A task that is parked is listed with all that it used.
+use Rattle.std.proofs.Common.{◌≡◌, ◌<◌, ◌^◌, sym, subst, arith}
 use Rattle.std.specs.Ordering.{nat_cmp}
 use Rattle.std.specs.FinMap as map
-use Rattle.sn_base.proofs.Maps.{remove-insert, remove_absent}
-use Rattle.sn_base.specs.declared.made.Made.{Made}
-use Rattle.kernel_model.specs.Names.{NamedMap}
-use Rattle.call_table.specs.Parked.{AreLinked, AreNumbers}
-use Rattle.call_table.proofs.ByMemory.{linked_more, numbers_more}
+use Rattle.call_table.specs.Parked.{AreListed}
+use Rattle.call_table.specs.Users.{AreNumbers}
+use Rattle.call_table.specs.declared.used.Spot.{Spot}
+use Rattle.call_table.proofs.Results.{by_result}
+use Rattle.call_table.proofs.UserLists.{numbers_more}
+use Rattle.call_table.proofs.Woken.{listed_more_with, listed_one}
 use Rattle.call_table.proofs.parked.Parked.park.Goals as goal
 
-pub invariant_of-self-in-Ok : goal.invariant_of-self-in-Ok
-invariant_of-self-in-Ok c =
+pub invariant_of-self-2 : goal.invariant_of-self-2
+invariant_of-self-2 c =
     let before = c.args.self.now in
     let number = c.from-number.result in
-    let none : map.get before.tasks number ≡ None = ap (map.get before.tasks) c.from-number.ensures ∙ c.requires in
+    let index = c.list.new.self in
+    let after = c.insert.new.self in
+    let small : number < 2 ^ 32 = omega arith in
     record {
-      linked =
-          linked_more before.tasks before.by_memory c.args.memory before.linked c.insert.new.self
-          c.enlist.new.by_memory number tt none c.in_ok-insert.ensures.ok c.in-Ok.ensures.ok;
-      numbers =
-          numbers_more before.tasks c.insert.new.self number c.args.memory c.in_ok-insert.ensures.ok
-          (omega arith) before.numbers;
+      listed = by_result c.insert.result c.insert.ensures.ok c.insert.ensures.err
+          (listed_one before.tasks after before.index index number c.args.spot before.listed c.list.ensures.more
+          c.in_ok-list.ensures.listed)
+          (λ (same : after ≡ before.tasks). subst (λ (m : map.FinMap nat_cmp Spot). AreListed m index) (sym same)
+          (listed_more_with before.tasks before.index index before.listed c.list.ensures.more));
+      numbers = by_result c.insert.result c.insert.ensures.ok c.insert.ensures.err
+          (λ (more : after ≡ map.insert before.tasks number c.args.spot).
+          numbers_more before.tasks after number c.args.spot more small before.numbers)
+          (λ (same : after ≡ before.tasks). subst (λ (m : map.FinMap nat_cmp Spot). AreNumbers m) (sym same)
+          before.numbers);
     }
-
--- where a list lacked memory, the task is taken out again
-back : (before inserted after : map.FinMap nat_cmp Made) (number task : ℕ) (memory : Made) → number ≡ task
-    → map.get before task ≡ None → inserted ≡ map.insert before number memory → after ≡ map.remove inserted number
-    → after ≡ before
-back before inserted after number task memory same free more less =
-    less ∙ ap (λ m. map.remove m number) more ∙ remove-insert before number memory
-    ∙ remove_absent before number (ap (map.get before) same ∙ free)
-
-pub invariant_of-self-in-Err : goal.invariant_of-self-in-Err
-invariant_of-self-in-Err c =
-    let before = c.args.self.now in
-    let same : c.remove.new.self ≡ before.tasks =
-    back before.tasks c.insert.new.self c.remove.new.self c.from-number.result c.args.task c.args.memory
-    c.from-number.ensures c.requires c.in_ok-insert.ensures.ok c.remove.ensures.after in
-    let P : map.FinMap nat_cmp Made → Type 0 = λ m. AreLinked m c.enlist.new.by_memory in
-    let Q : NamedMap (map.FinMap nat_cmp (Unit {0})) → Type 0 = λ m. AreLinked before.tasks m in
-    let R : map.FinMap nat_cmp Made → Type 0 = λ m. AreNumbers m in
-    record {
-      linked = subst P (sym same) (subst Q (sym c.in-Err.ensures.err) before.linked);
-      numbers = subst R (sym same) before.numbers;
-    }
-
-pub returns-in-Err-clause-err : goal.returns-in-Err-clause-err
-returns-in-Err-clause-err c =
-    back c.args.self.now.tasks c.insert.new.self c.remove.new.self c.from-number.result c.args.task c.args.memory
-    c.from-number.ensures c.requires c.in_ok-insert.ensures.ok c.remove.ensures.after

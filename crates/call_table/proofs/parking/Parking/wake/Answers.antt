@@ -3,8 +3,8 @@ use Rattle.std.proofs.Common.{◌≡◌, ℕ, ◌<◌, ◌^◌, arith, sym, subs
 use Rattle.std.specs.Prelude.{Result, Ok, Err, OnOk, OnErr}
 use Rattle.std.specs.Ordering.{nat_cmp}
 use Rattle.std.specs.FinMap as map
-use Rattle.call_table.specs.Parked.{AreNumbers}
-use Rattle.call_table.proofs.ByMemory.{numbers_more}
+use Rattle.call_table.specs.Users.{AreNumbers}
+use Rattle.call_table.proofs.UserLists.{numbers_more}
 use Rattle.call_table.proofs.parking.Parking.wake.Goals as goal
 
 either : {A E V : Type 0} (r : Result A E) (before after : map.FinMap nat_cmp V) (k : ℕ) (v : V) → k < 2 ^ 32
@@ -13,7 +13,9 @@ either (Ok _) before after k v small numbers ok err = numbers_more before after 
 either {V = V} (Err _) before after k v small numbers ok err =
     let P : map.FinMap nat_cmp V → Type 0 = λ m. AreNumbers m in subst P (sym err) numbers
 
-pub invariant_of-self-clause-numbers : goal.invariant_of-self-clause-numbers
-invariant_of-self-clause-numbers c =
-    either c.insert.result c.args.self.now.awake c.insert.new.self c.from.result tt (omega arith)
-    c.args.self.now.numbers c.insert.ensures.ok c.insert.ensures.err
+pub invariant_of-self : goal.invariant_of-self
+invariant_of-self c = record {
+  numbers =
+      either c.insert.result c.args.self.now.awake c.insert.new.self c.from.result tt (omega arith)
+      c.args.self.now.numbers c.insert.ensures.ok c.insert.ensures.err;
+}
