@@ -1,7 +1,8 @@
 //! Descriptors that are closed, and what goes with the last of a description.
 
 use crate::helpers::{TABLE, counted, done, ends, five_open, open_at};
-use call_fs::{FileChange, close, dup};
+use call_fs::{close, dup};
+use file_changes::FileChange;
 use std::test::Fail;
 
 #[test]

@@ -1,7 +1,8 @@
 //! fcntl and ioctl.
 
 use crate::helpers::{TABLE, done, five_open};
-use call_fs::{FileChange, dup, dup3, fcntl, ioctl};
+use call_fs::{dup, dup3, fcntl, ioctl};
+use file_changes::FileChange;
 use kernel_model::OpenFiles;
 use std::process::Abort;
 use std::test::Fail;

@@ -1,8 +1,9 @@
 //! Numbers that get what another stands for.
 
 use crate::helpers::{TABLE, counted, done, ends, five_open, open_at};
-use call_fs::{FileChange, close, dup, dup3};
+use call_fs::{close, dup, dup3};
 use fd_table::Descriptor;
+use file_changes::FileChange;
 use sn_base::Made;
 use std::test::Fail;
 

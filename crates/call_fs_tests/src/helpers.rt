@@ -1,8 +1,8 @@
 //! What is open where the tests begin, and how a call is done.
 
-use call_fs::{FilePrepared, commit_files};
+use call_fs::FilePrepared;
 use fd_table::{Access, Description, Descriptor, Object, PipeSide};
-use kernel_calls::open_files;
+use file_changes::{change_files, open_files};
 use kernel_model::{OpenFile, OpenFiles};
 use pipe_core::Pipe;
 use sn_base::Made;
@@ -66,7 +66,7 @@ pub(crate) fn five_open(alloc: Global) -> Result<OpenFiles, Fail> {
 
 /// Does what a call comes to, and answers its reply.
 pub(crate) fn done(files: &mut OpenFiles, call: FilePrepared) -> i64 {
-    commit_files(call.change, TABLE, files);
+    change_files(call.change, TABLE, files);
     call.reply
 }
 

@@ -1,8 +1,9 @@
 //! Calls at a position: which objects have none.
 
 use crate::helpers::{TABLE, five_open, open};
-use call_fs::{FileChange, FilePrepared, lseek, pread64, pwrite64};
+use call_fs::{FilePrepared, lseek, pread64, pwrite64};
 use fd_table::{Access, Object};
+use file_changes::FileChange;
 use std::process::Abort;
 use std::test::Fail;
 

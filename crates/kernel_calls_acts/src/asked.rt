@@ -2,8 +2,24 @@
 
 use kernel_model::Args;
 
-/// The numbers of write, exit, exit_group, set_tid_address, futex, set_robust_list, clock_gettime, sched_yield and
-/// uname.
+/// The numbers of dup, dup3, fcntl, ioctl, close, lseek, pread64 and pwrite64.
+pub const DUP: u64 = 23;
+
+pub const DUP3: u64 = 24;
+
+pub const FCNTL: u64 = 25;
+
+pub const IOCTL: u64 = 29;
+
+pub const CLOSE: u64 = 57;
+
+pub const LSEEK: u64 = 62;
+
+pub const PREAD64: u64 = 67;
+
+pub const PWRITE64: u64 = 68;
+
+/// Of write, exit, exit_group, set_tid_address, futex, set_robust_list, clock_gettime, sched_yield and uname.
 pub const WRITE: u64 = 64;
 
 pub const EXIT: u64 = 93;

@@ -53,7 +53,7 @@ impl Guest {
     /// Whether a wait4 waits.
     pub fn waits(&mut self, args: [u64; 4]) -> Result<bool, Fail> {
         match self.called(wait4(args), 0)? {
-            Called::Waits => Ok(true),
+            Called::Waits(_) => Ok(true),
             _ => Ok(false),
         }
     }

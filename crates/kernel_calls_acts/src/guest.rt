@@ -4,10 +4,10 @@
 use crate::asked::{Asked, WRITE, args_of, ask};
 use crate::families::{alone, lives};
 use crate::opening::opened;
+use call_fs::call;
+use file_changes::{change_files, open_files};
 use futex_core::Waiters;
-use kernel_calls::{
-    Beginning, Called, Context, Effect, Prepared, Ran, call, open_files, run, step,
-};
+use kernel_calls::{Beginning, Called, Context, Effect, Prepared, Ran, run, step};
 use kernel_model::{GuestArea, GuestSpace, Named, Next, OpenFiles};
 use mm_areas::{AreaErr, Backing, Rights};
 use rv_table::{Area, Regs};
@@ -171,6 +171,7 @@ impl Guest {
             &self.tasks,
             &self.sleepers,
             console,
+            &self.files,
         )?;
         Ok(called)
     }
@@ -183,10 +184,18 @@ impl Guest {
         }
     }
 
-    /// The reply of its next call.
+    /// Has what is open changed, where a call comes to that.
+    fn change(&mut self, effect: Effect) {
+        if let Effect::ChangesFiles { table, change } = effect {
+            change_files(change, table, &mut self.files);
+        }
+    }
+
+    /// The reply of its next call, which has changed what is open.
     pub fn reply(&mut self, asked: Asked) -> Result<i64, Fail> {
-        let prepared = self.prepared(asked, 0)?;
-        Ok(prepared.reply)
+        let Prepared { reply, effect } = self.prepared(asked, 0)?;
+        self.change(effect);
+        Ok(reply)
     }
 
     /// The bytes that a write to the console takes, or `None` where it is refused.

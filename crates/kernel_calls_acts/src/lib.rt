@@ -1,4 +1,4 @@
-//! Guests that tests use, and the system calls that they make: tests of kernel_calls are tables of these.
+//! Guests that tests use, and the system calls that they make: tests of kernel_calls and call_fs are tables of these.
 //!
 //! A caller sees `Guest`, a task at its calls: its registers and memory, the shared areas, and the tasks and sleepers
 //! there are; what one begins with (`new_guest`, `guest_of` words, `guest_in` a file, `guest_among` tasks, of which
@@ -6,10 +6,10 @@
 //! `expect` does acts one after another, and fails at the first that comes to something else, by its index;
 //! `expect_acts` and those beside it do so with a new guest. Other tasks have their registers and memories beside it:
 //! with `Makes` a child takes its place among them, and with `Turns` the guest goes on as another. It begins with the
-//! descriptors of an opening task. `opened` and `read` are of an opening task's memory.
+//! descriptors of an opening task, and what its calls change of what is open is done. `opened` and `read` are of an opening task's memory.
 //!
-//! Proved: that each call meets what kernel_calls requires of its callers, and that no function stops. No function says
-//! what a call or an instruction comes to, so that no test's proof has a contract of kernel_calls before it.
+//! Proved: that each call meets what call_fs and kernel_calls require of their callers, and that no function stops. No
+//! function says what a call or an instruction comes to, so that no test's proof has a contract of theirs before it.
 //!
 //! Not said: what an act comes to, which the tests try.
 //!
@@ -31,10 +31,11 @@ mod words;
 
 pub use act::{Act, expect_acts, expect_acts_among, expect_acts_of};
 pub use asked::{
-    Asked, BRK, CLOCK_GETTIME, CLONE, EAGAIN, EBADF, ECHILD, EFAULT, EINVAL, ENODEV, ENOMEM,
-    ENOSYS, EXIT, EXIT_GROUP, FIXED, FUTEX, GETEGID, GETEUID, GETGID, GETPID, GETPPID, GETRANDOM,
-    GETTID, GETUID, MMAP, MPROTECT, MUNMAP, PRIVATE, SCHED_YIELD, SET_ROBUST_LIST, SET_TID_ADDRESS,
-    SHARED, UNAME, WAIT4, WRITE, ask,
+    Asked, BRK, CLOCK_GETTIME, CLONE, CLOSE, DUP, DUP3, EAGAIN, EBADF, ECHILD, EFAULT, EINVAL,
+    ENODEV, ENOMEM, ENOSYS, EXIT, EXIT_GROUP, FCNTL, FIXED, FUTEX, GETEGID, GETEUID, GETGID,
+    GETPID, GETPPID, GETRANDOM, GETTID, GETUID, IOCTL, LSEEK, MMAP, MPROTECT, MUNMAP, PREAD64,
+    PRIVATE, PWRITE64, SCHED_YIELD, SET_ROBUST_LIST, SET_TID_ADDRESS, SHARED, UNAME, WAIT4, WRITE,
+    ask,
 };
 pub use ends::Ends;
 pub use families::{alone, brood, crowd, end, family};

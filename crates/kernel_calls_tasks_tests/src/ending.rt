@@ -68,7 +68,7 @@ const EXITS: Ends = Ends {
 /// The thread 4 ends: its word is cleared, four bytes and none beside them, and of those who sleep there the first is
 /// woken; its group lives. Then the last of the group ends, and its status is the group's: the low 8 bits.
 #[rattlefmt::skip]
-const LAST: [Act; 27] = [
+const LAST: [Act; 28] = [
     Act::Stores(AT - 8, u64::MAX), Act::Stores(AT, u64::MAX), Act::Stores(AT + 8, u64::MAX),
     Act::As(4, 2),
     Act::Clears(AT),
@@ -91,7 +91,7 @@ const LAST: [Act; 27] = [
     Act::Group(1, None),
     Act::As(1, 1),
     Act::Reaps([2, AT, 0, 0], 2),
-    Act::Bytes(AT - 1, &[255, 0, 255, 0, 0, 255]),
+    Act::Loads(AT - 8, u64::MAX), Act::Loads(AT, (ONES << 32) + 0xff00),
 ];
 
 #[test]

@@ -1,7 +1,7 @@
 //! What opening tasks have open.
 
 use fd_table::{Access, Description, Descriptor, Object};
-use kernel_calls::open_files;
+use file_changes::open_files;
 use kernel_model::{OpenFile, OpenFiles};
 use sn_base::Made;
 use std::process::Abort;

@@ -5,8 +5,9 @@
 //! of the host, the source and the sink fails in turn, and a sink takes a piece at a time. Guests are those of
 //! `sn_vectors`, and some that use memory; a plain kernel does their traces too, entry by entry, and comes to the same
 //! text. Several tasks take turns, up to 64 of them, and the first that can't begin ends the run. Tasks make others,
-//! sleep on words, wake one another, wait for their children, and end with their threads. Words, texts and lines of
-//! causes stand in `sentry_run_text_tests`.
+//! sleep on words, wake one another, wait for their children, and end with their threads; they open, close and write by
+//! descriptors of their own, of their group and of their parent. Words, texts and lines of causes stand in
+//! `sentry_run_text_tests`.
 //!
 //! Expected values are from outside: the RISC-V and ELF-64 manuals, the Linux manual pages by hand, an emulator of
 //! Linux's calls for RISC-V where a guest's comment says so, and for random bytes another implementation of ChaCha20.
@@ -14,6 +15,8 @@
 
 #[cfg(test)]
 mod children;
+#[cfg(test)]
+mod descriptors;
 #[cfg(test)]
 mod hosts;
 #[cfg(test)]

@@ -1,0 +1,70 @@
+//! The table of calls: each number is the call of its name, and other numbers are none.
+
+use kernel_calls_acts::{
+    Act, CLOSE, DUP, DUP3, ENOSYS, FCNTL, GETPID, HEAP, IOCTL, LSEEK, PREAD64, PWRITE64, WRITE,
+    expect_acts,
+};
+use std::test::Fail;
+
+/// Each call on descriptors by its number, with a reply that no other of them gives to these arguments: Linux's
+/// asm-generic/unistd.h. Other registers hold ones.
+#[rattlefmt::skip]
+const CALLS: [Act; 21] = [
+    Act::Calls(DUP, [1, u64::MAX, u64::MAX, u64::MAX, u64::MAX, u64::MAX], 3),
+    Act::Calls(DUP3, [1, 9, 0o2000000, u64::MAX, u64::MAX, u64::MAX], 9),
+    Act::Calls(FCNTL, [9, 1, u64::MAX, u64::MAX, u64::MAX, u64::MAX], 1),
+    Act::Calls(FCNTL, [1, 3, u64::MAX, u64::MAX, u64::MAX, u64::MAX], 1),
+    Act::Calls(FCNTL, [3, 4, 0o2000, u64::MAX, u64::MAX, u64::MAX], 0),
+    Act::Calls(FCNTL, [1, 3, 0, u64::MAX, u64::MAX, u64::MAX], 0o2001),
+    Act::Calls(FCNTL, [3, 2, 1, u64::MAX, u64::MAX, u64::MAX], 0),
+    Act::Calls(FCNTL, [3, 1, 0, u64::MAX, u64::MAX, u64::MAX], 1),
+    Act::Calls(FCNTL, [0, 0, 20, u64::MAX, u64::MAX, u64::MAX], 20),
+    Act::Calls(IOCTL, [1, 0x5401, HEAP, u64::MAX, u64::MAX, u64::MAX], -25),
+    Act::Calls(LSEEK, [1, 0, 0, u64::MAX, u64::MAX, u64::MAX], -29),
+    Act::Calls(PREAD64, [0, 65_536, 1, 0, u64::MAX, u64::MAX], -29),
+    Act::Calls(PREAD64, [1, 65_536, 1, 0, u64::MAX, u64::MAX], -9),
+    Act::Calls(PWRITE64, [1, 65_536, 1, 0, u64::MAX, u64::MAX], -29),
+    Act::Calls(PWRITE64, [0, 65_536, 1, 0, u64::MAX, u64::MAX], -9),
+    Act::Calls(CLOSE, [20, u64::MAX, u64::MAX, u64::MAX, u64::MAX, u64::MAX], 0),
+    Act::Calls(CLOSE, [20, u64::MAX, u64::MAX, u64::MAX, u64::MAX, u64::MAX], -9),
+    Act::Calls(WRITE, [9, 65_536, 3, u64::MAX, u64::MAX, u64::MAX], 3),
+    Act::Calls(DUP, [4, 0, 0, 0, 0, 0], -9),
+    Act::Calls(DUP3, [1, 1, 0, 0, 0, 0], -22),
+    Act::Calls(GETPID, [0, 0, 0, 0, 0, 0], 1),
+];
+
+#[test]
+fn each_call_on_descriptors_has_its_number(rt: HostRuntime) -> Result<(), Fail> {
+    expect_acts(rt.alloc(), &CALLS)
+}
+
+/// Numbers beside them of calls that the kernel doesn't have, such as pipe2 59, read 63, readv 65, writev 66 and fstat
+/// 80, and of none.
+const LACKING: [u64; 15] = [
+    0,
+    22,
+    26,
+    28,
+    58,
+    59,
+    60,
+    63,
+    65,
+    66,
+    69,
+    80,
+    500,
+    (1 << 32) + 64,
+    u64::MAX,
+];
+
+#[test]
+fn a_number_of_no_call_is_enosys(rt: HostRuntime) -> Result<(), Fail> {
+    for number in LACKING {
+        expect_acts(
+            rt.alloc(),
+            &[Act::Calls(number, [1, 65_536, 1, 0, 0, 0], ENOSYS)],
+        )?;
+    }
+    Ok(())
+}
