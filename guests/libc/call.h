@@ -2,7 +2,15 @@
 #ifndef CALL_H
 #define CALL_H
 
+#define CALL_DUP 23
+#define CALL_DUP3 24
+#define CALL_FCNTL 25
+#define CALL_IOCTL 29
+#define CALL_CLOSE 57
+#define CALL_LSEEK 62
 #define CALL_WRITE 64
+#define CALL_PREAD64 67
+#define CALL_PWRITE64 68
 #define CALL_EXIT 93
 #define CALL_EXIT_GROUP 94
 #define CALL_SET_TID_ADDRESS 96
