@@ -67,6 +67,12 @@ static void write_a_byte(void)
     check(call(CALL_WRITE, 1, (long)".", 1, 0, 0, 0) == 1);
 }
 
+static void duplicate_and_close(void)
+{
+    long duplicate = call(CALL_DUP, 1, 0, 0, 0, 0, 0);
+    check(duplicate > 1 && call(CALL_CLOSE, duplicate, 0, 0, 0, 0, 0) == 0);
+}
+
 static void touch(long pages)
 {
     volatile char *area = pages > 0 ? (char *)map(pages * PAGE) : 0;
@@ -133,6 +139,7 @@ _Noreturn void begin(char **stack)
     case 'g': repeat(ask_for_random_bytes, times); break;
     case 'm': repeat(map_and_unmap, times); break;
     case 'w': repeat(write_a_byte, times); break;
+    case 'd': repeat(duplicate_and_close, times); break;
     case 'y': repeat(yield, times); break;
     case 't': touch(times); break;
     case 'f': touch(read_number(stack[4])); repeat(fork_and_wait, times); break;

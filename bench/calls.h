@@ -38,6 +38,8 @@ static inline long begin_thread(long flags, void *stack_end, void (*work)(void))
 #else
 
 #define CALL_WRITE 1
+#define CALL_CLOSE 3
+#define CALL_DUP 32
 #define CALL_EXIT 60
 #define CALL_EXIT_GROUP 231
 #define CALL_CLONE 56
