@@ -10,8 +10,8 @@
 //! end is open (`broken`), and else waits exactly where there is no room for all of up to 4,096 bytes, or for one of
 //! more (`wait`); else it puts as many as fit (`put`), which of up to 4,096 are all (`atomic`), behind those that are
 //! there (`after`). A read that waits and a write that puts nothing change nothing (`unchanged`). `oldest` lends the
-//! bytes that are there, `skip` drops the first of them as a read does, and `put` puts bytes for which there is room.
-//! Opening and closing an end counts that end and changes nothing else.
+//! bytes that are there, `skip` drops the first of them as a read does, `put` puts bytes for which there is room, and
+//! `truncate` drops the last of them. Opening and closing an end counts that end and changes nothing else.
 //!
 //! Only `Pipe::new` takes memory: the room for all the bytes that the pipe ever holds.
 //!

@@ -125,6 +125,14 @@ impl Pipe {
         self.ring.append(bytes);
     }
 
+    /// Keeps so many of the oldest bytes, or all where fewer are there: a write that can't go on takes back so what it
+    /// has put.
+    pub fn truncate(&mut self, len: usize)
+        ensures { self.new ≡ record self.old { bytes = take len self.old.bytes } }
+    {
+        self.ring.truncate(len);
+    }
+
     /// How many bytes are in the pipe.
     pub fn len(&self) -> usize
         ensures len { result ≡ length self.now.bytes }

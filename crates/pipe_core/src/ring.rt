@@ -73,6 +73,13 @@ impl Ring {
         self.len -= count;
     }
 
+    /// Keeps so many of the oldest bytes, or all where fewer are there, and drops those behind them.
+    pub(crate) fn truncate(&mut self, len: usize)
+        ensures { self.new ≡ take len self.old }
+    {
+        self.len = self.len.min(len);
+    }
+
     /// Moves the oldest bytes out, as many as there is room for.
     pub(crate) fn take_into(&mut self, to: &mut [u8])
         requires { length to.old ≤ length self.old }

@@ -42,6 +42,18 @@ fn what_is_skipped_is_gone(rt: HostRuntime) -> Result<(), Fail> {
     Ok(())
 }
 
+/// Of five bytes that go round, three are kept, and then all of those where more are asked for.
+#[test]
+fn a_truncated_pipe_keeps_its_oldest_bytes(rt: HostRuntime) -> Result<(), Fail> {
+    let mut pipe = filled(rt.alloc(), FULL - 2, 5)?;
+    pipe.truncate(3);
+    pipe.truncate(4);
+    let (front, back) = pipe.oldest();
+    assert_eq!(rt; front, [0, 1].as_slice());
+    assert_eq!(rt; back, [2].as_slice());
+    Ok(())
+}
+
 #[test]
 fn runs_that_are_put_stand_behind_one_another(rt: HostRuntime) -> Result<(), Fail> {
     let mut pipe = Pipe::new(rt.alloc())?;
