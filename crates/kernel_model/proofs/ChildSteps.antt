@@ -7,18 +7,19 @@ use Rattle.std.specs.List.{list_all, list_any}
 use Rattle.std.specs.Ordering.{int_eq}
 use Rattle.std.specs.FinMap as map
 use Rattle.sn_errno.specs.declared.errno.Errno.{Errno}
-use Rattle.sn_errno.specs.declared.errno.Errno.TheVariants.{EIO, ENFILE, EFAULT, EBADF, ENOSYS, ENOSPC, EINVAL}
+use Rattle.sn_errno.specs.declared.errno.Errno.TheVariants.{EIO, ENFILE, EFAULT, ENOSYS, EINVAL}
 use Rattle.sn_errno.specs.declared.errno.Errno.TheVariants.{EAGAIN, ECHILD}
 use Rattle.sn_errno.specs.declared.calls.CallNo.{CallNo}
 use Rattle.sn_errno.specs.declared.calls.CallNo.TheVariants.{Write, Exit, ExitGroup, SetTidAddress, SetRobustList}
 use Rattle.sn_errno.specs.declared.calls.CallNo.TheVariants.{Dup, Dup3, Fcntl, Ioctl, Close, Lseek, Pread64, Pwrite64}
+use Rattle.sn_errno.specs.declared.calls.CallNo.TheVariants.{Pipe2, Read, Readv, Writev}
 use Rattle.sn_errno.specs.declared.calls.CallNo.TheVariants.{Futex, ClockGettime, Clone, Wait4}
 use Rattle.sn_errno.specs.declared.calls.CallNo.TheVariants.{SchedYield, Uname, Getpid, Getppid, Getuid, Geteuid}
 use Rattle.sn_errno.specs.declared.calls.CallNo.TheVariants.{Getgid, Getegid, Gettid, Brk, Munmap, Mmap, Mprotect}
 use Rattle.sn_errno.specs.declared.calls.CallNo.TheVariants.{Getrandom}
 use Rattle.mm_areas.specs.Mappings.{unmap_fault, pages_in}
 use Rattle.mm_space.specs.Changes.{broken_in, unmapped_in, righted_in}
-use Rattle.mm_space.specs.Handing.{InHand, zero_area}
+use Rattle.mm_space.specs.Handing.{zero_area}
 use Rattle.sn_errno.specs.Calls.{call_of}
 use Rattle.sn_errno.specs.Errors.{reply_of}
 use Rattle.host_node.specs.Tree.{Shape}
@@ -33,11 +34,6 @@ use Rattle.task_table.specs.Reaps.{after_reap, reap_end}
 use Rattle.task_table.specs.Status.{status_number}
 use Rattle.task_table.specs.Table.{TaskTable}
 use Rattle.quantum.specs.Instructions.{Going, ran}
-use Rattle.fd_table.specs.Flags.{may_write}
-use Rattle.fd_table.specs.declared.description.Description.{Description}
-use Rattle.fd_table.specs.declared.description.Object.{Object}
-use Rattle.fd_table.specs.declared.description.Object.TheVariants as object
-use Rattle.fd_table.specs.declared.flags.Access.{Access}
 use Rattle.mm_space.specs.Spaces.{AddressSpace, Reach, unreserved}
 use Rattle.futex_core.specs.declared.keys.FutexKey.{FutexKey}
 use Rattle.futex_core.specs.FutexLists.{FutexList, after_leave, after_sleep}
@@ -47,7 +43,7 @@ use Rattle.kernel_model.specs.declared.entry.Entry.{Entry}
 use Rattle.kernel_model.specs.declared.entry.Entry.TheVariants.{Run, Call, Sleep, End}
 use Rattle.kernel_model.specs.declared.kernel.Kernel.{Kernel}
 use Rattle.kernel_model.specs.declared.kernel.Part.TheVariants.{OfTasks, OfArea, OfNode, OfSleepers}
-use Rattle.kernel_model.specs.declared.kernel.Part.TheVariants.{OfConsole, OfFaults, OfTable, OfDescription}
+use Rattle.kernel_model.specs.declared.kernel.Part.TheVariants.{OfFaults}
 use Rattle.kernel_model.specs.declared.opening.Given.{Given}
 use Rattle.kernel_model.specs.declared.traps.Next.{Next}
 use Rattle.kernel_model.specs.declared.traps.Next.TheVariants.{Goes, Calls, Traps, Touches}
@@ -55,20 +51,18 @@ use Rattle.kernel_model.specs.machine.FutexWords.{key_at}
 use Rattle.kernel_model.specs.machine.Random.{random_at}
 use Rattle.kernel_model.specs.machine.Registers.{args_of, call_of as number_of}
 use Rattle.kernel_model.specs.machine.Spaces.{going_in, going_with}
-use Rattle.kernel_model.specs.calls.Answers.{Reply, Replies, Sleeps, NotReady, Answer, refuses, replies, address_reply}
+use Rattle.kernel_model.specs.calls.Answers.{Reply, Replies, Sleeps, NotReady, Answer, address_reply}
 use Rattle.kernel_model.specs.calls.Buffers.{filled, fills}
 use Rattle.kernel_model.specs.calls.Callers.{Context, context_of, caller_of}
 use Rattle.kernel_model.specs.calls.ClearWords.{Cleared, nothing_cleared, words_cleared}
 use Rattle.kernel_model.specs.calls.Clone.{Cloning, caller_word, clone_of, cloning_of, is_full, is_process, is_thread}
 use Rattle.kernel_model.specs.calls.Clone.{made_for_child, process_by, process_made, process_row, process_with}
 use Rattle.kernel_model.specs.calls.Clone.{sets_child_word, thread_by, thread_made, thread_row, word_set}
-use Rattle.kernel_model.specs.calls.Console.{appended, write_row, writes, written_to}
 use Rattle.kernel_model.specs.calls.Ending.{closed_if, end_changes, ends_as, ends_with, exit_row, exit_group_row}
 use Rattle.kernel_model.specs.calls.Ending.{group_end, set_tid_address_row, task_end}
 use Rattle.kernel_model.specs.calls.Futex.{by_word, futex_of, is_wait, is_wake, sleeps_on, wakes_on}
 use Rattle.kernel_model.specs.calls.Identity.{owner, parent_of, utsname}
 use Rattle.kernel_model.specs.calls.Memory.{mmap_row}
-use Rattle.kernel_model.specs.calls.Lookups.{descriptor, if_may, opened_for, or_refuse, with_file}
 use Rattle.kernel_model.specs.calls.Memory.{remaps, unless_refused, fault_errno, file_refusal, map_refusal, maps}
 use Rattle.kernel_model.specs.calls.Memory.{protect_refusal}
 use Rattle.kernel_model.specs.calls.Memory.{is_shared, area_made_at, area_made_by, maps_at, address_in, asked_place}
@@ -76,12 +70,12 @@ use Rattle.kernel_model.specs.calls.Memory.{rights_in}
 use Rattle.kernel_model.specs.calls.Table.{call_row, row_of_call, row_if_known}
 use Rattle.kernel_model.specs.calls.Time.{timespec, time_at}
 use Rattle.kernel_model.specs.calls.Wait.{asked_child, by_child, is_child_asked, is_option, reaps, reaps_at, wait4_of}
-use Rattle.kernel_model.specs.entries.Areas.{Stands, next_row, bytes_read, bytes_written, area_changes, reach_changes}
+use Rattle.kernel_model.specs.entries.Areas.{Stands, next_row, bytes_read, bytes_written, reach_changes}
 use Rattle.kernel_model.specs.entries.Given.{has_any, is_in_order, above_last, Nodes_so_far, number_all, node_changes}
 use Rattle.kernel_model.specs.entries.Given.{met, faulted, risen, is_unused, may_meet}
 use Rattle.kernel_model.specs.descriptors.Counts.{table_closed, table_copied}
-use Rattle.kernel_model.specs.entries.Parts.{Parts, parts, Prog, done, look, outcome_in, ◌>>=◌, IsIn, Change}
-use Rattle.kernel_model.specs.entries.Parts.{changed, parts_of}
+use Rattle.kernel_model.specs.entries.Parts.{Parts, parts, Prog, done, look, outcome_in, ◌>>=◌, Change}
+use Rattle.kernel_model.specs.entries.Parts.{changed}
 use Rattle.kernel_model.specs.entries.Steps.{run_changes, run_row, run_alone, or_step, step_row, step_with, end_at}
 use Rattle.kernel_model.specs.entries.Steps.{call_at, going_on, replied_by, replied_to}
 use Rattle.kernel_model.specs.entries.Steps.{refused_with, failing, exhausted, numbering, by_answer, by_given}
@@ -90,6 +84,9 @@ use Rattle.kernel_model.specs.entries.Steps.{may_enter, step, stands_at, sleep_a
 use Rattle.kernel_model.specs.entries.Waiting.{Wait, Awake, Asleep, Woken, wait_of}
 use Rattle.kernel_model.specs.laws.Children.{HasUnnumbered, is_given_to, numbers_child}
 use Rattle.kernel_model.proofs.FileChanges.{closed_open, copied_open, open_leaves}
+use Rattle.kernel_model.proofs.LeftNodes.{Leaves, LeavesNodes, areas_leave, behind_leaves, either_leaves}
+use Rattle.kernel_model.proofs.LeftNodes.{leaves-append, reach_leaves, refused_leaves, told_leaves}
+use Rattle.kernel_model.proofs.MovedRows.{pipe2_leaves, read_leaves, readv_leaves, write_leaves, writev_leaves}
 use Rattle.kernel_model.proofs.OpenRows.{close_open, dup3_open, dup_open, fcntl_open, ioctl_open, lseek_open}
 use Rattle.kernel_model.proofs.OpenRows.{pread64_open, pwrite64_open}
 use Rattle.kernel_model.proofs.Trees.{outcome-bind}
@@ -99,31 +96,9 @@ use Rattle.kernel_model.proofs.ChildLaws.{Stays, StaysIf, all_stay, changed-appe
 
 -- ---- changes of which none is of a node
 
-abbrev LeavesNodes : List Change → Type 0
-LeavesNodes changes = (ino : ℕ) → ¬ IsIn (OfNode ino) (parts_of changes)
-
-leaves-append : (xs ys : List Change) → LeavesNodes xs → LeavesNodes ys → LeavesNodes (xs ++ ys)
-leaves-append [] ys none more ino is = more ino is
-leaves-append (x ∷ xs) ys none more ino (inl e) = none ino (inl e)
-leaves-append (x ∷ xs) ys none more ino (inr is) = leaves-append xs ys (λ n i. none n (inr i)) more ino is
-
 going_on_leaves : (c : Caller) (value : ℤ) → LeavesNodes (going_on c value)
 going_on_leaves c value ino (inl e) = absurd (cc e)
 going_on_leaves c value ino (inr is) = is
-
--- areas that were in hand
-areas_leave : (hand : List InHand) → LeavesNodes (area_changes hand)
-areas_leave [] = λ ino is. is
-areas_leave (h ∷ hand) = leaves-append (area_changes hand) _ (areas_leave hand) last
-  where
-    last : LeavesNodes ((OfArea h.name, Some h.state) ∷ [])
-    last ino (inl e) = absurd (cc e)
-    last ino (inr is) = is
-
--- a memory and areas that were reached
-reach_leaves : (memory : Made) (r : Reach) → LeavesNodes (reach_changes memory r)
-reach_leaves memory r ino (inl e) = absurd (cc e)
-reach_leaves memory r ino (inr is) = areas_leave r.hand ino is
 
 -- what tasks that end leave
 end_leaves : (c : Caller) (ended : List EndedTask) (after : TaskTable) (x : Cleared) (waiting : FutexList)
@@ -142,65 +117,6 @@ closed_leaves s name = open_leaves (outcome_in s (table_closed name)) (closed_op
 -- ---- no call's row changes a node
 
 module _ (s : Parts) where
-  abbrev Leaves : Prog Answer → Type 0
-  Leaves row = LeavesNodes (outcome_in s row).changes
-
-  either_leaves : (b : Bool) (x y : Prog Answer) → Leaves x → Leaves y → Leaves (cond b x y)
-  either_leaves true x y here there = here
-  either_leaves false x y here there = there
-
-  refused_leaves : (errno : Errno) → Leaves (done (refuses errno))
-  refused_leaves errno ino is = is
-
-  told_leaves : (value : ℤ) → Leaves (done (replies value []))
-  told_leaves value ino is = is
-
-  behind_leaves : {A : Type 0} (first : Prog A) (next : A → Prog Answer) → Leaves (next (outcome_in s first))
-      → Leaves (first >>= next)
-  behind_leaves first next h = subst (λ (a : Answer). LeavesNodes a.changes) (sym (outcome-bind s first next)) h
-
-  appended_leaves : (bytes console : List ℕ) → LeavesNodes (appended bytes console).changes
-  appended_leaves bytes console = by (nat_le (length console + length bytes) 1048576)
-    where
-      by : (b : Bool) → LeavesNodes (cond b (replies (pos (length bytes)) ((OfConsole, console ++ bytes) ∷ []))
-          (refuses ENOSPC)).changes
-      by true ino (inl e) = absurd (cc e)
-      by true ino (inr is) = is
-      by false ino is = is
-
-  -- what is there goes on
-  found_leaves : {A : Type 0} (errno : Errno) (row : A → Prog Answer) → ((x : A) → Leaves (row x)) → (o : Option A)
-      → Leaves (or_refuse errno row o)
-  found_leaves errno row each None = refused_leaves errno
-  found_leaves errno row each (Some x) = each x
-
-  opened_leaves : (may : Access → Bool) (c : Caller) (fd : ℕ) (row : Description → Prog Answer)
-      → ((d : Description) → Leaves (row d)) → Leaves (opened_for may c fd row)
-  opened_leaves may c fd row each ino is =
-      found_leaves EBADF (λ t. or_refuse EBADF (λ d. with_file d.description (if_may may row))
-      (map.get t (descriptor fd)))
-      (λ t. found_leaves EBADF (λ d. with_file d.description (if_may may row))
-      (λ d. λ ino is. at_file d.description ino is) (map.get t (descriptor fd))) (s (OfTable c.table)) ino is
-    where
-      at_file : (name : Made) → Leaves (with_file name (if_may may row))
-      at_file name ino is =
-          found_leaves EBADF (if_may may row)
-          (λ file. either_leaves (may file.description.access) _ _ (each file.description) (refused_leaves EBADF))
-          (s (OfDescription name)) ino is
-
-  written_leaves : (o : Object) (bytes : List ℕ) → Leaves (written_to o bytes)
-  written_leaves (object.Node n) bytes = refused_leaves ENOSYS
-  written_leaves (object.PipeEnd name side) bytes = refused_leaves ENOSYS
-  written_leaves object.Console bytes = λ ino is. appended_leaves bytes (s OfConsole) ino is
-  written_leaves object.EmptyInput bytes = λ ino is. appended_leaves bytes (s OfConsole) ino is
-
-  write_leaves : (fd buffer count : ℕ) (c : Caller) → Leaves (write_row fd buffer count c)
-  write_leaves fd buffer count c =
-      opened_leaves may_write c fd (writes c buffer count)
-      (λ d. either_leaves (count == 0) _ _ (λ ino is. is)
-      (behind_leaves (bytes_read c.space buffer (min count 65536)) (or_refuse EFAULT (written_to d.object))
-      (found_leaves EFAULT (written_to d.object) (written_leaves d.object) _)))
-
   -- ends
   ends_leave : (c : Caller) (ended : List EndedTask) (after : TaskTable)
       → LeavesNodes (outcome_in s (ends_as c ended after))
@@ -232,42 +148,42 @@ module _ (s : Parts) where
       behind_ends c (ended_tasks (is_itself c.task) (s OfTasks).tasks) (exited (s OfTasks) c.task status)
       (is_last (s OfTasks).tasks c.task)
 
-  exit_leaves : (status : ℕ) (c : Caller) → Leaves (exit_row status c)
+  exit_leaves : (status : ℕ) (c : Caller) → Leaves s (exit_row status c)
   exit_leaves status c =
-      behind_leaves (task_end c (Exited (status % 256))) ends_with (task_leaves c (Exited (status % 256)))
+      behind_leaves s (task_end c (Exited (status % 256))) ends_with (task_leaves c (Exited (status % 256)))
 
-  exit_group_leaves : (status : ℕ) (c : Caller) → Leaves (exit_group_row status c)
+  exit_group_leaves : (status : ℕ) (c : Caller) → Leaves s (exit_group_row status c)
   exit_group_leaves status c =
-      behind_leaves (group_end c (Exited (status % 256))) ends_with (group_leaves c (Exited (status % 256)))
+      behind_leaves s (group_end c (Exited (status % 256))) ends_with (group_leaves c (Exited (status % 256)))
 
   -- sleepers
-  sleep_leaves : (task : ℕ) (key : FutexKey) (word value : ℕ) → Leaves (sleeps_on task key word value)
+  sleep_leaves : (task : ℕ) (key : FutexKey) (word value : ℕ) → Leaves s (sleeps_on task key word value)
   sleep_leaves task key word value =
-      either_leaves (word == value) _ _ (λ ino is. last ino is) (refused_leaves EAGAIN)
+      either_leaves s (word == value) _ _ (λ ino is. last ino is) (refused_leaves s EAGAIN)
     where
       last : LeavesNodes ((OfSleepers, after_sleep (s OfSleepers) task key) ∷ [])
       last ino (inl e) = absurd (cc e)
       last ino (inr is) = is
 
-  wake_leaves : (key : FutexKey) (most : ℕ) → Leaves (wakes_on key most)
+  wake_leaves : (key : FutexKey) (most : ℕ) → Leaves s (wakes_on key most)
   wake_leaves key most ino (inl e) = absurd (cc e)
   wake_leaves key most ino (inr is) = is
 
   word_leaves : (c : Caller) (address operation value : ℕ) (bytes : Option (List ℕ))
-      → Leaves (by_word c address operation value bytes)
-  word_leaves c address operation value None = refused_leaves EFAULT
+      → Leaves s (by_word c address operation value bytes)
+  word_leaves c address operation value None = refused_leaves s EFAULT
   word_leaves c address operation value (Some bytes) =
-      either_leaves (is_wait operation) _ _
+      either_leaves s (is_wait operation) _ _
       (sleep_leaves c.task (key_at c.memory c.space address) (from_le_bytes w32 bytes) value)
       (wake_leaves (key_at c.memory c.space address) value)
 
   futex_leaves : (address operation value timeout : ℕ) (c : Caller)
-      → Leaves (futex_of address operation value timeout c)
+      → Leaves s (futex_of address operation value timeout c)
   futex_leaves address operation value timeout c =
-      either_leaves (not (is_wait operation || is_wake operation)) _ _ (refused_leaves ENOSYS)
-      (either_leaves (not (address % 4 == 0)) _ _ (refused_leaves EINVAL)
-      (either_leaves (is_wait operation && not (timeout == 0)) _ _ (refused_leaves ENOSYS)
-      (behind_leaves (bytes_read c.space address 4) (by_word c address operation value)
+      either_leaves s (not (is_wait operation || is_wake operation)) _ _ (refused_leaves s ENOSYS)
+      (either_leaves s (not (address % 4 == 0)) _ _ (refused_leaves s EINVAL)
+      (either_leaves s (is_wait operation && not (timeout == 0)) _ _ (refused_leaves s ENOSYS)
+      (behind_leaves s (bytes_read c.space address 4) (by_word c address operation value)
       (word_leaves c address operation value (outcome_in s (bytes_read c.space address 4))))))
 
   -- children that are made,
@@ -278,17 +194,17 @@ module _ (s : Parts) where
     thread_made_leaves (Some reach) ino (inr (inl e)) = absurd (cc e)
     thread_made_leaves (Some reach) ino (inr (inr is)) = reach_leaves c.memory reach ino is
 
-    thread_by_leaves : (reach : Option Reach) → Leaves (thread_by c x list reach)
-    thread_by_leaves None = refused_leaves EFAULT
+    thread_by_leaves : (reach : Option Reach) → Leaves s (thread_by c x list reach)
+    thread_by_leaves None = refused_leaves s EFAULT
     thread_by_leaves (Some reach) =
-        behind_leaves
+        behind_leaves s
         (word_set c.task (sets_child_word x.flags) reach.space reach.hand x.child_word (list.last + 1)) _
         (thread_made_leaves _)
 
-    thread_leaves : Leaves (thread_row c x list)
+    thread_leaves : Leaves s (thread_row c x list)
     thread_leaves =
-        either_leaves (is_full list) _ _ (refused_leaves EAGAIN)
-        (behind_leaves (caller_word c x list) (thread_by c x list) (thread_by_leaves _))
+        either_leaves s (is_full list) _ _ (refused_leaves s EAGAIN)
+        (behind_leaves s (caller_word c x list) (thread_by c x list) (thread_by_leaves _))
 
     module _ (context : Context) where
       process_made_leaves : (space : AddressSpace) (reach : Reach) (copies : List Change) → LeavesNodes copies
@@ -301,28 +217,29 @@ module _ (s : Parts) where
           (reach_leaves (made_for_child context.place) reach) more ino is
 
       process_with_leaves : (space : AddressSpace) (reach : Option Reach)
-          → Leaves (process_with context c x list space reach)
-      process_with_leaves space None = refused_leaves EFAULT
+          → Leaves s (process_with context c x list space reach)
+      process_with_leaves space None = refused_leaves s EFAULT
       process_with_leaves space (Some reach) =
-          behind_leaves (table_copied c.table (made_for_child context.place)) _
+          behind_leaves s (table_copied c.table (made_for_child context.place)) _
           (process_made_leaves space reach _ (copied_leaves s c.table (made_for_child context.place)))
 
-      process_by_leaves : (reach : Option Reach) → Leaves (process_by context c x list reach)
-      process_by_leaves None = refused_leaves EFAULT
+      process_by_leaves : (reach : Option Reach) → Leaves s (process_by context c x list reach)
+      process_by_leaves None = refused_leaves s EFAULT
       process_by_leaves (Some reach) =
-          behind_leaves
+          behind_leaves s
           (word_set c.task (sets_child_word x.flags) (unreserved c.space.mapping) reach.hand x.child_word
           (list.last + 1)) _ (process_with_leaves reach.space _)
 
-      process_leaves : Leaves (process_row context c x list)
+      process_leaves : Leaves s (process_row context c x list)
       process_leaves =
-          either_leaves (is_full list) _ _ (refused_leaves EAGAIN)
-          (behind_leaves (caller_word c x list) (process_by context c x list) (process_by_leaves _))
+          either_leaves s (is_full list) _ _ (refused_leaves s EAGAIN)
+          (behind_leaves s (caller_word c x list) (process_by context c x list) (process_by_leaves _))
 
-  clone_leaves : (context : Context) (c : Caller) (x : Cloning) → Leaves (clone_of context c x)
+  clone_leaves : (context : Context) (c : Caller) (x : Cloning) → Leaves s (clone_of context c x)
   clone_leaves context c x =
-      either_leaves (is_process x.flags) _ _ (λ ino is. process_leaves c x (s OfTasks) context ino is)
-      (either_leaves (is_thread x.flags) _ _ (λ ino is. thread_leaves c x (s OfTasks) ino is) (refused_leaves EINVAL))
+      either_leaves s (is_process x.flags) _ _ (λ ino is. process_leaves c x (s OfTasks) context ino is)
+      (either_leaves s (is_thread x.flags) _ _ (λ ino is. thread_leaves c x (s OfTasks) ino is)
+      (refused_leaves s EINVAL))
 
   -- and those that are waited for
   reaps_leave : (c : Caller) (list : TaskTable) (child : ℕ) (status : Status) (reach : Option Reach)
@@ -332,10 +249,10 @@ module _ (s : Parts) where
   reaps_leave c list child status (Some reach) ino (inr is) = reach_leaves c.memory reach ino is
 
   reaps_at_leave : (c : Caller) (list : TaskTable) (address child : ℕ) (status : Status)
-      → Leaves (reaps_at c list address child status)
+      → Leaves s (reaps_at c list address child status)
   reaps_at_leave c list address child status =
-      either_leaves (address == 0) _ _ (λ ino is. last ino is)
-      (behind_leaves (bytes_written c.task c.space address (to_le_bytes w32 (status_number status)))
+      either_leaves s (address == 0) _ _ (λ ino is. last ino is)
+      (behind_leaves s (bytes_written c.task c.space address (to_le_bytes w32 (status_number status)))
       (λ reach. done (reaps c list child status reach)) (reaps_leave c list child status _))
     where
       last : LeavesNodes ((OfTasks, after_reap list (Reaped child status)) ∷ [])
@@ -343,20 +260,20 @@ module _ (s : Parts) where
       last ino (inr is) = is
 
   child_leaves : (c : Caller) (list : TaskTable) (address options : ℕ) (end : ReapEnd)
-      → Leaves (by_child c list address options end)
-  child_leaves c list address options NoChild = refused_leaves ECHILD
+      → Leaves s (by_child c list address options end)
+  child_leaves c list address options NoChild = refused_leaves s ECHILD
   child_leaves c list address options NotYet =
-      either_leaves (options == 1) _ _ (told_leaves (pos 0)) (λ ino is. is)
+      either_leaves s (options == 1) _ _ (told_leaves s (pos 0)) (λ ino is. is)
   child_leaves c list address options (Reaped child status) = reaps_at_leave c list address child status
 
-  wait_leaves : (child address options usage : ℕ) (c : Caller) → Leaves (wait4_of child address options usage c)
+  wait_leaves : (child address options usage : ℕ) (c : Caller) → Leaves s (wait4_of child address options usage c)
   wait_leaves child address options usage c =
-      either_leaves (is_child_asked child && is_option options && (usage == 0)) _ _
+      either_leaves s (is_child_asked child && is_option options && (usage == 0)) _ _
       (λ ino is. child_leaves c (s OfTasks) address options
       (reap_end (s OfTasks).groups c.group (asked_child child)) ino is)
-      (refused_leaves EINVAL)
+      (refused_leaves s EINVAL)
 
-  clear_leaves : (address : ℕ) (c : Caller) → Leaves (set_tid_address_row address c)
+  clear_leaves : (address : ℕ) (c : Caller) → Leaves s (set_tid_address_row address c)
   clear_leaves address c ino (inl e) = absurd (cc e)
   clear_leaves address c ino (inr is) = is
 
@@ -364,7 +281,7 @@ module _ (s : Parts) where
   unless_leaves : (refusal : Option Errno) (answer : Answer) → LeavesNodes answer.changes
       → LeavesNodes (unless_refused refusal answer).changes
   unless_leaves None answer h = h
-  unless_leaves (Some errno) answer h = refused_leaves errno
+  unless_leaves (Some errno) answer h = refused_leaves s errno
 
   remaps_leave : (c : Caller) (space : AddressSpace) (value : ℤ) (changes : List Change) → LeavesNodes changes
       → LeavesNodes (remaps c space value changes).changes
@@ -389,9 +306,10 @@ module _ (s : Parts) where
   maps_leave context c address length protection flags ino (inr is) = made_leaves context.place length flags ino is
 
   mmap_leaves : (context : Context) (address length protection flags fd offset : ℕ) (c : Caller)
-      → Leaves (mmap_row context address length protection flags fd offset c)
+      → Leaves s (mmap_row context address length protection flags fd offset c)
   mmap_leaves context address length protection flags fd offset c =
-      behind_leaves (file_refusal flags fd c) (λ file. done (maps context c address length protection flags offset file))
+      behind_leaves s (file_refusal flags fd c)
+      (λ file. done (maps context c address length protection flags offset file))
       (unless_leaves (map_refusal c.space address length protection flags offset
       (outcome_in s (file_refusal flags fd c)))
       (maps_at context c (address_in c.space (asked_place address flags) length) length protection flags)
@@ -403,12 +321,13 @@ module _ (s : Parts) where
   filled_leave memory reply (Some reach) ino (inl e) = absurd (cc e)
   filled_leave memory reply (Some reach) ino (inr is) = areas_leave reach.hand ino is
 
-  fill_leaves : (c : Caller) (at : ℕ) (bytes : List ℕ) (reply : ℕ) → Leaves (fills c at bytes reply)
+  fill_leaves : (c : Caller) (at : ℕ) (bytes : List ℕ) (reply : ℕ) → Leaves s (fills c at bytes reply)
   fill_leaves c at bytes reply =
-      behind_leaves (bytes_written c.task c.space at bytes) (λ reach. done (filled c.memory reply reach))
+      behind_leaves s (bytes_written c.task c.space at bytes) (λ reach. done (filled c.memory reply reach))
       (filled_leave c.memory reply (outcome_in s (bytes_written c.task c.space at bytes)))
 
-  row_leaves : (context : Context) (c : Caller) (args : Args) (call : CallNo) → Leaves (row_of_call context c args call)
+  row_leaves : (context : Context) (c : Caller) (args : Args) (call : CallNo)
+      → Leaves s (row_of_call context c args call)
   row_leaves context c args Dup = open_leaves _ (dup_open s c args.a0)
   row_leaves context c args Dup3 = open_leaves _ (dup3_open s c args.a0 args.a1 args.a2)
   row_leaves context c args Fcntl = open_leaves _ (fcntl_open s c args.a0 args.a1 args.a2)
@@ -417,26 +336,30 @@ module _ (s : Parts) where
   row_leaves context c args Lseek = open_leaves _ (lseek_open s c args.a0)
   row_leaves context c args Pread64 = open_leaves _ (pread64_open s c args.a0)
   row_leaves context c args Pwrite64 = open_leaves _ (pwrite64_open s c args.a0)
-  row_leaves context c args Write = write_leaves args.a0 args.a1 args.a2 c
+  row_leaves context c args Pipe2 = pipe2_leaves s context c args.a0 (args.a1 % 2 ^ 32)
+  row_leaves context c args Read = read_leaves s args.a0 args.a1 args.a2 c
+  row_leaves context c args Write = write_leaves s args.a0 args.a1 args.a2 c
+  row_leaves context c args Readv = readv_leaves s args.a0 args.a1 args.a2 c
+  row_leaves context c args Writev = writev_leaves s args.a0 args.a1 args.a2 c
   row_leaves context c args Exit = exit_leaves args.a0 c
   row_leaves context c args ExitGroup = exit_group_leaves args.a0 c
   row_leaves context c args Futex = futex_leaves args.a0 (args.a1 % 2 ^ 32) (args.a2 % 2 ^ 32) args.a3 c
   row_leaves context c args Clone = clone_leaves context c (cloning_of args)
   row_leaves context c args Wait4 = wait_leaves (args.a0 % 2 ^ 32) args.a1 (args.a2 % 2 ^ 32) args.a3 c
   row_leaves context c args SetTidAddress = clear_leaves args.a0 c
-  row_leaves context c args SetRobustList = told_leaves (pos 0)
+  row_leaves context c args SetRobustList = told_leaves s (pos 0)
   row_leaves context c args ClockGettime =
-      either_leaves (nat_lt 1 args.a0) _ _ (refused_leaves EINVAL)
+      either_leaves s (nat_lt 1 args.a0) _ _ (refused_leaves s EINVAL)
       (fill_leaves c args.a1 (timespec (time_at context.place)) 0)
-  row_leaves context c args SchedYield = told_leaves (pos 0)
+  row_leaves context c args SchedYield = told_leaves s (pos 0)
   row_leaves context c args Uname = fill_leaves c args.a0 utsname 0
-  row_leaves context c args Getpid = told_leaves (pos c.group)
-  row_leaves context c args Getppid = told_leaves (pos (parent_of (s OfTasks).groups c.group))
-  row_leaves context c args Getuid = told_leaves (pos owner)
-  row_leaves context c args Geteuid = told_leaves (pos owner)
-  row_leaves context c args Getgid = told_leaves (pos owner)
-  row_leaves context c args Getegid = told_leaves (pos owner)
-  row_leaves context c args Gettid = told_leaves (pos c.task)
+  row_leaves context c args Getpid = told_leaves s (pos c.group)
+  row_leaves context c args Getppid = told_leaves s (pos (parent_of (s OfTasks).groups c.group))
+  row_leaves context c args Getuid = told_leaves s (pos owner)
+  row_leaves context c args Geteuid = told_leaves s (pos owner)
+  row_leaves context c args Getgid = told_leaves s (pos owner)
+  row_leaves context c args Getegid = told_leaves s (pos owner)
+  row_leaves context c args Gettid = told_leaves s (pos c.task)
   row_leaves context c args Brk =
       remaps_leave c (broken_in c.space args.a0) (address_reply (broken_in c.space args.a0).mapping.program_break) []
       none_leaves
@@ -448,13 +371,13 @@ module _ (s : Parts) where
       unless_leaves (protect_refusal c.space args.a0 args.a1 args.a2) _
       (remaps_leave c (righted_in c.space args.a0 args.a1 (rights_in args.a2)) (pos 0) [] none_leaves)
   row_leaves context c args Getrandom =
-      either_leaves (nat_lt 7 (args.a2 % 2 ^ 32)) _ _ (refused_leaves EINVAL)
+      either_leaves s (nat_lt 7 (args.a2 % 2 ^ 32)) _ _ (refused_leaves s EINVAL)
       (fill_leaves c args.a0 (random_at context.seed context.place (min args.a1 256)) (min args.a1 256))
-  row_leaves context c args _ = refused_leaves ENOSYS
+  row_leaves context c args _ = refused_leaves s ENOSYS
 
   known_leaves : (context : Context) (c : Caller) (args : Args) (call : Option CallNo)
-      → Leaves (row_if_known context c args call)
-  known_leaves context c args None = refused_leaves ENOSYS
+      → Leaves s (row_if_known context c args call)
+  known_leaves context c args None = refused_leaves s ENOSYS
   known_leaves context c args (Some call) = row_leaves context c args call
 
 -- ---- what a step's changes leave of the child

@@ -5,7 +5,9 @@ pub mod ChildLaws
 pub mod ChildSteps
 pub mod Failing
 pub mod FileChanges
+pub mod LeftNodes
 pub mod LocalityLaws
+pub mod MovedRows
 pub mod NamedMaps
 pub mod OpenedTasks
 pub mod OpenRows

@@ -2,10 +2,14 @@
 -- changes leave every other part as it was.
 use Rattle.std.proofs.Common.{◌≡◌, ℕ, ◌+◌, ◌^◌, List, Bool, true, false, Option, Some, None}
 use Rattle.std.proofs.Common.{cond, refl, ap, sym, ◌∙◌, inl, option_map}
-use Rattle.std.specs.Prelude.{nat_lt, ◌%◌, min, is_some}
+use Rattle.std.specs.Prelude.{nat_lt, ◌%◌, min, is_some, not}
 use Rattle.sn_errno.specs.declared.calls.CallNo.{CallNo}
-use Rattle.sn_errno.specs.declared.calls.CallNo.TheVariants.{ClockGettime, Clone, Mmap, Getrandom}
+use Rattle.sn_errno.specs.declared.calls.CallNo.TheVariants.{ClockGettime, Clone, Mmap, Getrandom, Pipe2}
 use Rattle.sn_errno.specs.declared.errno.Errno.{Errno}
+use Rattle.sn_errno.specs.declared.errno.Errno.TheVariants.{EBADF, EFAULT, EMFILE}
+use Rattle.fd_table.specs.Tables.{Table}
+use Rattle.mm_space.specs.Accesses.{writable}
+use Rattle.mm_space.specs.Handing.{InHand}
 use Rattle.mm_space.specs.Spaces.{AddressSpace, Reach, unreserved}
 use Rattle.sn_errno.specs.Calls.{call_of}
 use Rattle.task_table.specs.Table.{TaskTable}
@@ -14,7 +18,7 @@ use Rattle.kernel_model.specs.declared.entry.Args.{Args}
 use Rattle.kernel_model.specs.declared.entry.Entry.{Entry}
 use Rattle.kernel_model.specs.declared.kernel.Kernel.{Kernel}
 use Rattle.kernel_model.specs.declared.kernel.Part.{Part}
-use Rattle.kernel_model.specs.declared.kernel.Part.TheVariants.{OfTasks, OfSleepers}
+use Rattle.kernel_model.specs.declared.kernel.Part.TheVariants.{OfTasks, OfTable, OfSleepers}
 use Rattle.kernel_model.specs.declared.traps.Next.{Next}
 use Rattle.kernel_model.specs.declared.traps.Next.TheVariants.{Goes, Calls, Traps, Touches}
 use Rattle.kernel_model.specs.machine.Random.{random_at}
@@ -26,10 +30,12 @@ use Rattle.kernel_model.specs.calls.Clone.{Cloning, cloning_of, caller_word, is_
 use Rattle.kernel_model.specs.calls.Clone.{made_for_child, process_by, process_with, sets_child_word, thread_by}
 use Rattle.kernel_model.specs.calls.Clone.{thread_made, word_set}
 use Rattle.kernel_model.specs.descriptors.Counts.{table_copied}
+use Rattle.kernel_model.specs.calls.Lookups.{or_refuse, with_table}
+use Rattle.kernel_model.specs.calls.Pipes.{are_pipe_flags, pipe_made, two_free}
 use Rattle.kernel_model.specs.calls.Memory.{file_refusal, map_refusal, maps, unless_refused}
 use Rattle.kernel_model.specs.calls.Table.{call_row, row_of_call, row_if_known}
 use Rattle.kernel_model.specs.calls.Time.{timespec, time_at}
-use Rattle.kernel_model.specs.entries.Areas.{Stands, next_row, bytes_written}
+use Rattle.kernel_model.specs.entries.Areas.{Stands, access_row, next_row, bytes_written}
 use Rattle.kernel_model.specs.entries.Parts.{Parts, parts, Prog, done, outcome_in, uses, ◌>>=◌, IsIn, AgreeOn}
 use Rattle.kernel_model.specs.entries.Parts.{Change}
 use Rattle.kernel_model.specs.entries.Ready.{ready_as, ready_by, ready_if_live, ready_row, is_ready}
@@ -194,6 +200,30 @@ module _ (s : Parts) (context : Context) (caller : Caller) (args : Args) where
       (behind_answers (caller_word caller (cloning_of args) (s OfTasks)) _
       (thread_answers (cloning_of args) (s OfTasks) _))) refl)
 
+  module _ (buffer flags : ℕ) where
+    ends_answer : (hand : List InHand) (table : Table) (fds : Option (ℕ × ℕ))
+        → Answers (or_refuse EMFILE (λ f. done (pipe_made context caller buffer flags hand table f)) fds)
+    ends_answer hand table None = refl
+    ends_answer hand table (Some fds) = refl
+
+    abbrev in_table : List InHand → Table → Prog Answer
+    in_table hand table =
+        or_refuse EMFILE (λ fds. done (pipe_made context caller buffer flags hand table fds)) (two_free table)
+
+    table_answers : (hand : List InHand) (table : Option Table) → Answers (or_refuse EBADF (in_table hand) table)
+    table_answers hand None = refl
+    table_answers hand (Some table) = ends_answer hand table (two_free table)
+
+    hand_answers : (hand : Option (List InHand))
+        → Answers (or_refuse EFAULT (λ h. with_table caller (in_table h)) hand)
+    hand_answers None = refl
+    hand_answers (Some hand) = table_answers hand (s (OfTable caller.table))
+
+  pipe2_answers : Answers (row_of_call context caller args Pipe2)
+  pipe2_answers =
+      either_answers (not (are_pipe_flags (args.a1 % 2 ^ 32))) _ _ refl
+      (behind_answers (access_row writable caller.space args.a0 8) _ (hand_answers args.a0 (args.a1 % 2 ^ 32) _))
+
 -- so what is ready is so in any context
 module _ (s : Parts) (c d : Context) (caller : Caller) (args : Args) where
   abbrev AreAlike : Prog Answer → Prog Answer → Type 0
@@ -203,6 +233,7 @@ module _ (s : Parts) (c d : Context) (caller : Caller) (args : Args) where
   row_alike ClockGettime = clock_answers s c caller args ∙ sym (clock_answers s d caller args)
   row_alike Mmap = map_answers s c caller args ∙ sym (map_answers s d caller args)
   row_alike Getrandom = random_answers s c caller args ∙ sym (random_answers s d caller args)
+  row_alike Pipe2 = pipe2_answers s c caller args ∙ sym (pipe2_answers s d caller args)
   row_alike Clone = clone_answers s c caller args ∙ sym (clone_answers s d caller args)
   row_alike _ = refl
 

@@ -27,7 +27,8 @@ module _ (c d : Context) (number : ℕ) (args : Args) (writes : IsWrite number) 
     where
       by : IsWrite number → call_row c caller number args ≡ call_row d caller number args
       by (inl is) = ap (row_if_known c caller args) is ∙ sym (ap (row_if_known d caller args) is)
-      by (inr is) = ap (row_if_known c caller args) is ∙ sym (ap (row_if_known d caller args) is)
+      by (inr (inl is)) = ap (row_if_known c caller args) is ∙ sym (ap (row_if_known d caller args) is)
+      by (inr (inr is)) = ap (row_if_known c caller args) is ∙ sym (ap (row_if_known d caller args) is)
 
   module _ (task : ℕ) (given : Given) (reply : ℤ) where
     abbrev entry : Entry

@@ -4,7 +4,6 @@ pub mod Buffers
 pub mod Callers
 pub mod ClearWords
 pub mod Clone
-pub mod Console
 pub mod Ending
 pub mod Futex
 pub mod Identity

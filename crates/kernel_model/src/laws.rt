@@ -25,8 +25,8 @@ ghost use Rattle.kernel_model.specs.laws.Writes.{IsWrite};
 /// - `fits`: whether an entry fits depends on nothing but the parts that it reads, in kernels in which its fresh
 ///   numbers are unused and each node whose count rose has a number, or gets one of them.
 /// - `ready`: whether a task's next step is ready depends on the parts that it reads, and on nothing else.
-/// - `write`: for a write (`write`, `pwrite64`) `same` holds also of kernels with other mounts, keys and numbers of
-///   entries.
+/// - `write`: for a write (`write`, `writev`, `pwrite64`) `same` holds also of kernels with other mounts, keys and
+///   numbers of entries.
 /// - `unnumbered`: a child without an inode number stays as it is through each entry that gives it none.
 pub fn locality()
     ensures same { (a b : AKernel) (e : AnEntry) → context_of b ≡ context_of a →

@@ -1,7 +1,7 @@
 -- read, write, readv and writev, on pipes, the console and the empty input.
-use Rattle.std.specs.Prelude.{ℕ, ◌==◌, ◌&&◌, nat_lt, min, not, Bool, List, [], ◌∷◌, ◌++◌, length, take}
+use Rattle.std.specs.Prelude.{ℕ, ◌+◌, ◌==◌, ◌&&◌, nat_le, nat_lt, min, not, Bool, List, [], ◌∷◌, ◌++◌, length, take}
 use Rattle.std.specs.Prelude.{Option, Some, None, pos, if◌then◌else◌}
-use Rattle.sn_errno.specs.declared.errno.Errno.TheVariants.{EAGAIN, EBADF, EFAULT, ENOSYS, EPIPE}
+use Rattle.sn_errno.specs.declared.errno.Errno.TheVariants.{EAGAIN, EBADF, EFAULT, ENOSPC, ENOSYS, EPIPE}
 use Rattle.fd_table.specs.Flags.{may_read, may_write}
 use Rattle.fd_table.specs.declared.description.Description.{Description}
 use Rattle.fd_table.specs.declared.description.Object.{Object}
@@ -14,10 +14,9 @@ use Rattle.stat_layout.specs.IoVecs.{total_of}
 use Rattle.stat_layout.specs.declared.iovec.IoVec.{IoVec}
 use Rattle.kernel_model.specs.declared.caller.Caller.{Caller}
 use Rattle.kernel_model.specs.declared.kernel.Part.TheVariants.{OfConsole, OfPipe}
-use Rattle.kernel_model.specs.declared.limits.TheConstants.{MOST_WRITTEN}
+use Rattle.kernel_model.specs.declared.limits.TheConstants.{CONSOLE_ROOM, MOST_WRITTEN}
 use Rattle.kernel_model.specs.machine.Spaces.{reach_with}
 use Rattle.kernel_model.specs.calls.Answers.{Answer, not_ready, refuses, replies}
-use Rattle.kernel_model.specs.calls.Console.{appended}
 use Rattle.kernel_model.specs.calls.Lookups.{opened_for, or_refuse}
 use Rattle.kernel_model.specs.calls.Vectors.{are_accessible, cut, gathered, one_buffer, scattered, with_buffers}
 use Rattle.kernel_model.specs.entries.Areas.{reach_changes}
@@ -75,6 +74,14 @@ reads c buffers d =
 
 -- ---- what is written
 
+-- bytes that come behind those of a console: it takes all of them, where it has room for them, or none
+-- write(2), ENOSPC; the room: profile
+abbrev pub appended : List ℕ → List ℕ → Answer
+appended bytes console =
+    if nat_le (length console + length bytes) CONSOLE_ROOM
+    then replies (pos (length bytes)) ((OfConsole, console ++ bytes) ∷ [])
+    else refuses ENOSPC
+
 -- bytes behind those of a pipe, as many as fit: all of up to 4,096, and at least one of more
 -- pipe(7), PIPE_BUF; write(2), EPIPE; that no signal comes with it: profile
 abbrev pub to_pipe : (nonblock : Bool) → List ℕ → Made → PipeState → Answer
@@ -109,8 +116,8 @@ writes c buffers d =
 abbrev pub read_row : (fd buffer count : ℕ) → Caller → Prog Answer
 read_row fd buffer count c = opened_for may_read c fd (reads c (one_buffer buffer count))
 
-abbrev pub write_open_row : (fd buffer count : ℕ) → Caller → Prog Answer
-write_open_row fd buffer count c = opened_for may_write c fd (writes c (one_buffer buffer count))
+abbrev pub write_row : (fd buffer count : ℕ) → Caller → Prog Answer
+write_row fd buffer count c = opened_for may_write c fd (writes c (one_buffer buffer count))
 
 -- readv(fd, records, count), writev(fd, records, count): as one buffer
 -- readv(2), ERRORS: EBADF, EINVAL, EFAULT, EINVAL; their order: profile

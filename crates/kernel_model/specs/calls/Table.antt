@@ -8,19 +8,21 @@ use Rattle.sn_errno.specs.declared.calls.CallNo.TheVariants.{SchedYield, Uname, 
 use Rattle.sn_errno.specs.declared.calls.CallNo.TheVariants.{Getgid, Getegid, Gettid, Brk, Munmap, Mmap, Mprotect}
 use Rattle.sn_errno.specs.declared.calls.CallNo.TheVariants.{Getrandom}
 use Rattle.sn_errno.specs.declared.calls.CallNo.TheVariants.{Dup, Dup3, Fcntl, Ioctl, Close, Lseek, Pread64, Pwrite64}
+use Rattle.sn_errno.specs.declared.calls.CallNo.TheVariants.{Pipe2, Read, Readv, Writev}
 use Rattle.sn_errno.specs.Calls.{call_of}
 use Rattle.kernel_model.specs.declared.caller.Caller.{Caller}
 use Rattle.kernel_model.specs.declared.entry.Args.{Args}
 use Rattle.kernel_model.specs.calls.Answers.{Answer, refuses}
 use Rattle.kernel_model.specs.calls.Callers.{Context}
 use Rattle.kernel_model.specs.calls.Clone.{clone_row}
-use Rattle.kernel_model.specs.calls.Console.{write_row}
 use Rattle.kernel_model.specs.calls.Descriptors.{close_row, dup3_row, dup_row, fcntl_row, ioctl_row}
 use Rattle.kernel_model.specs.calls.Ending.{exit_row, exit_group_row, set_tid_address_row, set_robust_list_row}
 use Rattle.kernel_model.specs.calls.Futex.{futex_row}
 use Rattle.kernel_model.specs.calls.Identity.{getpid_row, getppid_row, gettid_row, owner_row, uname_row}
 use Rattle.kernel_model.specs.calls.Memory.{brk_row, munmap_row, mmap_row, mprotect_row}
+use Rattle.kernel_model.specs.calls.Pipes.{pipe2_row}
 use Rattle.kernel_model.specs.calls.RandomBytes.{getrandom_row}
+use Rattle.kernel_model.specs.calls.ReadWrite.{read_row, readv_row, write_row, writev_row}
 use Rattle.kernel_model.specs.calls.Seek.{lseek_row, pread64_row, pwrite64_row}
 use Rattle.kernel_model.specs.calls.Time.{clock_gettime_row, sched_yield_row}
 use Rattle.kernel_model.specs.calls.Wait.{wait4_row}
@@ -34,8 +36,12 @@ row_of_call context caller args Dup3 = dup3_row args.a0 args.a1 args.a2 caller
 row_of_call context caller args Fcntl = fcntl_row args.a0 args.a1 args.a2 caller
 row_of_call context caller args Ioctl = ioctl_row args.a0 caller
 row_of_call context caller args Close = close_row args.a0 caller
+row_of_call context caller args Pipe2 = pipe2_row context args.a0 args.a1 caller
 row_of_call context caller args Lseek = lseek_row args.a0 caller
+row_of_call context caller args Read = read_row args.a0 args.a1 args.a2 caller
 row_of_call context caller args Write = write_row args.a0 args.a1 args.a2 caller
+row_of_call context caller args Readv = readv_row args.a0 args.a1 args.a2 caller
+row_of_call context caller args Writev = writev_row args.a0 args.a1 args.a2 caller
 row_of_call context caller args Pread64 = pread64_row args.a0 caller
 row_of_call context caller args Pwrite64 = pwrite64_row args.a0 caller
 row_of_call context caller args Exit = exit_row args.a0 caller
