@@ -1,6 +1,6 @@
 -- Accesses with the shared areas that they ask for, as they are tried.
-use Rattle.std.proofs.Common.{◌≡◌, ◌≢◌, ℕ, ◌-◌, Bool, true, false, List, [], Some, None, Ok, Err, refl, ap, sym, ◌∙◌}
-use Rattle.std.proofs.Common.{◌⊎◌, arith, subst, length, option_map, Result, OnOk, OnErr}
+use Rattle.std.proofs.Common.{◌≡◌, ◌≢◌, ℕ, zero, suc, ◌-◌, Bool, true, false, List, [], Option, Some, None, Ok, Err}
+use Rattle.std.proofs.Common.{refl, ap, sym, ◌∙◌, ◌⊎◌, arith, subst, length, option_map, Result, OnOk, OnErr}
 use Rattle.std.specs.Prelude.{⊤, is_some}
 use Rattle.rv_table.specs.declared.error.Area.{Area}
 use Rattle.rv_table.specs.declared.error.MemErr.{MemErr}
@@ -13,9 +13,9 @@ use Rattle.mm_space.specs.Puts.{after_run_stored}
 use Rattle.mm_space.specs.Spaces.{AddressSpace, Reach}
 use Rattle.kernel_model.specs.Names.{NamedMap, get_named}
 use Rattle.kernel_model.specs.machine.Spaces.{reach_with}
-use Rattle.kernel_model.specs.entries.Areas.{Asks, if_allowed, access_tried, access_row, bytes_read, bytes_with}
-use Rattle.kernel_model.specs.entries.Areas.{bytes_written, written_with}
-use Rattle.kernel_model.specs.entries.Parts.{Parts, done, outcome_in}
+use Rattle.kernel_model.specs.entries.Areas.{Asks, Comes, Tried, if_allowed, access_tried, access_row, asked, bytes_read}
+use Rattle.kernel_model.specs.entries.Areas.{bytes_with, bytes_written, tried_with, written_with}
+use Rattle.kernel_model.specs.entries.Parts.{Parts, done, outcome_in, uses}
 use Rattle.kernel_model.proofs.Trees.{outcome-bind}
 use Rattle.kernel_calls.specs.Lending.{AreThere, AreThose, IsLent, names, with_hand}
 use Rattle.kernel_calls.specs.Trying.{Accesses, IsAllowed, Wrote, by_right}
@@ -84,6 +84,32 @@ module _ (right : Rights) (space own : AddressSpace) (at count : ℕ) (hand : Li
           (most - 1) (omega (arith, more))
           ∙ rest s (those_same s (with_hand hand areas) (with_hand lent left)
           (back_lent area hand lent areas left there one) those)
+
+-- ---- an access that asks for no area
+
+looks_nowhere : {A : Type 0} (try : List InHand → Tried A) (lacking : A) (s : Parts) (most : ℕ) (hand : List InHand)
+    (a : A) → try hand ≡ Comes a → uses s (tried_with try lacking most hand) ≡ []
+unfolding tried_with
+looks_nowhere try lacking s zero hand a e = refl
+looks_nowhere try lacking s (suc n) hand a e = ap (λ t. uses s (asked lacking (tried_with try lacking n) hand t)) e
+
+module _ (right : Rights) (space own : AddressSpace) (at count : ℕ) (hand : List InHand) (is : own ≡ space)
+    (none : hand ≡ []) (s : Parts) where
+  nowhere : (a : Option (List InHand)) → access_tried right own at count hand ≡ Comes a
+      → uses s (access_row right space at count) ≡ []
+  nowhere a e =
+      looks_nowhere (access_tried right space at count) None s 17 [] a
+      (ap (access_tried right space at count) (sym none) ∙ ap (λ o. access_tried right o at count hand) (sym is) ∙ e)
+
+  pub asks_not : (told : ⊤) → AllowsAs (seen right space own at count hand is own) (Ok told)
+      → uses s (access_row right space at count) ≡ []
+  asks_not told e =
+      nowhere (Some hand) (ap (if_allowed hand) (allows_value (seen right space own at count hand is own) told e).1)
+
+  pub bars_at_once : (address : ℕ) → AllowsAs (seen right space own at count hand is own) (Err (refusals.Fault address))
+      → uses s (access_row right space at count) ≡ []
+  bars_at_once address e =
+      nowhere None (ap (if_allowed hand) (allows_fault (seen right space own at count hand is own) address e))
 
 -- ---- bytes that are read, with nothing in hand before
 

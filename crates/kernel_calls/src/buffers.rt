@@ -1,6 +1,6 @@
 //! Guests' buffers, which may lie in shared areas: these are handed in as they are asked for.
 
-ghost use Rattle.std.specs.Prelude.{◌≡◌, ℕ, ◌+◌, ◌^◌, ◌<◌, [], ◌++◌, length, is_some, IfOk, IfSome, OnErr};
+ghost use Rattle.std.specs.Prelude.{◌≡◌, ℕ, ◌+◌, ◌^◌, ◌<◌, false, [], ◌++◌, length, is_some, IfOk, IfSome, OnErr};
 ghost use Rattle.std.specs.Bool.{OnTrue, OnFalse};
 ghost use Rattle.futex_core.specs.FutexLists.{FutexList};
 ghost use Rattle.task_table.specs.Table.{TaskTable};
@@ -10,7 +10,7 @@ ghost use Rattle.kernel_model.specs.declared.caller.Caller.{Caller as ACaller};
 ghost use Rattle.kernel_model.specs.declared.kernel.Kernel.{Kernel as AKernel};
 ghost use Rattle.kernel_model.specs.calls.Buffers.{fills};
 ghost use Rattle.kernel_model.specs.entries.Areas.{access_row, bytes_read, bytes_with, bytes_written};
-ghost use Rattle.kernel_model.specs.entries.Parts.{Parts, outcome_in};
+ghost use Rattle.kernel_model.specs.entries.Parts.{Parts, outcome_in, uses};
 ghost use Rattle.kernel_calls.specs.Lending.{AreThere, AreThose, with_hand};
 ghost use Rattle.kernel_calls.specs.Prepared.{Answers, IsCalling};
 ghost use Rattle.kernel_calls.specs.Trying.{Accesses, IsAllowed, Wrote};
@@ -261,6 +261,21 @@ pub fn is_accessible(
     );
     take_back(areas, &mut handed);
     allowed
+}
+
+/// Whether an access to so many bytes from an address on by a right asks for a shared area. It takes no memory.
+pub fn asks_for_area(alloc: Global, space: &GuestSpace, right: Rights, at: u64, count: u64) -> bool
+    ensures { result ≡ false → (s : Parts) → uses s (access_row right space.now at count) ≡ [] }
+{
+    match space
+        .space
+        .allowed(&Handed::none(alloc), right, at, count as usize)
+    {
+        Ok(()) => false,
+        Err(MemErr::Fault { .. }) => false,
+        Err(MemErr::Shared(_)) => true,
+        Err(MemErr::Memory) => unreachable!(),
+    }
 }
 
 /// Hands in the shared areas that an access to so many bytes by a right asks for, so many at most, and answers whether

@@ -49,7 +49,7 @@ mod time;
 mod wait;
 
 pub use arguments::is_too_long;
-pub use buffers::{is_accessible, read, write, write_two};
+pub use buffers::{asks_for_area, is_accessible, read, write, write_two};
 pub use calls::{call, refused};
 pub use clone::{Child, Words};
 pub use context::Context;

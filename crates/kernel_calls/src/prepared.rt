@@ -49,7 +49,7 @@ pub struct Prepared {
 
 /// The end of a pipe that a call used, as its caller's descriptor table has it: an open file description and the pipe,
 /// by name.
-#[derive(Clone, Copy, Debug)]
+#[derive(Clone, Copy, Debug, PartialEq, Eq)]
 pub struct UsedEnd {
     pub description: Made,
     pub pipe: Made,
