@@ -2,10 +2,14 @@
 pub mod Answering
 pub mod Calling
 pub mod Changes
-pub mod ConsoleWrites
+pub mod Cuts
+pub mod FoundBuffers
+pub mod Gathered
 pub mod Lowest
 pub mod MadePipes
 pub mod Opened
+pub mod PipeWaits
 pub mod Reading
+pub mod Scattered
 pub mod Transferring
 pub mod Writing

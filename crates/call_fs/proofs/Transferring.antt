@@ -51,6 +51,12 @@ moves_alike row other (Replies reply transfer) c k space areas is answers =
     record { changes = answers.changes; row_is = is ∙ answers.row_is; done_is = answers.done_is }
 moves_alike row other (Waits pipe) c k space areas is answers = (is ∙ answers.0, answers.1, answers.2)
 
+-- memory with areas that are the same
+pub memory_on : (c : Caller) (k : Kernel) (own : AddressSpace) (shared other : NamedMap AreaState) → other ≡ shared
+    → HasMemory c k own shared → HasMemory c k own other
+memory_on c k own shared other same has =
+    record { space = has.space; there = has.there; areas = has.areas ∙ sym same }
+
 -- ---- what is done
 
 module _ (name : Made) (files : OpenFiles) (p p' : PipeState)

@@ -1,7 +1,7 @@
--- What writes from one buffer come to.
-use Rattle.std.proofs.Common.{◌≡◌, ℕ, ℤ, ◌≤◌, Bool, true, false, List, [], ◌∷◌, ◌++◌, length, take, min, Option}
+-- What writes from buffers come to.
+use Rattle.std.proofs.Common.{◌≡◌, ℕ, ℤ, ◌≤◌, Bool, List, [], ◌∷◌, ◌++◌, length, take, min, Option}
 use Rattle.std.proofs.Common.{Some, None, refl, ap, sym, ◌∙◌, arith, append-nil, option_map}
-use Rattle.std.specs.Prelude.{pos, is_some}
+use Rattle.std.specs.Prelude.{pos}
 use Rattle.std.specs.Option.{option_map_or}
 use Rattle.std.proofs.lemmas.List.{take_min}
 use Rattle.sn_errno.specs.declared.errno.Errno.TheVariants.{EBADF, EFAULT}
@@ -11,28 +11,28 @@ use Rattle.fd_table.specs.declared.description.Object.{Object}
 use Rattle.fd_table.specs.declared.description.Object.TheVariants.{PipeEnd}
 use Rattle.fd_table.specs.declared.description.PipeSide.{PipeSide}
 use Rattle.pipe_core.specs.Pipes.{PipeState, after_write, room_in}
-use Rattle.mm_space.specs.Accesses.{byte_at, readable}
-use Rattle.mm_space.specs.Handing.{AreaState, InHand}
+use Rattle.mm_space.specs.Handing.{AreaState}
 use Rattle.mm_space.specs.Spaces.{AddressSpace}
+use Rattle.stat_layout.specs.IoVecs.{total_of}
 use Rattle.stat_layout.specs.declared.iovec.IoVec.{IoVec}
 use Rattle.kernel_model.specs.Names.{NamedMap, get_named, with_named}
 use Rattle.kernel_model.specs.declared.caller.Caller.{Caller}
 use Rattle.kernel_model.specs.declared.kernel.Kernel.{Kernel}
 use Rattle.kernel_model.specs.declared.kernel.Part.TheVariants.{OfConsole, OfPipe}
 use Rattle.kernel_model.specs.declared.open_files.OpenFiles.{OpenFiles}
-use Rattle.kernel_model.specs.machine.Spaces.{reach_with}
 use Rattle.kernel_model.specs.calls.Answers.{replies}
 use Rattle.kernel_model.specs.calls.Lookups.{or_refuse}
 use Rattle.kernel_model.specs.calls.ReadWrite.{to_pipe, writes_of}
 use Rattle.kernel_model.specs.calls.Vectors.{gathered, if_some}
-use Rattle.kernel_model.specs.entries.Areas.{access_row, bytes_read, bytes_with}
+use Rattle.kernel_model.specs.entries.Areas.{bytes_read}
 use Rattle.kernel_model.specs.entries.Parts.{Parts, done, ◌>>=◌, outcome_in, parts}
 use Rattle.kernel_model.proofs.Trees.{outcome-bind}
 use Rattle.kernel_calls.specs.Memories.{with_memory}
 use Rattle.kernel_calls.proofs.Answering.{kept_memory}
-use Rattle.kernel_calls.proofs.Sendings.{length_from}
-use Rattle.call_fs.specs.Transfers.{AnswersTransfer, HasMemory, HasRoom, IsBuffer, after_transfer, appended_by, by_bytes}
-use Rattle.call_fs.specs.Transfers.{put_by, writes_from}
+use Rattle.call_fs.specs.Records.{buffers_in}
+use Rattle.call_fs.specs.Transfers.{AnswersTransfer, HasMemory, HasRoom, IsGathered, after_transfer, appended_by}
+use Rattle.call_fs.specs.Transfers.{by_bytes, put_by, writes_from}
+use Rattle.call_fs.specs.declared.vectors.Buffers.{Buffers}
 use Rattle.call_fs.specs.declared.transfers.Transfer.TheVariants.{Appends, Puts}
 
 -- ---- the bytes of one buffer
@@ -43,81 +43,50 @@ behind_none : (s : Parts) (space : AddressSpace) (o : Option (List ℕ))
 behind_none s space None = refl
 behind_none s space (Some first) = ap Some (append-nil first)
 
-gathered_one : (s : Parts) (space : AddressSpace) (b : IoVec)
+pub gathered_one : (s : Parts) (space : AddressSpace) (b : IoVec)
     → outcome_in s (gathered space (b ∷ [])) ≡ outcome_in s (bytes_read space b.base b.length)
 gathered_one s space b =
     outcome-bind s (bytes_read space b.base b.length)
     (if_some (λ first. gathered space [] >>= λ rest. done (option_map (λ bytes. first ++ bytes) rest)))
     ∙ behind_none s space (outcome_in s (bytes_read space b.base b.length))
 
--- what is written, by them
-pub writes_by : (c : Caller) (k : Kernel) (own : AddressSpace) (d : Description) (b : IoVec)
-    (bytes : Option (List ℕ)) → c.space ≡ own → outcome_in (parts k) (bytes_read own b.base b.length) ≡ bytes
-    → outcome_in (parts k) (writes_from c d (b ∷ []))
+-- what is written, by the bytes
+pub writes_by : (c : Caller) (k : Kernel) (own : AddressSpace) (d : Description) (buffers : List IoVec)
+    (bytes : Option (List ℕ)) → c.space ≡ own → outcome_in (parts k) (gathered own buffers) ≡ bytes
+    → outcome_in (parts k) (writes_from c d buffers)
     ≡ outcome_in (parts k) (or_refuse EFAULT (λ bytes. writes_of d.nonblock bytes d.object) bytes)
-writes_by c k own d b bytes same is =
-    outcome-bind (parts k) (gathered c.space (b ∷ [])) (or_refuse EFAULT (λ bytes. writes_of d.nonblock bytes d.object))
+writes_by c k own d buffers bytes same is =
+    outcome-bind (parts k) (gathered c.space buffers) (or_refuse EFAULT (λ bytes. writes_of d.nonblock bytes d.object))
     ∙ ap (λ o. outcome_in (parts k) (or_refuse EFAULT (λ bytes. writes_of d.nonblock bytes d.object) o))
-    (gathered_one (parts k) c.space b
-    ∙ ap (λ s. outcome_in (parts k) (bytes_read s b.base b.length)) same ∙ is)
-
--- where each may be read they are there, and else none is
-module _ (k : Kernel) (own : AddressSpace) (b : IoVec) where
-  abbrev hand : Option (List InHand)
-  hand = outcome_in (parts k) (access_row readable own b.base b.length)
-
-  read_by : outcome_in (parts k) (bytes_read own b.base b.length) ≡ option_map (bytes_with own b.base b.length) hand
-  read_by =
-      outcome-bind (parts k) (access_row readable own b.base b.length)
-      (λ hand. done (option_map (bytes_with own b.base b.length) hand))
-
-  some_by : (o : Option (List InHand)) → hand ≡ o → is_some o ≡ true → (bytes : List ℕ) × IsBuffer b own k bytes
-  some_by None is so = absurd (cc so)
-  some_by (Some last) is so = (
-    bytes_with own b.base b.length last,
-    (
-      read_by ∙ ap (option_map (bytes_with own b.base b.length)) is,
-      length_from (byte_at readable (reach_with own last)) b.base b.length,
-    ),
-  )
-
-  pub is_buffer : is_some hand ≡ true → (bytes : List ℕ) × IsBuffer b own k bytes
-  is_buffer so = some_by hand refl so
-
-  none_by : (o : Option (List InHand)) → hand ≡ o → is_some o ≡ false
-      → outcome_in (parts k) (bytes_read own b.base b.length) ≡ None
-  none_by None is so = read_by ∙ ap (option_map (bytes_with own b.base b.length)) is
-  none_by (Some last) is so = absurd (cc so)
-
-  pub is_none : is_some hand ≡ false → outcome_in (parts k) (bytes_read own b.base b.length) ≡ None
-  is_none so = none_by hand refl so
+    (ap (λ s. outcome_in (parts k) (gathered s buffers)) same ∙ is)
 
 -- ---- where they go
 
-module _ (c : Caller) (k : Kernel) (own : AddressSpace) (shared : NamedMap AreaState) (b : IoVec) (bytes : List ℕ)
-    (has : HasMemory c k own shared) (is : IsBuffer b own k bytes) where
+module _ (c : Caller) (k : Kernel) (own : AddressSpace) (shared : NamedMap AreaState) (from : Buffers)
+    (count : ℕ) (bytes : List ℕ) (has : HasMemory c k own shared) (is : IsGathered (buffers_in from) own k bytes)
+    (all : count ≡ total_of (buffers_in from)) where
   kept : with_memory c own shared k ≡ k
   kept = kept_memory c k own shared has.there (sym has.space) (sym has.areas)
 
   -- behind those of a pipe,
   pub put_answers : (name : Made) (pipe : PipeState) (reply : ℤ) (taken : ℕ)
-      → get_named k.files.pipes name.place name.index ≡ Some pipe → taken ≡ min b.length (room_in pipe)
+      → get_named k.files.pipes name.place name.index ≡ Some pipe → taken ≡ min count (room_in pipe)
       → reply ≡ pos taken
       → AnswersTransfer (done (replies (pos (min (length bytes) (room_in pipe)))
       ((OfPipe name, Some (after_write pipe (take (room_in pipe) bytes))) ∷ [])))
-      reply (Puts name b.base b.length taken) c k own shared
+      reply (Puts name from taken) c k own shared
   put_answers name pipe reply taken there so told = record {
     changes = (OfPipe name, Some (after_write pipe (take (room_in pipe) bytes))) ∷ [];
     row_is =
         ap (λ n. replies (pos n) ((OfPipe name, Some (after_write pipe (take (room_in pipe) bytes))) ∷ []))
-        (omega (arith, so, is.1))
+        (omega (arith, so, is.1, all))
         ∙ ap (λ v. replies v ((OfPipe name, Some (after_write pipe (take (room_in pipe) bytes))) ∷ [])) (sym told);
     done_is =
         ap (λ bs. record k { files = with_it (after_write pipe bs) }) (sym front)
         ∙ ap (λ o. record k { files = option_map_or (λ p. with_it (after_write p (take taken bytes))) o k.files })
         (sym there)
         ∙ ap (λ o. by_bytes (put_by name taken) o k) (sym is.0)
-        ∙ ap (after_transfer (Puts name b.base b.length taken) own) (sym kept);
+        ∙ ap (after_transfer (Puts name from taken) own) (sym kept);
   }
     where
       with_it : PipeState → OpenFiles
@@ -125,27 +94,27 @@ module _ (c : Caller) (k : Kernel) (own : AddressSpace) (shared : NamedMap AreaS
 
       front : take taken bytes ≡ take (room_in pipe) bytes
       front =
-          ap (λ n. take n bytes) (omega (arith, so, is.1)) ∙ take_min (room_in pipe) bytes
+          ap (λ n. take n bytes) (omega (arith, so, is.1, all)) ∙ take_min (room_in pipe) bytes
 
   -- or of the console
-  pub append_answers : (reply : ℤ) → reply ≡ pos b.length
+  pub append_answers : (reply : ℤ) → reply ≡ pos count
       → AnswersTransfer (done (replies (pos (length bytes)) ((OfConsole, k.console ++ bytes) ∷ []))) reply
-      (Appends b.base b.length) c k own shared
+      (Appends from) c k own shared
   append_answers reply told = record {
     changes = (OfConsole, k.console ++ bytes) ∷ [];
     row_is =
-        ap (λ n. replies (pos n) ((OfConsole, k.console ++ bytes) ∷ [])) is.1
+        ap (λ n. replies (pos n) ((OfConsole, k.console ++ bytes) ∷ [])) (is.1 ∙ sym all)
         ∙ ap (λ v. replies v ((OfConsole, k.console ++ bytes) ∷ [])) (sym told);
     done_is =
-        ap (λ o. by_bytes appended_by o k) (sym is.0) ∙ ap (after_transfer (Appends b.base b.length) own) (sym kept);
+        ap (λ o. by_bytes appended_by o k) (sym is.0) ∙ ap (after_transfer (Appends from) own) (sym kept);
   }
 
 -- there is room for them
-pub put_sure : (files : OpenFiles) (name : Made) (pipe : PipeState) (at count taken : ℕ)
-    → get_named files.pipes name.place name.index ≡ Some pipe → length pipe.bytes ≤ 65536
-    → taken ≡ min count (room_in pipe) → HasRoom (Puts name at count taken) files
-put_sure files name pipe at count taken there within so = (
-  omega (arith, so),
+pub put_sure : (files : OpenFiles) (name : Made) (pipe : PipeState) (from : Buffers) (count taken : ℕ)
+    → count ≡ total_of (buffers_in from) → get_named files.pipes name.place name.index ≡ Some pipe
+    → length pipe.bytes ≤ 65536 → taken ≡ min count (room_in pipe) → HasRoom (Puts name from taken) files
+put_sure files name pipe from count taken all there within so = (
+  omega (arith, so, all),
   λ p is. let same : length p.bytes ≡ length pipe.bytes = cc (there, is) in
       omega (arith, so, within, same),
 )

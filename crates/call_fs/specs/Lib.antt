@@ -1,5 +1,8 @@
 -- What contracts of this crate say, by subject.
+pub mod Asked
+pub mod Called
 pub mod Looked
 pub mod NewPipes
 pub mod Prepared
+pub mod Records
 pub mod Transfers

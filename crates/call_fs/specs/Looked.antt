@@ -1,6 +1,8 @@
 -- What a caller's descriptors stand for, in what is open.
-use Rattle.std.specs.Prelude.{◌≡◌, ℕ, Option, Some, option_and_then}
+use Rattle.std.specs.Prelude.{◌≡◌, ℕ, Option, Some, None, option_and_then}
 use Rattle.std.specs.FinMap as map
+use Rattle.fd_table.specs.declared.description.Object.{Object}
+use Rattle.fd_table.specs.declared.description.Object.TheVariants.{Node, PipeEnd, Console, EmptyInput}
 use Rattle.fd_table.specs.declared.descriptor.Descriptor.{Descriptor}
 use Rattle.sn_base.specs.declared.made.Made.{Made}
 use Rattle.kernel_model.specs.Names.{get_named}
@@ -8,6 +10,7 @@ use Rattle.kernel_model.specs.declared.caller.Caller.{Caller}
 use Rattle.kernel_model.specs.declared.kernel.Kernel.{Kernel}
 use Rattle.kernel_model.specs.declared.open_files.OpenFile.{OpenFile}
 use Rattle.kernel_model.specs.declared.open_files.OpenFiles.{OpenFiles}
+use Rattle.kernel_calls.specs.declared.prepared.UsedEnd.{UsedEnd}
 use Rattle.call_fs.specs.declared.lookups.Looked.{Looked}
 
 -- what a number of a table stands for, and the open file description of that
@@ -21,6 +24,20 @@ file_at files d = get_named files.descriptions d.description.place d.description
 
 abbrev pub file_in : OpenFiles → (table : Made) → (number : ℕ) → Option OpenFile
 file_in files table number = option_and_then (file_at files) (descriptor_in files table number)
+
+-- the end of a pipe that is open by an open file description, and that a number of a table stands for
+-- pipe(2), DESCRIPTION
+abbrev pub end_by : (name : Made) → Object → Option UsedEnd
+end_by name (Node ino) = None
+end_by name (PipeEnd pipe side) = Some (record { description = name; pipe = pipe })
+end_by name Console = None
+end_by name EmptyInput = None
+
+abbrev pub end_at : OpenFiles → Descriptor → Option UsedEnd
+end_at files d = option_and_then (λ file. end_by d.description file.description.object) (file_at files d)
+
+abbrev pub end_in : OpenFiles → (table : Made) → (number : ℕ) → Option UsedEnd
+end_in files table number = option_and_then (end_at files) (descriptor_in files table number)
 
 -- a number of the caller's table is open, and stands for that
 -- open(2), DESCRIPTION

@@ -6,6 +6,7 @@ use Rattle.fd_table.specs.declared.description.Description.{Description}
 use Rattle.pipe_core.specs.Pipes.{PipeState, after_read, after_write}
 use Rattle.pipe_core.specs.declared.ring.TheConstants.{CAPACITY}
 use Rattle.sn_base.specs.declared.made.Made.{Made}
+use Rattle.stat_layout.specs.IoVecs.{total_of}
 use Rattle.stat_layout.specs.declared.iovec.IoVec.{IoVec}
 use Rattle.mm_space.specs.Handing.{AreaState}
 use Rattle.mm_space.specs.Spaces.{AddressSpace}
@@ -17,10 +18,10 @@ use Rattle.kernel_model.specs.calls.Answers.{Answer, not_ready, replies}
 use Rattle.kernel_model.specs.calls.Lookups.{or_refuse}
 use Rattle.kernel_model.specs.calls.ReadWrite.{writes_of}
 use Rattle.kernel_model.specs.calls.Vectors.{gathered}
-use Rattle.kernel_model.specs.entries.Areas.{bytes_read}
 use Rattle.kernel_model.specs.entries.Parts.{Change, Prog, ◌>>=◌, changed, outcome_in, parts}
 use Rattle.kernel_calls.specs.Memories.{with_memory}
 use Rattle.kernel_calls.specs.declared.context.Context.{Context}
+use Rattle.call_fs.specs.Records.{buffers_in}
 use Rattle.call_fs.specs.declared.transfers.Transfer.{Transfer}
 use Rattle.call_fs.specs.declared.transfers.Transfer.TheVariants.{Nothing, Takes, Puts, Appends}
 use Rattle.call_fs.specs.declared.transfers.Transferred.{Transferred}
@@ -33,7 +34,7 @@ with_pipe change name files =
     option_map_or (λ pipe. record files { pipes = with_named files.pipes name.place name.index (change pipe) })
     (get_named files.pipes name.place name.index) files
 
--- a kernel changed by the bytes of a buffer, where each of them may be read
+-- a kernel changed by the bytes of buffers, where each of them may be read
 -- write(2), EFAULT
 abbrev pub by_bytes : (List ℕ → Kernel → Kernel) → Option (List ℕ) → Kernel → Kernel
 by_bytes change bytes k = option_map_or (λ b. change b k) bytes k
@@ -50,20 +51,20 @@ abbrev pub after_transfer : Transfer → AddressSpace → Kernel → Kernel
 after_transfer Nothing space k = k
 after_transfer (Takes pipe count) space k =
     record k { files = with_pipe (λ p. after_read p count) pipe k.files }
-after_transfer (Puts pipe at count taken) space k =
-    by_bytes (put_by pipe taken) (outcome_in (parts k) (bytes_read space at count)) k
-after_transfer (Appends at count) space k =
-    by_bytes appended_by (outcome_in (parts k) (bytes_read space at count)) k
+after_transfer (Puts pipe from taken) space k =
+    by_bytes (put_by pipe taken) (outcome_in (parts k) (gathered space (buffers_in from))) k
+after_transfer (Appends from) space k =
+    by_bytes appended_by (outcome_in (parts k) (gathered space (buffers_in from))) k
 
--- bytes that are put into a pipe are no more than the buffer has, and than the pipe has room for
+-- bytes that are put into a pipe are no more than the buffers have, and than the pipe has room for
 -- pipe(7), Pipe capacity
 abbrev pub HasRoom : Transfer → OpenFiles → Type 0
 HasRoom Nothing files = ⊤
 HasRoom (Takes pipe count) files = ⊤
-HasRoom (Puts pipe at count taken) files =
-    (taken ≤ count) × ((p : PipeState) → get_named files.pipes pipe.place pipe.index ≡ Some p
+HasRoom (Puts pipe from taken) files =
+    (taken ≤ total_of (buffers_in from)) × ((p : PipeState) → get_named files.pipes pipe.place pipe.index ≡ Some p
     → length p.bytes + taken ≤ CAPACITY)
-HasRoom (Appends at count) files = ⊤
+HasRoom (Appends from) files = ⊤
 
 abbrev pub IsSure : Transferred → OpenFiles → Type 0
 IsSure (Replies reply transfer) files = HasRoom transfer files
@@ -76,11 +77,11 @@ pub record HasMemory (c : Caller) (k : Kernel) (own : AddressSpace) (shared : Na
   pub there : get_named k.spaces c.memory.place c.memory.index ≡ Some c.space
   pub areas : k.areas ≡ shared
 
--- the bytes of a buffer of which each may be read
--- write(2), EFAULT
-abbrev pub IsBuffer : IoVec → (own : AddressSpace) → Kernel → (bytes : List ℕ) → Type 0
-IsBuffer buffer own k bytes =
-    (outcome_in (parts k) (bytes_read own buffer.base buffer.length) ≡ Some bytes) × (length bytes ≡ buffer.length)
+-- the bytes of buffers of which each may be read
+-- write(2), writev(2), EFAULT
+abbrev pub IsGathered : List IoVec → (own : AddressSpace) → Kernel → (bytes : List ℕ) → Type 0
+IsGathered buffers own k bytes =
+    (outcome_in (parts k) (gathered own buffers) ≡ Some bytes) × (length bytes ≡ total_of buffers)
 
 -- a write from buffers, all of whose bytes are tested before
 -- write(2), writev(2), EFAULT

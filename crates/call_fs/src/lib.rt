@@ -1,38 +1,47 @@
 //! The system calls on descriptors, as functions over the parts that their rows use, and the table of all calls.
 //!
-//! A caller sees `call`, which tells what becomes of a call of a live task: one on what is open is prepared here, and
-//! each other by `kernel_calls`, whose `commit` does either. `dup`, `dup3`, `fcntl`, `ioctl`, `close`, `lseek`,
-//! `pread64` and `pwrite64` are told the name of the caller's descriptor table and the registers of their arguments,
-//! read what is open (`OpenFiles`), and prepare what they come to (`FilePrepared`): a reply, and a `FileChange` of
-//! `file_changes`. Beside the table stand the calls on pipes. `read` and `write` reply with a `Transfer`, or wait
+//! A caller sees `call`, which tells what becomes of a call of a live task (`Called`): those on what is open are
+//! prepared here, and each other by `kernel_calls`, whose `commit` does what it and `dup`, `dup3`, `fcntl`, `ioctl`,
+//! `close`, `lseek`, `pread64` and `pwrite64` come to. These are told the name of the caller's descriptor table and the
+//! registers of their arguments, read what is open (`OpenFiles`), and prepare what they come to (`FilePrepared`): a
+//! reply, and a `FileChange` of `file_changes`. `read`, `write`, `readv` and `writev` reply with a `Transfer`, or wait
 //! (`Transferred`): a read has put bytes into memory then, and what a pipe or the console loses or gets
-//! `commit_transfer` does, from the guest's pages straight into the pipe (`after_transfer`). `pipe2` prepares a
-//! `NewPipe`, and `make_pipe` makes it.
+//! `commit_transfer` does, from the guest's pages straight into the pipe, one buffer behind another (`after_transfer`).
+//! `buffers_at` finds buffers whose records lie in memory. `pipe2` prepares a `NewPipe`, and `make_pipe` makes it.
 //!
 //! Proved, by the definitions of `kernel_model`: `call` comes to what its row says, for every number (`row`), with the
-//! clauses of `kernel_calls` beside it (`apart`, `few`, `own`, `ended`, `waits`, `room`, `err`, `err_areas`). The row
-//! of each call here comes to the reply that was prepared, and its changes leave what the prepared change leaves, in
-//! every state whose parts these are and for every caller with that table (`row`). `commit_transfer` and `make_pipe`
-//! leave that (`ok`). A call that waits leaves memory as it was, and want of memory changes nothing (`err`).
+//! clauses of `kernel_calls` beside it (`apart`, `own`, `ended`, `waits`, `room`, `err`, `err_areas`), and bytes are
+//! put into a pipe only where it has room (`sure`). The row of each call here comes to the reply that was prepared, and
+//! its changes leave what the prepared change leaves, in every state whose parts these are and for every caller with
+//! that table (`row`). `commit_transfer` and `make_pipe` leave that (`ok`). A call that waits leaves memory as it was,
+//! and want of memory changes nothing (`err`).
 //!
 //! Not said: which task calls, what its registers hold afterwards, and which entry is made.
 //!
-//! Standards: dup(2), fcntl(2), ioctl(2), close(2), lseek(2), pread(2), read(2), write(2), pipe(2) and pipe(7) of the
-//! Linux manual pages; Linux's asm-generic/fcntl.h. Which commands fcntl takes, and the order of two errors, are
-//! choices of this project. No locks.
+//! Standards: dup(2), fcntl(2), ioctl(2), close(2), lseek(2), pread(2), read(2), write(2), readv(2), pipe(2) and
+//! pipe(7) of the Linux manual pages; Linux's asm-generic/fcntl.h. Which commands fcntl takes, and the order of two
+//! errors, are choices of this project. No locks.
 #![tactic(auto)]
 
+mod called;
 mod calls;
-mod console;
 mod descriptors;
+mod gathering;
 mod lookups;
+mod moving;
 mod pipes;
 mod prepared;
 mod reads;
+mod scattering;
 mod seek;
 mod transfers;
+mod vectors;
+mod vectors_read;
+mod vectors_write;
+mod waiting;
 mod writes;
 
+pub use called::Called;
 pub use calls::call;
 pub use descriptors::{close, dup, dup3, fcntl, ioctl};
 pub use pipes::{Ends, NewPipe, PipeCall, make_pipe, pipe2};
@@ -40,4 +49,7 @@ pub use prepared::FilePrepared;
 pub use reads::read;
 pub use seek::{lseek, pread64, pwrite64};
 pub use transfers::{Transfer, Transferred, commit_transfer};
+pub use vectors::{Buffers, Vectors, buffers_at};
+pub use vectors_read::readv;
+pub use vectors_write::writev;
 pub use writes::write;

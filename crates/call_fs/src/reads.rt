@@ -15,12 +15,15 @@ ghost use Rattle.kernel_model.specs.calls.ReadWrite.{from_pipe, is_awaited, put_
 ghost use Rattle.kernel_model.specs.calls.ReadWrite.{reads_of};
 ghost use Rattle.kernel_model.specs.calls.Vectors.{cut};
 ghost use Rattle.kernel_model.specs.entries.Parts.{done};
+ghost use Rattle.call_fs.specs.Called.{IsApartBy};
 ghost use Rattle.call_fs.specs.Transfers.{HasMemory, IsMoving, IsSure, Moves};
 
 use crate::lookups::open_file;
+use crate::scattering::{front, scatter};
 use crate::transfers::{Transfer, Transferred, denied, told, waits};
+use crate::vectors::are_accessible;
 use fd_table::{Description, Object};
-use kernel_calls::{Context, is_accessible, write_two};
+use kernel_calls::Context;
 use kernel_model::{GuestArea, GuestSpace, MOST_WRITTEN, Named, OpenFiles};
 use mm_areas::Rights;
 use pipe_core::Pipe;
@@ -49,6 +52,7 @@ pub fn read(
         IsMoving c k context.now space.old areas.old files.now console →
         Moves (read_row fd buffer count c) t c k space.new areas.new) }
     ensures sure { IfOk result (λ t. IsSure t files.now) }
+    ensures apart { IfOk result (λ t. IsApartBy t → (space.new ≡ space.old) × (areas.new ≡ areas.old)) }
     ensures err { OnErr result ((space.new ≡ space.old) × (areas.new ≡ areas.old)) }
 {
     let buffer = IoVec {
@@ -84,6 +88,7 @@ fn read_open(
         Moves (if may_read description.now.access then reads c (buffer ∷ []) description.now else done (refuses EBADF))
         t c k space.new areas.new) }
     ensures sure { IfOk result (λ t. IsSure t files.now) }
+    ensures apart { IfOk result (λ t. IsApartBy t → (space.new ≡ space.old) × (areas.new ≡ areas.old)) }
     ensures err { OnErr result ((space.new ≡ space.old) × (areas.new ≡ areas.old)) }
 {
     if description.access.may_read() {
@@ -107,16 +112,19 @@ fn reads(
         IsMoving c k context.now space.old areas.old files.now console →
         Moves (reads c (buffer ∷ []) description.now) t c k space.new areas.new) }
     ensures sure { IfOk result (λ t. IsSure t files.now) }
+    ensures apart { IfOk result (λ t. IsApartBy t → (space.new ≡ space.old) × (areas.new ≡ areas.old)) }
     ensures err { OnErr result ((space.new ≡ space.old) × (areas.new ≡ areas.old)) }
 {
     if buffer.length == 0 {
         Ok(told(0))
     } else {
+        let first = cut(buffer);
         reads_into(
             alloc,
             context,
             description,
-            cut(buffer),
+            &[first],
+            first.length,
             space,
             areas,
             files,
@@ -135,32 +143,37 @@ pub(crate) fn cut(buffer: IoVec) -> IoVec
     }
 }
 
-/// A read into a buffer, whose bytes are all tested before.
-fn reads_into(
+/// A read into buffers of so many bytes in all, which are all tested before.
+pub(crate) fn reads_into(
     alloc: Global,
     context: &Context<'_>,
     description: &Description,
-    buffer: IoVec,
+    buffers: &[IoVec],
+    count: u64,
     space: &mut GuestSpace,
     areas: &mut Named<GuestArea>,
     files: &OpenFiles,
 ) -> Result<Transferred, Memory>
-    requires { buffer.length ≤ MOST_WRITTEN }
+    requires few { count ≤ MOST_WRITTEN }
+    requires all { count ≡ total_of buffers.now }
     ensures row { IfOk result (λ t. (c : ACaller) (k : AKernel) (console : ℕ) →
         IsMoving c k context.now space.old areas.old files.now console →
-        Moves (reads_into c description.now (buffer ∷ [])) t c k space.new areas.new) }
+        Moves (reads_into c description.now buffers.now) t c k space.new areas.new) }
     ensures sure { IfOk result (λ t. IsSure t files.now) }
+    ensures apart { IfOk result (λ t. IsApartBy t → (space.new ≡ space.old) × (areas.new ≡ areas.old)) }
     ensures err { OnErr result ((space.new ≡ space.old) × (areas.new ≡ areas.old)) }
 {
-    if is_accessible(
-        alloc,
-        space,
-        areas,
-        Rights::WRITE,
-        buffer.base,
-        buffer.length,
-    )? {
-        reads_of(alloc, context, description, buffer, space, areas, files)
+    if are_accessible(alloc, space, areas, Rights::WRITE, buffers)? {
+        reads_of(
+            alloc,
+            context,
+            description,
+            buffers,
+            count,
+            space,
+            areas,
+            files,
+        )
     } else {
         Ok(denied(Errno::EFAULT))
     }
@@ -171,16 +184,19 @@ fn reads_of(
     alloc: Global,
     context: &Context<'_>,
     description: &Description,
-    buffer: IoVec,
+    buffers: &[IoVec],
+    count: u64,
     space: &mut GuestSpace,
     areas: &mut Named<GuestArea>,
     files: &OpenFiles,
 ) -> Result<Transferred, Memory>
-    requires { buffer.length ≤ MOST_WRITTEN }
+    requires few { count ≤ MOST_WRITTEN }
+    requires all { count ≡ total_of buffers.now }
     ensures row { IfOk result (λ t. (c : ACaller) (k : AKernel) (console : ℕ) →
         IsMoving c k context.now space.old areas.old files.now console →
-        Moves (reads_of c description.now.nonblock (buffer ∷ []) description.now.object) t c k space.new areas.new) }
+        Moves (reads_of c description.now.nonblock buffers.now description.now.object) t c k space.new areas.new) }
     ensures sure { IfOk result (λ t. IsSure t files.now) }
+    ensures apart { IfOk result (λ t. IsApartBy t → (space.new ≡ space.old) × (areas.new ≡ areas.old)) }
     ensures err { OnErr result ((space.new ≡ space.old) × (areas.new ≡ areas.old)) }
 {
     match description.object {
@@ -191,7 +207,8 @@ fn reads_of(
                 alloc,
                 context,
                 description.nonblock,
-                buffer,
+                buffers,
+                count,
                 name,
                 pipe,
                 space,
@@ -208,23 +225,26 @@ fn from_pipe(
     alloc: Global,
     context: &Context<'_>,
     nonblock: bool,
-    buffer: IoVec,
+    buffers: &[IoVec],
+    count: u64,
     name: Made,
     pipe: &Pipe,
     space: &mut GuestSpace,
     areas: &mut Named<GuestArea>,
 ) -> Result<Transferred, Memory>
-    requires { buffer.length ≤ MOST_WRITTEN }
+    requires few { count ≤ MOST_WRITTEN }
+    requires all { count ≡ total_of buffers.now }
     ensures row { IfOk result (λ t. (c : ACaller) (k : AKernel) → c.task ≡ context.now.task →
         HasMemory c k space.old areas.old → get_named k.files.pipes name.place name.index ≡ Some pipe.now →
-        Moves (from_pipe c nonblock (buffer ∷ []) name pipe.now) t c k space.new areas.new) }
+        Moves (from_pipe c nonblock buffers.now name pipe.now) t c k space.new areas.new) }
     ensures sure { IfOk result (λ t. (open_files : AFiles) → IsSure t open_files) }
+    ensures apart { IfOk result (λ t. IsApartBy t → (space.new ≡ space.old) × (areas.new ≡ areas.old)) }
     ensures err { OnErr result ((space.new ≡ space.old) × (areas.new ≡ areas.old)) }
 {
     if is_awaited(pipe) {
         Ok(waits(nonblock, name))
     } else {
-        take_from(alloc, context, buffer, name, pipe, space, areas)
+        take_from(alloc, context, buffers, count, name, pipe, space, areas)
     }
 }
 
@@ -235,57 +255,36 @@ fn is_awaited(pipe: &Pipe) -> bool
     pipe.len() == 0 && pipe.writers() > 0
 }
 
-/// A pipe's oldest bytes go into a buffer.
+/// A pipe's oldest bytes go into buffers, each filled before the next.
 fn take_from(
     alloc: Global,
     context: &Context<'_>,
-    buffer: IoVec,
+    buffers: &[IoVec],
+    count: u64,
     name: Made,
     pipe: &Pipe,
     space: &mut GuestSpace,
     areas: &mut Named<GuestArea>,
 ) -> Result<Transferred, Memory>
-    requires { buffer.length ≤ MOST_WRITTEN }
+    requires few { count ≤ MOST_WRITTEN }
+    requires all { count ≡ total_of buffers.now }
     ensures row { IfOk result (λ t. (c : ACaller) (k : AKernel) → c.task ≡ context.now.task →
         HasMemory c k space.old areas.old → get_named k.files.pipes name.place name.index ≡ Some pipe.now →
-        Moves (put_into c (buffer ∷ []) (take (total_of (buffer ∷ [])) pipe.now.bytes)
-        ((OfPipe name, Some (after_read pipe.now (total_of (buffer ∷ [])))) ∷ [])) t c k space.new areas.new) }
+        Moves (put_into c buffers.now (take (total_of buffers.now) pipe.now.bytes)
+        ((OfPipe name, Some (after_read pipe.now (total_of buffers.now))) ∷ [])) t c k space.new areas.new) }
     ensures sure { IfOk result (λ t. (open_files : AFiles) → IsSure t open_files) }
+    ensures apart { IfOk result (λ t. IsApartBy t → (space.new ≡ space.old) × (areas.new ≡ areas.old)) }
     ensures err { OnErr result ((space.new ≡ space.old) × (areas.new ≡ areas.old)) }
 {
-    let (first, second) = front(pipe, buffer.length as usize);
-    let count = first.len() + second.len();
-    if write_two(
-        alloc,
-        context.task,
-        space,
-        areas,
-        buffer.base,
-        first,
-        second,
-    )? {
+    let (oldest, behind) = pipe.oldest();
+    let (first, second) = front(oldest, behind, count as usize);
+    let moved = first.len() + second.len();
+    if scatter(alloc, context.task, space, areas, buffers, first, second)? {
         Ok(Transferred::Replies {
-            reply: count as i64,
-            transfer: Transfer::Takes {
-                pipe: name,
-                count: buffer.length,
-            },
+            reply: moved as i64,
+            transfer: Transfer::Takes { pipe: name, count },
         })
     } else {
         Ok(denied(Errno::EFAULT))
-    }
-}
-
-/// So many of a pipe's oldest bytes at most, as two runs.
-fn front(pipe: &Pipe, count: usize) -> (&[u8], &[u8])
-    ensures bytes { result.0.now ++ result.1.now ≡ take count pipe.now.bytes }
-    ensures within { length result.0.now + length result.1.now ≤ count }
-{
-    let (first, second) = pipe.oldest();
-    if count <= first.len() {
-        (&first[..count], &second[..0])
-    } else {
-        let rest = (count - first.len()).min(second.len());
-        (first, &second[..rest])
     }
 }

@@ -10,18 +10,20 @@ ghost use Rattle.kernel_model.specs.calls.Answers.{refuses, replies};
 ghost use Rattle.kernel_model.specs.calls.ReadWrite.{waits};
 ghost use Rattle.kernel_model.specs.entries.Parts.{done};
 ghost use Rattle.pipe_core.specs.Pipes.{after_read};
+ghost use Rattle.call_fs.specs.Called.{IsApartBy, MayLack};
 ghost use Rattle.call_fs.specs.Transfers.{HasMemory, HasRoom, IsSure, Moves, after_transfer, with_pipe};
 ghost use Rattle.call_fs.specs.declared.transfers.Transfer.TheVariants as transfers;
 
-use kernel_calls::{read, send};
+use crate::gathering::{append_all, append_one, put_from};
+use crate::vectors::Buffers;
 use kernel_model::{GuestArea, GuestSpace, Named, OpenFiles};
 use sn_base::{List, Made, Memory};
 use sn_errno::{Errno, Reply};
 use std::alloc::Global;
 
 /// What a call that reads or writes changes beside its caller's memory: nothing; or a pipe's oldest bytes are taken, so
-/// many; or a pipe gets the first bytes of a buffer, `taken` of its `count`; or the console gets a buffer's bytes.
-#[derive(Clone, Copy, Debug, Drop, PartialEq, Eq)]
+/// many; or a pipe gets the first bytes of buffers, `taken` of them; or the console gets the bytes of buffers.
+#[derive(Debug, Drop)]
 pub enum Transfer {
     Nothing,
     Takes {
@@ -30,19 +32,17 @@ pub enum Transfer {
     },
     Puts {
         pipe: Made,
-        at: u64,
-        count: u64,
+        from: Buffers,
         taken: u64,
     },
     Appends {
-        at: u64,
-        count: u64,
+        from: Buffers,
     },
 }
 
 /// What becomes of a call that reads or writes: it replies (a negative reply is an error's number), or waits for bytes
 /// or for room in a pipe.
-#[derive(Clone, Copy, Debug, Drop, PartialEq, Eq)]
+#[derive(Debug, Drop)]
 pub enum Transferred {
     Replies { reply: i64, transfer: Transfer },
     Waits { pipe: Made },
@@ -53,6 +53,7 @@ pub(crate) fn told(value: u32) -> Transferred
     ensures row { (c : ACaller) (k : AKernel) (own : AddressSpace) (shared : NamedMap AreaState) →
         HasMemory c k own shared → Moves (done (replies (pos value) [])) result c k own shared }
     ensures sure { (files : OpenFiles) → IsSure result files }
+    ensures lean { IsApartBy result → ⊥ }
 {
     Transferred::Replies {
         reply: i64::from(value),
@@ -65,6 +66,7 @@ pub(crate) fn denied(errno: Errno) -> Transferred
     ensures row { (c : ACaller) (k : AKernel) (own : AddressSpace) (shared : NamedMap AreaState) →
         HasMemory c k own shared → Moves (done (refuses errno)) result c k own shared }
     ensures sure { (files : OpenFiles) → IsSure result files }
+    ensures lean { IsApartBy result → ⊥ }
 {
     Transferred::Replies {
         reply: Reply::of(errno).number(),
@@ -86,7 +88,7 @@ pub(crate) fn waits(nonblock: bool, pipe: Made) -> Transferred
 }
 
 /// Does what a call comes to, for a caller with that address space. An `Err` changes nothing, and comes only where
-/// bytes of a buffer go somewhere.
+/// bytes of buffers go somewhere.
 pub fn commit_transfer(
     alloc: Global,
     transfer: Transfer,
@@ -101,6 +103,7 @@ pub fn commit_transfer(
     ensures err { OnErr result (files.new ≡ files.old) }
     ensures err_console { OnErr result (console.new ≡ console.old) }
     ensures kept { areas.new ≡ areas.old }
+    ensures lacking { OnErr result (MayLack transfer) }
 {
     match transfer {
         Transfer::Nothing => Ok(()),
@@ -108,13 +111,10 @@ pub fn commit_transfer(
             take_bytes(pipe, count, files);
             Ok(())
         }
-        Transfer::Puts {
-            pipe,
-            at,
-            count,
-            taken,
-        } => put_bytes(alloc, pipe, at, count, taken, space, areas, files),
-        Transfer::Appends { at, count } => append_bytes(alloc, at, count, space, areas, console),
+        Transfer::Puts { pipe, from, taken } => {
+            put_bytes(alloc, pipe, &from, taken, space, areas, files)
+        }
+        Transfer::Appends { from } => append_bytes(alloc, &from, space, areas, console),
     }
 }
 
@@ -127,48 +127,46 @@ fn take_bytes(pipe: Made, count: u64, files: &mut OpenFiles)
     }
 }
 
-/// A pipe, where there is one of that name, gets the first bytes of a buffer.
+/// A pipe, where there is one of that name, gets the first bytes of buffers.
 fn put_bytes(
     alloc: Global,
     pipe: Made,
-    at: u64,
-    count: u64,
+    from: &Buffers,
     taken: u64,
     space: &GuestSpace,
     areas: &mut Named<GuestArea>,
     files: &mut OpenFiles,
 ) -> Result<(), Memory>
-    requires { HasRoom (transfers.Puts pipe at count taken) files.old }
+    requires { HasRoom (transfers.Puts pipe from.now taken) files.old }
     ensures ok { OnOk result ((k : AKernel) → k.areas ≡ areas.old → k.files ≡ files.old →
-        after_transfer (transfers.Puts pipe at count taken) space.now k ≡ record k { files = files.new }) }
+        after_transfer (transfers.Puts pipe from.now taken) space.now k ≡ record k { files = files.new }) }
     ensures err { OnErr result (files.new ≡ files.old) }
     ensures kept { areas.new ≡ areas.old }
 {
     match files.pipes.get_mut(pipe.place, pipe.index) {
         Some(pipe) => {
-            let _ = send(alloc, space, areas, at, count, taken, pipe)?;
+            let _ = put_from(alloc, from, taken, space, areas, pipe)?;
             Ok(())
         }
         None => Ok(()),
     }
 }
 
-/// The console gets the bytes of a buffer, where each of them may be read.
+/// The console gets the bytes of buffers, where each of them may be read.
 fn append_bytes(
     alloc: Global,
-    at: u64,
-    count: u64,
+    from: &Buffers,
     space: &GuestSpace,
     areas: &mut Named<GuestArea>,
     console: &mut List<u8>,
 ) -> Result<(), Memory>
     ensures ok { OnOk result ((k : AKernel) → k.areas ≡ areas.old → k.console ≡ console.old →
-        after_transfer (transfers.Appends at count) space.now k ≡ record k { console = console.new }) }
+        after_transfer (transfers.Appends from.now) space.now k ≡ record k { console = console.new }) }
     ensures err { OnErr result (console.new ≡ console.old) }
     ensures kept { areas.new ≡ areas.old }
 {
-    match read(alloc, space, areas, at, count)? {
-        Some(bytes) => console.extend_from_slice(bytes.as_slice()),
-        None => Ok(()),
+    match from {
+        Buffers::One(buffer) => append_one(alloc, *buffer, space, areas, console),
+        Buffers::Several(buffers) => append_all(alloc, buffers.as_slice(), space, areas, console),
     }
 }

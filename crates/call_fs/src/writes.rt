@@ -5,6 +5,7 @@ ghost use Rattle.sn_errno.specs.declared.errno.Errno.TheVariants.{EBADF};
 ghost use Rattle.fd_table.specs.Flags.{may_write};
 ghost use Rattle.mm_space.specs.Handing.{AreaState};
 ghost use Rattle.mm_space.specs.Spaces.{AddressSpace};
+ghost use Rattle.stat_layout.specs.IoVecs.{total_of};
 ghost use Rattle.kernel_model.specs.Names.{NamedMap, get_named};
 ghost use Rattle.kernel_model.specs.declared.caller.Caller.{Caller as ACaller};
 ghost use Rattle.kernel_model.specs.declared.kernel.Kernel.{Kernel as AKernel};
@@ -12,18 +13,18 @@ ghost use Rattle.kernel_model.specs.declared.open_files.OpenFiles.{OpenFiles as 
 ghost use Rattle.kernel_model.specs.declared.kernel.Part.TheVariants.{OfConsole, OfPipe};
 ghost use Rattle.pipe_core.specs.Pipes.{after_write, room_in, room_wanted};
 ghost use Rattle.kernel_model.specs.calls.Answers.{refuses, replies};
-ghost use Rattle.kernel_model.specs.calls.Console.{appended};
-ghost use Rattle.kernel_model.specs.calls.ReadWrite.{to_pipe, write_open_row, writes, writes_of};
+ghost use Rattle.kernel_model.specs.calls.ReadWrite.{appended, to_pipe, write_row, writes, writes_of};
 ghost use Rattle.kernel_model.specs.entries.Parts.{done};
-ghost use Rattle.call_fs.specs.Transfers.{HasMemory, IsBuffer, IsMoving, IsSure, Moves, writes_from};
+ghost use Rattle.call_fs.specs.Records.{buffers_in};
+ghost use Rattle.call_fs.specs.Transfers.{HasMemory, IsGathered, IsMoving, IsSure, Moves, writes_from};
 
 use crate::lookups::open_file;
 use crate::reads::cut;
 use crate::transfers::{Transfer, Transferred, denied, told, waits};
+use crate::vectors::{Buffers, may_be_read};
 use fd_table::{Description, Object};
-use kernel_calls::{Context, is_accessible};
+use kernel_calls::Context;
 use kernel_model::{CONSOLE_ROOM, GuestArea, GuestSpace, MOST_WRITTEN, Named, OpenFiles};
-use mm_areas::Rights;
 use pipe_core::{ATOMIC, CAPACITY, Pipe};
 use sn_base::{Made, Memory};
 use sn_errno::Errno;
@@ -49,7 +50,7 @@ pub fn write(
 ) -> Result<Transferred, Memory>
     ensures row { IfOk result (λ t. (c : ACaller) (k : AKernel) →
         IsMoving c k context.now space.now areas.old files.now console →
-        Moves (write_open_row fd buffer count c) t c k space.now areas.old) }
+        Moves (write_row fd buffer count c) t c k space.now areas.old) }
     ensures sure { IfOk result (λ t. IsSure t files.now) }
     ensures kept { areas.new ≡ areas.old }
 {
@@ -114,10 +115,12 @@ fn writes(
     if buffer.length == 0 {
         Ok(told(0))
     } else {
+        let first = cut(buffer);
         writes_from(
             alloc,
             description,
-            cut(buffer),
+            Buffers::One(first),
+            first.length,
             space,
             areas,
             files,
@@ -126,48 +129,45 @@ fn writes(
     }
 }
 
-/// A write from a buffer, whose bytes are all tested before.
-fn writes_from(
+/// A write from buffers of so many bytes in all, which are all tested before.
+pub(crate) fn writes_from(
     alloc: Global,
     description: &Description,
-    buffer: IoVec,
+    from: Buffers,
+    count: u64,
     space: &GuestSpace,
     areas: &mut Named<GuestArea>,
     files: &OpenFiles,
     console: usize,
 ) -> Result<Transferred, Memory>
-    requires { buffer.length ≤ MOST_WRITTEN }
+    requires few { count ≤ MOST_WRITTEN }
+    requires all { count ≡ total_of (buffers_in from) }
     ensures row { IfOk result (λ t. (c : ACaller) (k : AKernel) → HasMemory c k space.now areas.old →
         k.files ≡ files.now → length k.console ≡ console →
-        Moves (writes_from c description.now (buffer ∷ [])) t c k space.now areas.old) }
+        Moves (writes_from c description.now (buffers_in from)) t c k space.now areas.old) }
     ensures sure { IfOk result (λ t. IsSure t files.now) }
     ensures kept { areas.new ≡ areas.old }
 {
-    if is_accessible(
-        alloc,
-        space,
-        areas,
-        Rights::READ,
-        buffer.base,
-        buffer.length,
-    )? {
-        Ok(writes_of(description, buffer, files, console))
+    if may_be_read(alloc, space, areas, &from)? {
+        Ok(writes_of(description, from, count, files, console))
     } else {
         Ok(denied(Errno::EFAULT))
     }
 }
 
-/// What is written to an object, from a buffer that may be read.
+/// What is written to an object, from buffers that may be read.
 fn writes_of(
     description: &Description,
-    buffer: IoVec,
+    from: Buffers,
+    count: u64,
     files: &OpenFiles,
     console: usize,
 ) -> Transferred
-    requires { buffer.length ≤ MOST_WRITTEN }
+    requires few { count ≤ MOST_WRITTEN }
+    requires all { count ≡ total_of (buffers_in from) }
     ensures row { (c : ACaller) (k : AKernel) (own : AddressSpace) (shared : NamedMap AreaState) (bytes : List ℕ) →
         HasMemory c k own shared → k.files ≡ files.now → length k.console ≡ console →
-        IsBuffer buffer own k bytes →
+        IsGathered (buffers_in from) own k bytes →
         Moves (writes_of description.now.nonblock bytes description.now.object) result c k own shared }
     ensures sure { IsSure result files.now }
 {
@@ -175,19 +175,20 @@ fn writes_of(
         Object::Node(_) => denied(Errno::ENOSYS),
         Object::PipeEnd { pipe: name, .. } => match files.pipes.get(name.place, name.index) {
             None => denied(Errno::EBADF),
-            Some(pipe) => to_pipe(description.nonblock, buffer, name, pipe),
+            Some(pipe) => to_pipe(description.nonblock, from, count, name, pipe),
         },
-        Object::Console => to_console(buffer, console),
-        Object::EmptyInput => to_console(buffer, console),
+        Object::Console => to_console(from, count, console),
+        Object::EmptyInput => to_console(from, count, console),
     }
 }
 
 /// A write to a pipe.
-fn to_pipe(nonblock: bool, buffer: IoVec, name: Made, pipe: &Pipe) -> Transferred
-    requires { buffer.length ≤ MOST_WRITTEN }
+fn to_pipe(nonblock: bool, from: Buffers, count: u64, name: Made, pipe: &Pipe) -> Transferred
+    requires few { count ≤ MOST_WRITTEN }
+    requires all { count ≡ total_of (buffers_in from) }
     ensures row { (c : ACaller) (k : AKernel) (own : AddressSpace) (shared : NamedMap AreaState) (bytes : List ℕ) →
         HasMemory c k own shared → get_named k.files.pipes name.place name.index ≡ Some pipe.now →
-        IsBuffer buffer own k bytes →
+        IsGathered (buffers_in from) own k bytes →
         Moves (done (to_pipe nonblock bytes name pipe.now)) result c k own shared }
     ensures sure { (files : AFiles) → get_named files.pipes name.place name.index ≡ Some pipe.now →
         IsSure result files }
@@ -196,10 +197,10 @@ fn to_pipe(nonblock: bool, buffer: IoVec, name: Made, pipe: &Pipe) -> Transferre
         return denied(Errno::EPIPE);
     }
     let room = (CAPACITY - pipe.len()) as u64;
-    if room < room_wanted(buffer.length) {
+    if room < room_wanted(count) {
         return waits(nonblock, name);
     }
-    puts(buffer, name, room, pipe)
+    puts(from, count, name, room, pipe)
 }
 
 /// The room without which a write of so many bytes waits.
@@ -209,59 +210,58 @@ fn room_wanted(count: u64) -> u64
     if count <= ATOMIC as u64 { count } else { 1 }
 }
 
-/// As many bytes of a buffer as there is room for go into a pipe.
-fn puts(buffer: IoVec, name: Made, room: u64, pipe: &Pipe) -> Transferred
-    requires few { buffer.length ≤ MOST_WRITTEN }
+/// As many bytes of buffers as there is room for go into a pipe.
+fn puts(from: Buffers, count: u64, name: Made, room: u64, pipe: &Pipe) -> Transferred
+    requires few { count ≤ MOST_WRITTEN }
+    requires all { count ≡ total_of (buffers_in from) }
     requires room { room ≡ room_in pipe.now }
     requires within { length pipe.now.bytes ≤ CAPACITY }
     ensures row { (c : ACaller) (k : AKernel) (own : AddressSpace) (shared : NamedMap AreaState) (bytes : List ℕ) →
         HasMemory c k own shared → get_named k.files.pipes name.place name.index ≡ Some pipe.now →
-        IsBuffer buffer own k bytes →
+        IsGathered (buffers_in from) own k bytes →
         Moves (done (replies (pos (min (length bytes) (room_in pipe.now)))
         ((OfPipe name, Some (after_write pipe.now (take (room_in pipe.now) bytes))) ∷ []))) result c k own shared }
     ensures sure { (files : AFiles) → get_named files.pipes name.place name.index ≡ Some pipe.now →
         IsSure result files }
 {
-    let taken = buffer.length.min(room);
+    let taken = count.min(room);
     Transferred::Replies {
         reply: taken as i64,
         transfer: Transfer::Puts {
             pipe: name,
-            at: buffer.base,
-            count: buffer.length,
+            from,
             taken,
         },
     }
 }
 
 /// A write to the console, by how many bytes that has.
-fn to_console(buffer: IoVec, console: usize) -> Transferred
-    requires { buffer.length ≤ MOST_WRITTEN }
+fn to_console(from: Buffers, count: u64, console: usize) -> Transferred
+    requires few { count ≤ MOST_WRITTEN }
+    requires all { count ≡ total_of (buffers_in from) }
     ensures row { (c : ACaller) (k : AKernel) (own : AddressSpace) (shared : NamedMap AreaState) (bytes : List ℕ) →
-        HasMemory c k own shared → length k.console ≡ console → IsBuffer buffer own k bytes →
+        HasMemory c k own shared → length k.console ≡ console → IsGathered (buffers_in from) own k bytes →
         Moves (done (appended bytes k.console)) result c k own shared }
     ensures sure { (files : AFiles) → IsSure result files }
 {
-    if console <= CONSOLE_ROOM && buffer.length <= (CONSOLE_ROOM - console) as u64 {
-        appends(buffer)
+    if console <= CONSOLE_ROOM && count <= (CONSOLE_ROOM - console) as u64 {
+        appends(from, count)
     } else {
         denied(Errno::ENOSPC)
     }
 }
 
-/// The console gets the bytes of a buffer.
-fn appends(buffer: IoVec) -> Transferred
-    requires { buffer.length ≤ MOST_WRITTEN }
+/// The console gets the bytes of buffers.
+fn appends(from: Buffers, count: u64) -> Transferred
+    requires few { count ≤ MOST_WRITTEN }
+    requires all { count ≡ total_of (buffers_in from) }
     ensures row { (c : ACaller) (k : AKernel) (own : AddressSpace) (shared : NamedMap AreaState) (bytes : List ℕ) →
-        HasMemory c k own shared → IsBuffer buffer own k bytes →
+        HasMemory c k own shared → IsGathered (buffers_in from) own k bytes →
         Moves (done (replies (pos (length bytes)) ((OfConsole, k.console ++ bytes) ∷ []))) result c k own shared }
     ensures sure { (files : AFiles) → IsSure result files }
 {
     Transferred::Replies {
-        reply: buffer.length as i64,
-        transfer: Transfer::Appends {
-            at: buffer.base,
-            count: buffer.length,
-        },
+        reply: count as i64,
+        transfer: Transfer::Appends { from },
     }
 }

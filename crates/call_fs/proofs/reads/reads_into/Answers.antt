@@ -1,5 +1,5 @@
 -- A buffer of which each byte may be written, or one may not.
-use Rattle.std.proofs.Common.{[], ◌∷◌, ◌∙◌}
+use Rattle.std.proofs.Common.{◌∙◌}
 use Rattle.std.proofs.lemmas.Result.{IfOk-weaker}
 use Rattle.sn_errno.specs.declared.errno.Errno.TheVariants.{EFAULT}
 use Rattle.kernel_model.specs.calls.Answers.{refuses}
@@ -16,22 +16,27 @@ returns-then-branch-clause-row c =
     let d = a.description.now in
     IfOk-weaker c.reads_of.result _ _
     (λ t gives caller k console moving.
-    moves_alike (reads_into caller d (a.buffer ∷ [])) (reads_of caller d.nonblock (a.buffer ∷ []) d.object) t caller k
+    moves_alike (reads_into caller d a.buffers.now) (reads_of caller d.nonblock a.buffers.now d.object) t caller k
     c.reads_of.new.space c.reads_of.new.areas
-    (into_by caller k a.space.now d a.buffer _ moving.memory.space
-    (c.in_ok-is_accessible.ensures.row (parts k) (are_those k a.areas.now moving.memory.areas) ∙ c.if-branch.true))
+    (into_by caller k a.space.now d a.buffers.now _ moving.memory.space
+    (c.in_ok-are_accessible.ensures.row (parts k) (are_those k a.areas.now moving.memory.areas) ∙ c.if-branch.true))
     (gives caller k console
-    (moving_on caller k a.context.now a.space.now a.areas.now c.is_accessible.new.areas a.files.now console
-    c.is_accessible.ensures.kept moving))) c.reads_of.ensures.row
+    (moving_on caller k a.context.now a.space.now a.areas.now c.are_accessible.new.areas a.files.now console
+    c.are_accessible.ensures.kept moving))) c.reads_of.ensures.row
 
 pub returns-else-branch-clause-row : goal.returns-else-branch-clause-row
 returns-else-branch-clause-row c caller k console moving =
     let a = c.args in
     let d = a.description.now in
-    let on = moving_on caller k a.context.now a.space.now a.areas.now c.is_accessible.new.areas a.files.now console
-    c.is_accessible.ensures.kept moving in
-    moves_alike (reads_into caller d (a.buffer ∷ [])) (done (refuses EFAULT)) c.denied.result caller k a.space.now
-    c.is_accessible.new.areas
-    (into_by caller k a.space.now d a.buffer _ moving.memory.space
-    (c.in_ok-is_accessible.ensures.row (parts k) (are_those k a.areas.now moving.memory.areas) ∙ c.if-branch.false))
-    (c.denied.ensures.row caller k a.space.now c.is_accessible.new.areas on.memory)
+    let on = moving_on caller k a.context.now a.space.now a.areas.now c.are_accessible.new.areas a.files.now console
+    c.are_accessible.ensures.kept moving in
+    moves_alike (reads_into caller d a.buffers.now) (done (refuses EFAULT)) c.denied.result caller k a.space.now
+    c.are_accessible.new.areas
+    (into_by caller k a.space.now d a.buffers.now _ moving.memory.space
+    (c.in_ok-are_accessible.ensures.row (parts k) (are_those k a.areas.now moving.memory.areas) ∙ c.if-branch.false))
+    (c.denied.ensures.row caller k a.space.now c.are_accessible.new.areas on.memory)
+
+pub returns-then-branch-clause-apart : goal.returns-then-branch-clause-apart
+returns-then-branch-clause-apart c =
+    IfOk-weaker c.reads_of.result _ _
+    (λ t stays apart. ((stays apart).0, (stays apart).1 ∙ c.are_accessible.ensures.kept)) c.reads_of.ensures.apart

@@ -1,5 +1,5 @@
 -- A pipe that isn't there.
-use Rattle.std.proofs.Common.{None, [], ◌∷◌, ap, sym, ◌∙◌}
+use Rattle.std.proofs.Common.{None, ap, sym, ◌∙◌}
 use Rattle.sn_errno.specs.declared.errno.Errno.TheVariants.{EBADF}
 use Rattle.kernel_model.specs.Names.{get_named}
 use Rattle.kernel_model.specs.declared.open_files.OpenFiles.{OpenFiles}
@@ -15,8 +15,8 @@ returns-in-None-clause-row c caller k console moving =
     let a = c.args in
     let d = a.description.now in
     let name = c.in-PipeEnd.name in
-    moves_alike (reads_of caller d.nonblock (a.buffer ∷ []) d.object) (done (refuses EBADF)) c.denied-in-None.result
+    moves_alike (reads_of caller d.nonblock a.buffers.now d.object) (done (refuses EBADF)) c.denied-in-None.result
     caller k a.space.now a.areas.now
-    (of_pipe caller k d.nonblock a.buffer d.object name c.in-PipeEnd.end None c.in-PipeEnd.is
+    (of_pipe caller k d.nonblock a.buffers.now d.object name c.in-PipeEnd.end None c.in-PipeEnd.is
     (ap (λ (f : OpenFiles). get_named f.pipes name.place name.index) moving.files ∙ sym c.in-None.ensures))
     (c.denied-in-None.ensures.row caller k a.space.now a.areas.now moving.memory)

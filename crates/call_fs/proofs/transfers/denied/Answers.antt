@@ -8,3 +8,6 @@ use Rattle.call_fs.proofs.transfers.denied.Goals as goal
 pub returns-clause-row : goal.returns-clause-row
 returns-clause-row c caller k own shared has =
     answers_nothing (done (refuses c.args.errno)) _ caller k own shared has (search rules)
+
+pub returns-clause-lean : goal.returns-clause-lean
+returns-clause-lean c lacks = lacks

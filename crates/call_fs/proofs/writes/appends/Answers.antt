@@ -7,4 +7,5 @@ use Rattle.call_fs.proofs.writes.appends.Goals as goal
 
 pub returns-clause-row : goal.returns-clause-row
 returns-clause-row c caller k own shared bytes has is =
-    append_answers caller k own shared c.args.buffer bytes has is _ (to_z_pos w64 _ (omega (arith, c.requires)))
+    append_answers caller k own shared c.args.from c.args.count bytes has is c.requires.all _
+    (to_z_pos w64 _ (omega (arith, c.requires.few)))

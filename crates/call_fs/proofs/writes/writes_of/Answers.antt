@@ -5,7 +5,7 @@ use Rattle.fd_table.specs.declared.description.Object.TheVariants.{Console, Empt
 use Rattle.kernel_model.specs.Names.{get_named}
 use Rattle.kernel_model.specs.declared.open_files.OpenFiles.{OpenFiles}
 use Rattle.kernel_model.specs.calls.Answers.{refuses}
-use Rattle.kernel_model.specs.calls.Console.{appended}
+use Rattle.kernel_model.specs.calls.ReadWrite.{appended}
 use Rattle.kernel_model.specs.calls.ReadWrite.{to_pipe, writes_of}
 use Rattle.kernel_model.specs.entries.Parts.{done}
 use Rattle.call_fs.proofs.Transferring.{moves_alike}

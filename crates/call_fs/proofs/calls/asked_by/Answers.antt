@@ -1,7 +1,7 @@
 -- What each call on what is open comes to, by its row in the table of calls.
 use Rattle.std.proofs.Common.{◌≡◌, sym, subst}
 use Rattle.sn_errno.specs.declared.calls.CallNo.{CallNo}
-use Rattle.sn_errno.specs.declared.calls.CallNo.TheVariants.{Dup, Dup3, Fcntl, Ioctl, Close, Lseek, Write, Pread64}
+use Rattle.sn_errno.specs.declared.calls.CallNo.TheVariants.{Dup, Dup3, Fcntl, Ioctl, Close, Lseek, Pread64}
 use Rattle.sn_errno.specs.declared.calls.CallNo.TheVariants.{Pwrite64}
 use Rattle.kernel_model.specs.declared.caller.Caller.{Caller}
 use Rattle.kernel_model.specs.declared.entry.Args.{Args}
@@ -10,7 +10,7 @@ use Rattle.kernel_model.specs.calls.Callers.{Context}
 use Rattle.kernel_model.specs.calls.Table.{row_of_call}
 use Rattle.kernel_calls.specs.Prepared.{AnswersKept}
 use Rattle.kernel_calls.specs.declared.prepared.Prepared.{Prepared}
-use Rattle.call_fs.proofs.calls.on_files.Goals as goal
+use Rattle.call_fs.proofs.calls.asked_by.Goals as goal
 
 -- of a call that is known
 of_row : (context : Context) (caller : Caller) (k : Kernel) (args : Args) (call known : CallNo) (p : Prepared)
@@ -20,54 +20,49 @@ of_row context caller k args call known p is answers =
     subst (λ n. AnswersKept (row_of_call context caller args n) p caller.group k) (sym is) answers
 
 pub returns-in-Dup-clause-row : goal.returns-in-Dup-clause-row
-returns-in-Dup-clause-row c context caller k asking =
+returns-in-Dup-clause-row c context caller k table files =
     of_row context caller k c.args.args.now c.args.call Dup _ c.in-Dup.is
-    (c.changes.ensures.row _ caller k caller.group asking.table
-    (c.dup.ensures.row caller k asking.table asking.files))
+    (c.changes.ensures.row _ caller k caller.group table
+    (c.dup.ensures.row caller k table files))
 
 pub returns-in-Dup3-clause-row : goal.returns-in-Dup3-clause-row
-returns-in-Dup3-clause-row c context caller k asking =
+returns-in-Dup3-clause-row c context caller k table files =
     of_row context caller k c.args.args.now c.args.call Dup3 _ c.in-Dup3.is
-    (c.changes-in-Dup3.ensures.row _ caller k caller.group asking.table
-    (c.dup3.ensures.row caller k asking.table asking.files))
+    (c.changes-in-Dup3.ensures.row _ caller k caller.group table
+    (c.dup3.ensures.row caller k table files))
 
 pub returns-in-Fcntl-clause-row : goal.returns-in-Fcntl-clause-row
-returns-in-Fcntl-clause-row c context caller k asking =
+returns-in-Fcntl-clause-row c context caller k table files =
     of_row context caller k c.args.args.now c.args.call Fcntl _ c.in-Fcntl.is
-    (c.changes-in-Fcntl.ensures.row _ caller k caller.group asking.table
-    (c.fcntl.ensures.row caller k asking.table asking.files))
+    (c.changes-in-Fcntl.ensures.row _ caller k caller.group table
+    (c.fcntl.ensures.row caller k table files))
 
 pub returns-in-Ioctl-clause-row : goal.returns-in-Ioctl-clause-row
-returns-in-Ioctl-clause-row c context caller k asking =
+returns-in-Ioctl-clause-row c context caller k table files =
     of_row context caller k c.args.args.now c.args.call Ioctl _ c.in-Ioctl.is
-    (c.changes-in-Ioctl.ensures.row _ caller k caller.group asking.table
-    (c.ioctl.ensures.row caller k asking.table asking.files))
+    (c.changes-in-Ioctl.ensures.row _ caller k caller.group table
+    (c.ioctl.ensures.row caller k table files))
 
 pub returns-in-Close-clause-row : goal.returns-in-Close-clause-row
-returns-in-Close-clause-row c context caller k asking =
+returns-in-Close-clause-row c context caller k table files =
     of_row context caller k c.args.args.now c.args.call Close _ c.in-Close.is
-    (c.changes-in-Close.ensures.row _ caller k caller.group asking.table
-    (c.close.ensures.row caller k asking.table asking.files))
+    (c.changes-in-Close.ensures.row _ caller k caller.group table
+    (c.close.ensures.row caller k table files))
 
 pub returns-in-Lseek-clause-row : goal.returns-in-Lseek-clause-row
-returns-in-Lseek-clause-row c context caller k asking =
+returns-in-Lseek-clause-row c context caller k table files =
     of_row context caller k c.args.args.now c.args.call Lseek _ c.in-Lseek.is
-    (c.changes-in-Lseek.ensures.row _ caller k caller.group asking.table
-    (c.lseek.ensures.row caller k asking.table asking.files))
+    (c.changes-in-Lseek.ensures.row _ caller k caller.group table
+    (c.lseek.ensures.row caller k table files))
 
 pub returns-in-Pread64-clause-row : goal.returns-in-Pread64-clause-row
-returns-in-Pread64-clause-row c context caller k asking =
+returns-in-Pread64-clause-row c context caller k table files =
     of_row context caller k c.args.args.now c.args.call Pread64 _ c.in-Pread64.is
-    (c.changes-in-Pread64.ensures.row _ caller k caller.group asking.table
-    (c.pread64.ensures.row caller k asking.table asking.files))
+    (c.changes-in-Pread64.ensures.row _ caller k caller.group table
+    (c.pread64.ensures.row caller k table files))
 
 pub returns-in-Pwrite64-clause-row : goal.returns-in-Pwrite64-clause-row
-returns-in-Pwrite64-clause-row c context caller k asking =
+returns-in-Pwrite64-clause-row c context caller k table files =
     of_row context caller k c.args.args.now c.args.call Pwrite64 _ c.in-Pwrite64.is
-    (c.changes-in-Pwrite64.ensures.row _ caller k caller.group asking.table
-    (c.pwrite64.ensures.row caller k asking.table asking.files))
-
-pub returns-in_ok-write-in-Write-clause-row : goal.returns-in_ok-write-in-Write-clause-row
-returns-in_ok-write-in-Write-clause-row c context caller k asking =
-    of_row context caller k c.args.args.now c.args.call Write _ c.in-Write.is
-    (c.in_ok-write-in-Write.ensures.row caller k caller.group asking)
+    (c.changes-in-Pwrite64.ensures.row _ caller k caller.group table
+    (c.pwrite64.ensures.row caller k table files))

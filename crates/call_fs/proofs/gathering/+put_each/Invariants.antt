@@ -1,0 +1,6 @@
+-- Each is gone over once.
+use Rattle.std.proofs.Common.{length}
+use Rattle.call_fs.proofs.gathering.+put_each.Given as goal
+
+abbrev pub decreases-put_each : goal.decreases-put_each
+decreases-put_each l = length l.buffers.now

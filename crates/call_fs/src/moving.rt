@@ -1,0 +1,228 @@
+//! What becomes of the calls that move bytes, and of pipe2.
+
+ghost use Rattle.std.specs.Prelude.{◌≡◌, ℕ, IfOk, OnErr};
+ghost use Rattle.task_table.specs.Table.{TaskTable};
+ghost use Rattle.kernel_model.specs.declared.caller.Caller.{Caller as ACaller};
+ghost use Rattle.kernel_model.specs.declared.kernel.Kernel.{Kernel as AKernel};
+ghost use Rattle.kernel_model.specs.calls.Callers.{context_of};
+ghost use Rattle.kernel_model.specs.calls.Lookups.{descriptor};
+ghost use Rattle.kernel_model.specs.calls.Pipes.{pipe2_row};
+ghost use Rattle.kernel_model.specs.entries.Parts.{parts};
+ghost use Rattle.kernel_calls.specs.Prepared.{EndsCaller, EndsTheirs, HasRoomFor, IfWaits, WaitsWith};
+ghost use Rattle.call_fs.specs.Asked.{LooksNowhereElse, read_row_by, write_row_by};
+ghost use Rattle.call_fs.specs.Called.{ComesTo, HasRoomIn, IfOf, IsApartBy, IsApartIn};
+ghost use Rattle.call_fs.specs.Looked.{end_in};
+ghost use Rattle.call_fs.specs.Transfers.{IsMoving, IsSure, Moves};
+
+use crate::called::Called;
+use crate::pipes::{PipeCall, pipe2};
+use crate::reads::read;
+use crate::transfers::Transferred;
+use crate::vectors_read::readv;
+use crate::vectors_write::writev;
+use crate::waiting::{awaited_by, awaited_with_areas};
+use crate::writes::write;
+use kernel_calls::{Awaited, Context, refused};
+use kernel_model::{GuestArea, GuestSpace, Named, OpenFiles};
+use mm_areas::Rights;
+use sn_base::{Boxed, Made, Memory};
+use std::alloc::Global;
+
+/// How a call names the bytes that it moves: by one buffer, or by records of several.
+#[derive(Clone, Copy, Debug, Drop)]
+pub(crate) enum By {
+    Buffer,
+    Records,
+}
+
+/// What becomes of a read.
+pub(crate) fn reading(
+    alloc: Global,
+    context: &Context<'_>,
+    by: By,
+    fd: u64,
+    at: u64,
+    count: u64,
+    space: &mut GuestSpace,
+    areas: &mut Named<GuestArea>,
+    files: &OpenFiles,
+) -> Result<Called, Memory>
+    ensures row { IfOk result (λ d. (c : ACaller) (k : AKernel) (console : ℕ) →
+        IsMoving c k context.now space.old areas.old files.now console →
+        ComesTo (read_row_by by fd at count c) d c k space.new areas.new) }
+    ensures apart { IfOk result (λ d. IsApartIn d → (space.new ≡ space.old) × (areas.new ≡ areas.old)) }
+    ensures sure { IfOk result (λ d. HasRoomIn d files.now) }
+    ensures own { IfOk result (λ d. IfOf d (λ o. EndsCaller o context.now.task)) }
+    ensures ended { IfOk result (λ d. (task group : ℕ) (list : TaskTable) →
+        IfOf d (λ o. EndsTheirs o task group list)) }
+    ensures room { IfOk result (λ d. (list : TaskTable) → IfOf d (λ o. HasRoomFor o list)) }
+    ensures waits { IfOk result (λ d. (c : ACaller) (k : AKernel) (console : ℕ) →
+        IsMoving c k context.now space.old areas.old files.now console → IfOf d (λ o. IfWaits o (λ awaited.
+        WaitsWith awaited c.table (parts k) (λ of_row. read_row_by by fd at count c)))) }
+    ensures err { OnErr result ((space.new ≡ space.old) × (areas.new ≡ areas.old)) }
+{
+    match read_by(alloc, context, by, fd, at, count, space, areas, files)? {
+        Transferred::Replies { reply, transfer } => Ok(Called::Moves { reply, transfer }),
+        Transferred::Waits { .. } => {
+            let used = used_by(
+                alloc,
+                context.table,
+                by,
+                fd,
+                Rights::WRITE,
+                at,
+                count,
+                space,
+                files,
+            );
+            Ok(Called::Of(kernel_calls::Called::Waits(used)))
+        }
+    }
+}
+
+/// A read into a buffer, or into those of records.
+fn read_by(
+    alloc: Global,
+    context: &Context<'_>,
+    by: By,
+    fd: u64,
+    at: u64,
+    count: u64,
+    space: &mut GuestSpace,
+    areas: &mut Named<GuestArea>,
+    files: &OpenFiles,
+) -> Result<Transferred, Memory>
+    ensures row { IfOk result (λ t. (c : ACaller) (k : AKernel) (console : ℕ) →
+        IsMoving c k context.now space.old areas.old files.now console →
+        Moves (read_row_by by fd at count c) t c k space.new areas.new) }
+    ensures sure { IfOk result (λ t. IsSure t files.now) }
+    ensures apart { IfOk result (λ t. IsApartBy t → (space.new ≡ space.old) × (areas.new ≡ areas.old)) }
+    ensures err { OnErr result ((space.new ≡ space.old) × (areas.new ≡ areas.old)) }
+{
+    match by {
+        By::Buffer => read(alloc, context, fd, at, count, space, areas, files),
+        By::Records => readv(alloc, context, fd, at, count, space, areas, files),
+    }
+}
+
+/// What becomes of a write.
+pub(crate) fn writing(
+    alloc: Global,
+    context: &Context<'_>,
+    by: By,
+    fd: u64,
+    at: u64,
+    count: u64,
+    space: &GuestSpace,
+    areas: &mut Named<GuestArea>,
+    console: usize,
+    files: &OpenFiles,
+) -> Result<Called, Memory>
+    ensures row { IfOk result (λ d. (c : ACaller) (k : AKernel) →
+        IsMoving c k context.now space.now areas.old files.now console →
+        ComesTo (write_row_by by fd at count c) d c k space.now areas.old) }
+    ensures sure { IfOk result (λ d. HasRoomIn d files.now) }
+    ensures own { IfOk result (λ d. IfOf d (λ o. EndsCaller o context.now.task)) }
+    ensures ended { IfOk result (λ d. (task group : ℕ) (list : TaskTable) →
+        IfOf d (λ o. EndsTheirs o task group list)) }
+    ensures room { IfOk result (λ d. (list : TaskTable) → IfOf d (λ o. HasRoomFor o list)) }
+    ensures waits { IfOk result (λ d. (c : ACaller) (k : AKernel) →
+        IsMoving c k context.now space.now areas.old files.now console → IfOf d (λ o. IfWaits o (λ awaited.
+        WaitsWith awaited c.table (parts k) (λ of_row. write_row_by by fd at count c)))) }
+    ensures kept { areas.new ≡ areas.old }
+{
+    match write_by(
+        alloc, context, by, fd, at, count, space, areas, files, console,
+    )? {
+        Transferred::Replies { reply, transfer } => Ok(Called::Moves { reply, transfer }),
+        Transferred::Waits { .. } => {
+            let used = used_by(
+                alloc,
+                context.table,
+                by,
+                fd,
+                Rights::READ,
+                at,
+                count,
+                space,
+                files,
+            );
+            Ok(Called::Of(kernel_calls::Called::Waits(used)))
+        }
+    }
+}
+
+/// A write from a buffer, or from those of records.
+fn write_by(
+    alloc: Global,
+    context: &Context<'_>,
+    by: By,
+    fd: u64,
+    at: u64,
+    count: u64,
+    space: &GuestSpace,
+    areas: &mut Named<GuestArea>,
+    files: &OpenFiles,
+    console: usize,
+) -> Result<Transferred, Memory>
+    ensures row { IfOk result (λ t. (c : ACaller) (k : AKernel) →
+        IsMoving c k context.now space.now areas.old files.now console →
+        Moves (write_row_by by fd at count c) t c k space.now areas.old) }
+    ensures sure { IfOk result (λ t. IsSure t files.now) }
+    ensures kept { areas.new ≡ areas.old }
+{
+    match by {
+        By::Buffer => write(alloc, context, fd, at, count, space, areas, files, console),
+        By::Records => writev(alloc, context, fd, at, count, space, areas, files, console),
+    }
+}
+
+/// What a read or a write has used that waits.
+fn used_by(
+    alloc: Global,
+    table: Made,
+    by: By,
+    fd: u64,
+    right: Rights,
+    at: u64,
+    count: u64,
+    space: &GuestSpace,
+    files: &OpenFiles,
+) -> Awaited
+    ensures end { result.end ≡ end_in files.now table (descriptor fd) }
+    ensures areas { LooksNowhereElse by result.areas right space.now at count }
+{
+    match by {
+        By::Buffer => awaited_by(alloc, table, fd, right, at, count, space, files),
+        By::Records => awaited_with_areas(table, fd, files),
+    }
+}
+
+/// What becomes of pipe2.
+pub(crate) fn piping(
+    alloc: Global,
+    context: &Context<'_>,
+    buffer: u64,
+    flags: u64,
+    space: &GuestSpace,
+    areas: &mut Named<GuestArea>,
+    files: &OpenFiles,
+) -> Result<Called, Memory>
+    ensures row { IfOk result (λ d. (c : ACaller) (k : AKernel) (console : ℕ) →
+        IsMoving c k context.now space.now areas.old files.now console →
+        ComesTo (pipe2_row (context_of k) buffer flags c) d c k space.now areas.old) }
+    ensures sure { IfOk result (λ d. HasRoomIn d files.now) }
+    ensures own { IfOk result (λ d. IfOf d (λ o. EndsCaller o context.now.task)) }
+    ensures ended { IfOk result (λ d. (task group : ℕ) (list : TaskTable) →
+        IfOf d (λ o. EndsTheirs o task group list)) }
+    ensures room { IfOk result (λ d. (list : TaskTable) → IfOf d (λ o. HasRoomFor o list)) }
+    ensures goes { IfOk result (λ d. IfOf d (λ o. IfWaits o (λ awaited. ⊥))) }
+    ensures kept { areas.new ≡ areas.old }
+{
+    match pipe2(alloc, context, buffer, flags, space, areas, files)? {
+        PipeCall::Refused(errno) => {
+            Ok(Called::Of(kernel_calls::Called::Replies(refused(errno))))
+        }
+        PipeCall::Makes(new) => Ok(Called::MakesPipe(Boxed::new(alloc, new)?)),
+    }
+}

@@ -1,0 +1,164 @@
+//! writev, on pipes, the console and the empty input.
+
+ghost use Rattle.std.specs.Prelude.{◌≡◌, ℕ, ◌^◌, ◌-◌, ◌≤◌, length, IfOk, if◌then◌else◌};
+ghost use Rattle.sn_errno.specs.declared.errno.Errno.TheVariants.{EBADF};
+ghost use Rattle.fd_table.specs.Flags.{may_write};
+ghost use Rattle.stat_layout.specs.IoVecs.{total_of};
+ghost use Rattle.kernel_model.specs.declared.caller.Caller.{Caller as ACaller};
+ghost use Rattle.kernel_model.specs.declared.kernel.Kernel.{Kernel as AKernel};
+ghost use Rattle.kernel_model.specs.calls.Answers.{refuses};
+ghost use Rattle.kernel_model.specs.calls.ReadWrite.{writes, writev_row};
+ghost use Rattle.kernel_model.specs.calls.Vectors.{with_buffers};
+ghost use Rattle.kernel_model.specs.entries.Parts.{done};
+ghost use Rattle.call_fs.specs.Transfers.{HasMemory, IsMoving, IsSure, Moves};
+
+use crate::lookups::open_file;
+use crate::transfers::{Transferred, denied, told};
+use crate::vectors::{Buffers, Vectors, buffers_at, bytes_of, cut_all};
+use crate::writes::writes_from;
+use fd_table::Description;
+use kernel_calls::Context;
+use kernel_model::{GuestArea, GuestSpace, MOST_WRITTEN, Named, OpenFiles};
+use sn_base::Memory;
+use sn_errno::Errno;
+use stat_layout::IoVec;
+use std::alloc::Global;
+
+/// writev(fd, records, count): as write, from the buffers of so many records, one behind another. No call moves more
+/// than 65,536 bytes. Nothing is read before it is done but the records, and which bytes may be.
+///
+/// EBADF: the descriptor isn't open, or not for writing; EINVAL: more than 1,024 records; EFAULT: a byte of them that
+/// may not be read; EINVAL: buffers of more than 2^63 - 1 bytes in all; EFAULT: a byte of the buffers that may not be
+/// read; EPIPE: no read end is left; EAGAIN: with O_NONBLOCK, where it would wait; ENOSPC: the console has no room.
+pub fn writev(
+    alloc: Global,
+    context: &Context<'_>,
+    fd: u64,
+    records: u64,
+    count: u64,
+    space: &GuestSpace,
+    areas: &mut Named<GuestArea>,
+    files: &OpenFiles,
+    console: usize,
+) -> Result<Transferred, Memory>
+    ensures row { IfOk result (λ t. (c : ACaller) (k : AKernel) →
+        IsMoving c k context.now space.now areas.old files.now console →
+        Moves (writev_row fd records count c) t c k space.now areas.old) }
+    ensures sure { IfOk result (λ t. IsSure t files.now) }
+    ensures kept { areas.new ≡ areas.old }
+{
+    match open_file(context.table, fd, files) {
+        None => Ok(denied(Errno::EBADF)),
+        Some(file) => writev_open(
+            alloc,
+            &file.description,
+            records,
+            count,
+            space,
+            areas,
+            files,
+            console,
+        ),
+    }
+}
+
+/// A write to what is open, where the access lets the caller write.
+fn writev_open(
+    alloc: Global,
+    description: &Description,
+    records: u64,
+    count: u64,
+    space: &GuestSpace,
+    areas: &mut Named<GuestArea>,
+    files: &OpenFiles,
+    console: usize,
+) -> Result<Transferred, Memory>
+    ensures row { IfOk result (λ t. (c : ACaller) (k : AKernel) →
+        HasMemory c k space.now areas.old → k.files ≡ files.now → length k.console ≡ console →
+        Moves (if may_write description.now.access
+        then with_buffers c records count (λ buffers. writes c buffers description.now) else done (refuses EBADF))
+        t c k space.now areas.old) }
+    ensures sure { IfOk result (λ t. IsSure t files.now) }
+    ensures kept { areas.new ≡ areas.old }
+{
+    if description.access.may_write() {
+        writes_records(
+            alloc,
+            description,
+            records,
+            count,
+            space,
+            areas,
+            files,
+            console,
+        )
+    } else {
+        Ok(denied(Errno::EBADF))
+    }
+}
+
+/// A write from the buffers of records.
+fn writes_records(
+    alloc: Global,
+    description: &Description,
+    records: u64,
+    count: u64,
+    space: &GuestSpace,
+    areas: &mut Named<GuestArea>,
+    files: &OpenFiles,
+    console: usize,
+) -> Result<Transferred, Memory>
+    ensures row { IfOk result (λ t. (c : ACaller) (k : AKernel) →
+        HasMemory c k space.now areas.old → k.files ≡ files.now → length k.console ≡ console →
+        Moves (with_buffers c records count (λ buffers. writes c buffers description.now)) t c k space.now areas.old) }
+    ensures sure { IfOk result (λ t. IsSure t files.now) }
+    ensures kept { areas.new ≡ areas.old }
+{
+    match buffers_at(alloc, space, areas, records, count)? {
+        Vectors::Refused(errno) => Ok(denied(errno)),
+        Vectors::Found(buffers) => writes_all(
+            alloc,
+            description,
+            buffers.as_slice(),
+            space,
+            areas,
+            files,
+            console,
+        ),
+    }
+}
+
+/// A write from buffers: none of no bytes.
+fn writes_all(
+    alloc: Global,
+    description: &Description,
+    buffers: &[IoVec],
+    space: &GuestSpace,
+    areas: &mut Named<GuestArea>,
+    files: &OpenFiles,
+    console: usize,
+) -> Result<Transferred, Memory>
+    requires { total_of buffers.now ≤ 2 ^ 63 - 1 }
+    ensures row { IfOk result (λ t. (c : ACaller) (k : AKernel) →
+        HasMemory c k space.now areas.old → k.files ≡ files.now → length k.console ≡ console →
+        Moves (writes c buffers.now description.now) t c k space.now areas.old) }
+    ensures sure { IfOk result (λ t. IsSure t files.now) }
+    ensures kept { areas.new ≡ areas.old }
+{
+    let count = bytes_of(buffers);
+    if count == 0 {
+        Ok(told(0))
+    } else {
+        let first = cut_all(alloc, buffers)?;
+        writes_from(
+            alloc,
+            description,
+            Buffers::Several(first),
+            count.min(MOST_WRITTEN),
+            space,
+            areas,
+            files,
+            console,
+        )
+    }
+}
