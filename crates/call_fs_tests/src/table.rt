@@ -1,15 +1,16 @@
 //! The table of calls: each number is the call of its name, and other numbers are none.
 
+use crate::begun::NUMBERS;
 use kernel_calls_acts::{
-    Act, CLOSE, DUP, DUP3, ENOSYS, FCNTL, GETPID, HEAP, IOCTL, LSEEK, PREAD64, PWRITE64, WRITE,
-    expect_acts,
+    Act, CLOSE, DUP, DUP3, ENOSYS, FCNTL, GETPID, HEAP, IOCTL, LSEEK, PIPE2, PREAD64, PWRITE64,
+    READ, READV, WRITE, WRITEV, expect_acts,
 };
 use std::test::Fail;
 
 /// Each call on descriptors by its number, with a reply that no other of them gives to these arguments: Linux's
 /// asm-generic/unistd.h. Other registers hold ones.
 #[rattlefmt::skip]
-const CALLS: [Act; 21] = [
+const CALLS: &[Act] = &[
     Act::Calls(DUP, [1, u64::MAX, u64::MAX, u64::MAX, u64::MAX, u64::MAX], 3),
     Act::Calls(DUP3, [1, 9, 0o2000000, u64::MAX, u64::MAX, u64::MAX], 9),
     Act::Calls(FCNTL, [9, 1, u64::MAX, u64::MAX, u64::MAX, u64::MAX], 1),
@@ -31,27 +32,35 @@ const CALLS: [Act; 21] = [
     Act::Calls(DUP, [4, 0, 0, 0, 0, 0], -9),
     Act::Calls(DUP3, [1, 1, 0, 0, 0, 0], -22),
     Act::Calls(GETPID, [0, 0, 0, 0, 0, 0], 1),
+    Act::Calls(PIPE2, [NUMBERS, 0o2000000, u64::MAX, u64::MAX, u64::MAX, u64::MAX], 0),
+    Act::Loads(NUMBERS, (5 << 32) + 4),
+    Act::Stores(NUMBERS + 16, 65_536), Act::Stores(NUMBERS + 24, 5),
+    Act::Stores(NUMBERS + 32, NUMBERS), Act::Stores(NUMBERS + 40, 100),
+    Act::Calls(WRITE, [5, 65_536, 3, u64::MAX, u64::MAX, u64::MAX], 3),
+    Act::Calls(READ, [4, NUMBERS, 2, u64::MAX, u64::MAX, u64::MAX], 2),
+    Act::Calls(WRITEV, [5, NUMBERS + 16, 1, u64::MAX, u64::MAX, u64::MAX], 5),
+    Act::Calls(READV, [4, NUMBERS + 32, 1, u64::MAX, u64::MAX, u64::MAX], 6),
 ];
 
 #[test]
 fn each_call_on_descriptors_has_its_number(rt: HostRuntime) -> Result<(), Fail> {
-    expect_acts(rt.alloc(), &CALLS)
+    expect_acts(rt.alloc(), CALLS)
 }
 
-/// Numbers beside them of calls that the kernel doesn't have, such as pipe2 59, read 63, readv 65, writev 66 and fstat
-/// 80, and of none.
+/// Numbers beside them of calls that the kernel doesn't have, such as getcwd 17, openat 56, getdents64 61, preadv 69
+/// and fstat 80, and of none.
 const LACKING: [u64; 15] = [
     0,
+    17,
     22,
     26,
     28,
+    56,
     58,
-    59,
     60,
-    63,
-    65,
-    66,
+    61,
     69,
+    70,
     80,
     500,
     (1 << 32) + 64,

@@ -31,7 +31,13 @@ pub enum Act {
     Random(u64, u64, i64),
     /// write to the console: address and count, and its reply.
     Writes(u64, u64, i64),
-    /// A write takes these bytes at an address.
+    /// The call of a number, its arguments: it waits.
+    Parks(u64, [u64; 6]),
+    /// The console has just these bytes.
+    Printed(&'static [u8]),
+    /// From here on the console has so many zeros.
+    Console(usize),
+    /// A write to the console takes these bytes at an address.
     Bytes(u64, &'static [u8]),
     /// The first task stores eight bytes at an address.
     Stores(u64, u64),
@@ -117,14 +123,6 @@ impl Guest {
         self.replies(ask(number, [a0, a1, a2, a3, u64::MAX, 0]), reply)
     }
 
-    /// Whether a write takes these bytes.
-    fn has_bytes(&mut self, at: u64, bytes: &[u8]) -> Result<bool, Fail> {
-        match self.written(at, bytes.len() as u64)? {
-            Some(found) => Ok(found.as_slice() == bytes),
-            None => Ok(false),
-        }
-    }
-
     /// Whether an instruction of a task goes on, at an address with a value.
     fn goes(&mut self, task: u32, instruction: u64, at: u64, value: u64) -> Result<bool, Fail> {
         self.stand(instruction, at, value);
@@ -178,6 +176,12 @@ impl Guest {
         Ok(true)
     }
 
+    /// The console has so many zeros.
+    fn begins_to_print_at(&mut self, count: usize) -> Result<bool, Fail> {
+        self.fills_console(count)?;
+        Ok(true)
+    }
+
     /// Its memory has that name.
     fn goes_into(&mut self, memory: Made) -> Result<bool, Fail> {
         self.memory = memory;
@@ -209,7 +213,10 @@ impl Guest {
             Act::Protect(at, length, rights) => self.replies_to(MPROTECT, [at, length, rights, 0], 0),
             Act::Random(at, count, reply) => self.replies_to(GETRANDOM, [at, count, 0, 0], reply),
             Act::Writes(at, count, reply) => self.replies_to(WRITE, [1, at, count, 0], reply),
-            Act::Bytes(at, bytes) => self.has_bytes(at, bytes),
+            Act::Parks(number, args) => self.parks(ask(number, args)),
+            Act::Printed(bytes) => Ok(self.has_printed(0, bytes)),
+            Act::Console(count) => self.begins_to_print_at(count),
+            Act::Bytes(at, bytes) => self.prints(at, bytes),
             Act::Stores(at, value) => self.goes(1, STORE, at, value),
             Act::Loads(at, value) => self.gives(LOAD, at, 0, value),
             Act::Gives(instruction, at, value, gives) => self.gives(instruction, at, value, gives),

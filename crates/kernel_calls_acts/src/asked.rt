@@ -2,7 +2,7 @@
 
 use kernel_model::Args;
 
-/// The numbers of dup, dup3, fcntl, ioctl, close, lseek, pread64 and pwrite64.
+/// The numbers of dup, dup3, fcntl, ioctl, close, pipe2, lseek, pread64 and pwrite64.
 pub const DUP: u64 = 23;
 
 pub const DUP3: u64 = 24;
@@ -13,15 +13,24 @@ pub const IOCTL: u64 = 29;
 
 pub const CLOSE: u64 = 57;
 
+pub const PIPE2: u64 = 59;
+
 pub const LSEEK: u64 = 62;
 
 pub const PREAD64: u64 = 67;
 
 pub const PWRITE64: u64 = 68;
 
-/// Of write, exit, exit_group, set_tid_address, futex, set_robust_list, clock_gettime, sched_yield and uname.
+/// Of read, write, readv and writev.
+pub const READ: u64 = 63;
+
 pub const WRITE: u64 = 64;
 
+pub const READV: u64 = 65;
+
+pub const WRITEV: u64 = 66;
+
+/// Of exit, exit_group, set_tid_address, futex, set_robust_list, clock_gettime, sched_yield and uname.
 pub const EXIT: u64 = 93;
 
 pub const EXIT_GROUP: u64 = 94;

@@ -21,7 +21,7 @@ fn wait4([child, address, options, usage]: [u64; 4]) -> Asked {
 impl Guest {
     /// The child that a clone makes.
     pub fn child(&mut self, args: [u64; 5]) -> Result<Child, Fail> {
-        match self.called(clone_of(args), 0)? {
+        match self.called(clone_of(args))? {
             Called::Makes(child) => Ok(child.into_inner()),
             _ => Err(Fail::new("no child")),
         }
@@ -52,7 +52,7 @@ impl Guest {
 
     /// Whether a wait4 waits.
     pub fn waits(&mut self, args: [u64; 4]) -> Result<bool, Fail> {
-        match self.called(wait4(args), 0)? {
+        match self.called(wait4(args))? {
             Called::Waits(_) => Ok(true),
             _ => Ok(false),
         }
@@ -60,7 +60,7 @@ impl Guest {
 
     /// Whether a wait4 replies that child. Then that is nobody's child any more.
     pub fn reaps(&mut self, args: [u64; 4], child: i64) -> Result<bool, Fail> {
-        let prepared = self.prepared(wait4(args), 0)?;
+        let prepared = self.prepared(wait4(args))?;
         match prepared.effect {
             Effect::Reaps { which } => {
                 self.reap(which)?;

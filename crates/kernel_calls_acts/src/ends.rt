@@ -55,7 +55,7 @@ fn are_cleared(keys: &[FutexKey], words: &[Word]) -> bool {
 impl Guest {
     /// Whether set_tid_address tells the guest its number, and is to set its clear word there. Then it is there.
     pub fn clears(&mut self, address: u64) -> Result<bool, Fail> {
-        let prepared = self.prepared(ask(SET_TID_ADDRESS, [address, 7, 7, 7, 7, 7]), 0)?;
+        let prepared = self.prepared(ask(SET_TID_ADDRESS, [address, 7, 7, 7, 7, 7]))?;
         let is_told = prepared.reply == i64::from(self.task);
         match prepared.effect {
             Effect::SetsClear { task, address: at } => {
@@ -68,7 +68,7 @@ impl Guest {
 
     /// Whether an exit ends these tasks. Then they have ended.
     pub fn exits(&mut self, ends: Ends) -> Result<bool, Fail> {
-        let prepared = self.prepared(ask(ends.number, [ends.status, 7, 7, 7, 7, 7]), 0)?;
+        let prepared = self.prepared(ask(ends.number, [ends.status, 7, 7, 7, 7, 7]))?;
         match prepared.effect {
             Effect::EndsTask { task, ending } => {
                 let is_told = ends.number == EXIT

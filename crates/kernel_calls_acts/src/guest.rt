@@ -1,10 +1,10 @@
 //! A guest that calls, and does one instruction after another. What a call or an instruction comes to says nothing of
 //! how it came to be, so that no test's proof has its contract before it.
 
-use crate::asked::{Asked, WRITE, args_of, ask};
+use crate::answers::{Answered, answer};
+use crate::asked::{Asked, WRITE, ask};
 use crate::families::{alone, lives};
 use crate::opening::opened;
-use call_fs::call;
 use file_changes::{change_files, open_files};
 use futex_core::Waiters;
 use kernel_calls::{Beginning, Called, Context, Effect, Prepared, Ran, run, step};
@@ -65,7 +65,7 @@ pub const MEMORY: Made = Made { place: 0, index: 1 };
 /// A guest: its registers, its memory, the shared areas, the tasks and the sleepers there are, the task and the thread
 /// group that it calls as, the names of its memory and of its descriptor table, the place of its last call's entry, the
 /// seed of its calls, the kind of mappings that it makes where a test tries both, the registers of other tasks, the
-/// memories that aren't its own, and what is open.
+/// memories that aren't its own, what is open, and the console.
 #[derive(Drop)]
 pub struct Guest {
     pub alloc: Global,
@@ -84,6 +84,7 @@ pub struct Guest {
     pub others: Map<Regs>,
     pub spaces: Named<GuestSpace>,
     pub files: OpenFiles,
+    pub console: List<u8>,
 }
 
 /// One that was opened so, and has not called.
@@ -108,6 +109,7 @@ fn guest_from(alloc: Global, beginning: Beginning) -> Result<Guest, Fail> {
         others: Map::new(alloc),
         spaces: Named::new(alloc),
         files,
+        console: List::new(alloc),
     })
 }
 
@@ -135,18 +137,9 @@ pub fn guest_among(alloc: Global, tasks: Tasks) -> Result<Guest, Fail> {
     Ok(guest)
 }
 
-/// The bytes that a call takes to the console, or `None`.
-pub fn taken(prepared: Prepared) -> Option<List<u8>> {
-    let Prepared { effect, .. } = prepared;
-    match effect {
-        Effect::TakesBytes(bytes) => Some(bytes),
-        _ => None,
-    }
-}
-
 impl Guest {
-    /// What becomes of its next call, over a console of so many bytes.
-    pub fn called(&mut self, asked: Asked, console: usize) -> Result<Called, Fail> {
+    /// What becomes of its next call, which has moved its bytes, and made its pipe.
+    pub fn answer(&mut self, asked: Asked) -> Result<Answered, Fail> {
         if !lives(&self.tasks, self.task) {
             return Err(Fail::new("no such task"));
         }
@@ -159,26 +152,31 @@ impl Guest {
             place: self.place,
             seed: &self.seed,
         };
-        let args = args_of(&asked);
-        let called = call(
+        answer(
             self.alloc,
             &context,
-            asked.number,
+            &asked,
             &self.registers,
-            &args,
             &mut self.space,
             &mut self.areas,
             &self.tasks,
             &self.sleepers,
-            console,
-            &self.files,
-        )?;
-        Ok(called)
+            &mut self.console,
+            &mut self.files,
+        )
     }
 
-    /// What a call comes to that replies.
-    pub fn prepared(&mut self, asked: Asked, console: usize) -> Result<Prepared, Fail> {
-        match self.called(asked, console)? {
+    /// What kernel_calls has of its next call.
+    pub fn called(&mut self, asked: Asked) -> Result<Called, Fail> {
+        match self.answer(asked)? {
+            Answered::Of(called) => Ok(called),
+            Answered::Replied(_) => Err(Fail::new("it has replied")),
+        }
+    }
+
+    /// What it comes to, where it replies.
+    pub fn prepared(&mut self, asked: Asked) -> Result<Prepared, Fail> {
+        match self.called(asked)? {
             Called::Replies(prepared) => Ok(prepared),
             _ => Err(Fail::new("no reply")),
         }
@@ -191,17 +189,47 @@ impl Guest {
         }
     }
 
-    /// The reply of its next call, which has changed what is open.
-    pub fn reply(&mut self, asked: Asked) -> Result<i64, Fail> {
-        let Prepared { reply, effect } = self.prepared(asked, 0)?;
-        self.change(effect);
-        Ok(reply)
+    /// The reply of its next call, which has changed what is open; nothing where it has none.
+    fn reply_of(&mut self, asked: Asked) -> Result<Option<i64>, Fail> {
+        match self.answer(asked)? {
+            Answered::Replied(reply) => Ok(Some(reply)),
+            Answered::Of(Called::Replies(Prepared { reply, effect })) => {
+                self.change(effect);
+                Ok(Some(reply))
+            }
+            Answered::Of(_) => Ok(None),
+        }
     }
 
-    /// The bytes that a write to the console takes, or `None` where it is refused.
-    pub fn written(&mut self, at: u64, count: u64) -> Result<Option<List<u8>>, Fail> {
-        let prepared = self.prepared(ask(WRITE, [1, at, count, 0, 0, 0]), 0)?;
-        Ok(taken(prepared))
+    /// The same, of one that replies.
+    pub fn reply(&mut self, asked: Asked) -> Result<i64, Fail> {
+        Ok(self.reply_of(asked)?.ok_or("no reply")?)
+    }
+
+    /// Whether a call waits.
+    pub fn parks(&mut self, asked: Asked) -> Result<bool, Fail> {
+        match self.answer(asked)? {
+            Answered::Of(Called::Waits(_)) => Ok(true),
+            _ => Ok(false),
+        }
+    }
+
+    /// Whether a write to the console takes just these bytes, from an address on.
+    pub fn prints(&mut self, at: u64, bytes: &[u8]) -> Result<bool, Fail> {
+        let before = self.console.len();
+        let reply = self.reply(ask(WRITE, [1, at, bytes.len() as u64, 0, 0, 0]))?;
+        Ok(reply == bytes.len() as i64 && self.has_printed(before, bytes))
+    }
+
+    /// Whether the console has just these bytes behind so many.
+    pub fn has_printed(&self, before: usize, bytes: &[u8]) -> bool {
+        self.console.as_slice().get(before..) == Some(bytes)
+    }
+
+    /// Has the console have so many zeros, and no other bytes.
+    pub fn fills_console(&mut self, count: usize) -> Result<(), Fail> {
+        self.console = List::from_vec(vec![in self.alloc; 0u8; count]?);
+        Ok(())
     }
 
     /// Stands at an instruction, with an address in a0 and a value in a1.

@@ -6,7 +6,8 @@
 //! `expect` does acts one after another, and fails at the first that comes to something else, by its index;
 //! `expect_acts` and those beside it do so with a new guest. Other tasks have their registers and memories beside it:
 //! with `Makes` a child takes its place among them, and with `Turns` the guest goes on as another. It begins with the
-//! descriptors of an opening task, and what its calls change of what is open is done. `opened` and `read` are of an opening task's memory.
+//! descriptors of an opening task, and what its calls change of what is open is done: bytes are moved, pipes are made,
+//! and what is written to the console is kept. `opened` and `read` are of an opening task's memory.
 //!
 //! Proved: that each call meets what call_fs and kernel_calls require of their callers, and that no function stops. No
 //! function says what a call or an instruction comes to, so that no test's proof has a contract of theirs before it.
@@ -18,6 +19,7 @@
 #![tactic(auto)]
 
 mod act;
+mod answers;
 mod asked;
 mod children;
 mod ends;
@@ -30,18 +32,19 @@ mod turns;
 mod words;
 
 pub use act::{Act, expect_acts, expect_acts_among, expect_acts_of};
+pub use answers::Answered;
 pub use asked::{
     Asked, BRK, CLOCK_GETTIME, CLONE, CLOSE, DUP, DUP3, EAGAIN, EBADF, ECHILD, EFAULT, EINVAL,
     ENODEV, ENOMEM, ENOSYS, EXIT, EXIT_GROUP, FCNTL, FIXED, FUTEX, GETEGID, GETEUID, GETGID,
-    GETPID, GETPPID, GETRANDOM, GETTID, GETUID, IOCTL, LSEEK, MMAP, MPROTECT, MUNMAP, PREAD64,
-    PRIVATE, PWRITE64, SCHED_YIELD, SET_ROBUST_LIST, SET_TID_ADDRESS, SHARED, UNAME, WAIT4, WRITE,
-    ask,
+    GETPID, GETPPID, GETRANDOM, GETTID, GETUID, IOCTL, LSEEK, MMAP, MPROTECT, MUNMAP, PIPE2,
+    PREAD64, PRIVATE, PWRITE64, READ, READV, SCHED_YIELD, SET_ROBUST_LIST, SET_TID_ADDRESS, SHARED,
+    UNAME, WAIT4, WRITE, WRITEV, ask,
 };
 pub use ends::Ends;
 pub use families::{alone, brood, crowd, end, family};
 pub use guest::{
     ADD, ADD_WORD, Guest, HEAP, JUMP, LOAD, MAPPINGS_END, MEMORY, RESERVE, RESERVE_WORD, STORE,
-    STORE_RESERVED, STORE_RESERVED_WORD, TOP, guest_among, guest_in, guest_of, new_guest, taken,
+    STORE_RESERVED, STORE_RESERVED_WORD, TOP, guest_among, guest_in, guest_of, new_guest,
 };
 pub use open::{READ_END, WRITE_END};
 pub use opening::{opened, read};

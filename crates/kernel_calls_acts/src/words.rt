@@ -37,7 +37,7 @@ impl Guest {
     /// Whether a FUTEX_WAIT is to sleep on that word. Then it does.
     pub fn sleeps(&mut self, args: [u64; 4], word: Word) -> Result<bool, Fail> {
         let key = key_of(word);
-        match self.called(futex(args), 0)? {
+        match self.called(futex(args))? {
             Called::Sleeps(found) => {
                 put_to_sleep(&mut self.sleepers, self.task, key)?;
                 Ok(found == key)
@@ -48,7 +48,7 @@ impl Guest {
 
     /// Whether a FUTEX_WAKE replies that it wakes so many. Then they are woken.
     pub fn wakes(&mut self, args: [u64; 4], count: i64) -> Result<bool, Fail> {
-        let prepared = self.prepared(futex(args), 0)?;
+        let prepared = self.prepared(futex(args))?;
         match prepared.effect {
             Effect::Wakes { key, most } => {
                 self.wake(key, most)?;

@@ -3,7 +3,7 @@
 use crate::guests::{expect_bytes, expect_unreadable};
 use futex_core::Waiters;
 use kernel_calls::{Effect, Prepared, commit};
-use kernel_calls_acts::{Asked, Guest, ask, guest_in, opened, read, taken};
+use kernel_calls_acts::{Act, Asked, Guest, ask, guest_in, opened, read};
 use kernel_model::{GuestSpace, OpenFiles};
 use sn_base::{List, Memory};
 use sn_vectors::images::GUEST;
@@ -15,7 +15,7 @@ use task_table::{Status, Tasks};
 /// The first address behind the stack.
 const TOP: u64 = 274_877_906_944;
 
-/// A call's number, its arguments, and its reply: write(2), exit_group(2); errno(3), EBADF 9, EFAULT 14, ENOSYS 38.
+/// A call's number, its arguments, and its reply: write(2); errno(3), EBADF 9, EFAULT 14, ENOSYS 38.
 #[rattlefmt::skip]
 const REPLIES: [(u64, [u64; 3], i64); 9] = [
     (64, [0, 65_536, 1], -9),
@@ -26,7 +26,7 @@ const REPLIES: [(u64, [u64; 3], i64); 9] = [
     (64, [1, 69_631, 2], -14),
     (64, [2, TOP - 1, 2], -14),
     (64, [1, u64::MAX, 2], -14),
-    (65, [1, 65_536, 1], -38),
+    (71, [1, 65_536, 1], -38),
 ];
 
 /// The four letters with which an image begins.
@@ -59,30 +59,22 @@ fn a_buffer_is_read_whole_or_not_at_all(rt: HostRuntime) -> Result<(), Fail> {
     expect_buffers(&rt, rt.alloc(), &guest.space)
 }
 
-/// What a call comes to, over a console of so many bytes.
-fn prepared(guest: &mut Guest, no: u64, some: [u64; 3], console: usize) -> Result<Prepared, Fail> {
-    guest.prepared(asked_of(no, some), console)
-}
-
-/// That a call returns that, and does nothing.
+/// That a call returns that, and prints nothing.
 fn expect_returns(
     rt: &impl Abort,
     guest: &mut Guest,
     (no, some, reply): (u64, [u64; 3], i64),
-    console: usize,
 ) -> Result<(), Fail> {
-    let prepared = prepared(guest, no, some, console)?;
-    assert_eq!(rt; prepared.reply, reply, "call {no}");
-    match prepared.effect {
-        Effect::Nothing => Ok(()),
-        _ => Err(Fail::new("the call does something")),
-    }
+    let told = guest.reply(asked_of(no, some))?;
+    assert_eq!(rt; told, reply, "call {no}");
+    assert!(rt; guest.console.is_empty());
+    Ok(())
 }
 
 /// That each call of the list returns its reply.
 fn expect_replies(rt: &impl Abort, guest: &mut Guest) -> Result<(), Fail> {
     for row in REPLIES {
-        expect_returns(rt, guest, row, 0)?;
+        expect_returns(rt, guest, row)?;
     }
     Ok(())
 }
@@ -91,15 +83,6 @@ fn expect_replies(rt: &impl Abort, guest: &mut Guest) -> Result<(), Fail> {
 fn calls_reply_as_their_manual_pages_say(rt: HostRuntime) -> Result<(), Fail> {
     let mut guest = guest_in(rt.alloc(), &GUEST)?;
     expect_replies(&rt, &mut guest)
-}
-
-/// That the image's letters are written to a console of so many bytes.
-fn expect_written(rt: &impl Abort, guest: &mut Guest, console: usize) -> Result<(), Fail> {
-    let prepared = prepared(guest, 64, [1, 65_536, 4], console)?;
-    assert_eq!(rt; prepared.reply, 4);
-    let bytes = taken(prepared).ok_or("nothing is written")?;
-    assert_eq!(rt; bytes.as_slice(), LETTERS.as_slice());
-    Ok(())
 }
 
 /// The status that a call ends its thread group with, or `None`.
@@ -113,7 +96,7 @@ fn exited(prepared: Prepared) -> Option<Status> {
 
 /// That a group exits with that code.
 fn expect_exit(rt: &impl Abort, guest: &mut Guest, status: u64, wanted: u8) -> Result<(), Fail> {
-    let prepared = prepared(guest, 94, [status, 0, 0], 0)?;
+    let prepared = guest.prepared(asked_of(94, [status, 0, 0]))?;
     assert_eq!(rt; prepared.reply, 0);
     let status = exited(prepared).ok_or("the group does not exit")?;
     assert_eq!(rt; status, Status::Exited(wanted));
@@ -121,9 +104,17 @@ fn expect_exit(rt: &impl Abort, guest: &mut Guest, status: u64, wanted: u8) -> R
 }
 
 /// ELF's four letters, of which a console of 1,048,572 bytes takes all, and one of a byte more none: ENOSPC 28.
+#[rattlefmt::skip]
+const ROOM: [Act; 4] = [
+    Act::Console(1_048_572),
+    Act::Bytes(65_536, &LETTERS),
+    Act::Console(1_048_573),
+    Act::Writes(65_536, 4, -28),
+];
+
 fn expect_room(rt: &impl Abort, guest: &mut Guest) -> Result<(), Fail> {
-    expect_written(rt, guest, 1_048_572)?;
-    expect_returns(rt, guest, (64, [1, 65_536, 4], -28), 1_048_573)?;
+    guest.expect(&ROOM)?;
+    assert_eq!(rt; guest.console.len(), 1_048_573);
     expect_exit(rt, guest, 0x1_0203, 3)
 }
 

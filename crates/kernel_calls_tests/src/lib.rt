@@ -25,6 +25,8 @@ mod guests;
 #[cfg(test)]
 mod machine;
 #[cfg(test)]
+mod moving;
+#[cfg(test)]
 mod opened_files;
 #[cfg(test)]
 mod opened_task;
