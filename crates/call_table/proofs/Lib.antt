@@ -3,8 +3,9 @@ pub mod Histories
 pub mod Homes
 pub mod Indexes
 pub mod Kept
+pub mod MovedFiles
 pub mod Moves
-pub mod Moving
+pub mod MovedParts
 pub mod NextTurns
 pub mod OffList
 pub mod Openings

@@ -30,7 +30,7 @@ use Rattle.proc_cells.specs.Cells.{AreKept, IsAwake}
 use Rattle.call_table.specs.Moves.{FilesMove, Moves, changes_list, may_store, puts_to_sleep}
 use Rattle.call_table.specs.Used.{same_made}
 use Rattle.call_table.specs.declared.entered.Entered.{Entered}
-use Rattle.call_table.proofs.Moving.{Left, Lists, left_after, left_same, list_stays, lists_after}
+use Rattle.call_table.proofs.MovedParts.{Left, Lists, left_after, left_same, list_stays, lists_after}
 use Rattle.call_table.proofs.OffList.{left_off, off_before_leave, off_before_sleep, off_leave, off_sleep, sleeper_on}
 
 -- ---- registers and memories of others

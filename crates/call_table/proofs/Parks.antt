@@ -27,7 +27,9 @@ use Rattle.kernel_model.proofs.Trees.{outcome-bind}
 use Rattle.kernel_calls.specs.Prepared.{AgreesOn, AgreesOnEnd, IfWaits, IsCalling, WaitsWith}
 use Rattle.kernel_calls.specs.declared.context.Context.{Context}
 use Rattle.kernel_calls.specs.declared.prepared.Awaited.{Awaited}
-use Rattle.kernel_calls.specs.declared.prepared.Called.{Called}
+use Rattle.call_fs.specs.Called.{IfOf}
+use Rattle.call_fs.specs.declared.called.Called.{Called}
+use Rattle.call_fs.specs.declared.called.Called.TheVariants.{Of}
 use Rattle.kernel_calls.specs.declared.prepared.Called.TheVariants.{Waits}
 use Rattle.kernel_calls.specs.declared.prepared.UsedEnd.{UsedEnd}
 use Rattle.kernel_calls.proofs.Runs.{stands_alone}
@@ -39,7 +41,7 @@ use Rattle.proc_cells.proofs.Found.{Parted, found_by, parted}
 use Rattle.call_table.specs.Entries.{IsNextOf, IsOf, NextIn, ReadyIs, is_touching}
 use Rattle.call_table.specs.Moves.{AreUntouched, FilesMove, Moves}
 use Rattle.call_table.specs.Parks.{Parks}
-use Rattle.call_table.specs.Touched.{are_named, is_touched}
+use Rattle.call_table.specs.Touched.{are_named, is_name, is_touched}
 use Rattle.call_table.specs.Used.{same_made, uses_areas}
 use Rattle.call_table.specs.declared.entered.Entered.{Entered}
 use Rattle.call_table.specs.declared.entered.Touched.{Touched}
@@ -108,8 +110,8 @@ pub parks_of : (p : Cells) (task : ℕ) (standing : Standing) (number : ℕ) (ar
     → get_named p.spaces standing.memory.place standing.memory.index ≡ Some own → taken ≡ length p.console
     → number ≡ call_of standing.registers → args ≡ args_of standing.registers
     → ((c : Caller) (k : Kernel) → IsCalling c k context own p.areas p.tasks p.sleepers taken → k.files ≡ p.files
-    → IfWaits called (λ a. WaitsWith a c.table (parts k) (λ x. call_row x c number args)))
-    → called ≡ Waits awaited
+    → IfOf called (λ o. IfWaits o (λ a. WaitsWith a c.table (parts k) (λ x. call_row x c number args))))
+    → called ≡ Of (Waits awaited)
     → Parks p task (record {
       memory = standing.memory;
       table = standing.table;
@@ -131,7 +133,7 @@ parks_of p task standing number args context own taken called awaited in_area st
           (agree_same awaited standing.table k (kernel_of p nothing_beside 0) refl refl refl)
           (subst (λ n. WaitsWith awaited standing.table (parts k) (row n (args_of standing.registers))) numbered
           (subst (λ a. WaitsWith awaited standing.table (parts k) (row number a)) same
-          (subst (λ d. IfWaits d (λ a. WaitsWith a standing.table (parts k) (row number args))) become
+          (subst (λ d. IfOf d (λ o. IfWaits o (λ a. WaitsWith a standing.table (parts k) (row number args)))) become
           (waits c k (calling_here p task standing stands context own taken (record nothing_beside {
             seed = context.seed.now;
           }) (context.place - 1) is known there count refl (omega (arith, later))) refl))));
@@ -201,13 +203,13 @@ calls_on before after c false changed alone stays e calls = λ k areas.
 -- an entry that told nothing that a call used left it as it was
 end_left : (end : Option UsedEnd) (table : Made) (touched : Touched) (k m : Kernel)
     → AreUntouched touched k.files m.files
-    → (option_map_or (λ (e : UsedEnd). same_made table touched.table) end false
+    → (option_map_or (λ (e : UsedEnd). is_name touched.table table) end false
     || (option_map_or (λ (e : UsedEnd). are_named touched.descriptions e.description) end false
     || option_map_or (λ (e : UsedEnd). are_named touched.pipes e.pipe) end false)) ≡ false
     → AgreesOnEnd end table (parts k) (parts m)
 end_left None table touched k m left apart = tt
 end_left (Some e) table touched k m left apart =
-    let first = or_parts (same_made table touched.table)
+    let first = or_parts (is_name touched.table table)
     (are_named touched.descriptions e.description || are_named touched.pipes e.pipe) apart in
     let others = or_parts (are_named touched.descriptions e.description) (are_named touched.pipes e.pipe) first.1 in
     (left.tables table first.0, left.descriptions e.description others.0, left.pipes e.pipe others.1)

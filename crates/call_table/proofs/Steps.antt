@@ -16,10 +16,8 @@ use Rattle.task_table.specs.declared.task.Group.{Group}
 use Rattle.sn_base.specs.declared.made.Made.{Made}
 use Rattle.task_table.specs.declared.task.Status.TheVariants.{Killed}
 use Rattle.futex_core.specs.declared.keys.FutexKey.{FutexKey}
-use Rattle.futex_core.specs.FutexLists.{FutexList, after_leave, after_sleep, after_wake}
-use Rattle.task_table.specs.Ends.{exited, group_ended}
-use Rattle.task_table.specs.Reaps.{after_reap, reap_end}
-use Rattle.task_table.specs.Table.{TaskTable, is_live, group_of}
+use Rattle.futex_core.specs.FutexLists.{FutexList, after_leave, after_sleep}
+use Rattle.task_table.specs.Table.{is_live, group_of}
 use Rattle.kernel_model.specs.Names.{NamedMap, get_named, with_named}
 use Rattle.kernel_model.specs.declared.caller.Caller.{Caller}
 use Rattle.kernel_model.specs.declared.entry.Args.{Args}
@@ -37,7 +35,7 @@ use Rattle.kernel_model.specs.machine.Registers.{args_of, call_of, replied}
 use Rattle.kernel_model.specs.machine.Spaces.{acting_in, going_in}
 use Rattle.kernel_model.specs.calls.Answers.{Answer, makes_entry, replies, sleeps}
 use Rattle.kernel_model.specs.calls.Callers.{context_of, caller_of, with_memory, in_group}
-use Rattle.kernel_model.specs.calls.Ending.{clear_set, group_end}
+use Rattle.kernel_model.specs.calls.Ending.{group_end}
 use Rattle.kernel_model.specs.calls.Table.{call_row}
 use Rattle.kernel_model.specs.entries.Areas.{Stands, next_row}
 use Rattle.kernel_model.specs.entries.Given.{is_quiet, may_meet}
@@ -52,13 +50,13 @@ use Rattle.kernel_model.proofs.CallLemmas.{call_quiet}
 use Rattle.kernel_model.proofs.LocalityLaws.{ready_alike}
 use Rattle.kernel_model.proofs.NamedMaps.{get-with_same, with_same}
 use Rattle.kernel_model.proofs.Trees.{outcome-bind}
+use Rattle.call_fs.specs.Called.{ComesTo}
+use Rattle.call_fs.specs.declared.called.Called.{Called}
+use Rattle.call_fs.specs.declared.called.Called.TheVariants.{Of, Moves, MakesPipe}
 use Rattle.kernel_calls.specs.Prepared.{Comes, IsCalling, Steps}
 use Rattle.kernel_calls.specs.declared.context.Context.{Context}
-use Rattle.kernel_calls.specs.declared.prepared.Called.{Called}
+use Rattle.kernel_calls.specs.declared.prepared.Called.{Called as Known}
 use Rattle.kernel_calls.specs.declared.prepared.Called.TheVariants.{Replies, Makes, Sleeps, Waits}
-use Rattle.kernel_calls.specs.declared.prepared.Effect.{Effect}
-use Rattle.kernel_calls.specs.declared.prepared.Effect.TheVariants.{Nothing, TakesBytes, EndsGroup, EndsTask, SetsClear}
-use Rattle.kernel_calls.specs.declared.prepared.Effect.TheVariants.{Wakes, Reaps}
 use Rattle.kernel_calls.proofs.Runs.{alone_ran, alone_short, alone_touching, nothing_ran, ran_none, row_by_step}
 use Rattle.kernel_calls.proofs.Runs.{row_ran, stands_alone}
 use Rattle.proc_cells.specs.declared.cells.Cells.{Cells}
@@ -197,28 +195,40 @@ ready_anywhere p task b seed place later ready = λ beside n.
     ∙ ready (record beside { seed = seed }) (place - 1) refl (omega (arith, later))
 
 -- what has become of a call has an entry, or waits
+abbrev pub enters : Known → Bool
+enters (Replies p) = true
+enters (Makes child) = true
+enters (Sleeps key) = true
+enters (Waits awaited) = false
+
 abbrev pub has_entry : Called → Bool
-has_entry (Replies p) = true
-has_entry (Makes child) = true
-has_entry (Sleeps key) = true
-has_entry (Waits awaited) = false
+has_entry (Of d) = enters d
+has_entry (Moves reply transfer) = true
+has_entry (MakesPipe new) = true
+
+entry_known : (row : Prog Answer) (d : Known) (c : Caller) (k : Kernel) (space : AddressSpace)
+    (areas : NamedMap AreaState) → Comes row d c k space areas
+    → makes_entry (outcome_in (parts k) row).reply ≡ enters d
+entry_known row (Replies p) c k space areas comes = ap (λ (a : Answer). makes_entry a.reply) comes.row_is
+entry_known row (Makes child) c k space areas comes = ap (λ (a : Answer). makes_entry a.reply) comes.row_is
+entry_known row (Sleeps key) c k space areas comes = ap (λ (a : Answer). makes_entry a.reply) comes
+entry_known row (Waits awaited) c k space areas comes = ap (λ (a : Answer). makes_entry a.reply) comes
 
 pub entry_of : (row : Prog Answer) (d : Called) (c : Caller) (k : Kernel) (space : AddressSpace)
-    (areas : NamedMap AreaState) → Comes row d c k space areas
+    (areas : NamedMap AreaState) → ComesTo row d c k space areas
     → makes_entry (outcome_in (parts k) row).reply ≡ has_entry d
-entry_of row (Replies p) c k space areas comes = ap (λ (a : Answer). makes_entry a.reply) comes.row_is
-entry_of row (Makes child) c k space areas comes = ap (λ (a : Answer). makes_entry a.reply) comes.row_is
-entry_of row (Sleeps key) c k space areas comes = ap (λ (a : Answer). makes_entry a.reply) comes
-entry_of row (Waits awaited) c k space areas comes = ap (λ (a : Answer). makes_entry a.reply) comes
+entry_of row (Of d) c k space areas comes = entry_known row d c k space areas comes
+entry_of row (Moves reply transfer) c k space areas comes = ap (λ (a : Answer). makes_entry a.reply) comes.row_is
+entry_of row (MakesPipe new) c k space areas comes = ap (λ (a : Answer). makes_entry a.reply) comes.row_is
 
 -- what has become of a call of these registers
 at_registers : (number : ℕ) (args : Args) (r : Regs) (d : Called) (x : Caller) (k : Kernel) (space : AddressSpace)
     (areas : NamedMap AreaState) → number ≡ call_of r → args ≡ args_of r
-    → Comes (call_row (context_of k) x number args) d x k space areas
-    → Comes (call_row (context_of k) x (call_of r) (args_of r)) d x k space areas
+    → ComesTo (call_row (context_of k) x number args) d x k space areas
+    → ComesTo (call_row (context_of k) x (call_of r) (args_of r)) d x k space areas
 at_registers number args r d x k space areas e f comes =
-    subst (λ n. Comes (call_row (context_of k) x n (args_of r)) d x k space areas) e
-    (subst (λ a. Comes (call_row (context_of k) x number a) d x k space areas) f comes)
+    subst (λ n. ComesTo (call_row (context_of k) x n (args_of r)) d x k space areas) e
+    (subst (λ a. ComesTo (call_row (context_of k) x number a) d x k space areas) f comes)
 
 module _ (p : Cells) (task : ℕ) (standing : Standing) (stands : StandsAs p task standing) where
   abbrev c : Caller
@@ -306,14 +316,14 @@ module _ (p : Cells) (task : ℕ) (standing : Standing) (stands : StandsAs p tas
       → get_named p.spaces standing.memory.place standing.memory.index ≡ Some own → taken ≡ length p.console
       → number ≡ call_of standing.registers → args ≡ args_of standing.registers
       → ((x : Caller) (k : Kernel) → IsCalling x k context own p.areas p.tasks p.sleepers taken → k.files ≡ p.files
-      → x.registers ≡ standing.registers → Comes (call_row (context_of k) x number args) was x k space areas)
+      → x.registers ≡ standing.registers → ComesTo (call_row (context_of k) x number args) was x k space areas)
       → was ≡ d → (beside : Beside) (n : ℕ) → beside.seed ≡ context.seed.now → n + 1 ≡ context.place
-      → Comes (call_row (context_of (kernel_of p beside n)) c (call_of standing.registers) (args_of standing.registers))
-      d c (kernel_of p beside n) space areas
+      → ComesTo (call_row (context_of (kernel_of p beside n)) c (call_of standing.registers)
+      (args_of standing.registers)) d c (kernel_of p beside n) space areas
   comes_here context own taken was d space areas number args is known there count numbered same row become =
       λ beside n seed place.
       let k : Kernel = kernel_of p beside n in
-      subst (λ (d : Called). Comes (call_row (context_of k) c (call_of standing.registers)
+      subst (λ (d : Called). ComesTo (call_row (context_of k) c (call_of standing.registers)
       (args_of standing.registers)) d c k space areas) become
       (at_registers number args standing.registers was c k space areas numbered same
       (row c k (calling_here context own taken beside n is known there count seed place) refl refl))
@@ -322,8 +332,8 @@ module _ (p : Cells) (task : ℕ) (standing : Standing) (stands : StandsAs p tas
   pub ready_called : (context : Context) (d : Called) (space : AddressSpace) (areas : NamedMap AreaState)
       → 0 < context.place → IsAwake p task → NextIn p task Calls
       → ((beside : Beside) (n : ℕ) → beside.seed ≡ context.seed.now → n + 1 ≡ context.place
-      → Comes (call_row (context_of (kernel_of p beside n)) c (call_of standing.registers) (args_of standing.registers))
-      d c (kernel_of p beside n) space areas) → ReadyIs p task (has_entry d)
+      → ComesTo (call_row (context_of (kernel_of p beside n)) c (call_of standing.registers)
+      (args_of standing.registers)) d c (kernel_of p beside n) space areas) → ReadyIs p task (has_entry d)
   ready_called context d space areas later awake calls comes =
       ready_anywhere p task (has_entry d) context.seed.now context.place later (λ beside n seed place.
       ready_call awake calls beside n

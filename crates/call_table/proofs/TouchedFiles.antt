@@ -12,18 +12,18 @@ use Rattle.fd_table.specs.declared.description.Object.TheVariants as object
 use Rattle.fd_table.specs.declared.descriptor.Descriptor.{Descriptor}
 use Rattle.fd_table.specs.declared.descriptor.FdErr.{FdErr}
 use Rattle.sn_base.specs.declared.made.Made.{Made}
-use Rattle.kernel_model.specs.Names.{NamedMap, get_named, with_named, without_named}
+use Rattle.kernel_model.specs.Names.{NamedMap, get_named, with_named}
 use Rattle.kernel_model.specs.declared.open_files.OpenFile.{OpenFile}
 use Rattle.kernel_model.specs.declared.open_files.OpenFiles.{OpenFiles}
 use Rattle.kernel_model.specs.descriptors.Counts.{end_closed, one_more}
 use Rattle.kernel_model.specs.entries.Parts.{set_named}
 use Rattle.kernel_model.specs.laws.Files.{dropped_by, with_one_fewer, with_one_more, without_object}
-use Rattle.kernel_model.proofs.NamedMaps.{get-set_other, get-set_same, get-with_other}
-use Rattle.file_changes.specs.Changes.{by_descriptor, by_table, closed, files_after, freed, given, given_to, with_flags}
+use Rattle.kernel_model.proofs.NamedMaps.{get-set_other, get-set_same}
+use Rattle.file_changes.specs.Changes.{by_descriptor, closed, files_after, freed, given, given_to}
 use Rattle.file_changes.specs.Changes.{with_table}
 use Rattle.file_changes.specs.declared.change.FileChange.TheVariants.{Gives, Marks, SetsStatus, Closes}
 use Rattle.call_table.specs.Moves.{AreUntouched}
-use Rattle.call_table.specs.Touched.{are_named, description_at, is_name, pipe_at, pipe_in, pipe_of, touched_with}
+use Rattle.call_table.specs.Touched.{description_at, is_name, pipe_at, pipe_in, touched_with}
 use Rattle.call_table.specs.Used.{same_made}
 use Rattle.call_table.proofs.UserLists.{made_same}
 
@@ -37,11 +37,11 @@ differs : (q name : Made) → same_made q name ≡ false → name ≢ q
 differs q name apart e = cc (ap (same_made q) (sym e) ∙ apart, itself q)
 
 -- a thing of another name stays
-other_stays : {V : Type 0} (name q : Made) (content : Option V) (m : NamedMap V) → same_made q name ≡ false
+pub other_stays : {V : Type 0} (name q : Made) (content : Option V) (m : NamedMap V) → same_made q name ≡ false
     → get_named (set_named name content m) q.place q.index ≡ get_named m q.place q.index
 other_stays name q content m apart = get-set_other name q content m (differs q name apart)
 
-none_of : (a b : Bool) → (a || b) ≡ false → (a ≡ false) × (b ≡ false)
+pub none_of : (a b : Bool) → (a || b) ≡ false → (a ≡ false) × (b ≡ false)
 none_of false false e = (refl, refl)
 none_of true b e = absurd (cc e)
 none_of false true e = absurd (cc e)

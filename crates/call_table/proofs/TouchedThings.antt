@@ -4,12 +4,12 @@ use Rattle.std.specs.Prelude.{Option, Some, None, if◌then◌else◌}
 use Rattle.std.specs.Option.{option_map, option_map_or}
 use Rattle.sn_base.specs.declared.made.Made.{Made}
 use Rattle.kernel_calls.specs.declared.prepared.UsedEnd.{UsedEnd}
-use Rattle.call_table.specs.Touched.{are_named, is_name, is_used}
+use Rattle.call_table.specs.Touched.{are_named, has_table_named, is_name, is_used}
 use Rattle.call_table.specs.Used.{has_description, has_pipe, uses_areas}
 use Rattle.call_table.specs.declared.entered.UpToTwo.{UpToTwo}
 use Rattle.call_table.specs.declared.used.Spot.{Spot}
 use Rattle.call_table.specs.declared.used.Used.{Used}
-use Rattle.call_table.specs.declared.used.Used.TheVariants.{Areas, Description, Pipe}
+use Rattle.call_table.specs.declared.used.Used.TheVariants.{Areas, Description, Pipe, Table}
 
 -- of an end that may have been used, one of two parts passes where the one or the other does
 two_parts : (p q : UsedEnd → Bool) (end : Option UsedEnd)
@@ -20,6 +20,14 @@ two_parts p q (Some e) = refl
 fails : (end : Option UsedEnd) → false ≡ option_map_or (λ e. false) end false
 fails None = refl
 fails (Some e) = refl
+
+pub table_used : (name : Option Made) (used : Option Used) → used ≡ option_map Table name → (spot : Spot)
+    → is_used used spot ≡ has_table_named name spot
+table_used name used is spot = ap (λ u. is_used u spot) is ∙ by name
+  where
+    by : (o : Option Made) → is_used (option_map Table o) spot ≡ has_table_named o spot
+    by None = fails spot.awaited.end
+    by (Some n) = refl
 
 description_used : (name : Option Made) (spot : Spot)
     → is_used (option_map Description name) spot ≡ has_description (is_name name) spot

@@ -1,6 +1,7 @@
 -- What contracts of this crate say, by subject.
 pub mod Entries
 pub mod Moves
+pub mod Moving
 pub mod Parked
 pub mod Parking
 pub mod Parks

@@ -14,7 +14,7 @@ use Rattle.kernel_calls.specs.declared.prepared.Effect.{Effect}
 use Rattle.kernel_calls.specs.declared.prepared.Effect.TheVariants.{Nothing, TakesBytes, EndsGroup, EndsTask, SetsClear}
 use Rattle.kernel_calls.specs.declared.prepared.Effect.TheVariants.{Wakes, Reaps, ChangesFiles}
 use Rattle.proc_cells.specs.declared.cells.Cells.{Cells}
-use Rattle.call_table.specs.Touched.{are_named, is_touched}
+use Rattle.call_table.specs.Touched.{are_named, is_name, is_touched}
 use Rattle.call_table.specs.Used.{same_made, uses_areas}
 use Rattle.call_table.specs.declared.entered.Entered.{Entered}
 use Rattle.call_table.specs.declared.entered.Touched.{Touched}
@@ -55,7 +55,7 @@ puts_to_sleep (Sleep task) = true
 -- what is open is as it was, but for what an entry touched
 -- close(2); dup(2); read(2); write(2)
 pub record AreUntouched (touched : Touched) (before after : OpenFiles) : Type 0 where
-  pub tables : (name : Made) → same_made name touched.table ≡ false
+  pub tables : (name : Made) → is_name touched.table name ≡ false
       → get_named after.tables name.place name.index ≡ get_named before.tables name.place name.index
   pub descriptions : (name : Made) → are_named touched.descriptions name ≡ false
       → get_named after.descriptions name.place name.index ≡ get_named before.descriptions name.place name.index

@@ -7,9 +7,10 @@ use Rattle.fd_table.specs.declared.description.Object.TheVariants.{Node, PipeEnd
 use Rattle.fd_table.specs.declared.descriptor.Descriptor.{Descriptor}
 use Rattle.sn_base.specs.declared.made.Made.{Made}
 use Rattle.kernel_model.specs.Names.{get_named}
+use Rattle.kernel_calls.specs.declared.prepared.UsedEnd.{UsedEnd}
 use Rattle.kernel_model.specs.declared.open_files.OpenFile.{OpenFile}
 use Rattle.kernel_model.specs.declared.open_files.OpenFiles.{OpenFiles}
-use Rattle.call_table.specs.Used.{has_description, has_pipe, has_table, has_used, same_made}
+use Rattle.call_table.specs.Used.{has_description, has_pipe, has_used, same_made}
 use Rattle.call_table.specs.declared.entered.Touched.{Touched}
 use Rattle.call_table.specs.declared.entered.UpToTwo.{UpToTwo}
 use Rattle.call_table.specs.declared.used.Spot.{Spot}
@@ -28,11 +29,16 @@ are_named names name = is_name names.first name || is_name names.second name
 abbrev pub is_used : Option Used → Spot → Bool
 is_used used spot = option_map_or (has_used spot) used false
 
+-- whether it used an end of a pipe by a descriptor of a table of that name, where there is one
+-- read(2); write(2); pipe(7)
+abbrev pub has_table_named : Option Made → Spot → Bool
+has_table_named table spot = option_map_or (λ (end : UsedEnd). is_name table spot.table) spot.awaited.end false
+
 -- whether it used anything that an entry touched
 -- profile
 abbrev pub is_touched_by : Touched → Spot → Bool
 is_touched_by touched spot =
-    has_table touched.table spot
+    has_table_named touched.table spot
     || (has_description (are_named touched.descriptions) spot || has_pipe (are_named touched.pipes) spot)
 
 abbrev pub is_touched : Option Touched → Spot → Bool
@@ -67,7 +73,7 @@ pipe_of description files = option_and_then (pipe_at files) description
 -- dup(2); fcntl(2); close(2)
 abbrev pub touched_with : (table : Made) → (changed dropped : Option Made) → OpenFiles → Touched
 touched_with table changed dropped files = record {
-  table = table;
+  table = Some table;
   descriptions = record { first = changed; second = dropped };
   pipes = record { first = pipe_of dropped files; second = None };
 }

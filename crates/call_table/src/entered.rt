@@ -14,10 +14,11 @@ pub(crate) struct Entered {
     pub(crate) touched: Option<Touched>,
 }
 
-/// What an entry touched of what is open: a descriptor table, open file descriptions and pipes, by name.
+/// What an entry touched of what is open: a descriptor table, open file descriptions and pipes, by name. What moves
+/// bytes leaves all tables as they are.
 #[derive(Clone, Copy)]
 pub(crate) struct Touched {
-    pub(crate) table: Made,
+    pub(crate) table: Option<Made>,
     pub(crate) descriptions: UpToTwo,
     pub(crate) pipes: UpToTwo,
 }

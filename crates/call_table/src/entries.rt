@@ -21,9 +21,10 @@ ghost use Rattle.call_table.specs.Parks.{Parks};
 
 use crate::answers::{call_entry, finish, go_on, make_child, put_to_sleep};
 use crate::entered::{Entered, Turn};
+use crate::moving::{move_bytes, open_pipe};
 use crate::used::Spot;
-use call_fs::call;
-use kernel_calls::{Called, Context, Effect, Ran, args_of, call_of, commit, end_group, run, step};
+use call_fs::{Called, call};
+use kernel_calls::{Awaited, Context, Effect, Ran, args_of, call_of, commit, end_group, run, step};
 use kernel_model::{Entry, GuestSpace, Named, Next};
 use proc_cells::{Cells, Standing};
 use quantum::QUANTUM;
@@ -285,11 +286,9 @@ fn answer(
     ensures memory { OnErr result (HasRunPart context.now.task cells.old cells.new) }
 {
     let registers = standing.registers;
+    let memory = standing.memory;
     let console = cells.console.len();
-    let Some(space) = cells
-        .spaces
-        .get_mut(standing.memory.place, standing.memory.index)
-    else {
+    let Some(space) = cells.spaces.get_mut(memory.place, memory.index) else {
         unreachable!()
     };
     let called = call(
@@ -306,19 +305,41 @@ fn answer(
         &cells.files,
     )?;
     match called {
-        Called::Replies(prepared) => {
+        Called::Of(kernel_calls::Called::Replies(prepared)) => {
             Ok(Turn::Enters(finish(alloc, cells, context, registers, prepared)?))
         }
-        Called::Makes(child) => Ok(Turn::Enters(make_child(
+        Called::Of(kernel_calls::Called::Makes(child)) => Ok(Turn::Enters(make_child(
             alloc, cells, context, registers, child,
         )?)),
-        Called::Sleeps(key) => Ok(Turn::Enters(put_to_sleep(cells, context.task, key)?)),
-        Called::Waits(awaited) => Ok(Turn::Waits(Spot {
-            memory: standing.memory,
-            table: standing.table,
-            in_area,
-            awaited,
-        })),
+        Called::Of(kernel_calls::Called::Sleeps(key)) => {
+            Ok(Turn::Enters(put_to_sleep(cells, context.task, key)?))
+        }
+        Called::Of(kernel_calls::Called::Waits(awaited)) => {
+            Ok(Turn::Waits(spot_of(standing, in_area, awaited)))
+        }
+        Called::Moves { reply, transfer } => Ok(Turn::Enters(move_bytes(
+            alloc, cells, context, registers, reply, transfer,
+        )?)),
+        Called::MakesPipe(pipe) => Ok(Turn::Enters(open_pipe(
+            alloc, cells, context, registers, pipe,
+        )?)),
+    }
+}
+
+/// What a task used whose call waits, by how it stands.
+fn spot_of(standing: Standing, in_area: bool, awaited: Awaited) -> Spot
+    ensures { result ≡ record {
+      memory = standing.memory;
+      table = standing.table;
+      in_area = in_area;
+      awaited = awaited;
+    } }
+{
+    Spot {
+        memory: standing.memory,
+        table: standing.table,
+        in_area,
+        awaited,
     }
 }
 

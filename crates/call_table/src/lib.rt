@@ -10,8 +10,9 @@
 //!
 //! A task that sleeps on a futex word is not looked at before it was woken, and one whose call waits not before the
 //! list of tasks has changed, another task of its memory made an entry, or something else may have changed that the
-//! call used: a shared area, or a pipe, its description or the descriptor table that it was found by. Who that is is
-//! found without a walk over all tasks.
+//! call used: a shared area, or a pipe, its description or the descriptor table that it was found by. A call that moves
+//! bytes touches its pipe alone, and one that makes a pipe the names that it makes and its table. Who is looked at
+//! again is found without a walk over all tasks.
 //!
 //! Proved: with an opening task more the processes are the kernel with that task (`begun`). A run of turns is a history
 //! of the kernel that the processes are with that seed, whatever else stands beside them (`history`), each of whose
@@ -29,6 +30,7 @@ mod answers;
 mod entered;
 mod entries;
 mod index;
+mod moving;
 mod parked;
 mod parking;
 mod processes;

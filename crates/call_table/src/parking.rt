@@ -4,7 +4,7 @@ ghost use Rattle.std.specs.Prelude.{◌≡◌, ◌||◌, ◌&&◌, ℕ, None, So
 ghost use Rattle.std.specs.Option.{option_map};
 ghost use Rattle.std.specs.FinMap as map;
 ghost use Rattle.sn_base.specs.MapKeys.{IsLeastAbove};
-ghost use Rattle.call_table.specs.Touched.{are_named, is_touched_by, is_used};
+ghost use Rattle.call_table.specs.Touched.{are_named, has_table_named, is_touched_by, is_used};
 ghost use Rattle.call_table.specs.Used.{has_description, has_pipe, same_made, uses_areas};
 ghost use Rattle.call_table.specs.Users.{AreNumbers};
 ghost use Rattle.call_table.specs.declared.used.Used.{Used as AUsed};
@@ -90,9 +90,16 @@ impl Parking {
     pub(crate) fn wake_touched(&mut self, alloc: Global, touched: &Touched) -> Result<(), Memory>
         ensures { OnOk result (AreWoken (λ spot. is_touched_by touched.now spot) self.old self.new) }
     {
-        self.wake_users(alloc, Some(Used::Table(touched.table)))?;
+        self.wake_table(alloc, touched.table)?;
         self.wake_descriptions(alloc, touched.descriptions)?;
         self.wake_pipes(alloc, touched.pipes)
+    }
+
+    /// Has the tasks be looked at again that are parked with an end of a pipe by a descriptor of this table.
+    fn wake_table(&mut self, alloc: Global, name: Option<Made>) -> Result<(), Memory>
+        ensures { OnOk result (AreWoken (λ spot. has_table_named name spot) self.old self.new) }
+    {
+        self.wake_users(alloc, table(name))
     }
 
     /// Has the tasks be looked at again that are parked with one of these open file descriptions.
@@ -135,6 +142,16 @@ fn areas_if(changed: bool) -> Option<Used>
     ensures { result ≡ (if changed then Some AUsed.Areas else None) }
 {
     if changed { Some(Used::Areas) } else { None }
+}
+
+/// A descriptor table of that name, where there is one.
+fn table(name: Option<Made>) -> Option<Used>
+    ensures { result ≡ option_map AUsed.Table name }
+{
+    match name {
+        Some(name) => Some(Used::Table(name)),
+        None => None,
+    }
 }
 
 /// An open file description of that name, where there is one.

@@ -64,7 +64,7 @@ fn touched_with(
     ensures { result ≡ touched_with table changed dropped files.now }
 {
     Touched {
-        table,
+        table: Some(table),
         descriptions: UpToTwo {
             first: changed,
             second: dropped,

@@ -9,7 +9,7 @@ use Rattle.proc_cells.specs.Cells.{kernel_of}
 use Rattle.call_table.specs.Moves.{FilesMove, puts_to_sleep}
 use Rattle.call_table.proofs.Homes.{home_committed}
 use Rattle.call_table.proofs.Moves.{lists_of, moves_done, others_go_on}
-use Rattle.call_table.proofs.Moving.{Lists, files_by, lists_after, lists_are}
+use Rattle.call_table.proofs.MovedParts.{Lists, files_by, lists_after, lists_are}
 use Rattle.call_table.proofs.Results.{by_result}
 use Rattle.call_table.proofs.answers.finish.Goals as goal
 

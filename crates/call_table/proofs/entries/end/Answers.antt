@@ -13,7 +13,7 @@ use Rattle.proc_cells.proofs.Homes.{home_reached}
 use Rattle.call_table.proofs.Homes.{home_committed}
 use Rattle.call_table.proofs.Kept.{part_none}
 use Rattle.call_table.proofs.Moves.{lists_of, moves_done, others_stay}
-use Rattle.call_table.proofs.Moving.{Lists, lists_are}
+use Rattle.call_table.proofs.MovedParts.{Lists, lists_are}
 use Rattle.call_table.proofs.Results.{by_result, err_by}
 use Rattle.call_table.proofs.Steps.{calling_here, own_same, ready_next, step_end}
 use Rattle.call_table.proofs.entries.end.Goals as goal
