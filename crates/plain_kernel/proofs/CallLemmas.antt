@@ -1,27 +1,26 @@
 -- What a call does, piece by piece.
-use Rattle.std.proofs.Common.{◌≡◌, ℕ, ◌+◌, Bool, true, false, cond, List, [], ◌∷◌, ◌++◌, Option, Some, None, refl, ap}
+use Rattle.std.proofs.Common.{◌≡◌, ℕ, ◌+◌, Bool, true, false, cond, List, [], ◌∷◌, ◌++◌, Option, Some, None, refl, ap, pos}
 use Rattle.std.proofs.Common.{sym, ◌∙◌, ◌↔◌, subst, is_some, unwrap_or, ℤ, inl, inr}
 use Rattle.std.specs.Prelude.{IsTrue, not, Result, Ok}
 use Rattle.std.specs.List.{list_any}
 use Rattle.std.specs.Ordering.{int_eq, nat_cmp}
 use Rattle.std.specs.FinMap as map
-use Rattle.sn_base.specs.declared.made.Made.{Made}
 use Rattle.sn_base.specs.declared.memory.Memory.{Memory}
 use Rattle.sn_base.proofs.Maps.{get-insert_same, get-insert_other}
 use Rattle.sn_errno.specs.declared.errno.Errno.TheVariants.{EIO}
 use Rattle.sn_errno.specs.Errors.{reply_of}
-use Rattle.task_table.specs.Ends.{exited, group_ended}
 use Rattle.mm_space.specs.Handing.{AreaState}
 use Rattle.mm_space.specs.Spaces.{AddressSpace}
-use Rattle.kernel_model.specs.Names.{NamedMap}
+use Rattle.kernel_model.specs.Names.{NamedMap, get_named}
 use Rattle.kernel_model.specs.declared.caller.Caller.{Caller}
 use Rattle.kernel_model.specs.declared.entry.Args.{Args}
 use Rattle.kernel_model.specs.declared.kernel.Kernel.{Kernel}
 use Rattle.kernel_model.specs.declared.kernel.Part.TheVariants.{OfTask, OfFaults}
 use Rattle.kernel_model.specs.declared.opening.Fresh.{Fresh}
 use Rattle.kernel_model.specs.declared.opening.Given.{Given}
-use Rattle.kernel_model.specs.calls.Answers.{Answer, Key, Reply, Replies, Sleeps, NotReady}
+use Rattle.kernel_model.specs.calls.Answers.{Answer, Key, Reply, Replies, Sleeps, NotReady, replies}
 use Rattle.kernel_model.specs.calls.Callers.{Context, context_of}
+use Rattle.kernel_model.specs.calls.Pipes.{pipe_made}
 use Rattle.kernel_model.specs.calls.Table.{call_row}
 use Rattle.kernel_model.specs.entries.Areas.{Stands, next_row}
 use Rattle.kernel_model.specs.entries.Given.{above_last, has_any, is_in_order, Nodes_so_far, faulted, risen, number_all}
@@ -37,11 +36,19 @@ use Rattle.kernel_model.proofs.NamedMaps.{same_or_other}
 use Rattle.kernel_model.proofs.Trees.{outcome-bind}
 use Rattle.kernel_calls.specs.Children.{with_child, with_registers, with_task, with_words}
 use Rattle.kernel_calls.specs.Memories.{with_memory}
-use Rattle.kernel_calls.specs.Prepared.{Comes}
+use Rattle.kernel_calls.specs.Prepared.{Comes, with_effect}
 use Rattle.kernel_calls.specs.declared.clone.Child.{Child}
 use Rattle.kernel_calls.specs.declared.clone.Words.{Words}
-use Rattle.kernel_calls.specs.declared.prepared.Called.{Called}
+use Rattle.kernel_calls.specs.declared.prepared.Prepared.{Prepared}
+use Rattle.kernel_calls.specs.declared.prepared.Called.{Called as ACalled}
 use Rattle.kernel_calls.specs.declared.prepared.Called.TheVariants as called
+use Rattle.call_fs.specs.Called.{ComesTo, IsApartIn}
+use Rattle.call_fs.specs.NewPipes.{MakesPipe as MakesAPipe}
+use Rattle.call_fs.specs.Transfers.{after_transfer}
+use Rattle.call_fs.specs.declared.called.Called.{Called}
+use Rattle.call_fs.specs.declared.called.Called.TheVariants.{Of, Moves, MakesPipe}
+use Rattle.call_fs.specs.declared.pipes.NewPipe.{NewPipe}
+use Rattle.call_fs.specs.declared.transfers.Transfer.{Transfer}
 use Rattle.plain_kernel.specs.Doing.{Does}
 use Rattle.plain_kernel.specs.Unused.{AreUnused}
 use Rattle.plain_kernel.proofs.FaultLemmas.{ordered_unused}
@@ -50,12 +57,18 @@ use Rattle.plain_kernel.proofs.NodesSoFar.{with_nodes_first, changed-append}
 -- ---- what a call that met no fault comes to
 
 -- no call so far names a child
-pub comes_unnamed : (row : Prog Answer) (d : Called) (c : Caller) (k : Kernel) (space : AddressSpace)
+kept_unnamed : (row : Prog Answer) (d : ACalled) (c : Caller) (k : Kernel) (space : AddressSpace)
     (areas : NamedMap AreaState) → Comes row d c k space areas → (outcome_in (parts k) row).fresh ≡ []
-comes_unnamed row (called.Replies p) c k space areas comes = ap (λ (a : Answer). a.fresh) comes.row_is
-comes_unnamed row (called.Makes child) c k space areas comes = ap (λ (a : Answer). a.fresh) comes.row_is
-comes_unnamed row (called.Sleeps key) c k space areas comes = ap (λ (a : Answer). a.fresh) comes
-comes_unnamed row (called.Waits awaited) c k space areas comes = ap (λ (a : Answer). a.fresh) comes
+kept_unnamed row (called.Replies p) c k space areas comes = ap (λ (a : Answer). a.fresh) comes.row_is
+kept_unnamed row (called.Makes child) c k space areas comes = ap (λ (a : Answer). a.fresh) comes.row_is
+kept_unnamed row (called.Sleeps key) c k space areas comes = ap (λ (a : Answer). a.fresh) comes
+kept_unnamed row (called.Waits awaited) c k space areas comes = ap (λ (a : Answer). a.fresh) comes
+
+pub comes_unnamed : (row : Prog Answer) (d : Called) (c : Caller) (k : Kernel) (space : AddressSpace)
+    (areas : NamedMap AreaState) → ComesTo row d c k space areas → (outcome_in (parts k) row).fresh ≡ []
+comes_unnamed row (Of d) c k space areas comes = kept_unnamed row d c k space areas comes
+comes_unnamed row (Moves reply transfer) c k space areas comes = ap (λ (a : Answer). a.fresh) comes.row_is
+comes_unnamed row (MakesPipe new) c k space areas comes = ap (λ (a : Answer). a.fresh) comes.row_is
 
 -- so a call that drew a number and met no fault fits nothing,
 answer_drawing : (s : Parts) (c : Caller) (reply : ℤ) (given : Given) (answer : Answer) → answer.fresh ≡ []
@@ -147,8 +160,8 @@ module _ (k kept : Kernel) (found c : Caller) (same : kept ≡ k) (stay : c ≡ 
       (sym (call_failing (parts kept) (context_of kept) c number args told given failed order)) does)
 
   module _ (d : Called) (space : AddressSpace) (areas : NamedMap AreaState)
-      (comes : Comes (call_row (context_of kept) c number args) d c kept space areas) (order : is_in_order given ≡ true)
-      (unfailed : has_any given.rises ≡ false) where
+      (comes : ComesTo (call_row (context_of kept) c number args) d c kept space areas)
+      (order : is_in_order given ≡ true) (unfailed : has_any given.rises ≡ false) where
     -- one that drew a number and no more,
     pub call_that_draws : has_any given.fresh ≡ true
         → Does (outcome_in (parts k) (call_entry (context_of k) found number args reply given)) k kept (Ok false)
@@ -204,31 +217,112 @@ child_alike child place c own k =
     (task_alike place child.memory child.clear c own (with_words child.words (record c { space = own }) k)
     ∙ ap (with_task place child.memory child.clear c) (words_alike child.words c own k))
 
-comes_alike : (row : Prog Answer) (d : Called) (c : Caller) (own : AddressSpace) (k : Kernel) (space : AddressSpace)
+kept_alike : (row : Prog Answer) (d : ACalled) (c : Caller) (own : AddressSpace) (k : Kernel) (space : AddressSpace)
     (areas : NamedMap AreaState) → Comes row d c k space areas → Comes row d (record c { space = own }) k space areas
-comes_alike row (called.Replies p) c own k space areas comes =
+kept_alike row (called.Replies p) c own k space areas comes =
     record { changes = comes.changes; row_is = comes.row_is; done_is = comes.done_is }
-comes_alike row (called.Makes child) c own k space areas comes = record {
+kept_alike row (called.Makes child) c own k space areas comes = record {
   changes = comes.changes;
   row_is = comes.row_is;
   done_is = comes.done_is ∙ sym (child_alike child (k.entries + 1) c own k);
 }
-comes_alike row (called.Sleeps key) c own k space areas comes = comes
-comes_alike row (called.Waits awaited) c own k space areas comes = comes
+kept_alike row (called.Sleeps key) c own k space areas comes = comes
+kept_alike row (called.Waits awaited) c own k space areas comes = comes
+
+comes_alike : (row : Prog Answer) (d : Called) (c : Caller) (own : AddressSpace) (k : Kernel) (space : AddressSpace)
+    (areas : NamedMap AreaState) → (IsApartIn d → own ≡ c.space) → ComesTo row d c k space areas
+    → ComesTo row d (record c { space = own }) k space areas
+comes_alike row (Of d) c own k space areas apart comes = kept_alike row d c own k space areas comes
+comes_alike row (Moves reply transfer) c own k space areas apart comes =
+    record { changes = comes.changes; row_is = comes.row_is; done_is = comes.done_is }
+comes_alike row (MakesPipe new) c own k space areas apart comes =
+    subst (λ s. MakesAPipe row new (context_of k) (record c { space = s }) k) (sym (apart tt)) comes
 
 -- what a call does for its task as the call left it, it does for the task as it was before
 pub finished : (k left : Kernel) (row : Prog Answer) (d : Called) (c after : Caller) (areas : NamedMap AreaState)
     (told : ℤ) (r : Result Bool Memory) → after ≡ record c { space = after.space }
-    → Comes row d c k after.space areas
-    → ((row : Prog Answer) → Comes row d after k after.space areas
+    → (IsApartIn d → after.space ≡ c.space) → ComesTo row d c k after.space areas
+    → ((row : Prog Answer) → ComesTo row d after k after.space areas
     → Does (replied_to after told (Some []) (outcome_in (parts k) row)) k left r)
     → Does (replied_to c told (Some []) (outcome_in (parts k) row)) k left r
-finished k left row d c after areas told r is comes does =
+finished k left row d c after areas told r is apart comes does =
     let answer : Answer = outcome_in (parts k) row in
     subst (λ o. Does o k left r) (replied_alike c after.space told answer.changes answer.reply)
-    (subst (λ (x : Caller). (row : Prog Answer) → Comes row d x k after.space areas
+    (subst (λ (x : Caller). (row : Prog Answer) → ComesTo row d x k after.space areas
     → Does (replied_to x told (Some []) (outcome_in (parts k) row)) k left r) is does row
-    (comes_alike row d c after.space k after.space areas comes))
+    (comes_alike row d c after.space k after.space areas apart comes))
+
+-- a task whose call leaves memory as it was has it in the kernel
+pub memory_stays : (k : Kernel) (c after : Caller) → after ≡ record c { space = after.space } → after.space ≡ c.space
+    → get_named k.spaces c.memory.place c.memory.index ≡ Some c.space
+    → get_named k.spaces after.memory.place after.memory.index ≡ Some after.space
+memory_stays k c after is stays there =
+    ap (λ (x : Caller). get_named k.spaces x.memory.place x.memory.index) is ∙ there ∙ ap (λ s. Some s) (sym stays)
+
+pub memory_there : (k kept : Kernel) (found c : Caller) → kept ≡ k → c ≡ found
+    → get_named k.spaces found.memory.place found.memory.index ≡ Some found.space
+    → get_named kept.spaces c.memory.place c.memory.index ≡ Some c.space
+memory_there k kept found c same stay there =
+    ap (λ (m : Kernel). get_named m.spaces c.memory.place c.memory.index) same
+    ∙ ap (λ (x : Caller). get_named k.spaces x.memory.place x.memory.index) stay
+    ∙ there
+    ∙ ap (λ (x : Caller). Some x.space) (sym stay)
+
+-- ---- what is done of a call, by what has become of it
+
+-- each row that comes to it is done
+abbrev pub Finishes : (k left : Kernel) → Caller → NamedMap AreaState → (reply : ℤ) → Result Bool Memory → Called
+    → Type 0
+Finishes k left c areas reply r d =
+    (row : Prog Answer) → ComesTo row d c k c.space areas
+    → Does (replied_to c reply (Some []) (outcome_in (parts k) row)) k left r
+
+module _ (k left : Kernel) (c : Caller) (areas : NamedMap AreaState) (told reply : ℤ) (same : told ≡ reply)
+    (r : Result Bool Memory) (d : Called) where
+  -- what a row replies, its entry does
+  replied_so : (row : Prog Answer) (value : ℤ) (changes : List Change)
+      → outcome_in (parts k) row ≡ replies value changes → Does (replied_by c told changes (Replies value)) k left r
+      → Does (replied_to c reply (Some []) (outcome_in (parts k) row)) k left r
+  replied_so row value changes is does =
+      subst (λ (a : Answer). Does (replied_to c reply (Some []) a) k left r) (sym is)
+      (subst (λ v. Does (replied_by c v changes (Replies value)) k left r) same does)
+
+  pub finish_replies : (p : Prepared) → d ≡ Of (called.Replies p) → ((changes : List Change)
+      → changed changes k ≡ with_effect p.effect c.group (with_memory c c.space areas k)
+      → Does (replied_by c told changes (Replies p.reply)) k left r) → Finishes k left c areas reply r d
+  finish_replies p is does =
+      subst (Finishes k left c areas reply r) (sym is)
+      (λ row comes. replied_so row p.reply comes.changes comes.row_is (does comes.changes comes.done_is))
+
+  pub finish_makes : (child : Child) → d ≡ Of (called.Makes child) → ((changes : List Change)
+      → changed changes k ≡ with_child child (k.entries + 1) c k
+      → Does (replied_by c told changes (Replies (pos (k.tasks.last + 1)))) k left r)
+      → Finishes k left c areas reply r d
+  finish_makes child is does =
+      subst (Finishes k left c areas reply r) (sym is)
+      (λ row comes.
+      replied_so row (pos (k.tasks.last + 1)) comes.changes comes.row_is (does comes.changes comes.done_is))
+
+  pub finish_moves : (value given : ℤ) (transfer : Transfer) → d ≡ Moves value transfer → given ≡ value
+      → ((changes : List Change)
+      → changed changes k ≡ after_transfer transfer c.space (with_memory c c.space areas k)
+      → Does (replied_by c told changes (Replies given)) k left r) → Finishes k left c areas reply r d
+  finish_moves value given transfer is so does =
+      subst (Finishes k left c areas reply r) (sym is)
+      (λ row comes.
+      replied_so row value comes.changes comes.row_is
+      (subst (λ v. Does (replied_by c told comes.changes (Replies v)) k left r) so
+      (does comes.changes comes.done_is)))
+
+  pub finish_pipe : (new : NewPipe) → d ≡ MakesPipe new
+      → ((row : Prog Answer) (makes : MakesAPipe row new (context_of k) c k)
+      → Does (replied_by c told (pipe_made (context_of k) c new.ends.buffer new.ends.flags makes.hand makes.table
+      (new.ends.first, new.ends.second)).changes (Replies (pos 0))) k left r) → Finishes k left c areas reply r d
+  finish_pipe new is does =
+      subst (Finishes k left c areas reply r) (sym is)
+      (λ row comes.
+      replied_so row (pos 0) (pipe_made (context_of k) c new.ends.buffer new.ends.flags comes.hand comes.table
+      (new.ends.first, new.ends.second)).changes comes.row_is (does row comes))
 
 -- ---- a call that is done
 

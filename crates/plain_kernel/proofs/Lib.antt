@@ -8,6 +8,7 @@ pub mod NodesSoFar
 pub mod Numberings
 pub mod NumberRuns
 pub mod OptionLemmas
+pub mod PipeLemmas
 pub mod RunLemmas
 pub mod SpaceLemmas
 pub mod StepLemmas

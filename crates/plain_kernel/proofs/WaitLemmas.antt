@@ -21,30 +21,45 @@ use Rattle.kernel_model.specs.entries.Steps.{sleep_at, sleep_row, slept_by}
 use Rattle.kernel_model.specs.machine.Registers.{args_of, call_of}
 use Rattle.kernel_model.proofs.Trees.{outcome-bind}
 use Rattle.kernel_calls.specs.Prepared.{Comes}
-use Rattle.kernel_calls.specs.declared.prepared.Called.{Called}
+use Rattle.kernel_calls.specs.declared.prepared.Called.{Called as ACalled}
 use Rattle.kernel_calls.specs.declared.prepared.Called.TheVariants as called
+use Rattle.call_fs.specs.Called.{ComesTo}
+use Rattle.call_fs.specs.declared.called.Called.{Called}
+use Rattle.call_fs.specs.declared.called.Called.TheVariants.{Of, Moves, MakesPipe}
 use Rattle.plain_kernel.specs.Doing.{Does}
 
 -- what an entry of a task that falls asleep changes, by what has become of its call
+abbrev kept_slept : ACalled → Caller → Kernel → Option (List Change)
+kept_slept (called.Replies p) c k = None
+kept_slept (called.Makes child) c k = None
+kept_slept (called.Sleeps key) c k = Some ((OfSleepers, after_sleep k.sleepers c.task key) ∷ [])
+kept_slept (called.Waits awaited) c k = None
+
 abbrev pub slept : Called → Caller → Kernel → Option (List Change)
-slept (called.Replies p) c k = None
-slept (called.Makes child) c k = None
-slept (called.Sleeps key) c k = Some ((OfSleepers, after_sleep k.sleepers c.task key) ∷ [])
-slept (called.Waits awaited) c k = None
+slept (Of d) c k = kept_slept d c k
+slept (Moves reply transfer) c k = None
+slept (MakesPipe new) c k = None
+
+kept_so : (row : Prog Answer) (d : ACalled) (c : Caller) (k : Kernel) (space : AddressSpace)
+    (areas : NamedMap AreaState) → Comes row d c k space areas
+    → slept_by (outcome_in (parts k) row) (outcome_in (parts k) row).reply ≡ kept_slept d c k
+kept_so row (called.Replies p) c k space areas comes = ap (λ (a : Answer). slept_by a a.reply) comes.row_is
+kept_so row (called.Makes child) c k space areas comes = ap (λ (a : Answer). slept_by a a.reply) comes.row_is
+kept_so row (called.Sleeps key) c k space areas comes = ap (λ (a : Answer). slept_by a a.reply) comes
+kept_so row (called.Waits awaited) c k space areas comes = ap (λ (a : Answer). slept_by a a.reply) comes
 
 slept_so : (row : Prog Answer) (d : Called) (c : Caller) (k : Kernel) (space : AddressSpace)
-    (areas : NamedMap AreaState) → Comes row d c k space areas
+    (areas : NamedMap AreaState) → ComesTo row d c k space areas
     → slept_by (outcome_in (parts k) row) (outcome_in (parts k) row).reply ≡ slept d c k
-slept_so row (called.Replies p) c k space areas comes = ap (λ (a : Answer). slept_by a a.reply) comes.row_is
-slept_so row (called.Makes child) c k space areas comes = ap (λ (a : Answer). slept_by a a.reply) comes.row_is
-slept_so row (called.Sleeps key) c k space areas comes = ap (λ (a : Answer). slept_by a a.reply) comes
-slept_so row (called.Waits awaited) c k space areas comes = ap (λ (a : Answer). slept_by a a.reply) comes
+slept_so row (Of d) c k space areas comes = kept_so row d c k space areas comes
+slept_so row (Moves reply transfer) c k space areas comes = ap (λ (a : Answer). slept_by a a.reply) comes.row_is
+slept_so row (MakesPipe new) c k space areas comes = ap (λ (a : Answer). slept_by a a.reply) comes.row_is
 
 module _ (c : Caller) (k : Kernel) where
   -- a task that stands at a call sleeps where the call puts it to sleep
   pub sleeps_at : (number : ℕ) (args : Args) (d : Called) (space : AddressSpace) (areas : NamedMap AreaState)
       → number ≡ call_of c.registers → args ≡ args_of c.registers
-      → Comes (call_row (context_of k) c number args) d c k space areas
+      → ComesTo (call_row (context_of k) c number args) d c k space areas
       → outcome_in (parts k) (sleep_at (context_of k) c Calls) ≡ slept d c k
   sleeps_at number args d space areas at those comes =
       ap (λ n. outcome_in (parts k) (call_row (context_of k) c n (args_of c.registers) >>= asleep)) (sym at)

@@ -6,7 +6,7 @@ ghost use Rattle.sn_errno.specs.Errors.{reply_of};
 ghost use Rattle.sn_errno.specs.declared.errno.Errno.TheVariants.{EIO};
 ghost use Rattle.kernel_calls.specs.Children.{with_child};
 ghost use Rattle.kernel_calls.specs.Memories.{with_memory};
-ghost use Rattle.kernel_calls.specs.Prepared.{Comes, EndsCaller, EndsOnly, HasRoomFor, with_effect};
+ghost use Rattle.kernel_calls.specs.Prepared.{EndsCaller, EndsOnly, HasRoomFor, with_effect};
 ghost use Rattle.kernel_model.specs.Names.{get_named};
 ghost use Rattle.kernel_model.specs.declared.kernel.Kernel.{Kernel as AKernel};
 ghost use Rattle.kernel_model.specs.declared.traps.Next.TheVariants.{Calls};
@@ -18,14 +18,16 @@ ghost use Rattle.kernel_model.specs.entries.Given.{may_meet};
 ghost use Rattle.kernel_model.specs.entries.Parts.{Change, Prog, changed, outcome_in, parts};
 ghost use Rattle.kernel_model.specs.entries.Steps.{call_entry, failing, replied_by, replied_to, same_args, stands_at};
 ghost use Rattle.kernel_model.specs.laws.Beginnings.{IsRoomFor};
+ghost use Rattle.call_fs.specs.Called.{ComesTo, HasRoomIn, IfOf, IsApartIn};
 ghost use Rattle.plain_kernel.specs.Doing.{Does, IsThere};
 ghost use Rattle.plain_kernel.specs.Unused.{AreUnused};
 
 use crate::callers::{context, copied_areas};
 use crate::effects::{go_on, settle};
 use crate::faults::{faulted, is_in_order};
-use call_fs::call;
-use kernel_calls::{Called, Child, Prepared, args_of, call_of, make, step};
+use crate::moving::{move_bytes, open_pipe};
+use call_fs::{Called, call};
+use kernel_calls::{Child, Prepared, args_of, call_of, make, step};
 use kernel_model::{Args, Caller, Given, GuestArea, Kernel, Named, Next};
 use mount_file::MOST_ENTRIES;
 use rv_table::Regs;
@@ -125,10 +127,13 @@ pub(crate) fn prepare(
     requires space { get_named kernel.now.spaces caller.old.memory.place caller.old.memory.index
         ≡ Some caller.old.space }
     requires areas { kernel.now.areas ≡ areas.old }
-    ensures row { IfOk result (λ d. Comes (call_row (context_of kernel.now) caller.old no args.now) d
+    ensures row { IfOk result (λ d. ComesTo (call_row (context_of kernel.now) caller.old no args.now) d
         caller.old kernel.now caller.new.space areas.new) }
-    ensures own { IfOk result (λ d. EndsCaller d caller.old.task) }
-    ensures room { IfOk result (λ d. HasRoomFor d kernel.now.tasks) }
+    ensures apart { IfOk result (λ d. IsApartIn d →
+        (caller.new.space ≡ caller.old.space) × (areas.new ≡ areas.old)) }
+    ensures own { IfOk result (λ d. IfOf d (λ o. EndsCaller o caller.old.task)) }
+    ensures room { IfOk result (λ d. IfOf d (λ o. HasRoomFor o kernel.now.tasks)) }
+    ensures sure { IfOk result (λ d. HasRoomIn d kernel.now.files) }
     ensures kept { caller.new ≡ record caller.old { space = caller.new.space } }
 {
     let registers = caller.registers;
@@ -148,8 +153,8 @@ pub(crate) fn prepare(
     )
 }
 
-/// Does what has become of a call of a task, which has left the task's memory and the shared areas so. A call that puts
-/// its task to sleep, or that waits, has not replied.
+/// Does what has become of a call of a task, which has left the task's memory and the shared areas so: as they were,
+/// where it may still lack memory. A call that puts its task to sleep, or that waits, has not replied.
 fn finish(
     alloc: Global,
     kernel: &mut Kernel,
@@ -160,16 +165,29 @@ fn finish(
 ) -> Result<bool, Memory>
     requires few { kernel.old.entries < MOST_ENTRIES }
     requires there { IsThere caller kernel.old }
-    requires own { EndsCaller called caller.task }
-    requires room { HasRoomFor called kernel.old.tasks }
-    ensures { (row : Prog Answer) → Comes row called caller kernel.old caller.space areas →
+    requires own { IfOf called (λ o. EndsCaller o caller.task) }
+    requires room { IfOf called (λ o. HasRoomFor o kernel.old.tasks) }
+    requires sure { HasRoomIn called kernel.old.files }
+    requires space { IsApartIn called →
+        get_named kernel.old.spaces caller.memory.place caller.memory.index ≡ Some caller.space }
+    requires areas { IsApartIn called → kernel.old.areas ≡ areas }
+    ensures { (row : Prog Answer) → ComesTo row called caller kernel.old caller.space areas →
         Does (replied_to caller reply (Some []) (outcome_in (parts kernel.old) row)) kernel.old kernel.new result }
 {
     match called {
-        Called::Replies(prepared) => answer(alloc, kernel, caller, areas, reply, prepared),
-        Called::Makes(child) => make_child(alloc, kernel, caller, reply, child),
-        Called::Sleeps(_) => Ok(false),
-        Called::Waits(_) => Ok(false),
+        Called::Of(kept) => match kept {
+            kernel_calls::Called::Replies(prepared) => {
+                answer(alloc, kernel, caller, areas, reply, prepared)
+            }
+            kernel_calls::Called::Makes(child) => make_child(alloc, kernel, caller, reply, child),
+            kernel_calls::Called::Sleeps(_) => Ok(false),
+            kernel_calls::Called::Waits(_) => Ok(false),
+        },
+        Called::Moves {
+            reply: value,
+            transfer,
+        } => move_bytes(alloc, kernel, caller, areas, reply, value, transfer),
+        Called::MakesPipe(pipe) => open_pipe(alloc, kernel, caller, areas, reply, pipe),
     }
 }
 

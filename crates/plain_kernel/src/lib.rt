@@ -2,10 +2,10 @@
 //!
 //! A caller opens a `Plain` by the record of an opening, over a tree for each mount, and has it do entries one after
 //! another; it answers whether each of them fits. Its state is a `Kernel` of `kernel_model`, for everybody to see. The
-//! work of instructions and calls is done by the functions of `kernel_calls`, over copies of the caller's address space
-//! and of the shared areas, which take their places once the entry is seen to fit. Nothing of the program's run stands
-//! on this crate: it shows that the definitions can be obeyed, and tests run traces on it. No entry of a task that
-//! sleeps on a futex word fits, and of one that was woken only the call that it slept in.
+//! work of instructions and calls is done by the functions of `kernel_calls` and `call_fs`, over copies of the caller's
+//! address space and of the shared areas, which take their places once the entry is seen to fit. Nothing of the
+//! program's run stands on this crate: it shows that the definitions can be obeyed, and tests run traces on it. No entry
+//! of a task that sleeps on a futex word fits, and of one that was woken only the call that it slept in.
 //!
 //! Proved: `Plain::opening` and `Plain::step` are the definitions (`ok`, `refused`, `fits`), and a refused step or one
 //! out of memory changes nothing (`ok`, `err`).
@@ -22,6 +22,7 @@ mod effects;
 mod entries;
 mod faults;
 mod meeting;
+mod moving;
 mod nodes;
 mod numbering;
 mod opened;

@@ -13,7 +13,8 @@ ghost use Rattle.plain_kernel.specs.Doing.{Does, IsThere};
 use crate::callers::copied_areas;
 use crate::calls::{is_call, prepare};
 use crate::effects::go_on;
-use kernel_calls::{Called, args_of, call_of, sleep, step};
+use call_fs::Called;
+use kernel_calls::{args_of, call_of, sleep, step};
 use kernel_model::{Args, Caller, Entry, Given, GuestArea, Kernel, Named, Next};
 use mount_file::MOST_ENTRIES;
 use sn_base::Memory;
@@ -64,14 +65,19 @@ fn sleep_in(
 {
     let no = call_of(&caller.registers);
     let args = args_of(&caller.registers);
-    match prepare(alloc, kernel, &mut caller, &mut areas, no, &args)? {
-        Called::Sleeps(key) => {
-            sleep(&mut kernel.sleepers, caller.task, key)?;
-            Ok(true)
-        }
-        Called::Replies(_) => Ok(false),
-        Called::Makes(_) => Ok(false),
-        Called::Waits(_) => Ok(false),
+    let called = prepare(alloc, kernel, &mut caller, &mut areas, no, &args)?;
+    match called {
+        Called::Of(kept) => match kept {
+            kernel_calls::Called::Sleeps(key) => {
+                sleep(&mut kernel.sleepers, caller.task, key)?;
+                Ok(true)
+            }
+            kernel_calls::Called::Replies(_) => Ok(false),
+            kernel_calls::Called::Makes(_) => Ok(false),
+            kernel_calls::Called::Waits(_) => Ok(false),
+        },
+        Called::Moves { .. } => Ok(false),
+        Called::MakesPipe(_) => Ok(false),
     }
 }
 

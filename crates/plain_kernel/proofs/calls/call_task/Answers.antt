@@ -4,10 +4,12 @@ use mir.Syntax.{w64}
 use Rattle.std.proofs.Common.{ap, sym, refl, ◌∙◌}
 use Rattle.std.specs.Prelude.{not}
 use Rattle.std.proofs.Math.Facts.{to_z-of_z}
+use Rattle.kernel_model.specs.declared.kernel.Kernel.{Kernel}
 use Rattle.kernel_model.specs.calls.Callers.{context_of}
 use Rattle.kernel_model.specs.calls.Table.{call_row}
 use Rattle.plain_kernel.proofs.CallLemmas.{call_elsewhere, call_in_disorder, call_that_comes, call_that_draws}
-use Rattle.plain_kernel.proofs.CallLemmas.{call_that_fails, drawn_unused, finished, has_any_not}
+use Rattle.plain_kernel.proofs.CallLemmas.{call_that_fails, drawn_unused, finished, has_any_not, memory_stays}
+use Rattle.plain_kernel.proofs.CallLemmas.{memory_there}
 use Rattle.plain_kernel.proofs.calls.call_task.Goals as goal
 
 pub returns-then-not-branch : goal.returns-then-not-branch
@@ -51,6 +53,20 @@ returns-then-not-is_empty-2 c =
     (has_any_not c.args.given.now.rises c.is_empty.result c.is_empty.ensures ∙ ap not c.if-not-is_empty.false)
     (has_any_not c.args.given.now.fresh c.is_empty-2.result c.is_empty-2.ensures ∙ ap not c.if-not-is_empty-2.true)
 
+pub finish-requires-clause-space : goal.finish-requires-clause-space
+finish-requires-clause-space c = λ apart.
+    memory_stays c.copied_areas.new.kernel c.stands_at.new.caller c.prepare.new.caller c.in_ok-called.ensures.kept
+    (c.in_ok-called.ensures.apart apart).0
+    (memory_there c.args.kernel.now c.copied_areas.new.kernel c.args.caller c.stands_at.new.caller
+    c.copied_areas.ensures.kept (c.in_ok-stands_at.ensures.kept c.if-not-branch.false) c.requires.space)
+
+pub finish-requires-clause-areas : goal.finish-requires-clause-areas
+finish-requires-clause-areas c = λ apart.
+    ap (λ (m : Kernel). m.areas) c.copied_areas.ensures.kept
+    ∙ sym c.in_ok-areas.ensures.copied
+    ∙ sym (c.in_ok-stands_at.ensures.kept_areas c.if-not-branch.false)
+    ∙ sym (c.in_ok-called.ensures.apart apart).1
+
 pub returns : goal.returns
 returns c =
     call_that_comes c.args.kernel.now c.copied_areas.new.kernel c.args.caller c.stands_at.new.caller
@@ -65,5 +81,5 @@ returns c =
     (finished c.copied_areas.new.kernel c.finish.new.kernel
     (call_row (context_of c.copied_areas.new.kernel) c.stands_at.new.caller c.args.no c.args.args.now)
     c.in_ok-called.called c.stands_at.new.caller c.prepare.new.caller c.prepare.new.areas
-    (to_z w64 (of_z w64 c.args.reply)) c.finish.result c.in_ok-called.ensures.kept c.in_ok-called.ensures.row
-    c.finish.ensures)
+    (to_z w64 (of_z w64 c.args.reply)) c.finish.result c.in_ok-called.ensures.kept
+    (λ apart. (c.in_ok-called.ensures.apart apart).0) c.in_ok-called.ensures.row c.finish.ensures)
