@@ -7,8 +7,12 @@
 #define CALL_FCNTL 25
 #define CALL_IOCTL 29
 #define CALL_CLOSE 57
+#define CALL_PIPE2 59
 #define CALL_LSEEK 62
+#define CALL_READ 63
 #define CALL_WRITE 64
+#define CALL_READV 65
+#define CALL_WRITEV 66
 #define CALL_PREAD64 67
 #define CALL_PWRITE64 68
 #define CALL_EXIT 93
