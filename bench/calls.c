@@ -1,6 +1,7 @@
 /*
- * Makes a system call so many times, or touches so many pages, and ends with status 0, or with 1 where a reply is not
- * what it should be. It is built as a guest and for the machine itself, without a library, so that both do the same.
+ * Makes a system call so many times, or touches so many pages, or moves so much by pipes, and ends with status 0, or
+ * with 1 where a reply is not what it should be. It is built as a guest and for the machine itself, without a library,
+ * so that both do the same.
  *
  * Its arguments are what to do, of which the first letter counts, how often, and for `fork` how many pages to touch
  * before.
@@ -123,6 +124,115 @@ static void hand_over_and_back(long times)
     wait_until(0);
 }
 
+#define BLOCK 65536
+#define BUFFERS 16
+#define BUFFER_BYTES 64
+
+static char block[BLOCK];
+static int ends[2], ends_back[2]; /* of pipes: to read from, and to write to */
+
+static void make_pipe(int *numbers)
+{
+    check(call(CALL_PIPE2, (long)numbers, 0, 0, 0, 0, 0) == 0);
+}
+
+static void close_end(int fd)
+{
+    check(call(CALL_CLOSE, fd, 0, 0, 0, 0, 0) == 0);
+}
+
+static void write_whole(int fd, long count)
+{
+    check(call(CALL_WRITE, fd, (long)block, count, 0, 0, 0) == count);
+}
+
+static void read_whole(int fd, long count)
+{
+    check(call(CALL_READ, fd, (long)block, count, 0, 0, 0) == count);
+}
+
+/* A task that writes to a pipe and reads from it. */
+static void pass_a_byte(void)
+{
+    write_whole(ends[1], 1);
+    read_whole(ends[0], 1);
+}
+
+static void pass_a_block(void)
+{
+    write_whole(ends[1], BLOCK);
+    read_whole(ends[0], BLOCK);
+}
+
+static struct {
+    char *bytes;
+    long length;
+} buffers[BUFFERS];
+
+static void fill_records(void)
+{
+    for (int k = 0; k < BUFFERS; k++) {
+        buffers[k].bytes = block + k * BUFFER_BYTES;
+        buffers[k].length = BUFFER_BYTES;
+    }
+}
+
+static void read_buffers(void)
+{
+    write_whole(ends[1], BUFFERS * BUFFER_BYTES);
+    check(call(CALL_READV, ends[0], (long)buffers, BUFFERS, 0, 0, 0) == BUFFERS * BUFFER_BYTES);
+}
+
+/* Makes a child, and waits for its end once both have done their parts so many times. */
+static void share(void (*part)(long times), void (*part_of_child)(long times), long times)
+{
+    int status = -1;
+    long child = call(CALL_CLONE, 17, 0, 0, 0, 0, 0); /* SIGCHLD */
+    check(child >= 0);
+    if (child == 0) {
+        part_of_child(times);
+        call(CALL_EXIT_GROUP, 0, 0, 0, 0, 0, 0);
+    }
+    part(times);
+    check(call(CALL_WAIT4, child, (long)&status, 0, 0, 0, 0) == child && status == 0);
+}
+
+/* A byte goes to the child by one pipe, and comes back by another. */
+static void send_bytes(long times)
+{
+    for (long k = 0; k < times; k++) {
+        write_whole(ends[1], 1);
+        read_whole(ends_back[0], 1);
+    }
+}
+
+static void send_back(long times)
+{
+    for (long k = 0; k < times; k++) {
+        read_whole(ends[0], 1);
+        write_whole(ends_back[1], 1);
+    }
+}
+
+/* Blocks come from the child. A read or a write may move a part of one. */
+static void take_blocks(long times)
+{
+    close_end(ends[1]);
+    for (long left = times * BLOCK, got; left > 0; left -= got) {
+        got = call(CALL_READ, ends[0], (long)block, BLOCK, 0, 0, 0);
+        check(got > 0);
+    }
+}
+
+static void send_blocks(long times)
+{
+    close_end(ends[0]);
+    for (long left = times * BLOCK, put; left > 0; left -= put) {
+        put = call(CALL_WRITE, ends[1], (long)block, left < BLOCK ? left : BLOCK, 0, 0, 0);
+        check(put > 0);
+    }
+}
+
 static void repeat(void (*what)(void), long times)
 {
     for (long k = 0; k < times; k++)
@@ -144,6 +254,11 @@ _Noreturn void begin(char **stack)
     case 't': touch(times); break;
     case 'f': touch(read_number(stack[4])); repeat(fork_and_wait, times); break;
     case 'h': hand_over_and_back(times); break;
+    case 'p': make_pipe(ends); repeat(pass_a_byte, times); break;
+    case 'l': make_pipe(ends); repeat(pass_a_block, times); break;
+    case 'v': make_pipe(ends); fill_records(); repeat(read_buffers, times); break;
+    case 'e': make_pipe(ends); make_pipe(ends_back); share(send_bytes, send_back, times); break;
+    case 's': make_pipe(ends); share(take_blocks, send_blocks, times); break;
     default: check(0);
     }
     call(CALL_EXIT_GROUP, 0, 0, 0, 0, 0, 0);

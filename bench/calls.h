@@ -37,7 +37,10 @@ static inline long begin_thread(long flags, void *stack_end, void (*work)(void))
 
 #else
 
+#define CALL_READ 0
 #define CALL_WRITE 1
+#define CALL_READV 19
+#define CALL_PIPE2 293
 #define CALL_CLOSE 3
 #define CALL_DUP 32
 #define CALL_EXIT 60
