@@ -1,5 +1,6 @@
 -- Bytes that come from one buffer after another.
-use Rattle.std.proofs.Common.{◌≡◌, ℕ, ◌-◌, ◌+◌, ◌≤◌, min, Bool, true, false, List, [], ◌∷◌, ◌++◌, length, take, drop, get_or}
+use Rattle.std.proofs.Common.{◌≡◌, ℕ, ◌-◌, ◌+◌, ◌≤◌, min, Bool, true, false, List, [], ◌∷◌, ◌++◌, length, take, drop}
+use Rattle.std.proofs.Common.{get_or}
 use Rattle.std.proofs.Common.{Option, Some, None, refl, ap, sym, subst, ◌∙◌, arith, append_assoc, option_map}
 use Rattle.std.proofs.Common.{length-append, length-take, zero, suc}
 use Rattle.std.specs.Prelude.{is_some, if◌then◌else◌}
@@ -16,7 +17,8 @@ use Rattle.stat_layout.specs.IoVecs.{total_of}
 use Rattle.stat_layout.specs.declared.iovec.IoVec.{IoVec}
 use Rattle.task_table.specs.Table.{no_tasks}
 use Rattle.kernel_model.specs.Names.{NamedMap, get_named}
-use Rattle.kernel_model.specs.declared.kernel.Part.TheVariants.{OfTasks, OfTask, OfSpace, OfArea, OfTable, OfDescription}
+use Rattle.kernel_model.specs.declared.kernel.Part.TheVariants.{OfTasks, OfTask, OfSpace, OfArea, OfTable}
+use Rattle.kernel_model.specs.declared.kernel.Part.TheVariants.{OfDescription}
 use Rattle.kernel_model.specs.declared.kernel.Part.TheVariants.{OfPipe, OfNode, OfSleepers, OfConsole, OfFaults}
 use Rattle.kernel_model.specs.machine.Spaces.{reach_with}
 use Rattle.kernel_model.specs.calls.Vectors.{are_accessible, gathered, if_some}

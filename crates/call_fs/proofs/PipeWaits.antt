@@ -32,10 +32,13 @@ use Rattle.kernel_model.specs.machine.Spaces.{reach_with}
 use Rattle.kernel_model.specs.calls.Answers.{Answer, NotReady, Replies, not_ready, refuses, replies}
 use Rattle.kernel_model.specs.calls.Lookups.{descriptor, if_may, opened_for, or_refuse, with_file}
 use Rattle.kernel_model.specs.calls.ReadWrite.{from_pipe, is_awaited, moved, put_into, read_row, readv_row, reads}
-use Rattle.kernel_model.specs.calls.ReadWrite.{reads_into, reads_of, to_pipe, waits, write_row, writes, writes_of, writev_row}
-use Rattle.kernel_model.specs.calls.Vectors.{are_accessible, cut, gathered, if_countable, if_some, one_buffer, scattered}
+use Rattle.kernel_model.specs.calls.ReadWrite.{reads_into, reads_of, to_pipe, waits, write_row, writes, writes_of}
+use Rattle.kernel_model.specs.calls.ReadWrite.{writev_row}
+use Rattle.kernel_model.specs.calls.Vectors.{are_accessible, cut, gathered, if_countable, if_some, one_buffer}
+use Rattle.kernel_model.specs.calls.Vectors.{scattered}
 use Rattle.kernel_model.specs.calls.Vectors.{with_buffers}
-use Rattle.kernel_model.specs.entries.Areas.{Tried, Comes, Asks, access_row, access_tried, asked, bytes_read, bytes_with, handed_in}
+use Rattle.kernel_model.specs.entries.Areas.{Tried, Comes, Asks, access_row, access_tried, asked, bytes_read}
+use Rattle.kernel_model.specs.entries.Areas.{bytes_with, handed_in}
 use Rattle.kernel_model.specs.entries.Areas.{tried_with}
 use Rattle.kernel_model.specs.entries.Parts.{Change, IsIn, Parts, Prog, done, look, ◌>>=◌, outcome_in, parts, uses}
 use Rattle.kernel_model.proofs.Trees.{outcome_alike, outcome-bind}

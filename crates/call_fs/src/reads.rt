@@ -1,6 +1,7 @@
 //! read, on pipes, the console and the empty input.
 
-ghost use Rattle.std.specs.Prelude.{◌≡◌, ◌≢◌, ℕ, ◌+◌, ◌≤◌, ◌∷◌, [], ◌++◌, Some, length, min, take, true, IfOk, OnErr, if◌then◌else◌};
+ghost use Rattle.std.specs.Prelude.{◌≡◌, ◌≢◌, ℕ, ◌+◌, ◌≤◌, ◌∷◌, [], ◌++◌, Some, length, min, take, true, IfOk, OnErr};
+ghost use Rattle.std.specs.Prelude.{if◌then◌else◌};
 ghost use Rattle.sn_errno.specs.declared.errno.Errno.TheVariants.{EBADF};
 ghost use Rattle.fd_table.specs.Flags.{may_read};
 ghost use Rattle.pipe_core.specs.Pipes.{after_read};

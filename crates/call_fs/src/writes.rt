@@ -1,6 +1,7 @@
 //! write, on pipes and the console.
 
-ghost use Rattle.std.specs.Prelude.{◌≡◌, ℕ, ◌≤◌, ◌∷◌, [], ◌++◌, List, Some, pos, min, take, length, IfOk, if◌then◌else◌};
+ghost use Rattle.std.specs.Prelude.{◌≡◌, ℕ, ◌≤◌, ◌∷◌, [], ◌++◌, List, Some, pos, min, take, length, IfOk};
+ghost use Rattle.std.specs.Prelude.{if◌then◌else◌};
 ghost use Rattle.sn_errno.specs.declared.errno.Errno.TheVariants.{EBADF};
 ghost use Rattle.fd_table.specs.Flags.{may_write};
 ghost use Rattle.mm_space.specs.Handing.{AreaState};

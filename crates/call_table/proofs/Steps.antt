@@ -25,7 +25,8 @@ use Rattle.kernel_model.specs.declared.entry.Entry.{Entry}
 use Rattle.kernel_model.specs.declared.entry.Entry.TheVariants.{Run, Call, Sleep, End}
 use Rattle.kernel_model.specs.declared.kernel.Kernel.{Kernel}
 use Rattle.kernel_model.specs.declared.kernel.Part.{Part}
-use Rattle.kernel_model.specs.declared.kernel.Part.TheVariants.{OfTasks, OfTask, OfSpace, OfArea, OfTable, OfDescription}
+use Rattle.kernel_model.specs.declared.kernel.Part.TheVariants.{OfTasks, OfTask, OfSpace, OfArea, OfTable}
+use Rattle.kernel_model.specs.declared.kernel.Part.TheVariants.{OfDescription}
 use Rattle.kernel_model.specs.declared.kernel.Part.TheVariants.{OfPipe, OfNode, OfSleepers, OfConsole, OfFaults}
 use Rattle.kernel_model.specs.declared.opening.Given.{Given}
 use Rattle.kernel_model.specs.declared.traps.Next.{Next}

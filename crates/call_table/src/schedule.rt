@@ -1,6 +1,7 @@
 //! The cells of a run with those of its tasks that are looked at: one task makes an entry, or is parked.
 
-ghost use Rattle.std.specs.Prelude.{◌≡◌, ◌<◌, ◌+◌, ◌||◌, ◌&&◌, ◌==◌, if◌then◌else◌, ℕ, [], true, false, IfOk, IsFalse, IsTrue, OnOk, Some};
+ghost use Rattle.std.specs.Prelude.{◌≡◌, ◌<◌, ◌+◌, ◌||◌, ◌&&◌, ◌==◌, if◌then◌else◌, ℕ, [], true, false, IfOk, IsFalse};
+ghost use Rattle.std.specs.Prelude.{IsTrue, OnOk, Some};
 ghost use Rattle.std.specs.FinMap as map;
 ghost use Rattle.task_table.specs.Kept.{IsKept};
 ghost use Rattle.task_table.specs.Table.{has_ended, is_live};

@@ -5,9 +5,11 @@ use Rattle.std.specs.Prelude.{nat_lt, not, ◌||◌, if◌then◌else◌, Option
 use Rattle.std.proofs.lemmas.Bool.Decides.{nat_tests}
 use Rattle.elf_image.specs.declared.header.FileHeader.{FileHeader}
 use Rattle.elf_image.specs.declared.fault.ImageFault.{ImageFault}
-use Rattle.elf_image.specs.declared.fault.ImageFault.TheVariants.{Short, Magic, Class, Machine, Kind, Flags, Headers, Interp, Range, Overlap, Entry, Memory}
+use Rattle.elf_image.specs.declared.fault.ImageFault.TheVariants.{Short, Magic, Class, Machine, Kind, Flags, Headers}
+use Rattle.elf_image.specs.declared.fault.ImageFault.TheVariants.{Interp, Range, Overlap, Entry, Memory}
 use Rattle.elf_image.specs.Headers.{file_header, program_headers, is_loaded}
-use Rattle.elf_image.specs.Faults.{has_no_table, is_misplaced, has_overlap, has_no_entry, first_fault, fault_rows, image_fault, IsFaultOf}
+use Rattle.elf_image.specs.Faults.{has_no_table, is_misplaced, has_overlap, has_no_entry, first_fault, fault_rows}
+use Rattle.elf_image.specs.Faults.{image_fault, IsFaultOf}
 
 abbrev is_memory : ImageFault → Bool
 is_memory Memory = true

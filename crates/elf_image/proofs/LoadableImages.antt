@@ -1,5 +1,6 @@
 -- The segments of a file without a fault.
-use Rattle.std.proofs.Common.{◌≡◌, ℕ, suc, subst, ◌+◌, ◌-◌, ◌*◌, ◌^◌, ◌≤◌, List, [], ◌∷◌, length, map, drop, Bool, true, false, cond, refl, sym, ap, arith, None}
+use Rattle.std.proofs.Common.{◌≡◌, ℕ, suc, subst, ◌+◌, ◌-◌, ◌*◌, ◌^◌, ◌≤◌, List, [], ◌∷◌, length, map, drop, Bool, true}
+use Rattle.std.proofs.Common.{false, cond, refl, sym, ap, arith, None}
 use Rattle.std.specs.Prelude.{All, filter, sum_by, slice_range}
 use Rattle.std.specs.List.{list_any}
 use Rattle.std.proofs.lemmas.Bool.Decides.{nat_tests}

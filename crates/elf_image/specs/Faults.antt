@@ -1,9 +1,11 @@
 -- Why bytes are no image. `fault_rows` has them in the order in which they are told.
-use Rattle.std.specs.Prelude.{◌≡◌, ℕ, ◌+◌, ◌*◌, ◌%◌, ◌^◌, min, max, nat_le, nat_lt, List, [], ◌∷◌, ◌++◌, length, map, filter, slice_range, Bool, not, ◌==◌, ◌&&◌, ◌||◌, Option, Some, None, if◌then◌else◌}
+use Rattle.std.specs.Prelude.{◌≡◌, ℕ, ◌+◌, ◌*◌, ◌%◌, ◌^◌, min, max, nat_le, nat_lt, List, [], ◌∷◌, ◌++◌, length, map}
+use Rattle.std.specs.Prelude.{filter, slice_range, Bool, not, ◌==◌, ◌&&◌, ◌||◌, Option, Some, None, if◌then◌else◌}
 use Rattle.std.specs.List.{list_any}
 use Rattle.std.specs.Str.{bytes_eq}
 use Rattle.elf_image.specs.declared.fault.ImageFault.{ImageFault}
-use Rattle.elf_image.specs.declared.fault.ImageFault.TheVariants.{Short, Magic, Class, Machine, Kind, Flags, Headers, Interp, Range, Overlap, Entry, Memory}
+use Rattle.elf_image.specs.declared.fault.ImageFault.TheVariants.{Short, Magic, Class, Machine, Kind, Flags, Headers}
+use Rattle.elf_image.specs.declared.fault.ImageFault.TheVariants.{Interp, Range, Overlap, Entry, Memory}
 use Rattle.elf_image.specs.declared.header.FileHeader.{FileHeader}
 use Rattle.elf_image.specs.declared.header.ProgramHeader.{ProgramHeader}
 use Rattle.elf_image.specs.Headers.{file_header, program_headers, is_interpreter, is_load, is_loaded}

@@ -2,7 +2,9 @@
 
 ghost use Rattle.std.specs.Prelude.{◌≡◌, ◌≤◌, ◌&&◌, length};
 ghost use Rattle.std.specs.List.{list_any};
-ghost use Rattle.elf_image.specs.Faults.{has_other_magic, has_other_class, has_no_table, has_interpreter, has_misplaced, meet, is_misplaced, has_overlap, is_executed, has_no_entry, image_fault};
+ghost use Rattle.elf_image.specs.Faults.{has_other_magic, has_other_class, has_no_table, has_interpreter};
+ghost use Rattle.elf_image.specs.Faults.{has_misplaced, meet, is_misplaced, has_overlap, is_executed, has_no_entry};
+ghost use Rattle.elf_image.specs.Faults.{image_fault};
 ghost use Rattle.elf_image.specs.Headers.{is_load, is_loaded};
 ghost use Rattle.elf_image.specs.declared.fault.ImageFault.TheVariants.{Memory as WantOfMemory};
 

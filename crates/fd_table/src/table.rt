@@ -3,7 +3,8 @@
 ghost use Rattle.std.specs.Prelude.{◌≡◌, ◌≢◌, ◌≤◌, ◌↔◌, Err, IfOk, IfErr, OnOk, OnErr, IsSome, ok_or, None};
 ghost use Rattle.std.specs.FinMap as map;
 ghost use Rattle.std.specs.Result.{result_err};
-ghost use Rattle.fd_table.specs.Tables.{IsFullFrom, IsLowestFree, IsWithinLimit, closed_on_exec, dup3_fault, duplicated, marked, open_fault};
+ghost use Rattle.fd_table.specs.Tables.{IsFullFrom, IsLowestFree, IsWithinLimit, closed_on_exec, dup3_fault};
+ghost use Rattle.fd_table.specs.Tables.{duplicated, marked, open_fault};
 
 use crate::slots::{
     closed_on_exec, count_open, descriptor_at, fill, first_free, open_numbers, vacate,

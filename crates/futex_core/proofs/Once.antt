@@ -1,13 +1,16 @@
 -- No change of the futex list puts a task there twice.
-use Rattle.std.proofs.Common.{◌≡◌, ℕ, ◌+◌, ◌≤◌, ◌==◌, not, Bool, true, false, cond, List, [], ◌∷◌, ◌++◌, map, filter, refl, ap, sym, ◌∙◌, arith}
+use Rattle.std.proofs.Common.{◌≡◌, ℕ, ◌+◌, ◌≤◌, ◌==◌, not, Bool, true, false, cond, List, [], ◌∷◌, ◌++◌, map, filter}
+use Rattle.std.proofs.Common.{refl, ap, sym, ◌∙◌, arith}
 use Rattle.std.specs.List.{list_any}
 use Rattle.std.proofs.lemmas.Bool.{eqb-true, both_ways}
 use Rattle.std.proofs.lemmas.List.{map-append, map-id}
 use Rattle.futex_core.specs.declared.keys.FutexKey.{FutexKey}
 use Rattle.futex_core.specs.declared.waiters.Sleeper.{Sleeper}
 use Rattle.futex_core.specs.FutexKeys.{same_word}
-use Rattle.futex_core.specs.FutexLists.{FutexList, EachOnce, tasks_in, is_asleep, is_woken, after_sleep, waiters_on, first_waiters, sleepers_without, after_wake, after_leave}
-use Rattle.futex_core.proofs.Counts.{times, weight, times-append, times-cons, times-take, times-filter, none_times, found_by_task}
+use Rattle.futex_core.specs.FutexLists.{FutexList, EachOnce, tasks_in, is_asleep, is_woken, after_sleep, waiters_on}
+use Rattle.futex_core.specs.FutexLists.{first_waiters, sleepers_without, after_wake, after_leave}
+use Rattle.futex_core.proofs.Counts.{times, weight, times-append, times-cons, times-take, times-filter, none_times}
+use Rattle.futex_core.proofs.Counts.{found_by_task}
 
 -- the tasks of sleepers
 abbrev pub tasks_of : List Sleeper → List ℕ

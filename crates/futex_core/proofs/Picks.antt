@@ -1,15 +1,20 @@
 -- A pass over the sleepers that wakes the first on a word and moves all others together.
-use Rattle.std.proofs.Common.{◌≡◌, ℕ, ◌+◌, ◌≤◌, ◌<◌, ◌==◌, ◌||◌, not, min, Bool, true, false, cond, List, [], ◌∷◌, ◌++◌, filter, take, drop, length, get_or, set, refl, ap, sym, ◌∙◌, arith, append_assoc, add-zero}
+use Rattle.std.proofs.Common.{◌≡◌, ℕ, ◌+◌, ◌≤◌, ◌<◌, ◌==◌, ◌||◌, not, min, Bool, true, false, cond, List, [], ◌∷◌, ◌++◌}
+use Rattle.std.proofs.Common.{filter, take, drop, length, get_or, set, refl, ap, sym, ◌∙◌, arith, append_assoc}
+use Rattle.std.proofs.Common.{add-zero}
 use Rattle.std.specs.List.{list_any}
 use Rattle.std.proofs.lemmas.Bool.{eqb-false, ne_eqb, eq-eqb, or_left, or_right, cond-true, cond-false}
-use Rattle.std.proofs.lemmas.List.{map-append, append-nil, take_all, take-append-le, length-take, length_push, length-set, take_more, take_more_set, drop_more, drop-drop, drop-set-lt, get_or-drop, take-append-drop}
+use Rattle.std.proofs.lemmas.List.{map-append, append-nil, take_all, take-append-le, length-take, length_push}
+use Rattle.std.proofs.lemmas.List.{length-set, take_more, take_more_set, drop_more, drop-drop, drop-set-lt, get_or-drop}
+use Rattle.std.proofs.lemmas.List.{take-append-drop}
 use Rattle.std.proofs.lemmas.List.Elements.{filter-append}
 use Rattle.std.proofs.lemmas.List.Folds.{list_any-append}
 use Rattle.futex_core.specs.declared.keys.FutexKey.{FutexKey}
 use Rattle.futex_core.specs.declared.waiters.Sleeper.{Sleeper}
 use Rattle.futex_core.specs.FutexKeys.{same_word}
 use Rattle.futex_core.specs.FutexLists.{FutexList, EachOnce, waiters_on, first_waiters, sleepers_without}
-use Rattle.futex_core.proofs.Counts.{times, weight, times-append, times-cons, times_itself, times-take, times-filter, not_found}
+use Rattle.futex_core.proofs.Counts.{times, weight, times-append, times-cons, times_itself, times-take, times-filter}
+use Rattle.futex_core.proofs.Counts.{not_found}
 use Rattle.futex_core.proofs.Once.{tasks_of}
 
 -- ---- one more sleeper at the end

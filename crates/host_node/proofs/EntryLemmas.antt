@@ -1,5 +1,6 @@
 -- What a search by name finds among a directory's entries in memory, and what a write there leaves.
-use Rattle.std.proofs.Common.{◌≡◌, ℕ, ◌<◌, ◌+◌, Bool, true, false, cond, ltb, List, [], ◌∷◌, length, get_or, set, position, Some, None, refl, ap, zero, suc, arith, not}
+use Rattle.std.proofs.Common.{◌≡◌, ℕ, ◌<◌, ◌+◌, Bool, true, false, cond, ltb, List, [], ◌∷◌, length, get_or, set}
+use Rattle.std.proofs.Common.{position, Some, None, refl, ap, zero, suc, arith, not}
 use Rattle.std.specs.List.{position_or_len, insert}
 use Rattle.std.specs.Str.{bytes_eq}
 use Rattle.std.proofs.lemmas.List.Quantifiers.{position-Some}
@@ -7,7 +8,8 @@ use Rattle.std.proofs.lemmas.List.Recursion.{found_at, found_nowhere}
 use Rattle.std.proofs.lemmas.List.Sums.{prefix_len_passes}
 use Rattle.std.proofs.lemmas.Bool.Decides.{nat_tests}
 use Rattle.host_node.specs.declared.tree.Entry.{Entry}
-use Rattle.host_node.specs.Tree.{Shape, Children, lent, no_children, child, kind_of, find_child, replace_child, insert_child, lend_in}
+use Rattle.host_node.specs.Tree.{Shape, Children, lent, no_children, child, kind_of, find_child, replace_child}
+use Rattle.host_node.specs.Tree.{insert_child, lend_in}
 use Rattle.host_node.specs.Levels.{children_from, entry_names, has_name, comes_before}
 
 -- where no place passes, no element does

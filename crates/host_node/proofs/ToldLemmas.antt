@@ -4,8 +4,10 @@ use Rattle.host_node.specs.declared.kind.Kind.{Kind}
 use Rattle.host_node.specs.declared.kind.Kind.TheVariants.{Dir}
 use Rattle.host_node.specs.Tree.{Shape, lent, kind_of, with_faults, child_of, with_child, lend_child}
 use Rattle.host_node.specs.Routes.{put_subtree, directory_at}
-use Rattle.host_node.specs.Told.{TellsItself, kept, ComesFrom, TellsLent, CanTakeBack, TakesBack, TellsGranted, CanSettle, Settles}
-use Rattle.host_node.proofs.TreeLemmas.{with_faults_own, with_faults_twice, directory_from_child, child_of-with_same, with_child_twice, with_child_found, lend_child_found}
+use Rattle.host_node.specs.Told.{TellsItself, kept, ComesFrom, TellsLent, CanTakeBack, TakesBack, TellsGranted}
+use Rattle.host_node.specs.Told.{CanSettle, Settles}
+use Rattle.host_node.proofs.TreeLemmas.{with_faults_own, with_faults_twice, directory_from_child, child_of-with_same}
+use Rattle.host_node.proofs.TreeLemmas.{with_child_twice, with_child_found, lend_child_found}
 use Rattle.host_node.proofs.RouteLemmas.{put-put_subtree, put_subtree_found, subtree-directory_at, subtree-granted}
 
 -- the last of two counts stays

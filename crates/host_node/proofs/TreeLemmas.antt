@@ -1,11 +1,15 @@
 -- What is read from a host's tree after something was put into it.
-use Rattle.std.proofs.Common.{◌≡◌, ℕ, Bool, true, false, cond, ◌&&◌, List, Option, Some, None, is_some, refl, sym, ap, ◌∙◌, ◌⊎◌, inl, inr, ⊎_elim}
+use Rattle.std.proofs.Common.{◌≡◌, ℕ, Bool, true, false, cond, ◌&&◌, List, Option, Some, None, is_some, refl, sym, ap}
+use Rattle.std.proofs.Common.{◌∙◌, ◌⊎◌, inl, inr, ⊎_elim}
 use Rattle.std.specs.Ordering.{nat_cmp, is_lt}
 use Rattle.std.specs.Cmp.Lexicographic.{slice_cmp}
 use Rattle.std.specs.Str.{bytes_eq}
 use Rattle.std.proofs.lemmas.Cmp.{nat_list_eq_equiv}
 use Rattle.std.proofs.lemmas.Slice.Eq.{bytes_eq-Decides}
-use Rattle.host_node.specs.Tree.{Shape, Children, directory, file, link, lent, no_children, child, kind_of, faults_of, with_faults, is_lent, is_directory, children_of, with_children, find_child, replace_child, insert_child, put_child, child_of, with_child, lend_in, lend_child, none_lent, none_lent_in}
+use Rattle.host_node.specs.Tree.{Shape, Children, directory, file, link, lent, no_children, child, kind_of, faults_of}
+use Rattle.host_node.specs.Tree.{with_faults, is_lent, is_directory, children_of, with_children, find_child}
+use Rattle.host_node.specs.Tree.{replace_child, insert_child, put_child, child_of, with_child, lend_in, lend_child}
+use Rattle.host_node.specs.Tree.{none_lent, none_lent_in}
 
 -- a node with its own count is itself
 pub with_faults_own : (t : Shape) → with_faults (faults_of t) t ≡ t

@@ -1,12 +1,14 @@
 -- What an object of a host tells of the files it holds, by cases on whether it tells them: an object in
 -- memory tells a tree, and one that stands for files of a machine tells nothing, `None`.
-use Rattle.std.specs.Prelude.{◌≡◌, ◌≢◌, ℕ, ◌-◌, min, List, ◌++◌, length, take, drop, Bool, true, false, Option, Some, None, Result, Ok, Err, IsTrue, ⊤, option_map, IsSomeAnd, IfSome}
+use Rattle.std.specs.Prelude.{◌≡◌, ◌≢◌, ℕ, ◌-◌, min, List, ◌++◌, length, take, drop, Bool, true, false, Option, Some}
+use Rattle.std.specs.Prelude.{None, Result, Ok, Err, IsTrue, ⊤, option_map, IsSomeAnd, IfSome}
 use Rattle.host_node.specs.declared.kind.Kind.{Kind}
 use Rattle.host_node.specs.declared.kind.Kind.TheVariants.{Dir}
 use Rattle.host_node.specs.declared.kind.Attr.{Attr}
 use Rattle.host_node.specs.declared.listing.Listed.{Listed}
 use Rattle.host_node.specs.declared.error.HostErr.{HostErr}
-use Rattle.host_node.specs.Tree.{Shape, directory, file, link, lent, kind_of, faults_of, with_faults, attr_of, bytes_of, is_directory, is_lent, child_of, with_child, lend_child, listing_of}
+use Rattle.host_node.specs.Tree.{Shape, directory, file, link, lent, kind_of, faults_of, with_faults, attr_of, bytes_of}
+use Rattle.host_node.specs.Tree.{is_directory, is_lent, child_of, with_child, lend_child, listing_of}
 use Rattle.host_node.specs.Routes.{subtree, put_subtree, directory_at, is_free}
 
 -- how a node stands to its file

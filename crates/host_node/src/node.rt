@@ -6,7 +6,9 @@ ghost use Rattle.host_node.specs.Tree.{Shape};
 ghost use Rattle.host_node.specs.Faults.{has_failed};
 ghost use Rattle.sn_base.specs.Faults.{HasCause};
 ghost use Rattle.host_node.specs.Order.{IsAscending, names_of};
-ghost use Rattle.host_node.specs.Told.{Opened, Closed, after_open, TellsItself, kept, TellsAttr, CanList, TellsListing, CanLend, LacksChild, TellsLent, after_lend, CanOpen, CanRead, ReadsAt, CanTakeBack, TakesBack};
+ghost use Rattle.host_node.specs.Told.{Opened, Closed, after_open, TellsItself, kept, TellsAttr, CanList, TellsListing};
+ghost use Rattle.host_node.specs.Told.{CanLend, LacksChild, TellsLent, after_lend, CanOpen, CanRead, ReadsAt};
+ghost use Rattle.host_node.specs.Told.{CanTakeBack, TakesBack};
 
 use crate::error::HostErr;
 use crate::kind::{Attr, Kind};

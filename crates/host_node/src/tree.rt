@@ -2,7 +2,8 @@
 
 ghost use Rattle.std.specs.Prelude.{◌≡◌, ◌+◌, ◌≤◌, length};
 ghost use Rattle.sn_base.specs.Sums.{capped};
-ghost use Rattle.host_node.specs.Tree.{directory as dir, file as regular, link as symlink, lent as away, no_children, kind_of, attr_of, faults_of, with_faults, bytes_of, is_directory};
+ghost use Rattle.host_node.specs.Tree.{directory as dir, file as regular, link as symlink, lent as away, no_children};
+ghost use Rattle.host_node.specs.Tree.{kind_of, attr_of, faults_of, with_faults, bytes_of, is_directory};
 
 mod children;
 mod copies;

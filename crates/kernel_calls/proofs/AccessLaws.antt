@@ -13,7 +13,8 @@ use Rattle.mm_space.specs.Puts.{after_run_stored}
 use Rattle.mm_space.specs.Spaces.{AddressSpace, Reach}
 use Rattle.kernel_model.specs.Names.{NamedMap, get_named}
 use Rattle.kernel_model.specs.machine.Spaces.{reach_with}
-use Rattle.kernel_model.specs.entries.Areas.{Asks, Comes, Tried, if_allowed, access_tried, access_row, asked, bytes_read}
+use Rattle.kernel_model.specs.entries.Areas.{Asks, Comes, Tried, if_allowed, access_tried, access_row, asked}
+use Rattle.kernel_model.specs.entries.Areas.{bytes_read}
 use Rattle.kernel_model.specs.entries.Areas.{bytes_with, bytes_written, tried_with, written_with}
 use Rattle.kernel_model.specs.entries.Parts.{Parts, done, outcome_in, uses}
 use Rattle.kernel_model.proofs.Trees.{outcome-bind}

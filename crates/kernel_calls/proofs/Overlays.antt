@@ -6,7 +6,8 @@ use Rattle.rv_table.specs.declared.error.Area.{Area}
 use Rattle.mm_space.specs.Handing.{AreaState, InHand, area_in}
 use Rattle.mm_space.specs.Sight.{is_area}
 use Rattle.kernel_model.specs.Names.{NamedMap, get_named, with_named}
-use Rattle.kernel_model.specs.declared.kernel.Part.TheVariants.{OfTasks, OfTask, OfSpace, OfArea, OfTable, OfDescription}
+use Rattle.kernel_model.specs.declared.kernel.Part.TheVariants.{OfTasks, OfTask, OfSpace, OfArea, OfTable}
+use Rattle.kernel_model.specs.declared.kernel.Part.TheVariants.{OfDescription}
 use Rattle.kernel_model.specs.declared.kernel.Part.TheVariants.{OfPipe, OfNode, OfSleepers, OfConsole, OfFaults}
 use Rattle.kernel_model.specs.entries.Areas.{left_in, over}
 use Rattle.kernel_model.specs.entries.Parts.{Parts, Prog, done, look, outcome_in}

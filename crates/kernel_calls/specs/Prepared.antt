@@ -1,5 +1,6 @@
 -- What the code's answers to calls and instructions stand for.
-use Rattle.std.specs.Prelude.{◌≡◌, ℕ, ◌+◌, ◌≤◌, ⊤, Option, Some, None, IsTrue, IsFalse, true, List, [], ◌∷◌, ◌++◌, length, pos}
+use Rattle.std.specs.Prelude.{◌≡◌, ℕ, ◌+◌, ◌≤◌, ⊤, Option, Some, None, IsTrue, IsFalse, true, List, [], ◌∷◌, ◌++◌}
+use Rattle.std.specs.Prelude.{length, pos}
 use Rattle.std.specs.FinMap as map
 use Rattle.rv_table.specs.declared.error.Area.{Area}
 use Rattle.rv_table.specs.declared.regs.Regs.{Regs}

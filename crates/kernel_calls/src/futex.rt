@@ -13,7 +13,8 @@ ghost use Rattle.kernel_model.specs.calls.Futex.{futex_row, is_wait, is_wake, sl
 ghost use Rattle.kernel_model.specs.entries.Areas.{bytes_read};
 ghost use Rattle.kernel_model.specs.entries.Parts.{Parts, outcome_in};
 ghost use Rattle.kernel_calls.specs.Lending.{AreThose};
-ghost use Rattle.kernel_calls.specs.Prepared.{AnswersKept, Comes, EndsCaller, EndsTheirs, HasRoomFor, HasSpace, IfWaits};
+ghost use Rattle.kernel_calls.specs.Prepared.{AnswersKept, Comes, EndsCaller, EndsTheirs, HasRoomFor, HasSpace};
+ghost use Rattle.kernel_calls.specs.Prepared.{IfWaits};
 ghost use Rattle.kernel_calls.specs.Prepared.{IsCalling, RepliesFew};
 ghost use Rattle.kernel_calls.specs.declared.prepared.Effect.TheVariants.{Wakes};
 

@@ -9,7 +9,8 @@ use Rattle.sn_base.specs.declared.made.Made.{Made}
 use Rattle.kernel_model.specs.Names.{NamedMap, get_named, with_named, without_named}
 use Rattle.kernel_model.specs.declared.kernel.Kernel.{Kernel}
 use Rattle.kernel_model.specs.declared.kernel.Part.{Part}
-use Rattle.kernel_model.specs.declared.kernel.Part.TheVariants.{OfTasks, OfTask, OfSpace, OfArea, OfTable, OfDescription}
+use Rattle.kernel_model.specs.declared.kernel.Part.TheVariants.{OfTasks, OfTask, OfSpace, OfArea, OfTable}
+use Rattle.kernel_model.specs.declared.kernel.Part.TheVariants.{OfDescription}
 use Rattle.kernel_model.specs.declared.kernel.Part.TheVariants.{OfPipe, OfNode, OfSleepers, OfConsole, OfFaults}
 use Rattle.kernel_model.specs.declared.open_files.OpenFile.{OpenFile}
 use Rattle.kernel_model.specs.declared.open_files.OpenFiles.{OpenFiles}

@@ -1,5 +1,7 @@
 -- Laws of how many pages of a range are mapped: page by page, and by regions.
-use Rattle.std.proofs.Common.{◌≡◌, ◌≢◌, ℕ, zero, suc, ◌+◌, ◌-◌, ◌^◌, ◌<◌, ◌≤◌, Bool, true, false, cond, ◌&&◌, List, [], ◌∷◌, length, drop, get_or, min, max, Option, Some, None, refl, ap, sym, ◌∙◌, ◌⊎◌, inl, inr, arith}
+use Rattle.std.proofs.Common.{◌≡◌, ◌≢◌, ℕ, zero, suc, ◌+◌, ◌-◌, ◌^◌, ◌<◌, ◌≤◌, Bool, true, false, cond, ◌&&◌, List, []}
+use Rattle.std.proofs.Common.{◌∷◌, length, drop, get_or, min, max, Option, Some, None, refl, ap, sym, ◌∙◌, ◌⊎◌, inl}
+use Rattle.std.proofs.Common.{inr, arith}
 use Rattle.std.specs.Option.{is_some}
 use Rattle.std.specs.Cmp.{nat_cmp_total}
 use Rattle.std.specs.FinMap.{get, insert, contains_key, len, len-insert}
@@ -11,7 +13,8 @@ use Rattle.mm_areas.specs.Pages.{Mapped, Pages, laid, unmapped, is_covered}
 use Rattle.mm_areas.specs.Regions.{pages_of}
 use Rattle.mm_areas.specs.Order.{AreFrom}
 use Rattle.mm_areas.specs.Places.{index_behind}
-use Rattle.mm_areas.proofs.PageLaws.{where_page, get-unmapped_in, get-unmapped_apart, get-laid_below, unmapped_absent, unmapped-empty, len-laid_free}
+use Rattle.mm_areas.proofs.PageLaws.{where_page, get-unmapped_in, get-unmapped_apart, get-laid_below, unmapped_absent}
+use Rattle.mm_areas.proofs.PageLaws.{unmapped-empty, len-laid_free}
 use Rattle.mm_areas.proofs.RegionLaws.{end_of, mapped_in, length-mapped_in, get_below, from_bounded, from_lower}
 use Rattle.mm_areas.proofs.IndexLaws.{index_passed}
 

@@ -1,5 +1,7 @@
 -- What regions stand for after a cut, after some are taken out, and after one is put in.
-use Rattle.std.proofs.Common.{◌≡◌, ℕ, zero, suc, ◌+◌, ◌-◌, ◌^◌, ◌<◌, ◌≤◌, true, false, cond, Option, List, [], ◌∷◌, ◌++◌, length, take, drop, get_or, map, None, Vec, Global, refl, ap, sym, ◌∙◌, subst, inl, inr, arith, length-append}
+use Rattle.std.proofs.Common.{◌≡◌, ℕ, zero, suc, ◌+◌, ◌-◌, ◌^◌, ◌<◌, ◌≤◌, true, false, cond, Option, List, [], ◌∷◌}
+use Rattle.std.proofs.Common.{◌++◌, length, take, drop, get_or, map, None, Vec, Global, refl, ap, sym, ◌∙◌, subst, inl}
+use Rattle.std.proofs.Common.{inr, arith, length-append}
 use Rattle.std.specs.Option.{is_some}
 use Rattle.std.specs.List.{insert, remove_range, slice_get}
 use Rattle.std.specs.FinMap.{get}
@@ -14,7 +16,9 @@ use Rattle.mm_areas.specs.Own.{page_in}
 use Rattle.mm_areas.specs.Regions.{pages_of}
 use Rattle.mm_areas.specs.Order.{AreFrom}
 use Rattle.mm_areas.specs.Places.{AreCut, AreHalves, index_behind}
-use Rattle.mm_areas.proofs.PageLaws.{where_page, within_range, within_bounds, apart_below, apart_behind, laid-append, laid-laid_apart, unmapped_absent, unmapped-empty, unmapped-laid_within, unmapped-laid_apart, is_free_at}
+use Rattle.mm_areas.proofs.PageLaws.{where_page, within_range, within_bounds, apart_below, apart_behind, laid-append}
+use Rattle.mm_areas.proofs.PageLaws.{laid-laid_apart, unmapped_absent, unmapped-empty, unmapped-laid_within}
+use Rattle.mm_areas.proofs.PageLaws.{unmapped-laid_apart, is_free_at}
 use Rattle.mm_areas.proofs.RegionLaws.{end_of, mapped_in, length-mapped_in, from_lower, get_below, get_behind_first}
 use Rattle.mm_areas.proofs.ChangeLaws.{page_here, page_there}
 use Rattle.mm_areas.proofs.IndexLaws.{index_passed, index_first, index_of_later, first_from, has_in_region, cut_later}

@@ -1,18 +1,21 @@
 -- Laws of the first region that ends behind a page: what has the page, and what it takes to cut, to take out and to put
 -- in.
-use Rattle.std.proofs.Common.{◌≡◌, ℕ, zero, suc, ◌+◌, ◌-◌, ◌<◌, ◌≤◌, true, false, ◌&&◌, List, [], ◌∷◌, length, get_or, None, refl, ap, sym, ◌∙◌, inl, inr, arith, leb}
+use Rattle.std.proofs.Common.{◌≡◌, ℕ, zero, suc, ◌+◌, ◌-◌, ◌<◌, ◌≤◌, true, false, ◌&&◌, List, [], ◌∷◌, length, get_or}
+use Rattle.std.proofs.Common.{None, refl, ap, sym, ◌∙◌, inl, inr, arith, leb}
 use Rattle.std.specs.Prelude.{nat_le}
 use Rattle.std.specs.Option.{is_some}
 use Rattle.std.specs.List.{slice_get}
 use Rattle.std.specs.List.Sorted.{IsNonDecreasingBy}
 use Rattle.std.specs.FinMap.{get, contains_key}
-use Rattle.std.proofs.lemmas.Bool.{leb-true, leb-false, le-leb, lt-leb, and_from, and_left, and_right, cases_lt, cond-true, cond-false}
+use Rattle.std.proofs.lemmas.Bool.{leb-true, leb-false, le-leb, lt-leb, and_from, and_left, and_right, cases_lt}
+use Rattle.std.proofs.lemmas.Bool.{cond-true, cond-false}
 use Rattle.sn_base.proofs.Maps.{get_of_empty}
 use Rattle.mm_areas.specs.declared.areas.Region.{Region}
 use Rattle.mm_areas.specs.Regions.{pages_of}
 use Rattle.mm_areas.specs.Order.{AreFrom}
 use Rattle.mm_areas.specs.Places.{AreCut, index_behind}
-use Rattle.mm_areas.proofs.RegionLaws.{end_of, mapped_in, length-mapped_in, get_in_first, get_behind_first, get_before_first}
+use Rattle.mm_areas.proofs.RegionLaws.{end_of, mapped_in, length-mapped_in, get_in_first, get_behind_first}
+use Rattle.mm_areas.proofs.RegionLaws.{get_before_first}
 
 -- ---- the index
 

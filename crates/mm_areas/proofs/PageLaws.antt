@@ -1,16 +1,21 @@
 -- Laws of the pages of an address space: what they have at a number once others are laid, unmapped or protected, and
 -- how many there are.
-use Rattle.std.proofs.Common.{◌≡◌, ◌≢◌, ℕ, zero, suc, ◌+◌, ◌-◌, ◌<◌, ◌≤◌, Bool, true, false, cond, not, List, [], ◌∷◌, ◌++◌, length, Option, Some, None, option_map, refl, ap, sym, ◌∙◌, ◌⊎◌, inl, inr, arith}
+use Rattle.std.proofs.Common.{◌≡◌, ◌≢◌, ℕ, zero, suc, ◌+◌, ◌-◌, ◌<◌, ◌≤◌, Bool, true, false, cond, not, List, [], ◌∷◌}
+use Rattle.std.proofs.Common.{◌++◌, length, Option, Some, None, option_map, refl, ap, sym, ◌∙◌, ◌⊎◌, inl, inr, arith}
 use Rattle.std.specs.Prelude.{nat_le, nat_lt, is_none}
 use Rattle.std.specs.List.{slice_get}
 use Rattle.std.specs.Option.{is_some}
 use Rattle.std.specs.Ordering.{nat_cmp}
 use Rattle.std.specs.Cmp.{nat_cmp_total}
-use Rattle.std.specs.FinMap.{get, insert, empty, contains_key, len, get-retain_keys, len-insert, nat_cmp-IsAntisymmetric}
-use Rattle.std.proofs.lemmas.Bool.{leb-true, le-leb, lt-leb, ltb-true, lt-ltb, le-ltb, and_parts, and_from, and_left, and_right, cases_lt, cases_eq, not_from_true, not_from_false, cond-true, cond-false, false≢true}
+use Rattle.std.specs.FinMap.{get, insert, empty, contains_key, len, get-retain_keys, len-insert}
+use Rattle.std.specs.FinMap.{nat_cmp-IsAntisymmetric}
+use Rattle.std.proofs.lemmas.Bool.{leb-true, le-leb, lt-leb, ltb-true, lt-ltb, le-ltb, and_parts, and_from, and_left}
+use Rattle.std.proofs.lemmas.Bool.{and_right, cases_lt, cases_eq, not_from_true, not_from_false, cond-true, cond-false}
+use Rattle.std.proofs.lemmas.Bool.{false≢true}
 use Rattle.sn_base.proofs.Maps.{same_by_get, get_of_empty, get-insert_same, get-insert_other}
 use Rattle.mm_areas.specs.declared.rights.Rights.{Rights}
-use Rattle.mm_areas.specs.Pages.{Mapped, Pages, laid, is_within, unmapped, with_rights, protected_at, protected, is_free, is_covered}
+use Rattle.mm_areas.specs.Pages.{Mapped, Pages, laid, is_within, unmapped, with_rights, protected_at, protected}
+use Rattle.mm_areas.specs.Pages.{is_free, is_covered}
 
 -- ---- a page within a range, or apart from it
 

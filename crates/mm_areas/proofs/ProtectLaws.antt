@@ -1,5 +1,7 @@
 -- Laws of other rights for the pages of a range: of a list, of a region, and of all regions.
-use Rattle.std.proofs.Common.{◌≡◌, ℕ, zero, suc, ◌+◌, ◌-◌, ◌<◌, ◌≤◌, Bool, true, false, cond, List, [], ◌∷◌, length, get_or, min, Option, Some, None, option_map, refl, ap, sym, ◌∙◌, subst, ◌⊎◌, inl, inr, arith}
+use Rattle.std.proofs.Common.{◌≡◌, ℕ, zero, suc, ◌+◌, ◌-◌, ◌<◌, ◌≤◌, Bool, true, false, cond, List, [], ◌∷◌, length}
+use Rattle.std.proofs.Common.{get_or, min, Option, Some, None, option_map, refl, ap, sym, ◌∙◌, subst, ◌⊎◌, inl, inr}
+use Rattle.std.proofs.Common.{arith}
 use Rattle.std.specs.Option.{is_some, option_map_or}
 use Rattle.std.specs.List.{slice_get}
 use Rattle.std.proofs.lemmas.Option.{slice_get-map}
@@ -21,7 +23,8 @@ use Rattle.mm_areas.specs.declared.page.Page.{Page}
 use Rattle.mm_areas.specs.Own.{page_in, is_own_at, is_own_content}
 use Rattle.mm_areas.specs.DecodedWords.{has_row_in, has_row_content}
 use Rattle.mm_areas.proofs.ChangeLaws.{IsLike, page_like}
-use Rattle.mm_areas.proofs.PageLaws.{where_page, within_range, apart_below, apart_behind, get-protected_in, get-protected_apart}
+use Rattle.mm_areas.proofs.PageLaws.{where_page, within_range, apart_below, apart_behind, get-protected_in}
+use Rattle.mm_areas.proofs.PageLaws.{get-protected_apart}
 use Rattle.mm_areas.proofs.RegionLaws.{end_of, mapped_in, length-mapped_in}
 use Rattle.mm_areas.proofs.IndexLaws.{index_passed, first_from}
 

@@ -1,5 +1,6 @@
 -- What is mapped in an address space with its break, and what maps, unmaps, protects and moves the break.
-use Rattle.std.specs.Prelude.{ℕ, zero, suc, ◌+◌, ◌-◌, ◌*◌, ◌/◌, ◌%◌, ◌^◌, ◌==◌, nat_le, nat_lt, Bool, ◌&&◌, ◌||◌, not, List, map as map_each, Option, option_map, Some, None, if◌then◌else◌}
+use Rattle.std.specs.Prelude.{ℕ, zero, suc, ◌+◌, ◌-◌, ◌*◌, ◌/◌, ◌%◌, ◌^◌, ◌==◌, nat_le, nat_lt, Bool, ◌&&◌, ◌||◌, not}
+use Rattle.std.specs.Prelude.{List, map as map_each, Option, option_map, Some, None, if◌then◌else◌}
 use Rattle.std.specs.FinMap as map
 use Rattle.mm_areas.specs.declared.fault.AreaErr.{AreaErr}
 use Rattle.mm_areas.specs.declared.fault.AreaErr.TheVariants.{Invalid, Hole, Limit, NoRange}

@@ -1,5 +1,6 @@
 -- A mapped page, and the pages of an address space as a finite map by their numbers (an address by 4,096).
-use Rattle.std.specs.Prelude.{ℕ, zero, suc, ◌+◌, nat_le, nat_lt, Bool, true, ◌&&◌, not, List, [], ◌∷◌, replicate, Option, Some, None, is_none}
+use Rattle.std.specs.Prelude.{ℕ, zero, suc, ◌+◌, nat_le, nat_lt, Bool, true, ◌&&◌, not, List, [], ◌∷◌, replicate}
+use Rattle.std.specs.Prelude.{Option, Some, None, is_none}
 use Rattle.std.specs.Ordering.{nat_cmp}
 use Rattle.std.specs.FinMap as map
 use Rattle.rv_table.specs.declared.error.Area.{Area}

@@ -5,7 +5,8 @@ ghost use Rattle.std.specs.FinMap as map_of;
 ghost use Rattle.mm_areas.specs.Pages.{is_within};
 ghost use Rattle.mm_areas.specs.Own.{page_of, owns};
 ghost use Rattle.mm_areas.specs.DecodedWords.{has_row_at};
-ghost use Rattle.mm_areas.specs.Mappings.{mapping, pages_in, place_in, address_of, map_fault, mapped_at, unmap_fault, unmapped_at, is_break, broken_at, after_brk};
+ghost use Rattle.mm_areas.specs.Mappings.{mapping, pages_in, place_in, address_of, map_fault, mapped_at, unmap_fault};
+ghost use Rattle.mm_areas.specs.Mappings.{unmapped_at, is_break, broken_at, after_brk};
 
 use crate::lengths::{PAGE, is_misplaced, pages_in};
 use crate::new_pages::new_pages;

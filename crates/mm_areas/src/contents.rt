@@ -1,6 +1,7 @@
 //! The bytes of private pages: to read, and to write in place.
 
-ghost use Rattle.std.specs.Prelude.{◌≡◌, ℕ, ◌+◌, ◌-◌, ◌^◌, ◌<◌, ◌≤◌, ◌↔◌, true, false, length, is_some, IsTrue, OnOk, OnErr, Some, None, [], SomeIff, unwrap_or, option_and_then, slice_get};
+ghost use Rattle.std.specs.Prelude.{◌≡◌, ℕ, ◌+◌, ◌-◌, ◌^◌, ◌<◌, ◌≤◌, ◌↔◌, true, false, length, is_some, IsTrue, OnOk};
+ghost use Rattle.std.specs.Prelude.{OnErr, Some, None, [], SomeIff, unwrap_or, option_and_then, slice_get};
 ghost use Rattle.std.specs.Bool.{OnTrue, OnFalse};
 ghost use Rattle.rv_table.specs.Words.{IsWidth};
 ghost use Rattle.mm_frames.specs.Numbers.{IsInPage, number_in, with_number, with_run};

@@ -2,7 +2,8 @@
 
 ghost use Rattle.std.specs.Prelude.{◌≡◌, ◌+◌, ◌<◌, ◌≤◌, ◌^◌, None, Some, IfOk, IfErr, OnOk};
 ghost use Rattle.std.specs.FinMap as map_of;
-ghost use Rattle.mm_areas.specs.Mappings.{mapping, taken_from, pages_in, pages_after, place_in, map_fault, is_no_place, is_break};
+ghost use Rattle.mm_areas.specs.Mappings.{mapping, taken_from, pages_in, pages_after, place_in, map_fault, is_no_place};
+ghost use Rattle.mm_areas.specs.Mappings.{is_break};
 
 use crate::free::{highest_free, is_free, mapped_within};
 use crate::lengths::{PAGE, is_misplaced, is_no_length, pages_in};

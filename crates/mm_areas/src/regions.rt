@@ -1,6 +1,7 @@
 //! Regions in order: where a page is, how they are cut, what is taken out and what is put in.
 
-ghost use Rattle.std.specs.Prelude.{◌≡◌, ℕ, ◌+◌, ◌-◌, ◌^◌, ◌<◌, ◌≤◌, nat_le, true, false, length, map, option_map, is_some, Some, IfSome, IfOk, OnOk, OnErr, vec_len, vec_capacity, slice_get};
+ghost use Rattle.std.specs.Prelude.{◌≡◌, ℕ, ◌+◌, ◌-◌, ◌^◌, ◌<◌, ◌≤◌, nat_le, true, false, length, map, option_map};
+ghost use Rattle.std.specs.Prelude.{is_some, Some, IfSome, IfOk, OnOk, OnErr, vec_len, vec_capacity, slice_get};
 ghost use Rattle.std.specs.List.{HoldsAt, remove_range};
 ghost use Rattle.std.specs.Option.{option_copied};
 ghost use Rattle.std.specs.FinMap as map_of;

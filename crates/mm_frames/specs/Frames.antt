@@ -1,5 +1,6 @@
 -- A frame as its bytes, and frames as pages of bytes.
-use Rattle.std.specs.Prelude.{ℕ, List, [], Bool, Option, is_some, map, option_and_then, slice_get, slice_index_or, slice_set}
+use Rattle.std.specs.Prelude.{ℕ, List, [], Bool, Option, is_some, map, option_and_then, slice_get, slice_index_or}
+use Rattle.std.specs.Prelude.{slice_set}
 use Rattle.mm_frames.specs.declared.frame.Frame.{Frame}
 use Rattle.mm_frames.specs.declared.frames.Frames.{Frames}
 use Rattle.mm_frames.specs.Bytes.{bytes_in, is_own_in}

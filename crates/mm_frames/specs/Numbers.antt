@@ -1,5 +1,6 @@
 -- Numbers and runs of bytes that lie one byte after another.
-use Rattle.std.specs.Prelude.{ℕ, zero, suc, ◌+◌, ◌*◌, ◌/◌, ◌%◌, ◌≤◌, List, ◌++◌, length, take, drop, slice_index, slice_set}
+use Rattle.std.specs.Prelude.{ℕ, zero, suc, ◌+◌, ◌*◌, ◌/◌, ◌%◌, ◌≤◌, List, ◌++◌, length, take, drop, slice_index}
+use Rattle.std.specs.Prelude.{slice_set}
 use Rattle.rv_table.specs.Words.{IsWidth}
 
 -- the number of so many bytes from an offset on, the lowest first

@@ -1,6 +1,7 @@
 //! A frame: a page's bytes, and its words decoded, where they have been wanted.
 
-ghost use Rattle.std.specs.Prelude.{◌≡◌, ◌+◌, ◌<◌, ◌≤◌, ◌↔◌, true, false, length, SomeIff, IfSome, IfOk, OnOk, OnErr, IsTrue, is_some, slice_get, slice_set, replicate};
+ghost use Rattle.std.specs.Prelude.{◌≡◌, ◌+◌, ◌<◌, ◌≤◌, ◌↔◌, true, false, length, SomeIff, IfSome, IfOk, OnOk, OnErr};
+ghost use Rattle.std.specs.Prelude.{IsTrue, is_some, slice_get, slice_set, replicate};
 ghost use Rattle.std.specs.Bool.{OnTrue, OnFalse};
 ghost use Rattle.std.specs.Option.{ForSome};
 ghost use Rattle.rv_table.specs.Words.{IsWidth};

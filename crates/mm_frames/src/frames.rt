@@ -1,6 +1,7 @@
 //! The frames of pages one behind another, as a shared area has them.
 
-ghost use Rattle.std.specs.Prelude.{◌≡◌, ◌+◌, ◌<◌, ◌≤◌, ◌↔◌, [], IsTrue, true, false, length, SomeIff, IfOk, OnOk, OnErr, slice_get, slice_set, replicate};
+ghost use Rattle.std.specs.Prelude.{◌≡◌, ◌+◌, ◌<◌, ◌≤◌, ◌↔◌, [], IsTrue, true, false, length, SomeIff, IfOk, OnOk};
+ghost use Rattle.std.specs.Prelude.{OnErr, slice_get, slice_set, replicate};
 ghost use Rattle.std.specs.Bool.{OnTrue, OnFalse};
 ghost use Rattle.std.specs.Option.{option_copied};
 ghost use Rattle.rv_table.specs.Words.{IsWidth};

@@ -2,7 +2,8 @@
 use Rattle.std.proofs.Common.{◌≡◌, ℕ, Option, Some, None, Ok, Err, refl, ap, sym, subst, ◌∙◌}
 use Rattle.rv_table.specs.declared.error.Area.{Area}
 use Rattle.rv_table.specs.declared.error.MemErr.TheVariants as refusals
-use Rattle.rv_table.specs.Bytes.{Byte, Accessed, Value, Fault, Shared, first_barred, first_area, number_from, by_barred, by_area, AllowsAs, loaded}
+use Rattle.rv_table.specs.Bytes.{Byte, Accessed, Value, Fault, Shared, first_barred, first_area, number_from, by_barred}
+use Rattle.rv_table.specs.Bytes.{by_area, AllowsAs, loaded}
 
 module _ (byte : ℕ → Byte) (at count : ℕ) where
   by_both : (barred : Option ℕ) (area : Option Area) → first_barred byte at count ≡ barred

@@ -1,10 +1,12 @@
 -- Accesses whose bytes lie in one private page.
-use Rattle.std.proofs.Common.{◌≡◌, ℕ, zero, suc, ◌+◌, ◌*◌, ◌/◌, ◌%◌, ◌^◌, ◌<◌, ◌≤◌, Bool, true, List, length, get_or, Option, Some, None, refl, ap, sym, ◌∙◌, arith}
+use Rattle.std.proofs.Common.{◌≡◌, ℕ, zero, suc, ◌+◌, ◌*◌, ◌/◌, ◌%◌, ◌^◌, ◌<◌, ◌≤◌, Bool, true, List, length, get_or}
+use Rattle.std.proofs.Common.{Option, Some, None, refl, ap, sym, ◌∙◌, arith}
 use Rattle.std.specs.Prelude.{slice_get, if◌then◌else◌, IfSome}
 use Rattle.std.specs.Option.{SomeIff}
 use Rattle.std.specs.FinMap as map
 use Rattle.std.proofs.lemmas.Option.{slice_get-get_or}
-use Rattle.rv_table.specs.Bytes.{Byte, Holds, Barred, Value, behind, or_barred, or_area, value_in, first_barred, first_area, number_from, loaded}
+use Rattle.rv_table.specs.Bytes.{Byte, Holds, Barred, Value, behind, or_barred, or_area, value_in, first_barred}
+use Rattle.rv_table.specs.Bytes.{first_area, number_from, loaded}
 use Rattle.mm_frames.specs.Numbers.{number_in}
 use Rattle.mm_areas.specs.declared.rights.Rights.{Rights}
 use Rattle.mm_areas.specs.Pages.{Bytes}

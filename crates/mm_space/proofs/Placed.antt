@@ -1,5 +1,6 @@
 -- The place of an area among those handed in, and what changes where that area does.
-use Rattle.std.proofs.Common.{◌≡◌, ℕ, zero, suc, ◌<◌, Bool, true, false, List, [], ◌∷◌, length, get_or, set, map, Option, Some, None, Result, Ok, Err, refl, ap, sym, ◌∙◌, subst, arith}
+use Rattle.std.proofs.Common.{◌≡◌, ℕ, zero, suc, ◌<◌, Bool, true, false, List, [], ◌∷◌, length, get_or, set, map}
+use Rattle.std.proofs.Common.{Option, Some, None, Result, Ok, Err, refl, ap, sym, ◌∙◌, subst, arith}
 use Rattle.std.specs.Prelude.{OnOk, OnErr, if◌then◌else◌, option_map}
 use Rattle.std.proofs.Math.Seq.{map-set_same}
 use Rattle.rv_table.specs.declared.error.Area.{Area}

@@ -1,5 +1,6 @@
 -- Pages that have their bytes for themselves, and bytes put into them.
-use Rattle.std.proofs.Common.{◌≡◌, ℕ, zero, suc, ◌-◌, ◌/◌, ◌%◌, ◌^◌, ◌<◌, ◌↔◌, ◌&&◌, Bool, true, false, List, Option, Some, None, Result, Ok, Err, refl, ap, sym, ◌∙◌, inl, inr, subst, arith}
+use Rattle.std.proofs.Common.{◌≡◌, ℕ, zero, suc, ◌-◌, ◌/◌, ◌%◌, ◌^◌, ◌<◌, ◌↔◌, ◌&&◌, Bool, true, false, List, Option}
+use Rattle.std.proofs.Common.{Some, None, Result, Ok, Err, refl, ap, sym, ◌∙◌, inl, inr, subst, arith}
 use native.Mathlib.Numerals.{unary_clauses}
 use Rattle.std.specs.Prelude.{IsTrue, OnErr, slice_set}
 use Rattle.std.specs.Bool.{OnTrue, OnFalse}
@@ -21,7 +22,8 @@ use Rattle.mm_space.specs.declared.handed.Handed.{Handed}
 use Rattle.mm_space.specs.declared.space.Space.{Space}
 use Rattle.mm_space.specs.Accesses.{page_number, page_offset}
 use Rattle.mm_space.specs.Handing.{hand_of}
-use Rattle.mm_space.specs.Places.{AreAsReady, is_ready, is_ready_at, is_ready_held, is_ready_mapped, shared_at, shared_held}
+use Rattle.mm_space.specs.Places.{AreAsReady, is_ready, is_ready_at, is_ready_held, is_ready_mapped, shared_at}
+use Rattle.mm_space.specs.Places.{shared_held}
 use Rattle.mm_space.specs.Puts.{put_byte, put_mapped}
 use Rattle.mm_space.specs.Spaces.{Reach, reach}
 use Rattle.mm_space.proofs.AreaPuts.{one_byte}

@@ -1,8 +1,10 @@
 -- A run of bytes in two parts: the first part, and the rest behind it.
-use Rattle.std.proofs.Common.{◌≡◌, ℕ, zero, suc, ◌+◌, ◌%◌, ◌^◌, ◌<◌, List, [], ◌∷◌, ◌++◌, Option, refl, ap, sym, ◌∙◌, arith, zero-add}
+use Rattle.std.proofs.Common.{◌≡◌, ℕ, zero, suc, ◌+◌, ◌%◌, ◌^◌, ◌<◌, List, [], ◌∷◌, ◌++◌, Option, refl, ap, sym, ◌∙◌}
+use Rattle.std.proofs.Common.{arith, zero-add}
 use Rattle.std.specs.Option.{option_or}
 use Rattle.rv_table.specs.declared.error.Area.{Area}
-use Rattle.rv_table.specs.Bytes.{Byte, Holds, Barred, InArea, behind, or_barred, or_area, value_in, first_barred, first_area}
+use Rattle.rv_table.specs.Bytes.{Byte, Holds, Barred, InArea, behind, or_barred, or_area, value_in, first_barred}
+use Rattle.rv_table.specs.Bytes.{first_area}
 use Rattle.mm_space.specs.Runs.{bytes_from}
 
 or_barred_or : (b : Byte) (at : ℕ) (first rest : Option ℕ) → or_barred b at (option_or first rest)

@@ -1,5 +1,6 @@
 -- A step of a walk over a run: the piece that lies in the page of its first address, and the rest.
-use Rattle.std.proofs.Common.{◌≡◌, ℕ, zero, suc, ◌+◌, ◌-◌, ◌*◌, ◌/◌, ◌%◌, ◌^◌, ◌<◌, ◌≤◌, List, Option, Some, None, refl, ap, sym, ◌∙◌, arith}
+use Rattle.std.proofs.Common.{◌≡◌, ℕ, zero, suc, ◌+◌, ◌-◌, ◌*◌, ◌/◌, ◌%◌, ◌^◌, ◌<◌, ◌≤◌, List, Option, Some, None, refl}
+use Rattle.std.proofs.Common.{ap, sym, ◌∙◌, arith}
 use Rattle.std.specs.Option.{option_or}
 use Rattle.rv_table.specs.declared.error.Area.{Area}
 use Rattle.rv_table.specs.Bytes.{Byte, first_barred, first_area}
@@ -10,7 +11,8 @@ use Rattle.mm_space.specs.Accesses.{byte_at}
 use Rattle.mm_space.specs.PageSights.{sight_area, sight_bytes}
 use Rattle.mm_space.specs.Runs.{bytes_from}
 use Rattle.mm_space.specs.Spaces.{Reach}
-use Rattle.mm_space.proofs.SeenPages.{IsSeen, barred_first, area_unbarred, area_first, bytes_unbarred, bytes_apart, piece_here}
+use Rattle.mm_space.proofs.SeenPages.{IsSeen, barred_first, area_unbarred, area_first, bytes_unbarred, bytes_apart}
+use Rattle.mm_space.proofs.SeenPages.{piece_here}
 use Rattle.mm_space.proofs.Splits.{barred_split, area_split}
 
 pub option_or_assoc : {A : Type 0} (a b c : Option A) → option_or a (option_or b c) ≡ option_or (option_or a b) c

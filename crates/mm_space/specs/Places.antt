@@ -1,5 +1,6 @@
 -- Where a shared area stands among those handed in, and which of its pages have their bytes for themselves.
-use Rattle.std.specs.Prelude.{◌≡◌, ℕ, zero, suc, Bool, true, ◌&&◌, List, [], ◌∷◌, Option, Some, None, option_map, if◌then◌else◌, slice_get, unwrap_or}
+use Rattle.std.specs.Prelude.{◌≡◌, ℕ, zero, suc, Bool, true, ◌&&◌, List, [], ◌∷◌, Option, Some, None, option_map}
+use Rattle.std.specs.Prelude.{if◌then◌else◌, slice_get, unwrap_or}
 use Rattle.std.specs.FinMap as map
 use Rattle.rv_table.specs.declared.error.Area.{Area}
 use Rattle.rv_table.specs.Bytes.{behind}

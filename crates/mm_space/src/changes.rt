@@ -2,7 +2,8 @@
 
 ghost use Rattle.std.specs.Prelude.{◌≡◌, ◌≢◌, ◌*◌, ◌<◌, ◌^◌, false, Some, Ok, Err, IfOk, IfErr, IfSome, OnOk, OnErr};
 ghost use Rattle.mm_areas.specs.declared.fault.AreaErr.TheVariants as AreaErr;
-ghost use Rattle.mm_areas.specs.Mappings.{address_of, is_break, map_fault, pages_in, place_in, protect_fault, unmap_fault};
+ghost use Rattle.mm_areas.specs.Mappings.{address_of, is_break, map_fault, pages_in, place_in, protect_fault};
+ghost use Rattle.mm_areas.specs.Mappings.{unmap_fault};
 ghost use Rattle.mm_space.specs.Changes.{broken_in, mapped_in, righted_in, unmapped_in};
 ghost use Rattle.mm_space.specs.Spaces.{space_of};
 

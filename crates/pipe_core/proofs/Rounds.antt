@@ -1,7 +1,10 @@
 -- Bytes in a ring of 65,536 slots: which slot each lies in, and what two moves put there.
-use Rattle.std.proofs.Common.{◌≡◌, ℕ, ◌+◌, ◌-◌, ◌%◌, ◌<◌, ◌≤◌, ◌⊎◌, List, ◌++◌, length, get_or, take, drop, min, ap, sym, ◌∙◌, inl, inr, mod-eq_of_lt, arith, append-nil, length-append, length-drop, length-take-le, get_or-drop, get_or-take}
+use Rattle.std.proofs.Common.{◌≡◌, ℕ, ◌+◌, ◌-◌, ◌%◌, ◌<◌, ◌≤◌, ◌⊎◌, List, ◌++◌, length, get_or, take, drop, min, ap}
+use Rattle.std.proofs.Common.{sym, ◌∙◌, inl, inr, mod-eq_of_lt, arith, append-nil, length-append, length-drop}
+use Rattle.std.proofs.Common.{length-take-le, get_or-drop, get_or-take}
 use native.Mathlib.Nat.{mod-eq-sub-mod}
-use Rattle.std.proofs.lemmas.List.{same_lists, get_or_append_left, get_or-append_right, take-append-le, take-append-drop, take_all}
+use Rattle.std.proofs.lemmas.List.{same_lists, get_or_append_left, get_or-append_right, take-append-le}
+use Rattle.std.proofs.lemmas.List.{take-append-drop, take_all}
 use Rattle.std.proofs.Math.Seq.{take-append-add}
 use Rattle.std.proofs.lemmas.Bool.{cases_lt}
 use Rattle.std.proofs.lemmas.Grind.{same_number_lists}

@@ -1,7 +1,8 @@
 //! A pipe, its reads and its writes.
 
 ghost use Rattle.std.specs.Prelude.{◌≡◌, ℕ, ◌+◌, ◌-◌, ◌^◌, ◌<◌, ◌≤◌, ◌↔◌, ◌++◌, length, min, take, drop, IfOk};
-ghost use Rattle.pipe_core.specs.Pipes.{ReadWaits, WriteWaits, after_read, after_write, new_pipe, put_by, room_in, with_ends};
+ghost use Rattle.pipe_core.specs.Pipes.{ReadWaits, WriteWaits, after_read, after_write, new_pipe, put_by, room_in};
+ghost use Rattle.pipe_core.specs.Pipes.{with_ends};
 
 use crate::ring::{CAPACITY, Ring};
 use sn_base::Memory;

@@ -1,5 +1,6 @@
 -- What a call does, piece by piece.
-use Rattle.std.proofs.Common.{◌≡◌, ℕ, ◌+◌, Bool, true, false, cond, List, [], ◌∷◌, ◌++◌, Option, Some, None, refl, ap, pos}
+use Rattle.std.proofs.Common.{◌≡◌, ℕ, ◌+◌, Bool, true, false, cond, List, [], ◌∷◌, ◌++◌, Option, Some, None, refl, ap}
+use Rattle.std.proofs.Common.{pos}
 use Rattle.std.proofs.Common.{sym, ◌∙◌, ◌↔◌, subst, is_some, unwrap_or, ℤ, inl, inr}
 use Rattle.std.specs.Prelude.{IsTrue, not, Result, Ok}
 use Rattle.std.specs.List.{list_any}

@@ -1,5 +1,6 @@
 -- A page's decoded words in an address space, as a run of its instructions takes them, and gives them back.
-use Rattle.std.proofs.Common.{◌≡◌, ℕ, ◌^◌, ◌<◌, nat_lt, Bool, true, false, ◌&&◌, List, length, Option, Some, None, refl, ap, ◌∙◌, eq-eqb, lt-ltb}
+use Rattle.std.proofs.Common.{◌≡◌, ℕ, ◌^◌, ◌<◌, nat_lt, Bool, true, false, ◌&&◌, List, length, Option, Some, None, refl}
+use Rattle.std.proofs.Common.{ap, ◌∙◌, eq-eqb, lt-ltb}
 use Rattle.std.specs.Prelude.{if◌then◌else◌, is_some, option_map}
 use Rattle.std.proofs.lemmas.Bool.{and_from}
 use Rattle.rv_table.specs.declared.instr.Instr.{Instr}

@@ -20,7 +20,8 @@ use Rattle.image_walk.proofs.OutAgain.{can_give_back}
 use Rattle.image_walk.proofs.Places.{IsThere, root_is}
 use Rattle.image_walk.proofs.Trees.{faulted_by_none}
 use Rattle.run_opening.specs.Openings.{numbering_of}
-use Rattle.run_opening.specs.Told.{lent_told, lent_names, nodes_told, root_told, roots_told, told_at, trees_told, with_lent}
+use Rattle.run_opening.specs.Told.{lent_told, lent_names, nodes_told, root_told, roots_told, told_at, trees_told}
+use Rattle.run_opening.specs.Told.{with_lent}
 use Rattle.run_opening.specs.Trees.{AreOthers, Others, trees_with}
 use Rattle.run_opening.proofs.Roots.{rooted_above, rooted_but}
 

@@ -4,7 +4,8 @@ use Rattle.rv_table.specs.declared.error.MemErr.{MemErr}
 use Rattle.rv_table.specs.declared.error.MemErr.TheVariants as refusals
 use Rattle.rv_exec.specs.Execution.{extended}
 use Rattle.rv_exec.specs.declared.load.Load.{Load}
-use Rattle.rv_exec.specs.declared.load.Load.TheVariants.{Byte, Half, Word, Double, UnsignedByte, UnsignedHalf, UnsignedWord}
+use Rattle.rv_exec.specs.declared.load.Load.TheVariants.{Byte, Half, Word, Double, UnsignedByte, UnsignedHalf}
+use Rattle.rv_exec.specs.declared.load.Load.TheVariants.{UnsignedWord}
 use Rattle.rv_exec.specs.declared.outcome.Step.{Step}
 use Rattle.rv_exec.specs.declared.outcome.Step.TheVariants as steps
 

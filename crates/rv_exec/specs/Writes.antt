@@ -1,5 +1,6 @@
 -- What instructions write beside registers, and memory after it.
-use Rattle.std.specs.Prelude.{◌≡◌, ℕ, zero, suc, ◌/◌, ◌%◌, ◌^◌, ◌<◌, ◌==◌, ◌&&◌, Bool, true, false, List, [], ◌∷◌, if◌then◌else◌}
+use Rattle.std.specs.Prelude.{◌≡◌, ℕ, zero, suc, ◌/◌, ◌%◌, ◌^◌, ◌<◌, ◌==◌, ◌&&◌, Bool, true, false, List, [], ◌∷◌}
+use Rattle.std.specs.Prelude.{if◌then◌else◌}
 use Rattle.rv_table.specs.Bytes.{Byte, Holds, Barred, InArea, Memory, behind}
 
 -- what an instruction writes: so many of a number's bytes, the task's reservation, or the end of it, by a

@@ -1,7 +1,10 @@
 -- Laws of finite maps with unsigned numbers as their keys, and what ties them to the entries of a `BTreeMap`.
-use Rattle.std.proofs.Common.{◌≡◌, ◌≢◌, ℕ, true, false, cond, List, [], ◌∷◌, length, refl, ap, sym, ◌∙◌, ◌⊎◌, inl, inr, ◌↔◌}
+use Rattle.std.proofs.Common.{◌≡◌, ◌≢◌, ℕ, true, false, cond, List, [], ◌∷◌, length, refl, ap, sym, ◌∙◌, ◌⊎◌, inl, inr}
+use Rattle.std.proofs.Common.{◌↔◌}
 use Rattle.std.specs.Prelude.{Some, None}
-use Rattle.std.specs.FinMap.{FinMap, get, insert, remove, empty, from_entries, entries, len, find, put, get-empty, get-insert, get-remove, get-from_entries, len-empty, len-entries, entries-insert, same_map, nat_cmp-IsAntisymmetric}
+use Rattle.std.specs.FinMap.{FinMap, get, insert, remove, empty, from_entries, entries, len, find, put, get-empty}
+use Rattle.std.specs.FinMap.{get-insert, get-remove, get-from_entries, len-empty, len-entries, entries-insert, same_map}
+use Rattle.std.specs.FinMap.{nat_cmp-IsAntisymmetric}
 use Rattle.std.specs.Ordering.{nat_cmp, eq_by_cmp, is_eq}
 use Rattle.std.specs.declared.cmp.Ordering.TheVariants.{Less, Equal, Greater}
 use Rattle.std.specs.Cmp.{nat_cmp_total, eq_by_cmp_equiv, tied_itself}

@@ -1,6 +1,7 @@
 //! Lists, which tell where memory ran out and are then as they were.
 
-ghost use Rattle.std.specs.Prelude.{◌≡◌, [], ◌∷◌, ◌++◌, ◌<◌, ◌↔◌, length, take, IsTrue, IsSome, IfOk, OnOk, OnErr, slice_get, slice_set, option_to_list};
+ghost use Rattle.std.specs.Prelude.{◌≡◌, [], ◌∷◌, ◌++◌, ◌<◌, ◌↔◌, length, take, IsTrue, IsSome, IfOk, OnOk, OnErr};
+ghost use Rattle.std.specs.Prelude.{slice_get, slice_set, option_to_list};
 ghost use Rattle.std.specs.Slice.{IsItemAt};
 
 use crate::Memory;

@@ -1,5 +1,6 @@
 -- Numbers in bytes, the lowest byte first.
-use Rattle.std.specs.Prelude.{ℕ, zero, suc, ◌+◌, ◌*◌, ◌/◌, ◌%◌, nat_le, List, [], ◌∷◌, length, slice_range, Option, Some, None, if◌then◌else◌}
+use Rattle.std.specs.Prelude.{ℕ, zero, suc, ◌+◌, ◌*◌, ◌/◌, ◌%◌, nat_le, List, [], ◌∷◌, length, slice_range, Option}
+use Rattle.std.specs.Prelude.{Some, None, if◌then◌else◌}
 
 -- bytes as a number, the lowest first
 -- ELF-64 Object File Format, ELFDATA2LSB

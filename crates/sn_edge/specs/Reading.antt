@@ -1,5 +1,6 @@
 -- Reads one after another, and the whole of a file.
-use Rattle.std.specs.Prelude.{◌≡◌, ℕ, ◌+◌, ◌-◌, ◌≤◌, List, [], ◌++◌, length, take, drop, Option, Some, None, unwrap_or, ⊤}
+use Rattle.std.specs.Prelude.{◌≡◌, ℕ, ◌+◌, ◌-◌, ◌≤◌, List, [], ◌++◌, length, take, drop, Option, Some, None, unwrap_or}
+use Rattle.std.specs.Prelude.{⊤}
 use Rattle.sn_edge.specs.Shelf.{Shelf, files_told, reads_told, taken_told, content_at}
 
 -- What is told once a number of reads took n bytes together.

@@ -1,5 +1,6 @@
 -- What a source holds and what was read of it, where that is told.
-use Rattle.std.specs.Prelude.{◌≡◌, ℕ, ◌+◌, ◌≤◌, List, [], ◌++◌, length, take, drop, find, Option, Some, None, unwrap_or, option_map, IsSome, ⊤}
+use Rattle.std.specs.Prelude.{◌≡◌, ℕ, ◌+◌, ◌≤◌, List, [], ◌++◌, length, take, drop, find, Option, Some, None, unwrap_or}
+use Rattle.std.specs.Prelude.{option_map, IsSome, ⊤}
 use Rattle.std.specs.Str.{bytes_eq}
 
 -- A directory of files, and how far one of them was read.

@@ -1,6 +1,7 @@
 //! Files in memory as a source, which fails where it is told to.
 
-ghost use Rattle.std.specs.Prelude.{◌≡◌, ◌<◌, ◌≤◌, ◌++◌, ◌||◌, [], length, take, drop, min, IfOk, OnOk, OnErr, IsTrue, IsFalse, is_err, is_none, MatchOption, Some, None};
+ghost use Rattle.std.specs.Prelude.{◌≡◌, ◌<◌, ◌≤◌, ◌++◌, ◌||◌, [], length, take, drop, min, IfOk, OnOk, OnErr, IsTrue};
+ghost use Rattle.std.specs.Prelude.{IsFalse, is_err, is_none, MatchOption, Some, None};
 ghost use Rattle.sn_base.specs.Faults.{HasCause};
 ghost use Rattle.sn_edge.specs.Errors.{has_failed};
 ghost use Rattle.sn_edge.specs.Shelf.{content_at, HasFile, after_open, after_read, after_failed_read, Gets, IsAtEnd};

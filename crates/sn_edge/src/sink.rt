@@ -1,6 +1,7 @@
 //! What a sink is: it takes bytes from the front, some at a time.
 
-ghost use Rattle.std.specs.Prelude.{◌≡◌, ◌<◌, ◌≤◌, ℕ, Bool, false, List, Option, length, take, IfOk, OnErr, IsTrue, IsFalse};
+ghost use Rattle.std.specs.Prelude.{◌≡◌, ◌<◌, ◌≤◌, ℕ, Bool, false, List, Option, length, take, IfOk, OnErr, IsTrue};
+ghost use Rattle.std.specs.Prelude.{IsFalse};
 ghost use Rattle.sn_base.specs.Faults.{HasCause};
 ghost use Rattle.sn_edge.specs.Errors.{has_failed};
 ghost use Rattle.sn_edge.specs.Taken.{with_taken};

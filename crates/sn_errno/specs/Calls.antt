@@ -2,7 +2,15 @@
 use Rattle.std.specs.Prelude.{ℕ, ◌==◌, List, [], ◌∷◌, ◌++◌, Option, option_map, unwrap_or, find, codes}
 use Rattle.std.specs.Fmt.{decimal}
 use Rattle.sn_errno.specs.declared.calls.CallNo.{CallNo}
-use Rattle.sn_errno.specs.declared.calls.CallNo.TheVariants.{Getcwd, Dup, Dup3, Fcntl, Ioctl, Mkdirat, Unlinkat, Symlinkat, Linkat, Ftruncate, Faccessat, Chdir, Openat, Close, Pipe2, Getdents64, Lseek, Read, Write, Readv, Writev, Pread64, Pwrite64, Readlinkat, Newfstatat, Fstat, Exit, ExitGroup, SetTidAddress, Futex, SetRobustList, ClockGettime, SchedYield, Kill, RtSigaction, RtSigprocmask, Uname, Getpid, Getppid, Getuid, Geteuid, Getgid, Getegid, Gettid, Brk, Munmap, Clone, Execve, Mmap, Mprotect, Wait4, Renameat2, Getrandom}
+use Rattle.sn_errno.specs.declared.calls.CallNo.TheVariants.{Getcwd, Dup, Dup3, Fcntl, Ioctl, Mkdirat, Unlinkat}
+use Rattle.sn_errno.specs.declared.calls.CallNo.TheVariants.{Symlinkat, Linkat, Ftruncate, Faccessat, Chdir, Openat}
+use Rattle.sn_errno.specs.declared.calls.CallNo.TheVariants.{Close, Pipe2, Getdents64, Lseek, Read, Write, Readv}
+use Rattle.sn_errno.specs.declared.calls.CallNo.TheVariants.{Writev, Pread64, Pwrite64, Readlinkat, Newfstatat, Fstat}
+use Rattle.sn_errno.specs.declared.calls.CallNo.TheVariants.{Exit, ExitGroup, SetTidAddress, Futex, SetRobustList}
+use Rattle.sn_errno.specs.declared.calls.CallNo.TheVariants.{ClockGettime, SchedYield, Kill, RtSigaction, RtSigprocmask}
+use Rattle.sn_errno.specs.declared.calls.CallNo.TheVariants.{Uname, Getpid, Getppid, Getuid, Geteuid, Getgid, Getegid}
+use Rattle.sn_errno.specs.declared.calls.CallNo.TheVariants.{Gettid, Brk, Munmap, Clone, Execve, Mmap, Mprotect, Wait4}
+use Rattle.sn_errno.specs.declared.calls.CallNo.TheVariants.{Renameat2, Getrandom}
 
 -- a row of the table: a call's number, the call and its name
 -- Linux's asm-generic/unistd.h

@@ -1,7 +1,11 @@
 -- Errors as numbers and as replies.
 use Rattle.std.specs.Prelude.{ℕ, ◌-◌, ℤ, negsuc}
 use Rattle.sn_errno.specs.declared.errno.Errno.{Errno}
-use Rattle.sn_errno.specs.declared.errno.Errno.TheVariants.{EPERM, ENOENT, ESRCH, EINTR, EIO, E2BIG, ENOEXEC, EBADF, ECHILD, EAGAIN, ENOMEM, EACCES, EFAULT, EBUSY, EEXIST, EXDEV, ENODEV, ENOTDIR, EISDIR, EINVAL, ENFILE, EMFILE, ENOTTY, EFBIG, ENOSPC, ESPIPE, EROFS, EMLINK, EPIPE, ERANGE, ENAMETOOLONG, ENOSYS, ENOTEMPTY, ELOOP}
+use Rattle.sn_errno.specs.declared.errno.Errno.TheVariants.{EPERM, ENOENT, ESRCH, EINTR, EIO, E2BIG, ENOEXEC, EBADF}
+use Rattle.sn_errno.specs.declared.errno.Errno.TheVariants.{ECHILD, EAGAIN, ENOMEM, EACCES, EFAULT, EBUSY, EEXIST}
+use Rattle.sn_errno.specs.declared.errno.Errno.TheVariants.{EXDEV, ENODEV, ENOTDIR, EISDIR, EINVAL, ENFILE, EMFILE}
+use Rattle.sn_errno.specs.declared.errno.Errno.TheVariants.{ENOTTY, EFBIG, ENOSPC, ESPIPE, EROFS, EMLINK, EPIPE, ERANGE}
+use Rattle.sn_errno.specs.declared.errno.Errno.TheVariants.{ENAMETOOLONG, ENOSYS, ENOTEMPTY, ELOOP}
 
 -- an error's number
 -- errno(3); Linux's asm-generic/errno-base.h and errno.h

@@ -1,6 +1,7 @@
 //! Buffers that one call reads into or writes from, read out of the bytes of struct iovec.
 
-ghost use Rattle.std.specs.Prelude.{◌≡◌, ◌↔◌, ◌+◌, ◌-◌, ◌*◌, ◌/◌, ◌^◌, ◌≤◌, length, nat_le, if◌then◌else◌, IfOk, IfErr, OnOk};
+ghost use Rattle.std.specs.Prelude.{◌≡◌, ◌↔◌, ◌+◌, ◌-◌, ◌*◌, ◌/◌, ◌^◌, ◌≤◌, length, nat_le, if◌then◌else◌, IfOk, IfErr};
+ghost use Rattle.std.specs.Prelude.{OnOk};
 ghost use Rattle.sn_base.specs.Sums.{capped};
 ghost use Rattle.stat_layout.specs.IoVecs.{IsFaultOf, IsOutOfRange, IsTooLong, iovec_at, iovecs_in, total_of};
 ghost use Rattle.stat_layout.specs.declared.iovec.IoVecErr.TheVariants.{Memory as WantOfMemory};

@@ -1,9 +1,11 @@
 -- Laws of numbered entries: the keys of a map after a change, and the numbers whose values pass a test.
-use Rattle.std.proofs.Common.{◌≡◌, ℕ, ◌<◌, Bool, true, false, cond, eqb, ◌&&◌, ◌||◌, List, [], ◌∷◌, ◌++◌, map, refl, ap, sym, ◌∙◌, arith}
+use Rattle.std.proofs.Common.{◌≡◌, ℕ, ◌<◌, Bool, true, false, cond, eqb, ◌&&◌, ◌||◌, List, [], ◌∷◌, ◌++◌, map, refl, ap}
+use Rattle.std.proofs.Common.{sym, ◌∙◌, arith}
 use Rattle.std.specs.Prelude.{T, Option, Some, None, is_some, filter}
 use Rattle.std.specs.List.{list_any}
 use Rattle.std.specs.Option.{option_map_or}
-use Rattle.std.specs.FinMap.{FinMap, get, insert, entries, keys, contains_key, find, put, is_sorted, get-insert, get-entries, entries-insert, entries_sorted, contains_key-keys}
+use Rattle.std.specs.FinMap.{FinMap, get, insert, entries, keys, contains_key, find, put, is_sorted, get-insert}
+use Rattle.std.specs.FinMap.{get-entries, entries-insert, entries_sorted, contains_key-keys}
 use Rattle.std.specs.FinMap.Entries.{below_all, by_order}
 use Rattle.std.specs.Ordering.{nat_cmp, eq_by_cmp, is_lt, is_eq}
 use Rattle.std.specs.declared.cmp.Ordering.{Ordering}

@@ -1,5 +1,6 @@
 -- Laws of children: of lists of them, and of groups that lose their parent.
-use Rattle.std.proofs.Common.{◌≡◌, ℕ, ◌+◌, ◌<◌, ◌≤◌, Bool, true, false, cond, eqb, ltb, not, ◌&&◌, List, [], ◌∷◌, ◌++◌, length, set, take, drop, get_or, refl, ap, sym, ◌∙◌, arith}
+use Rattle.std.proofs.Common.{◌≡◌, ℕ, ◌+◌, ◌<◌, ◌≤◌, Bool, true, false, cond, eqb, ltb, not, ◌&&◌, List, [], ◌∷◌, ◌++◌}
+use Rattle.std.proofs.Common.{length, set, take, drop, get_or, refl, ap, sym, ◌∙◌, arith}
 use Rattle.std.specs.Prelude.{Option, Some, None, is_some, filter, find}
 use Rattle.std.specs.Option.{option_and_then, option_map, option_map_or}
 use Rattle.std.specs.Ordering.{nat_cmp}
@@ -18,7 +19,8 @@ use Rattle.task_table.specs.declared.task.ReapEnd.TheVariants.{NotYet, Reaped}
 use Rattle.task_table.specs.Entries.{passes, numbers_where, changed_at, each_changed}
 use Rattle.task_table.specs.Reaps.{is_child, is_waited, children, end_among, none_ended, orphaned, reaped, status_of}
 use Rattle.task_table.specs.Table.{has_ended, has_parent}
-use Rattle.task_table.proofs.Changes.{changed_along, changed_along_all, get-changed_after, get-changed_at, keys-changed_at, get-each_changed, keys-each_changed}
+use Rattle.task_table.proofs.Changes.{changed_along, changed_along_all, get-changed_after, get-changed_at}
+use Rattle.task_table.proofs.Changes.{keys-changed_at, get-each_changed, keys-each_changed}
 use Rattle.task_table.proofs.Numbers.{filter_alike, filter_narrowed, among_where, where_narrowed}
 use Rattle.task_table.proofs.Walking.{WalkedAlong, WalkedAlong-dropped, WalkedAlong-stays}
 

@@ -1,5 +1,6 @@
 -- dup, dup3, fcntl, ioctl and close: the descriptors of a caller.
-use Rattle.std.specs.Prelude.{ℕ, ◌%◌, ◌^◌, ◌==◌, ◌||◌, nat_lt, not, Bool, true, false, List, [], ◌∷◌, Option, Some, None}
+use Rattle.std.specs.Prelude.{ℕ, ◌%◌, ◌^◌, ◌==◌, ◌||◌, nat_lt, not, Bool, true, false, List, [], ◌∷◌, Option, Some}
+use Rattle.std.specs.Prelude.{None}
 use Rattle.std.specs.Prelude.{pos, if◌then◌else◌}
 use Rattle.std.specs.FinMap as map
 use Rattle.sn_errno.specs.declared.errno.Errno.TheVariants.{EBADF, EINVAL, EMFILE, ENOTTY}

@@ -1,5 +1,6 @@
 -- A task's reservation in the address space and in the area counts after its own store as it did before.
-use Rattle.std.proofs.Common.{◌≡◌, ℕ, zero, suc, ◌/◌, ◌%◌, ◌^◌, ◌+◌, ◌*◌, Bool, true, false, ◌&&◌, List, Option, Some, None, refl, ap, ap₂, sym, ◌∙◌}
+use Rattle.std.proofs.Common.{◌≡◌, ℕ, zero, suc, ◌/◌, ◌%◌, ◌^◌, ◌+◌, ◌*◌, Bool, true, false, ◌&&◌, List, Option, Some}
+use Rattle.std.proofs.Common.{None, refl, ap, ap₂, sym, ◌∙◌}
 use Rattle.std.specs.FinMap as map
 use Rattle.rv_table.specs.declared.error.Area.{Area}
 use Rattle.rv_table.specs.Bytes.{behind}

@@ -1,5 +1,6 @@
 -- What a task reaches after it has reserved, and after it has given up what it had reserved: the bytes stay.
-use Rattle.std.proofs.Common.{◌≡◌, ℕ, ◌==◌, Bool, true, false, ◌&&◌, List, Option, Some, None, refl, ap, sym, ◌∙◌, ◌⊎◌, inl, inr, ne_eqb}
+use Rattle.std.proofs.Common.{◌≡◌, ℕ, ◌==◌, Bool, true, false, ◌&&◌, List, Option, Some, None, refl, ap, sym, ◌∙◌, ◌⊎◌}
+use Rattle.std.proofs.Common.{inl, inr, ne_eqb}
 use mathlib.Core.Path.{fun_ext}
 use Rattle.std.specs.Prelude.{if◌then◌else◌}
 use Rattle.std.specs.FinMap as map
@@ -13,7 +14,9 @@ use Rattle.mm_areas.specs.Rights.{has}
 use Rattle.mm_space.specs.Accesses.{area_byte, byte_at, held_byte, mapped_byte, page_number, page_offset}
 use Rattle.mm_space.specs.Handing.{AreaState, InHand, area_in}
 use Rattle.mm_space.specs.Puts.{with_area}
-use Rattle.mm_space.specs.Reserves.{after_reserved, after_taken, area_granule, counts_held, counts_mapped, is_held_at, is_held_in_area, leave_held, leave_in_area, leave_mapped, reserve_held, reserve_in_area, reserve_mapped}
+use Rattle.mm_space.specs.Reserves.{after_reserved, after_taken, area_granule, counts_held, counts_mapped, is_held_at}
+use Rattle.mm_space.specs.Reserves.{is_held_in_area, leave_held, leave_in_area, leave_mapped, reserve_held}
+use Rattle.mm_space.specs.Reserves.{reserve_in_area, reserve_mapped}
 use Rattle.mm_space.specs.Sight.{as_byte, is_area}
 use Rattle.mm_space.specs.Spaces.{Reach}
 use Rattle.quantum.specs.laws.Hands.{area_in_changed, area_itself, changed_if}

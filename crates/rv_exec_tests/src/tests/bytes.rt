@@ -1,9 +1,11 @@
 //! Bytes by their addresses, and what accesses to them come to.
 
-ghost use Rattle.std.specs.Prelude.{◌≡◌, ◌≢◌, ◌<◌, ◌≤◌, ◌+◌, ◌%◌, ◌^◌, nat_eq, ℕ, IfOk, Option, Some, length, slice_index, if◌then◌else◌};
+ghost use Rattle.std.specs.Prelude.{◌≡◌, ◌≢◌, ◌<◌, ◌≤◌, ◌+◌, ◌%◌, ◌^◌, nat_eq, ℕ, IfOk, Option, Some, length};
+ghost use Rattle.std.specs.Prelude.{slice_index, if◌then◌else◌};
 ghost use Rattle.std.specs.Option.{option_or};
 ghost use Rattle.rv_table.specs.Words.{IsWidth};
-ghost use Rattle.rv_table.specs.Bytes.{AnswersAs, Byte, Holds, first_area, first_barred, loaded, number_from, or_area, or_barred, value_in};
+ghost use Rattle.rv_table.specs.Bytes.{AnswersAs, Byte, Holds, first_area, first_barred, loaded, number_from, or_area};
+ghost use Rattle.rv_table.specs.Bytes.{or_barred, value_in};
 ghost use Rattle.rv_exec.specs.Writes.{stored_byte};
 ghost use Rattle.rv_exec_tests.specs.Places.{allows};
 

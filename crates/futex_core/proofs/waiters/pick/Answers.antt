@@ -2,7 +2,9 @@ use Rattle.std.proofs.Common.{arith, ◌<◌, ◌∙◌, sym, length}
 use Rattle.std.proofs.lemmas.List.{get_or_default}
 use Rattle.futex_core.proofs.Picks.{picked_wakes, picked_full, picked_other}
 use Rattle.futex_core.proofs.waiters.pick.Goals as goal
-use Rattle.futex_core.proofs.waiters.pick.Goals.{then-count-n+then-is_same_word, else-count-n, else-count-n-via-then-count-n+else-is_same_word, else-count-n-via-else-count-n}
+use Rattle.futex_core.proofs.waiters.pick.Goals.{then-count-n+then-is_same_word, else-count-n}
+use Rattle.futex_core.proofs.waiters.pick.Goals.{else-count-n-via-then-count-n+else-is_same_word}
+use Rattle.futex_core.proofs.waiters.pick.Goals.{else-count-n-via-else-count-n}
 
 pub loop-at-preserved : goal.loop-at-preserved
 loop-at-preserved c =

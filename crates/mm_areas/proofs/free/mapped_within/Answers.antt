@@ -1,7 +1,8 @@
 use Rattle.std.proofs.Common.{◌≡◌, ◌+◌, drop, ap, arith}
 use Rattle.std.proofs.Math.ListN.{drop_of_length-le}
 use Rattle.mm_areas.proofs.RegionLaws.{end_of}
-use Rattle.mm_areas.proofs.CountLaws.{reach_of, len-reach, reach_bound, reach_passed, reach_next, reach_ended, end_bound}
+use Rattle.mm_areas.proofs.CountLaws.{reach_of, len-reach, reach_bound, reach_passed, reach_next, reach_ended}
+use Rattle.mm_areas.proofs.CountLaws.{end_bound}
 use Rattle.mm_areas.proofs.free.mapped_within.Goals as goal
 
 pub loop-index-init : goal.loop-index-init

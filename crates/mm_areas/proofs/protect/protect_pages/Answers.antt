@@ -5,7 +5,8 @@ use Rattle.mm_areas.specs.declared.rights.Rights.{Rights}
 use Rattle.mm_areas.specs.declared.areas.Region.{Region}
 use Rattle.mm_areas.specs.Protected.{IsProtected}
 use Rattle.mm_areas.specs.Order.{AreFrom}
-use Rattle.mm_areas.proofs.ProtectLaws.{AreProtected, contents_kept, protected_already, protected_regions, protected_order, ended_before, begins_later}
+use Rattle.mm_areas.proofs.ProtectLaws.{AreProtected, contents_kept, protected_already, protected_regions}
+use Rattle.mm_areas.proofs.ProtectLaws.{protected_order, ended_before, begins_later}
 use Rattle.mm_areas.proofs.protect.protect_pages.Goals as goal
 
 pub loop-index-init : goal.loop-index-init

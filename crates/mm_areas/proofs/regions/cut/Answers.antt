@@ -8,7 +8,8 @@ use Rattle.mm_areas.proofs.RegionLaws.{end_of}
 use Rattle.mm_areas.proofs.IndexLaws.{index_ends, cut_already}
 use Rattle.mm_areas.proofs.EditLaws.{AreCutTo, cut_at}
 use Rattle.mm_areas.proofs.regions.cut.Goals as goal
-use Rattle.mm_areas.proofs.regions.cut.Goals.{else-index-len-via-then-index-len+else-index-page, else-index-len-via-else-index-len}
+use Rattle.mm_areas.proofs.regions.cut.Goals.{else-index-len-via-then-index-len+else-index-page}
+use Rattle.mm_areas.proofs.regions.cut.Goals.{else-index-len-via-else-index-len}
 
 pub halve-requires-clause-high : goal.halve-requires-clause-high
 halve-requires-clause-high c =

@@ -5,7 +5,8 @@ use Rattle.mm_areas.specs.declared.areas.Region.{Region}
 use Rattle.mm_areas.proofs.PageLaws.{within_range}
 use Rattle.mm_areas.proofs.IndexLaws.{index_ends, has_in_region, get_nowhere}
 use Rattle.mm_areas.proofs.regions.find.Goals as goal
-use Rattle.mm_areas.proofs.regions.find.Goals.{else-index-regions-via-then-index-regions+else-regions-index, else-index-regions-via-else-index-regions}
+use Rattle.mm_areas.proofs.regions.find.Goals.{else-index-regions-via-then-index-regions+else-regions-index}
+use Rattle.mm_areas.proofs.regions.find.Goals.{else-index-regions-via-else-index-regions}
 
 first_at : (rs : List Region) (i : ℕ) (r d : Region) → i < length rs → (get_or rs i r).first ≡ (get_or rs i d).first
 first_at rs i r d less = ap (λ (x : Region). x.first) (get_or_default rs i r d less)

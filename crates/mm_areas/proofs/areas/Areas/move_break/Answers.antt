@@ -8,7 +8,8 @@ use Rattle.mm_areas.specs.DecodedWords.{has_row_in}
 use Rattle.mm_areas.proofs.FreshLaws.{absent, fresh_laid, absent_left}
 use Rattle.mm_areas.proofs.PlaceLaws.{grown_limit, grown_apart, cut_apart}
 use Rattle.mm_areas.proofs.areas.Areas.move_break.Goals as goal
-use Rattle.mm_areas.proofs.areas.Areas.move_break.Goals.{then-broken-wanted+in_ok-pages+in_ok-lay, else-broken-wanted+in_ok-take}
+use Rattle.mm_areas.proofs.areas.Areas.move_break.Goals.{then-broken-wanted+in_ok-pages+in_ok-lay}
+use Rattle.mm_areas.proofs.areas.Areas.move_break.Goals.{else-broken-wanted+in_ok-take}
 
 pub lay-requires-clause-limit : goal.lay-requires-clause-limit
 lay-requires-clause-limit c =

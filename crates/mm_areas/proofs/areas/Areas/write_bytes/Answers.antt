@@ -5,7 +5,8 @@ use Rattle.std.proofs.Math.ListN.{set}
 use Rattle.mm_frames.specs.Numbers.{with_run}
 use Rattle.mm_areas.specs.Pages.{Mapped}
 use Rattle.mm_areas.specs.Contents.{bytes_mapped}
-use Rattle.mm_areas.proofs.WriteLaws.{AreWritten, put_found, write_ok, write_owns, write_err, write_lacks, write_kept, write_others}
+use Rattle.mm_areas.proofs.WriteLaws.{AreWritten, put_found, write_ok, write_owns, write_err, write_lacks, write_kept}
+use Rattle.mm_areas.proofs.WriteLaws.{write_others}
 use Rattle.mm_areas.proofs.RowLaws.{rows_others, write_drops, write_keeps}
 use Rattle.mm_areas.proofs.areas.Areas.write_bytes.Goals as goal
 use Rattle.mm_areas.proofs.areas.Areas.write_bytes.Goals.{After-write_bytes}

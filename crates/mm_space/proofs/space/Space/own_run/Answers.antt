@@ -1,5 +1,6 @@
 use Rattle.std.proofs.Common.{◌+◌, ◌%◌, ◌^◌, refl, ◌∙◌, arith}
-use Rattle.mm_space.proofs.ReadyRuns.{byte_unready, none_ready, on_err, piece_ready, ready_split, still_ready, unready_then}
+use Rattle.mm_space.proofs.ReadyRuns.{byte_unready, none_ready, on_err, piece_ready, ready_split, still_ready}
+use Rattle.mm_space.proofs.ReadyRuns.{unready_then}
 use Rattle.mm_space.proofs.space.Space.own_run.Goals as goal
 
 pub loop-done-init : goal.loop-done-init
