@@ -11,7 +11,7 @@ ghost use Rattle.kernel_model.specs.calls.Table.{call_row, row_of_call};
 ghost use Rattle.kernel_model.specs.entries.Parts.{Prog, parts};
 ghost use Rattle.kernel_calls.specs.Lending.{AreAlike};
 ghost use Rattle.kernel_calls.specs.Prepared.{AnswersKept, EndsCaller, EndsEach, EndsOnly, EndsTheirs, HasRoomFor};
-ghost use Rattle.kernel_calls.specs.Prepared.{IfWaits, IsCalling, MayLack, WaitsWith};
+ghost use Rattle.kernel_calls.specs.Prepared.{IfWaits, IsCalling, WaitsWith};
 ghost use Rattle.kernel_calls.specs.declared.prepared.Effect.TheVariants.{ChangesFiles};
 ghost use Rattle.call_fs.specs.Asked.{IfChanges, IsAsked};
 ghost use Rattle.call_fs.specs.Called.{ComesTo, HasRoomIn, IfOf, IsApartIn};
@@ -98,7 +98,6 @@ fn asked_of(number: u64, table: Made, args: &Args, files: &OpenFiles) -> Asked
         k.files ≡ files.now → AnswersKept (call_row context c number args.now) p c.group k) }
     ensures own { IfChanges result (λ p. (task : ℕ) → EndsOnly p.effect task) }
     ensures ended { IfChanges result (λ p. (task group : ℕ) (list : TaskTable) → EndsEach p.effect task group list) }
-    ensures lean { IfChanges result (λ p. MayLack p.effect → ⊥) }
 {
     match CallNo::of(number) {
         Some(call) => asked_by(call, table, args, files),
@@ -114,7 +113,6 @@ fn asked_by(call: CallNo, table: Made, args: &Args, files: &OpenFiles) -> Asked
         k.files ≡ files.now → AnswersKept (row_of_call context c args.now call) p c.group k) }
     ensures own { IfChanges result (λ p. (task : ℕ) → EndsOnly p.effect task) }
     ensures ended { IfChanges result (λ p. (task group : ℕ) (list : TaskTable) → EndsEach p.effect task group list) }
-    ensures lean { IfChanges result (λ p. MayLack p.effect → ⊥) }
 {
     match call {
         CallNo::Read => Asked::Reads(By::Buffer),

@@ -17,7 +17,7 @@ use Rattle.kernel_calls.specs.Prepared.{with_effect}
 use Rattle.kernel_calls.specs.declared.clone.Child.{Child}
 use Rattle.kernel_calls.specs.declared.clone.Words.{Words}
 use Rattle.kernel_calls.specs.declared.prepared.Effect.{Effect}
-use Rattle.kernel_calls.specs.declared.prepared.Effect.TheVariants.{Nothing, TakesBytes, EndsGroup, EndsTask, SetsClear}
+use Rattle.kernel_calls.specs.declared.prepared.Effect.TheVariants.{Nothing, EndsGroup, EndsTask, SetsClear}
 use Rattle.kernel_calls.specs.declared.prepared.Effect.TheVariants.{Wakes, Reaps, ChangesFiles}
 use Rattle.proc_cells.specs.Beside.{AreAtHome}
 use Rattle.proc_cells.proofs.Homes.{home_cleared, home_ended, home_exited, home_reached, home_released, registers_stay}
@@ -29,8 +29,6 @@ pub home_committed : (effect : Effect) (group : ℕ) (k : Kernel) (after : TaskT
     → (with_effect effect group k).tasks ≡ after → AreAtHome k.tasks registers spaces
     → AreAtHome after registers spaces
 home_committed Nothing group k after registers spaces is home =
-    subst (λ (x : TaskTable). AreAtHome x registers spaces) is home
-home_committed (TakesBytes bytes) group k after registers spaces is home =
     subst (λ (x : TaskTable). AreAtHome x registers spaces) is home
 home_committed (EndsGroup ending) group k after registers spaces is home =
     subst (λ (x : TaskTable). AreAtHome x registers spaces) is

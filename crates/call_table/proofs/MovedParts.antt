@@ -13,7 +13,7 @@ use Rattle.kernel_model.specs.calls.Ending.{clear_set, left_by}
 use Rattle.kernel_model.specs.entries.Waiting.{Awake, wait_of}
 use Rattle.kernel_calls.specs.Prepared.{EndsEach, EndsOnly, left_behind, with_effect}
 use Rattle.kernel_calls.specs.declared.prepared.Effect.{Effect}
-use Rattle.kernel_calls.specs.declared.prepared.Effect.TheVariants.{Nothing, TakesBytes, EndsGroup, EndsTask, SetsClear}
+use Rattle.kernel_calls.specs.declared.prepared.Effect.TheVariants.{Nothing, EndsGroup, EndsTask, SetsClear}
 use Rattle.kernel_calls.specs.declared.prepared.Effect.TheVariants.{Wakes, Reaps, ChangesFiles}
 use Rattle.proc_cells.specs.Beside.{kernel_with, nothing_beside, nothing_held}
 use Rattle.call_table.specs.Moves.{changes_list, files_left}
@@ -45,7 +45,6 @@ left_same lists = record {
 -- what they are after an effect
 abbrev pub lists_after : Effect → (group : ℕ) → Lists → Lists
 lists_after Nothing group lists = lists
-lists_after (TakesBytes bytes) group lists = lists
 lists_after (EndsGroup ending) group lists = record {
   tasks = group_ended lists.tasks group ending.status;
   sleepers = left_behind ending lists.sleepers;
@@ -70,7 +69,6 @@ module _ (task group : ℕ) (lists : Lists) where
   pub left_after : (e : Effect) → EndsOnly e task → EndsEach e task group lists.tasks
       → Left lists (lists_after e group lists)
   left_after Nothing own ended = left_same lists
-  left_after (TakesBytes bytes) own ended = left_same lists
   left_after (ChangesFiles table change) own ended = left_same lists
   left_after (EndsGroup ending) own ended = record {
     lives = λ q live. live_before_end (is_member group) lists.tasks.tasks q live;
@@ -115,7 +113,6 @@ module _ (task group : ℕ) (lists : Lists) where
   -- the task list stays where the effect leaves it
   pub list_stays : (e : Effect) → changes_list e ≡ false → (lists_after e group lists).tasks ≡ lists.tasks
   list_stays Nothing same = refl
-  list_stays (TakesBytes bytes) same = refl
   list_stays (EndsGroup ending) same = absurd (cc same)
   list_stays (EndsTask ended_task ending) same = absurd (cc same)
   list_stays (SetsClear setter address) same = absurd (cc same)
@@ -133,20 +130,14 @@ module _ (task group : ℕ) (lists : Lists) where
   abbrev lists_in : Kernel → Lists
   lists_in k = record { tasks = k.tasks; sleepers = k.sleepers }
 
-  pub lists_are : (e : Effect) (after : Lists) (console console' : List ℕ) (files files' : OpenFiles)
+  pub lists_are : (e : Effect) (after : Lists) (console : List ℕ) (files files' : OpenFiles)
       → with_effect e group (at console files)
-      ≡ record (at console files) {
-        tasks = after.tasks;
-        sleepers = after.sleepers;
-        console = console';
-        files = files';
-      }
+      ≡ record (at console files) { tasks = after.tasks; sleepers = after.sleepers; files = files' }
       → after ≡ lists_after e group lists
-  lists_are e after console console' files files' does = ap lists_in (sym does) ∙ by e
+  lists_are e after console files files' does = ap lists_in (sym does) ∙ by e
     where
       by : (e : Effect) → lists_in (with_effect e group (at console files)) ≡ lists_after e group lists
       by Nothing = refl
-      by (TakesBytes bytes) = refl
       by (EndsGroup ending) = refl
       by (EndsTask ended_task ending) = refl
       by (SetsClear setter address) = refl
@@ -157,7 +148,6 @@ module _ (task group : ℕ) (lists : Lists) where
 -- what is open behind an effect is what the effect leaves of it
 pub files_by : (e : Effect) (group : ℕ) (k : Kernel) → files_left e k.files ≡ (with_effect e group k).files
 files_by Nothing group k = refl
-files_by (TakesBytes bytes) group k = refl
 files_by (EndsGroup ending) group k = refl
 files_by (EndsTask ended_task ending) group k = refl
 files_by (SetsClear setter address) group k = refl

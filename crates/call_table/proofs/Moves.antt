@@ -19,15 +19,13 @@ use Rattle.kernel_model.specs.declared.kernel.Kernel.{Kernel}
 use Rattle.kernel_model.specs.entries.Waiting.{wait_of}
 use Rattle.kernel_model.proofs.NamedMaps.{get-with_other, one_name_or_two, same_or_other}
 use Rattle.kernel_calls.specs.Children.{with_child, with_task, with_words}
-use Rattle.kernel_calls.specs.Prepared.{EndsEach, EndsOnly, MayLack}
+use Rattle.kernel_calls.specs.Prepared.{EndsEach, EndsOnly}
 use Rattle.kernel_calls.specs.declared.clone.Child.{Child}
 use Rattle.kernel_calls.specs.declared.clone.Words.{Words}
 use Rattle.kernel_calls.specs.declared.prepared.Effect.{Effect}
-use Rattle.kernel_calls.specs.declared.prepared.Effect.TheVariants.{Nothing, TakesBytes, EndsGroup, EndsTask, SetsClear}
-use Rattle.kernel_calls.specs.declared.prepared.Effect.TheVariants.{Wakes, Reaps, ChangesFiles}
 use Rattle.proc_cells.specs.declared.cells.Cells.{Cells}
 use Rattle.proc_cells.specs.Cells.{AreKept, IsAwake}
-use Rattle.call_table.specs.Moves.{FilesMove, Moves, changes_list, may_store, puts_to_sleep}
+use Rattle.call_table.specs.Moves.{FilesMove, Moves, changes_list, puts_to_sleep}
 use Rattle.call_table.specs.Used.{same_made}
 use Rattle.call_table.specs.declared.entered.Entered.{Entered}
 use Rattle.call_table.proofs.MovedParts.{Left, Lists, left_after, left_same, list_stays, lists_after}
@@ -249,16 +247,3 @@ moves_kept task memory made p b q kept did =
       registers = λ other apart. ap (λ m. map.get m other) kept.registers;
       spaces = λ name apart. ap (λ m. get_named m name.place name.index) kept.spaces;
     })
-
--- ---- what a call has changed of areas that replies
-
--- one that may have changed none takes bytes
-pub takes_bytes : (effect : Effect) → may_store effect ≡ false → MayLack effect
-takes_bytes Nothing e = absurd (cc e)
-takes_bytes (TakesBytes bytes) e = tt
-takes_bytes (EndsGroup ending) e = absurd (cc e)
-takes_bytes (EndsTask task ending) e = absurd (cc e)
-takes_bytes (SetsClear task address) e = absurd (cc e)
-takes_bytes (Wakes key most) e = absurd (cc e)
-takes_bytes (Reaps which) e = absurd (cc e)
-takes_bytes (ChangesFiles table change) e = absurd (cc e)

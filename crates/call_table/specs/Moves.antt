@@ -11,7 +11,7 @@ use Rattle.kernel_model.specs.entries.Waiting.{Awake, wait_of}
 use Rattle.file_changes.specs.Changes.{files_after}
 use Rattle.kernel_calls.specs.Prepared.{with_closed}
 use Rattle.kernel_calls.specs.declared.prepared.Effect.{Effect}
-use Rattle.kernel_calls.specs.declared.prepared.Effect.TheVariants.{Nothing, TakesBytes, EndsGroup, EndsTask, SetsClear}
+use Rattle.kernel_calls.specs.declared.prepared.Effect.TheVariants.{Nothing, EndsGroup, EndsTask, SetsClear}
 use Rattle.kernel_calls.specs.declared.prepared.Effect.TheVariants.{Wakes, Reaps, ChangesFiles}
 use Rattle.proc_cells.specs.declared.cells.Cells.{Cells}
 use Rattle.call_table.specs.Touched.{are_named, is_name, is_touched}
@@ -24,25 +24,12 @@ use Rattle.call_table.specs.declared.used.Spot.{Spot}
 -- exit_group(2), _exit(2), set_tid_address(2), wait4(2)
 abbrev pub changes_list : Effect → Bool
 changes_list Nothing = false
-changes_list (TakesBytes bytes) = false
 changes_list (EndsGroup ending) = true
 changes_list (EndsTask task ending) = true
 changes_list (SetsClear task address) = true
 changes_list (Wakes key most) = false
 changes_list (Reaps which) = true
 changes_list (ChangesFiles table change) = false
-
--- whether a call that replies may have changed a shared area, by what it is to do: what takes bytes has only read them
--- write(2)
-abbrev pub may_store : Effect → Bool
-may_store Nothing = true
-may_store (TakesBytes bytes) = false
-may_store (EndsGroup ending) = true
-may_store (EndsTask task ending) = true
-may_store (SetsClear task address) = true
-may_store (Wakes key most) = true
-may_store (Reaps which) = true
-may_store (ChangesFiles table change) = true
 
 -- whether an entry puts its task to sleep
 -- futex(2), FUTEX_WAIT
@@ -70,7 +57,6 @@ FilesMove (Some touched) before after = AreUntouched touched before after
 -- close(2); dup(2); _exit(2), DESCRIPTION
 abbrev pub files_left : Effect → OpenFiles → OpenFiles
 files_left Nothing files = files
-files_left (TakesBytes bytes) files = files
 files_left (EndsGroup ending) files = with_closed ending.closes files
 files_left (EndsTask task ending) files = with_closed ending.closes files
 files_left (SetsClear task address) files = files

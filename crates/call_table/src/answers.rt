@@ -1,6 +1,6 @@
 //! What becomes of the call that a task stands at: it replies, makes a child, or puts the task to sleep; and ends.
 
-ghost use Rattle.std.specs.Prelude.{◌≡◌, ℕ, ◌+◌, [], IsTrue, IfOk, OnErr, pos};
+ghost use Rattle.std.specs.Prelude.{◌≡◌, ℕ, ◌+◌, [], true, IsTrue, IfOk, OnErr, pos};
 ghost use Rattle.std.specs.FinMap as map;
 ghost use Rattle.std.specs.Ordering.{nat_cmp};
 ghost use Rattle.futex_core.specs.FutexLists.{after_sleep};
@@ -13,9 +13,9 @@ ghost use Rattle.kernel_model.specs.declared.kernel.Kernel.{Kernel as AKernel};
 ghost use Rattle.kernel_model.specs.laws.Beginnings.{IsRoomFor};
 ghost use Rattle.kernel_model.specs.machine.Registers.{args_of, call_of, replied};
 ghost use Rattle.kernel_calls.specs.Children.{with_child};
-ghost use Rattle.kernel_calls.specs.Prepared.{EndsEach, EndsLive, EndsOnly, MayLack, with_effect};
+ghost use Rattle.kernel_calls.specs.Prepared.{EndsEach, EndsLive, EndsOnly, with_effect};
 ghost use Rattle.proc_cells.specs.Cells.{AreKept, IsAwake};
-ghost use Rattle.call_table.specs.Moves.{Moves, changes_list, may_store};
+ghost use Rattle.call_table.specs.Moves.{Moves, changes_list};
 ghost use Rattle.sn_base.specs.declared.made.Made.{Made as AMade};
 
 use crate::entered::Entered;
@@ -63,64 +63,58 @@ pub(crate) fn go_on(cells: &mut Cells, task: u32, registers: Regs, value: i64)
     cells.registers.replace(u64::from(task), after);
 }
 
-/// Does what a call comes to that replies, and lets its task go on. It tells too whether the call may have stored into
-/// a shared area, which was done before. An `Err` changes nothing.
+/// Does what a call comes to that replies, and lets its task go on. It tells too that the call may have stored into a
+/// shared area, which was done before.
 pub(crate) fn finish(
     alloc: Global,
     cells: &mut Cells,
     context: &Context<'_>,
     registers: Regs,
     prepared: Prepared,
-) -> Result<Entered, Memory>
+) -> Entered
     requires awake { IsAwake cells.old context.now.task }
     requires lives { EndsLive prepared.effect context.now.group cells.old.tasks }
     requires own { EndsOnly prepared.effect context.now.task }
     requires ended { EndsEach prepared.effect context.now.task context.now.group cells.old.tasks }
     requires registered { IsTrue (map.contains_key cells.old.registers context.now.task) }
-    ensures does { IfOk result (λ _. (k : AKernel) → k.tasks ≡ cells.old.tasks → k.sleepers ≡ cells.old.sleepers →
-        k.console ≡ cells.old.console → k.files ≡ cells.old.files →
+    ensures does { (k : AKernel) → k.tasks ≡ cells.old.tasks → k.sleepers ≡ cells.old.sleepers →
+        k.files ≡ cells.old.files →
         with_effect prepared.effect context.now.group k ≡ record k {
           tasks = cells.new.tasks;
           sleepers = cells.new.sleepers;
-          console = cells.new.console;
           files = cells.new.files;
-        }) }
-    ensures entry { IfOk result (λ made. made.entry ≡ ACall context.now.task (call_of registers) (args_of registers)
-        (record { fresh = []; rises = [] }) prepared.reply) }
-    ensures moves { IfOk result (λ made.
-        Moves context.now.task context.now.memory made cells.old cells.new) }
-    ensures told { IfOk result (λ made. made.areas ≡ may_store prepared.effect) }
-    ensures registers { IfOk result (λ _. cells.new.registers
-        ≡ map.insert cells.old.registers context.now.task (replied registers prepared.reply)) }
+        } }
+    ensures entry { result.entry ≡ ACall context.now.task (call_of registers) (args_of registers)
+        (record { fresh = []; rises = [] }) prepared.reply }
+    ensures moves { Moves context.now.task context.now.memory result cells.old cells.new }
+    ensures told { result.areas ≡ true }
+    ensures registers { cells.new.registers
+        ≡ map.insert cells.old.registers context.now.task (replied registers prepared.reply) }
     ensures spaces { cells.new.spaces ≡ cells.old.spaces }
     ensures areas { cells.new.areas ≡ cells.old.areas }
-    ensures err { OnErr result (AreKept cells.old cells.new) }
-    ensures lacking { OnErr result (MayLack prepared.effect) }
+    ensures console { cells.new.console ≡ cells.old.console }
 {
     let Prepared {
         reply: value,
         effect,
     } = prepared;
     let tasks = changes_list(&effect);
-    let areas = may_store(&effect);
     let touched = touched_by(&effect, &cells.files);
     commit(
-        alloc,
         effect,
         context.group,
         &mut cells.tasks,
         &mut cells.sleepers,
-        &mut cells.console,
         &mut cells.files,
-    )?;
+    );
     go_on(cells, context.task, registers, value);
     let entry = call_entry(alloc, context.task, &registers, value);
-    Ok(Entered {
+    Entered {
         entry,
         tasks,
-        areas,
+        areas: true,
         touched,
-    })
+    }
 }
 
 /// Whether an effect changes the task list.
@@ -129,29 +123,12 @@ fn changes_list(effect: &Effect) -> bool
 {
     match effect {
         Effect::Nothing => false,
-        Effect::TakesBytes(_) => false,
         Effect::EndsGroup(_) => true,
         Effect::EndsTask { .. } => true,
         Effect::SetsClear { .. } => true,
         Effect::Wakes { .. } => false,
         Effect::Reaps { .. } => true,
         Effect::ChangesFiles { .. } => false,
-    }
-}
-
-/// Whether a call with this effect may have changed a shared area.
-fn may_store(effect: &Effect) -> bool
-    ensures { result ≡ may_store effect.now }
-{
-    match effect {
-        Effect::TakesBytes(_) => false,
-        Effect::Nothing
-        | Effect::EndsGroup(_)
-        | Effect::EndsTask { .. }
-        | Effect::SetsClear { .. }
-        | Effect::Wakes { .. }
-        | Effect::Reaps { .. }
-        | Effect::ChangesFiles { .. } => true,
     }
 }
 

@@ -306,7 +306,7 @@ fn answer(
     )?;
     match called {
         Called::Of(kernel_calls::Called::Replies(prepared)) => {
-            Ok(Turn::Enters(finish(alloc, cells, context, registers, prepared)?))
+            Ok(Turn::Enters(finish(alloc, cells, context, registers, prepared)))
         }
         Called::Of(kernel_calls::Called::Makes(child)) => Ok(Turn::Enters(make_child(
             alloc, cells, context, registers, child,
@@ -384,14 +384,12 @@ fn end(
         &cells.tasks,
     )?;
     commit(
-        alloc,
         Effect::EndsGroup(ending),
         standing.group,
         &mut cells.tasks,
         &mut cells.sleepers,
-        &mut cells.console,
         &mut cells.files,
-    )?;
+    );
     Ok(Entered {
         entry: Entry::End {
             task: context.task,

@@ -19,7 +19,6 @@ pub(crate) fn touched_by(effect: &Effect, files: &OpenFiles) -> Option<Touched>
     match effect {
         Effect::ChangesFiles { table, change } => touched_in(*table, *change, files),
         Effect::Nothing => None,
-        Effect::TakesBytes(_) => None,
         Effect::EndsGroup(_) => None,
         Effect::EndsTask { .. } => None,
         Effect::SetsClear { .. } => None,

@@ -1,5 +1,5 @@
 -- What a call leaves of a kernel, by its effect.
-use Rattle.std.proofs.Common.{◌≡◌, ℕ, List, ap, sym, ◌∙◌}
+use Rattle.std.proofs.Common.{◌≡◌, ℕ, ap, sym, ◌∙◌}
 use Rattle.futex_core.specs.FutexLists.{FutexList}
 use Rattle.task_table.specs.Ends.{exited, group_ended}
 use Rattle.task_table.specs.Table.{TaskTable}
@@ -10,46 +10,43 @@ use Rattle.kernel_calls.specs.declared.prepared.Effect.{Effect}
 use Rattle.kernel_calls.specs.declared.prepared.Effect.TheVariants.{EndsGroup, EndsTask}
 use Rattle.kernel_calls.specs.declared.prepared.Ending.{Ending}
 
--- a kernel with a task list, a futex list, a console and what is open
-abbrev pub kept : Kernel → TaskTable → FutexList → List ℕ → OpenFiles → Kernel
-kept k list waiting console files =
-    record k { tasks = list; sleepers = waiting; console = console; files = files }
+-- a kernel with a task list, a futex list and what is open
+abbrev pub kept : Kernel → TaskTable → FutexList → OpenFiles → Kernel
+kept k list waiting files = record k { tasks = list; sleepers = waiting; files = files }
 
-module _ (k : Kernel) (list : TaskTable) (waiting : FutexList) (console : List ℕ) (files : OpenFiles)
-    (e : k.tasks ≡ list) (f : k.sleepers ≡ waiting) (g : k.console ≡ console) (h : k.files ≡ files) where
+module _ (k : Kernel) (list : TaskTable) (waiting : FutexList) (files : OpenFiles)
+    (e : k.tasks ≡ list) (f : k.sleepers ≡ waiting) (h : k.files ≡ files) where
   -- is one with those that it has, where they are these
-  pub same_kernel : k ≡ kept k list waiting console files
+  pub same_kernel : k ≡ kept k list waiting files
   same_kernel =
-      ap (λ t. kept k t k.sleepers k.console k.files) e ∙ ap (λ w. kept k list w k.console k.files) f
-      ∙ ap (λ c. kept k list waiting c k.files) g ∙ ap (λ o. kept k list waiting console o) h
+      ap (λ t. kept k t k.sleepers k.files) e ∙ ap (λ w. kept k list w k.files) f
+      ∙ ap (λ o. kept k list waiting o) h
 
   -- and so where an effect changes some of them
-  module _ (effect : Effect) (group : ℕ) (list' : TaskTable) (waiting' : FutexList) (console' : List ℕ)
-      (files' : OpenFiles) where
-    pub has_changed : with_effect effect group (kept k list waiting console files)
-        ≡ kept (kept k list waiting console files) list' waiting' console' files'
-        → with_effect effect group k ≡ kept k list' waiting' console' files'
+  module _ (effect : Effect) (group : ℕ) (list' : TaskTable) (waiting' : FutexList) (files' : OpenFiles) where
+    pub has_changed : with_effect effect group (kept k list waiting files)
+        ≡ kept (kept k list waiting files) list' waiting' files'
+        → with_effect effect group k ≡ kept k list' waiting' files'
     has_changed is = ap (with_effect effect group) same_kernel ∙ is
 
   -- and where tasks end
   module _ (ending : Ending) (group : ℕ) (list' : TaskTable) (waiting' : FutexList) (files' : OpenFiles)
       (left : waiting' ≡ left_behind ending waiting) (shut : files' ≡ with_closed ending.closes files) where
     ended_as : (after : TaskTable) → list' ≡ after
-        → kept k after (left_behind ending waiting) console (with_closed ending.closes files)
-        ≡ kept k list' waiting' console files'
+        → kept k after (left_behind ending waiting) (with_closed ending.closes files)
+        ≡ kept k list' waiting' files'
     ended_as after is =
-        ap (λ t. kept k t (left_behind ending waiting) console (with_closed ending.closes files)) (sym is)
-        ∙ ap (λ w. kept k list' w console (with_closed ending.closes files)) (sym left)
-        ∙ ap (kept k list' waiting' console) (sym shut)
+        ap (λ t. kept k t (left_behind ending waiting) (with_closed ending.closes files)) (sym is)
+        ∙ ap (λ w. kept k list' w (with_closed ending.closes files)) (sym left)
+        ∙ ap (kept k list' waiting') (sym shut)
 
     pub group_has_ended : list' ≡ group_ended list group ending.status
-        → with_effect (EndsGroup ending) group k ≡ kept k list' waiting' console files'
+        → with_effect (EndsGroup ending) group k ≡ kept k list' waiting' files'
     group_has_ended is =
-        has_changed (EndsGroup ending) group list' waiting' console files'
-        (ended_as (group_ended list group ending.status) is)
+        has_changed (EndsGroup ending) group list' waiting' files' (ended_as (group_ended list group ending.status) is)
 
     pub task_has_ended : (task : ℕ) → list' ≡ exited list task ending.status
-        → with_effect (EndsTask task ending) group k ≡ kept k list' waiting' console files'
+        → with_effect (EndsTask task ending) group k ≡ kept k list' waiting' files'
     task_has_ended task is =
-        has_changed (EndsTask task ending) group list' waiting' console files'
+        has_changed (EndsTask task ending) group list' waiting' files'
         (ended_as (exited list task ending.status) is)

@@ -1,5 +1,5 @@
 -- What the code's answers to calls and instructions stand for.
-use Rattle.std.specs.Prelude.{◌≡◌, ℕ, ◌+◌, ◌≤◌, ⊤, Option, Some, None, IsTrue, IsFalse, true, List, [], ◌∷◌, ◌++◌}
+use Rattle.std.specs.Prelude.{◌≡◌, ℕ, ◌+◌, ⊤, Option, Some, None, IsTrue, IsFalse, true, List, [], ◌∷◌}
 use Rattle.std.specs.Prelude.{length, pos}
 use Rattle.std.specs.FinMap as map
 use Rattle.rv_table.specs.declared.error.Area.{Area}
@@ -18,7 +18,6 @@ use Rattle.kernel_model.specs.declared.kernel.Kernel.{Kernel}
 use Rattle.kernel_model.specs.declared.open_files.OpenFiles.{OpenFiles}
 use Rattle.kernel_model.specs.declared.kernel.Part.TheVariants.{OfTasks, OfArea, OfTable, OfDescription, OfPipe}
 use Rattle.kernel_model.specs.declared.kernel.Part.TheVariants.{OfSleepers}
-use Rattle.kernel_model.specs.declared.limits.TheConstants.{MOST_WRITTEN}
 use Rattle.kernel_model.specs.calls.Answers.{Answer, replies, sleeps, not_ready}
 use Rattle.kernel_model.specs.calls.Callers.{Context as RowContext}
 use Rattle.kernel_model.specs.calls.Ending.{clear_set, group_end, left_by, woken_on}
@@ -35,7 +34,7 @@ use Rattle.kernel_calls.specs.declared.prepared.Awaited.{Awaited}
 use Rattle.kernel_calls.specs.declared.prepared.Called.{Called}
 use Rattle.kernel_calls.specs.declared.prepared.Called.TheVariants.{Replies, Makes, Sleeps, Waits}
 use Rattle.kernel_calls.specs.declared.prepared.Effect.{Effect}
-use Rattle.kernel_calls.specs.declared.prepared.Effect.TheVariants.{Nothing, TakesBytes, EndsGroup, EndsTask, SetsClear}
+use Rattle.kernel_calls.specs.declared.prepared.Effect.TheVariants.{Nothing, EndsGroup, EndsTask, SetsClear}
 use Rattle.kernel_calls.specs.declared.prepared.Effect.TheVariants.{Wakes, Reaps, ChangesFiles}
 use Rattle.kernel_calls.specs.declared.prepared.Ending.{Ending}
 use Rattle.kernel_calls.specs.declared.prepared.Prepared.{Prepared}
@@ -53,10 +52,9 @@ with_closed None files = files
 with_closed (Some name) files = without_table name files
 
 -- what an effect of a thread group leaves of a kernel
--- write(2); exit_group(2); _exit(2); set_tid_address(2); futex(2), FUTEX_WAKE; wait4(2); dup(2); fcntl(2); close(2)
+-- exit_group(2); _exit(2); set_tid_address(2); futex(2), FUTEX_WAKE; wait4(2); dup(2); fcntl(2); close(2)
 abbrev pub with_effect : Effect → (group : ℕ) → Kernel → Kernel
 with_effect Nothing group k = k
-with_effect (TakesBytes bytes) group k = record k { console = k.console ++ bytes }
 with_effect (EndsGroup ending) group k = record k {
   tasks = group_ended k.tasks group ending.status;
   sleepers = left_behind ending k.sleepers;
@@ -140,49 +138,18 @@ pub record EndsGroupAs (status : Status) (e : Ending) (c : Caller) (k : Kernel) 
   pub done_is : changed (outcome_in (parts k) (group_end c status)) k
       ≡ with_effect (EndsGroup e) c.group (with_memory c space areas k)
 
--- an effect takes memory
--- profile
-abbrev pub MayLack : Effect → Type 0
-MayLack Nothing = ⊥
-MayLack (TakesBytes bytes) = ⊤
-MayLack (EndsGroup ending) = ⊥
-MayLack (EndsTask task ending) = ⊥
-MayLack (SetsClear task address) = ⊥
-MayLack (Wakes key most) = ⊥
-MayLack (Reaps which) = ⊥
-MayLack (ChangesFiles table change) = ⊥
-
 -- what is left to do takes memory, or there is nothing to do
 -- profile
 abbrev pub IsApart : Called → Type 0
-IsApart (Replies p) = MayLack p.effect
+IsApart (Replies p) = ⊥
 IsApart (Makes child) = ⊤
 IsApart (Sleeps key) = ⊤
 IsApart (Waits awaited) = ⊤
-
--- what a call writes is no more than one write may
--- write(2); the number: profile
-abbrev pub TakesFew : Effect → Type 0
-TakesFew Nothing = ⊤
-TakesFew (TakesBytes bytes) = length bytes ≤ MOST_WRITTEN
-TakesFew (EndsGroup ending) = ⊤
-TakesFew (EndsTask task ending) = ⊤
-TakesFew (SetsClear task address) = ⊤
-TakesFew (Wakes key most) = ⊤
-TakesFew (Reaps which) = ⊤
-TakesFew (ChangesFiles table change) = ⊤
-
-abbrev pub RepliesFew : Called → Type 0
-RepliesFew (Replies p) = TakesFew p.effect
-RepliesFew (Makes child) = ⊤
-RepliesFew (Sleeps key) = ⊤
-RepliesFew (Waits awaited) = ⊤
 
 -- a task that a call ends is its caller
 -- _exit(2)
 abbrev pub EndsOnly : Effect → (task : ℕ) → Type 0
 EndsOnly Nothing task = ⊤
-EndsOnly (TakesBytes bytes) task = ⊤
 EndsOnly (EndsGroup ending) task = ⊤
 EndsOnly (EndsTask ended ending) task = ended ≡ task
 EndsOnly (SetsClear setter address) task = ⊤
@@ -200,7 +167,6 @@ EndsCaller (Waits awaited) task = ⊤
 -- _exit(2); exit_group(2)
 abbrev pub EndsEach : Effect → (task group : ℕ) → TaskTable → Type 0
 EndsEach Nothing task group list = ⊤
-EndsEach (TakesBytes bytes) task group list = ⊤
 EndsEach (EndsGroup ending) task group list = ending.ended ≡ ended_tasks (is_member group) list.tasks
 EndsEach (EndsTask ended ending) task group list = ending.ended ≡ ended_tasks (is_itself task) list.tasks
 EndsEach (SetsClear setter address) task group list = ⊤
@@ -259,7 +225,6 @@ HasRoomFor (Waits awaited) list = ⊤
 -- exit_group(2), _exit(2)
 abbrev pub EndsLive : Effect → (group : ℕ) → TaskTable → Type 0
 EndsLive Nothing group list = ⊤
-EndsLive (TakesBytes bytes) group list = ⊤
 EndsLive (EndsGroup ending) group list =
     IsTrue (map.contains_key list.groups group) × IsFalse (has_ended list.groups group)
 EndsLive (EndsTask task ending) group list = IsTrue (is_live list.tasks task)

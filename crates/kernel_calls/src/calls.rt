@@ -13,7 +13,7 @@ ghost use Rattle.kernel_model.specs.entries.Parts.{parts};
 ghost use Rattle.kernel_calls.specs.Families.{is_on_files};
 ghost use Rattle.kernel_calls.specs.Lending.{AreAlike};
 ghost use Rattle.kernel_calls.specs.Prepared.{Comes, EndsCaller, EndsTheirs, HasRoomFor, IfWaits, IsApart, IsCalling};
-ghost use Rattle.kernel_calls.specs.Prepared.{RepliesFew, WaitsWith};
+ghost use Rattle.kernel_calls.specs.Prepared.{WaitsWith};
 ghost use Rattle.kernel_calls.specs.declared.prepared.Effect.TheVariants.{Nothing};
 ghost use Rattle.kernel_calls.specs.declared.prepared.Prepared.{Prepared as APrepared};
 
@@ -62,7 +62,6 @@ pub fn call(
         c.registers ≡ registers.now →
         Comes (call_row (context_of k) c number args.now) d c k space.new areas.new) }
     ensures apart { IfOk result (λ d. IsApart d → (space.new ≡ space.old) × (areas.new ≡ areas.old)) }
-    ensures few { IfOk result (λ d. RepliesFew d) }
     ensures own { IfOk result (λ d. EndsCaller d context.now.task) }
     ensures ended { IfOk result (λ d. EndsTheirs d context.now.task context.now.group tasks.now) }
     ensures waits { IfOk result (λ d. (c : ACaller) (k : AKernel) (console : ℕ) →

@@ -12,7 +12,6 @@ ghost use Rattle.kernel_model.specs.calls.Clone.{cloning_of, free_flags, is_full
 ghost use Rattle.kernel_model.specs.calls.Clone.{process_row, sets_child_word, sets_parent_word, sets_tls, thread_row};
 ghost use Rattle.kernel_calls.specs.Cloning.{LeavesWords, MakesIf, SetsWord, is_shape};
 ghost use Rattle.kernel_calls.specs.Prepared.{Comes, EndsCaller, EndsTheirs, HasRoomFor, IfWaits, IsCalling};
-ghost use Rattle.kernel_calls.specs.Prepared.{RepliesFew};
 
 use crate::Context;
 use crate::buffers::write;
@@ -75,7 +74,6 @@ pub(crate) fn clone(
     ensures row { IfOk result (λ d. (c : ACaller) (k : AKernel) (waiting : FutexList) (console : ℕ) →
         IsCalling c k context.now space.old areas.old tasks.now waiting console → c.registers ≡ registers.now →
         Comes (clone_row (context_of k) args.now c) d c k space.new areas.new) }
-    ensures few { IfOk result (λ d. RepliesFew d) }
     ensures own { IfOk result (λ d. EndsCaller d context.now.task) }
     ensures ended { IfOk result (λ d. EndsTheirs d context.now.task context.now.group tasks.now) }
     ensures goes { IfOk result (λ d. IfWaits d (λ awaited. ⊥)) }

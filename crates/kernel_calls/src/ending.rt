@@ -12,7 +12,7 @@ ghost use Rattle.kernel_model.specs.calls.Ending.{exit_group_row, exit_row, set_
 ghost use Rattle.kernel_calls.specs.Ends.{Ends};
 ghost use Rattle.kernel_calls.specs.Lending.{AreAlike};
 ghost use Rattle.kernel_calls.specs.Prepared.{Answers, AnswersKept, EndsEach, EndsGroupAs, EndsOnly, HasSpace};
-ghost use Rattle.kernel_calls.specs.Prepared.{IsCalling, MayLack, TakesFew};
+ghost use Rattle.kernel_calls.specs.Prepared.{IsCalling};
 ghost use Rattle.kernel_calls.specs.declared.prepared.Effect.TheVariants.{Nothing};
 
 use crate::clear_words::clear_words;
@@ -38,8 +38,6 @@ pub(crate) fn exit(
     ensures row { IfOk result (λ p. (c : ACaller) (k : AKernel) (waiting : FutexList) (console : ℕ) →
         IsCalling c k context.now space.old areas.old tasks.now waiting console →
         Answers (exit_row status c) p c k space.new areas.new) }
-    ensures sure { IfOk result (λ p. ¬ (MayLack p.effect)) }
-    ensures few { IfOk result (λ p. TakesFew p.effect) }
     ensures own { IfOk result (λ p. EndsOnly p.effect context.now.task) }
     ensures ended { IfOk result (λ p. EndsEach p.effect context.now.task context.now.group tasks.now) }
     ensures err { OnErr result (space.new ≡ space.old) }
@@ -70,8 +68,6 @@ pub(crate) fn exit_group(
     ensures row { IfOk result (λ p. (c : ACaller) (k : AKernel) (waiting : FutexList) (console : ℕ) →
         IsCalling c k context.now space.old areas.old tasks.now waiting console →
         Answers (exit_group_row status c) p c k space.new areas.new) }
-    ensures sure { IfOk result (λ p. ¬ (MayLack p.effect)) }
-    ensures few { IfOk result (λ p. TakesFew p.effect) }
     ensures own { IfOk result (λ p. EndsOnly p.effect context.now.task) }
     ensures ended { IfOk result (λ p. EndsEach p.effect context.now.task context.now.group tasks.now) }
     ensures err { OnErr result (space.new ≡ space.old) }
@@ -159,10 +155,8 @@ fn ending_of(
 pub(crate) fn set_tid_address(context: &Context<'_>, address: u64) -> Prepared
     ensures row { (c : ACaller) (k : AKernel) (group : ℕ) → c.task ≡ context.now.task →
         AnswersKept (set_tid_address_row address c) result group k }
-    ensures few { TakesFew result.effect }
     ensures own { (task : ℕ) → EndsOnly result.effect task }
     ensures ended { (task group : ℕ) (list : TaskTable) → EndsEach result.effect task group list }
-    ensures sure { ¬ (MayLack result.effect) }
 {
     Prepared {
         reply: i64::from(context.task),

@@ -15,7 +15,7 @@ ghost use Rattle.kernel_model.specs.entries.Parts.{Parts, outcome_in};
 ghost use Rattle.kernel_calls.specs.Lending.{AreThose};
 ghost use Rattle.kernel_calls.specs.Prepared.{AnswersKept, Comes, EndsCaller, EndsTheirs, HasRoomFor, HasSpace};
 ghost use Rattle.kernel_calls.specs.Prepared.{IfWaits};
-ghost use Rattle.kernel_calls.specs.Prepared.{IsCalling, RepliesFew};
+ghost use Rattle.kernel_calls.specs.Prepared.{IsCalling};
 ghost use Rattle.kernel_calls.specs.declared.prepared.Effect.TheVariants.{Wakes};
 
 use crate::Context;
@@ -46,7 +46,6 @@ pub(crate) fn futex(
     ensures row { IfOk result (λ d. (c : ACaller) (k : AKernel) (list : TaskTable) (console : ℕ) →
         IsCalling c k context.now space.now areas.old list sleepers.now console →
         Comes (futex_row args.now.a0 args.now.a1 args.now.a2 args.now.a3 c) d c k space.now areas.old) }
-    ensures few { IfOk result (λ d. RepliesFew d) }
     ensures own { IfOk result (λ d. EndsCaller d context.now.task) }
     ensures ended { IfOk result (λ d. (task group : ℕ) (list : TaskTable) → EndsTheirs d task group list) }
     ensures goes { IfOk result (λ d. IfWaits d (λ awaited. ⊥)) }
@@ -150,7 +149,6 @@ fn by_word(key: FutexKey, operation: u32, word: u32, value: u32, sleepers: &Wait
         HasSpace c k own → k.areas ≡ shared → k.sleepers ≡ sleepers.now →
         Comes (if is_wait operation then sleeps_on c.task key word value else wakes_on key value) result c k own
         shared }
-    ensures few { RepliesFew result }
     ensures own { (task : ℕ) → EndsCaller result task }
     ensures ended { (task group : ℕ) (list : TaskTable) → EndsTheirs result task group list }
     ensures goes { IfWaits result (λ awaited. ⊥) }

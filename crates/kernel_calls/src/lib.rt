@@ -2,22 +2,22 @@
 //!
 //! A caller sees `call`, which tells what becomes of a call of a live task (`Called`): it replies, makes a child, puts
 //! its task to sleep on a futex word, or waits. What it does to memory is done then. What is left of it to do to the
-//! console, the task list, the futex list or what is open `commit` does, `make` gives a child its place, and `sleep`
-//! puts a task to sleep. `end_group` prepares the end of a thread group by a signal. `args_of`, `call_of` and `reply`
-//! are of the registers at a call; `run` does a task's instructions up to one that calls, traps or touches a shared
-//! area, and `step` one with the shared areas that it touches; and of execve there are `is_too_long`,
-//! `read_executable`, `opened`, `opening_random`, `open_task` and `root_of`. They know no host and no trace; of other
-//! tasks' registers `make` alone knows, which puts a child's among them. What is open changes by `file_changes`.
+//! task list, the futex list or what is open `commit` does, `make` gives a child its place, and `sleep` puts a task to
+//! sleep. `end_group` prepares the end of a thread group by a signal. `args_of`, `call_of` and `reply` are of the
+//! registers at a call; `run` does a task's instructions up to one that calls, traps or touches a shared area, and
+//! `step` one with the shared areas that it touches; and of execve there are `is_too_long`, `read_executable`,
+//! `opened`, `opening_random`, `open_task` and `root_of`. They know no host and no trace; of other tasks' registers
+//! `make` alone knows, which puts a child's among them. What is open changes by `file_changes`.
 //!
 //! Proved, by the definitions of `kernel_model`: `call` comes to what its row says, in every state that has what was
-//! handed in (`row`). Where what is left may lack memory, and where the call waits, memory is as it was (`apart`); no
-//! more bytes are left than one write may take (`few`), and for a child there is room (`room`). Want of memory changes
-//! nothing, and no area under its name (`err`, `err_areas`). So it is with `end_group` (`ends`). `commit`, `make` and
-//! `sleep` leave what the row changes, or nothing (`ok`, `err`). `run` is so many instructions one after another
-//! (`steps`), up to its limit or to one that stops it (`within`, `stopped`), or fewer (`memory`). `step` tells what the
-//! next instruction does (`next`), leaves what its row leaves where it goes on (`goes`), and else what was there
-//! (`kept`, `err`). `read_executable` is the image as execve takes it (`image`, `pages`), `opened` what an opening task
-//! begins with (`registers`, `space`), and the last three are of its random bytes, its place, and its directory.
+//! handed in (`row`). Where what is left may lack memory, and where the call waits, memory is as it was (`apart`), and
+//! for a child there is room (`room`). Want of memory changes nothing, and no area under its name (`err`, `err_areas`).
+//! So it is with `end_group` (`ends`). `commit` leaves what the row changes, and `make` and `sleep` that, or nothing
+//! (`ok`, `err`). `run` is so many instructions one after another (`steps`), up to its limit or to one that stops it
+//! (`within`, `stopped`), or fewer (`memory`). `step` tells what the next instruction does (`next`), leaves what its
+//! row leaves where it goes on (`goes`), and else what was there (`kept`, `err`). `read_executable` is the image as
+//! execve takes it (`image`, `pages`), `opened` what an opening task begins with (`registers`, `space`), and the last
+//! three are of its random bytes, its place, and its directory.
 //!
 //! Not said: which tasks there are, what a host is, and what an entry changes.
 //!

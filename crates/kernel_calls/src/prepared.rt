@@ -4,14 +4,13 @@ ghost use Rattle.std.specs.Prelude.{◌≡◌, IsTrue, IsFalse, OnOk, OnErr};
 ghost use Rattle.futex_core.specs.FutexLists.{after_sleep, is_asleep, is_woken};
 ghost use Rattle.kernel_model.specs.declared.kernel.Kernel.{Kernel as AKernel};
 ghost use Rattle.kernel_model.specs.calls.Ending.{clear_set, left_by, woken_on};
-ghost use Rattle.kernel_calls.specs.Prepared.{EndsLive, MayLack, with_closed, with_effect};
+ghost use Rattle.kernel_calls.specs.Prepared.{EndsLive, with_closed, with_effect};
 
 use crate::clone::Child;
 use file_changes::{FileChange, change_files, close_table};
 use futex_core::{FutexKey, Waited, Waiters};
 use kernel_model::OpenFiles;
 use sn_base::{Boxed, List, Made, Memory};
-use std::alloc::Global;
 use task_table::{EndedTask, Status, Tasks};
 
 /// How tasks end: with which status, which they are, the clear words of theirs that were cleared, and the descriptor
@@ -24,14 +23,13 @@ pub struct Ending {
     pub closes: Option<Made>,
 }
 
-/// What a call is to do beside its reply: nothing, or the console takes bytes, or the caller's thread group ends, or a
-/// task does, or a task's clear word is at another address, or so many at most are woken who sleep on a word, or the
-/// ended child that the group waits for, the one of a number or any, is nobody's child any more, or what is open changes,
-/// for a caller of that descriptor table.
+/// What a call is to do beside its reply: nothing, or the caller's thread group ends, or a task does, or a task's clear
+/// word is at another address, or so many at most are woken who sleep on a word, or the ended child that the group waits
+/// for, the one of a number or any, is nobody's child any more, or what is open changes, for a caller of that descriptor
+/// table.
 #[derive(Debug, Drop)]
 pub enum Effect {
     Nothing,
-    TakesBytes(List<u8>),
     EndsGroup(Ending),
     EndsTask { task: u32, ending: Ending },
     SetsClear { task: u32, address: u64 },
@@ -73,59 +71,40 @@ pub enum Called {
     Waits(Awaited),
 }
 
-/// Does what a call of a thread group comes to, to the parts that it changes. Want of memory leaves them, and comes
-/// only where the console takes bytes.
+/// Does what a call of a thread group comes to, to the parts that it changes. It takes no memory.
 #[tactic(auto, using(crate::proofs::Effects::has_changed))]
 pub fn commit(
-    alloc: Global,
     effect: Effect,
     group: u32,
     tasks: &mut Tasks,
     sleepers: &mut Waiters,
-    console: &mut List<u8>,
     files: &mut OpenFiles,
-) -> Result<(), Memory>
+)
     requires lives { EndsLive effect group tasks.old }
-    ensures ok { OnOk result ((k : AKernel) → k.tasks ≡ tasks.old → k.sleepers ≡ sleepers.old →
-        k.console ≡ console.old → k.files ≡ files.old → with_effect effect group k
-        ≡ record k { tasks = tasks.new; sleepers = sleepers.new; console = console.new; files = files.new }) }
-    ensures err { OnErr result (tasks.new ≡ tasks.old) }
-    ensures err_sleepers { OnErr result (sleepers.new ≡ sleepers.old) }
-    ensures err_console { OnErr result (console.new ≡ console.old) }
-    ensures err_files { OnErr result (files.new ≡ files.old) }
-    ensures lacking { OnErr result (MayLack effect) }
+    ensures { (k : AKernel) → k.tasks ≡ tasks.old → k.sleepers ≡ sleepers.old → k.files ≡ files.old →
+        with_effect effect group k
+        ≡ record k { tasks = tasks.new; sleepers = sleepers.new; files = files.new } }
 {
     match effect {
-        Effect::Nothing => Ok(()),
-        Effect::TakesBytes(bytes) => console.extend_from_slice(bytes.as_slice()),
+        Effect::Nothing => {}
         Effect::EndsGroup(ending) => {
             tasks.close(group, ending.status);
             leave(sleepers, &ending);
             close_descriptors(&ending, files);
-            Ok(())
         }
         Effect::EndsTask { task, ending } => {
             tasks.leave(task, ending.status);
             leave(sleepers, &ending);
             close_descriptors(&ending, files);
-            Ok(())
         }
-        Effect::SetsClear { task, address } => {
-            set_clear(tasks, task, address);
-            Ok(())
-        }
+        Effect::SetsClear { task, address } => set_clear(tasks, task, address),
         Effect::Wakes { key, most } => {
             let _ = sleepers.wake(key, most);
-            Ok(())
         }
         Effect::Reaps { which } => {
             let _ = tasks.reap(group, which);
-            Ok(())
         }
-        Effect::ChangesFiles { table, change } => {
-            change_files(change, table, files);
-            Ok(())
-        }
+        Effect::ChangesFiles { table, change } => change_files(change, table, files),
     }
 }
 

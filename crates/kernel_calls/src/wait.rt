@@ -14,7 +14,7 @@ ghost use Rattle.kernel_model.specs.calls.Answers.{not_ready, replies};
 ghost use Rattle.kernel_model.specs.calls.Wait.{asked_child, is_child_asked, is_option, reaps_at, wait4_row};
 ghost use Rattle.kernel_model.specs.entries.Parts.{done, parts};
 ghost use Rattle.kernel_calls.specs.Prepared.{Answers, Comes, EndsCaller, EndsEach, EndsOnly, EndsTheirs, HasRoomFor};
-ghost use Rattle.kernel_calls.specs.Prepared.{HasSpace, IfWaits, IsApart, IsCalling, MayLack, RepliesFew, TakesFew};
+ghost use Rattle.kernel_calls.specs.Prepared.{HasSpace, IfWaits, IsApart, IsCalling};
 ghost use Rattle.kernel_calls.specs.Prepared.{WaitsWith};
 ghost use Rattle.kernel_calls.specs.declared.prepared.Effect.TheVariants.{Reaps};
 
@@ -51,7 +51,6 @@ pub(crate) fn wait4(
         IsCalling c k context.now space.old areas.old tasks.now waiting console →
         Comes (wait4_row args.now.a0 args.now.a1 args.now.a2 args.now.a3 c) d c k space.new areas.new) }
     ensures apart { IfOk result (λ d. IsApart d → (space.new ≡ space.old) × (areas.new ≡ areas.old)) }
-    ensures few { IfOk result (λ d. RepliesFew d) }
     ensures own { IfOk result (λ d. EndsCaller d context.now.task) }
     ensures ended { IfOk result (λ d. EndsTheirs d context.now.task context.now.group tasks.now) }
     ensures waits { IfOk result (λ d. (c : ACaller) (k : AKernel) (waiting : FutexList) (console : ℕ) →
@@ -113,7 +112,6 @@ fn not_yet(options: u32) -> Called
     ensures row { (c : ACaller) (k : AKernel) (own : AddressSpace) (shared : NamedMap AreaState) →
         HasSpace c k own → k.areas ≡ shared →
         Comes (if options == 1 then done (replies (pos 0) []) else done not_ready) result c k own shared }
-    ensures few { RepliesFew result }
     ensures own { (task : ℕ) → EndsCaller result task }
     ensures ended { (task group : ℕ) (list : TaskTable) → EndsTheirs result task group list }
     ensures waits { IfWaits result (λ awaited. IsFalse (options == 1)) }
@@ -144,8 +142,6 @@ fn reap(
         IsCalling c k context.now space.old areas.old list waiting console →
         reap_end list.groups context.now.group which ≡ Reaped child status →
         Answers (reaps_at c list address child status) p c k space.new areas.new) }
-    ensures sure { IfOk result (λ p. ¬ (MayLack p.effect)) }
-    ensures few { IfOk result (λ p. TakesFew p.effect) }
     ensures own { IfOk result (λ p. (task : ℕ) → EndsOnly p.effect task) }
     ensures ended { IfOk result (λ p. (task group : ℕ) (list : TaskTable) → EndsEach p.effect task group list) }
     ensures err { OnErr result ((space.new ≡ space.old) × (areas.new ≡ areas.old)) }

@@ -63,7 +63,7 @@ impl Guest {
         let prepared = self.prepared(wait4(args))?;
         match prepared.effect {
             Effect::Reaps { which } => {
-                self.reap(which)?;
+                self.reap(which);
                 Ok(prepared.reply == child)
             }
             _ => Ok(false),

@@ -59,7 +59,7 @@ impl Guest {
         let is_told = prepared.reply == i64::from(self.task);
         match prepared.effect {
             Effect::SetsClear { task, address: at } => {
-                self.set_clear(address)?;
+                self.set_clear(address);
                 Ok(is_told && task == self.task && at == address)
             }
             _ => Ok(false),

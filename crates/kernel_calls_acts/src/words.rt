@@ -51,7 +51,7 @@ impl Guest {
         let prepared = self.prepared(futex(args))?;
         match prepared.effect {
             Effect::Wakes { key, most } => {
-                self.wake(key, most)?;
+                self.wake(key, most);
                 Ok(prepared.reply == count)
             }
             _ => Ok(false),

@@ -1,16 +1,14 @@
 //! What a call takes from a guest's buffer, and what it comes to.
 
 use crate::guests::{expect_bytes, expect_unreadable};
-use futex_core::Waiters;
-use kernel_calls::{Effect, Prepared, commit};
+use kernel_calls::{Effect, Prepared};
 use kernel_calls_acts::{Act, Asked, Guest, ask, guest_in, opened, read};
-use kernel_model::{GuestSpace, OpenFiles};
-use sn_base::{List, Memory};
+use kernel_model::GuestSpace;
 use sn_vectors::images::GUEST;
 use std::alloc::Global;
 use std::process::Abort;
 use std::test::Fail;
-use task_table::{Status, Tasks};
+use task_table::Status;
 
 /// The first address behind the stack.
 const TOP: u64 = 274_877_906_944;
@@ -124,35 +122,4 @@ fn what_is_written_is_the_buffers_bytes_where_the_console_has_room(
 ) -> Result<(), Fail> {
     let mut guest = guest_in(rt.alloc(), &GUEST)?;
     expect_room(&rt, &mut guest)
-}
-
-/// Has a console take bytes, beside no tasks.
-fn take(alloc: Global, console: &mut List<u8>, bytes: &[u8]) -> Result<(), Memory> {
-    let effect = Effect::TakesBytes(List::from_slice(alloc, bytes)?);
-    let mut tasks = Tasks::new(alloc);
-    let mut sleepers = Waiters::new(alloc);
-    let mut files = OpenFiles::new(alloc);
-    commit(
-        alloc,
-        effect,
-        1,
-        &mut tasks,
-        &mut sleepers,
-        console,
-        &mut files,
-    )
-}
-
-/// That a console has what it took, in order.
-fn expect_taken(rt: &impl Abort, alloc: Global) -> Result<(), Fail> {
-    let mut console = List::new(alloc);
-    take(alloc, &mut console, b"one ")?;
-    take(alloc, &mut console, b"two")?;
-    assert_eq!(rt; console.as_slice(), b"one two".as_slice());
-    Ok(())
-}
-
-#[test]
-fn bytes_come_behind_those_of_the_console(rt: HostRuntime) -> Result<(), Fail> {
-    expect_taken(&rt, rt.alloc())
 }

@@ -1,6 +1,6 @@
 //! The entries of calls: what the call comes to that a task stands at, and the doing of it.
 
-ghost use Rattle.std.specs.Prelude.{◌≡◌, ◌+◌, ◌<◌, true, [], Some, List as Items, IfOk, pos};
+ghost use Rattle.std.specs.Prelude.{◌≡◌, ◌+◌, ◌<◌, true, [], Some, List as Items, IfOk, Ok, pos};
 ghost use Rattle.std.specs.Ordering.{int_eq};
 ghost use Rattle.sn_errno.specs.Errors.{reply_of};
 ghost use Rattle.sn_errno.specs.declared.errno.Errno.TheVariants.{EIO};
@@ -177,7 +177,7 @@ fn finish(
     match called {
         Called::Of(kept) => match kept {
             kernel_calls::Called::Replies(prepared) => {
-                answer(alloc, kernel, caller, areas, reply, prepared)
+                Ok(answer(kernel, caller, areas, reply, prepared))
             }
             kernel_calls::Called::Makes(child) => make_child(alloc, kernel, caller, reply, child),
             kernel_calls::Called::Sleeps(_) => Ok(false),
@@ -194,27 +194,26 @@ fn finish(
 /// Does what a call of a task comes to, where its reply is that of the entry: the task's memory and the shared areas
 /// are as the call left them.
 fn answer(
-    alloc: Global,
     kernel: &mut Kernel,
     caller: Caller,
     areas: Named<GuestArea>,
     reply: i64,
     prepared: Prepared,
-) -> Result<bool, Memory>
+) -> bool
     requires there { IsThere caller kernel.old }
     requires own { EndsOnly prepared.effect caller.task }
     ensures { (changes : Items Change) → changed changes kernel.old
         ≡ with_effect prepared.effect caller.group (with_memory caller caller.space areas kernel.old) →
-        Does (replied_by caller reply changes (Replies prepared.reply)) kernel.old kernel.new result }
+        Does (replied_by caller reply changes (Replies prepared.reply)) kernel.old kernel.new (Ok result) }
 {
     if reply != prepared.reply {
-        return Ok(false);
+        return false;
     }
     let task = caller.task;
     let registers = caller.registers;
-    settle(alloc, kernel, caller, areas, prepared.effect)?;
+    settle(kernel, caller, areas, prepared.effect);
     go_on(kernel, task, registers, prepared.reply);
-    Ok(true)
+    true
 }
 
 /// Makes a child of a task, where the child's number is the reply of the entry.

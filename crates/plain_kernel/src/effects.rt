@@ -1,6 +1,6 @@
 //! What a call or an end leaves: its effect beside its task's memory and the shared areas, and its task behind it.
 
-ghost use Rattle.std.specs.Prelude.{◌≡◌, Some, IsTrue, OnErr, OnOk};
+ghost use Rattle.std.specs.Prelude.{◌≡◌, Some, IsTrue};
 ghost use Rattle.std.specs.FinMap as map;
 ghost use Rattle.kernel_calls.specs.Memories.{with_memory};
 ghost use Rattle.kernel_calls.specs.Prepared.{EndsOnly, with_effect};
@@ -12,38 +12,26 @@ ghost use Rattle.plain_kernel.specs.Doing.{IsThere};
 use kernel_calls::{Effect, commit, reply};
 use kernel_model::{Caller, GuestArea, Kernel, Named};
 use rv_table::Regs;
-use sn_base::Memory;
-use std::alloc::Global;
 
 /// Does the effect of a call or an end. The task's memory and the shared areas take their places as they were left.
-pub(crate) fn settle(
-    alloc: Global,
-    kernel: &mut Kernel,
-    caller: Caller,
-    areas: Named<GuestArea>,
-    effect: Effect,
-) -> Result<(), Memory>
+pub(crate) fn settle(kernel: &mut Kernel, caller: Caller, areas: Named<GuestArea>, effect: Effect)
     requires there { IsThere caller kernel.old }
     requires own { EndsOnly effect caller.task }
-    ensures ok { OnOk result (kernel.new ≡
-        with_effect effect caller.group (with_memory caller caller.space areas kernel.old)) }
+    ensures does { kernel.new ≡
+        with_effect effect caller.group (with_memory caller caller.space areas kernel.old) }
     ensures registers { kernel.new.registers ≡ kernel.old.registers }
-    ensures err { OnErr result (kernel.new ≡ kernel.old) }
 {
     commit(
-        alloc,
         effect,
         caller.group,
         &mut kernel.tasks,
         &mut kernel.sleepers,
-        &mut kernel.console,
         &mut kernel.files,
-    )?;
+    );
     kernel
         .spaces
         .replace(caller.memory.place, caller.memory.index, caller.space);
     kernel.areas = areas;
-    Ok(())
 }
 
 /// Lets a task go on behind its call, with a reply.

@@ -148,6 +148,6 @@ fn kill(
         &mut areas,
         &kernel.tasks,
     )?;
-    settle(alloc, kernel, caller, areas, Effect::EndsGroup(ending))?;
+    settle(kernel, caller, areas, Effect::EndsGroup(ending));
     Ok(true)
 }

@@ -86,7 +86,7 @@ returns-in-Changes-clause-row c caller k calling files registers =
     (c.in-Changes.ensures.row (context_of k) caller k calling.table files) refl (sym calling.areas)
 
 pub returns-in-Changes-clause-apart : goal.returns-in-Changes-clause-apart
-returns-in-Changes-clause-apart c lacks = absurd (c.in-Changes.ensures.lean lacks)
+returns-in-Changes-clause-apart c lacks = absurd lacks
 
 pub returns-in_ok-call-in-Others-clause-row : goal.returns-in_ok-call-in-Others-clause-row
 returns-in_ok-call-in-Others-clause-row c caller k calling files registers =

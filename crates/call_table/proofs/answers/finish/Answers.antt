@@ -1,16 +1,14 @@
 -- What a call leaves that replies.
 use Rattle.std.proofs.Common.{◌≡◌, ap, sym, refl, ◌∙◌, subst}
-use Rattle.task_table.specs.Table.{TaskTable}
 use Rattle.kernel_model.specs.declared.kernel.Kernel.{Kernel}
 use Rattle.kernel_model.specs.Names.{get_named}
 use Rattle.kernel_calls.proofs.Effects.{kept}
-use Rattle.proc_cells.specs.Beside.{AreAtHome, kernel_with, nothing_beside, nothing_held}
+use Rattle.proc_cells.specs.Beside.{kernel_with, nothing_beside, nothing_held}
 use Rattle.proc_cells.specs.Cells.{kernel_of}
 use Rattle.call_table.specs.Moves.{FilesMove, puts_to_sleep}
 use Rattle.call_table.proofs.Homes.{home_committed}
 use Rattle.call_table.proofs.Moves.{lists_of, moves_done, others_go_on}
 use Rattle.call_table.proofs.MovedParts.{Lists, files_by, lists_after, lists_are}
-use Rattle.call_table.proofs.Results.{by_result}
 use Rattle.call_table.proofs.answers.finish.Goals as goal
 
 pub invariant_of-cells : goal.invariant_of-cells
@@ -19,20 +17,17 @@ invariant_of-cells c =
     let k : Kernel = kernel_of p nothing_beside 0 in
     record {
       at_home =
-          by_result c.commit.result c.commit.ensures.ok c.commit.ensures.err
-          (λ does. home_committed c.args.prepared.effect c.args.context.now.group k c.commit.new.tasks p.registers
-          p.spaces (ap (λ (m : Kernel). m.tasks) (does k refl refl refl refl)) p.at_home)
-          (λ same. subst (λ (t : TaskTable). AreAtHome t p.registers p.spaces) (sym same) p.at_home);
+          home_committed c.args.prepared.effect c.args.context.now.group k c.commit.new.tasks p.registers p.spaces
+          (ap (λ (m : Kernel). m.tasks) (c.commit.ensures k refl refl refl)) p.at_home;
     }
 
 pub returns-clause-does : goal.returns-clause-does
-returns-clause-does c = λ k e f g h.
+returns-clause-does c = λ k e f g.
     let q = c.go_on.new.cells in
-    c.in_ok-commit.ensures.ok k e f g h
-    ∙ ap (λ t. kept k t c.commit.new.sleepers c.commit.new.console c.commit.new.files) (sym c.go_on.ensures.tasks)
-    ∙ ap (λ w. kept k q.tasks w c.commit.new.console c.commit.new.files) (sym c.go_on.ensures.sleepers)
-    ∙ ap (λ x. kept k q.tasks q.sleepers x c.commit.new.files) (sym c.go_on.ensures.console)
-    ∙ ap (kept k q.tasks q.sleepers q.console) (sym c.go_on.ensures.files)
+    c.commit.ensures k e f g
+    ∙ ap (λ t. kept k t c.commit.new.sleepers c.commit.new.files) (sym c.go_on.ensures.tasks)
+    ∙ ap (λ w. kept k q.tasks w c.commit.new.files) (sym c.go_on.ensures.sleepers)
+    ∙ ap (kept k q.tasks q.sleepers) (sym c.go_on.ensures.files)
 
 pub returns-clause-moves : goal.returns-clause-moves
 returns-clause-moves c =
@@ -46,10 +41,10 @@ returns-clause-moves c =
     (record nothing_held { tasks = p.tasks; sleepers = p.sleepers; console = p.console; files = p.files })
     nothing_beside 0
     in
-    let does = c.in_ok-commit.ensures.ok k refl refl refl refl in
+    let does = c.commit.ensures k refl refl refl in
     let between : Lists = record { tasks = c.commit.new.tasks; sleepers = c.commit.new.sleepers } in
     let did : between ≡ lists_after effect group (lists_of p) =
-    lists_are task group (lists_of p) effect between p.console c.commit.new.console p.files c.commit.new.files does in
+    lists_are task group (lists_of p) effect between p.console p.files c.commit.new.files does in
     moves_done task c.args.context.now.memory _ p q effect group
     (ap (λ t. record { tasks = t; sleepers = q.sleepers }) c.go_on.ensures.tasks
     ∙ ap (λ w. record { tasks = c.commit.new.tasks; sleepers = w }) c.go_on.ensures.sleepers ∙ did)

@@ -28,7 +28,7 @@ use Rattle.call_table.specs.Parks.{Parks}
 use Rattle.call_table.specs.declared.used.Spot.{Spot}
 use Rattle.call_table.proofs.Kept.{part_none}
 use Rattle.call_table.proofs.MovedFiles.{only_read}
-use Rattle.call_table.proofs.Moves.{moves_behind, others_stay, takes_bytes}
+use Rattle.call_table.proofs.Moves.{moves_behind, others_stay}
 use Rattle.call_table.proofs.Parks.{parks_of}
 use Rattle.call_table.proofs.Results.{err_by}
 use Rattle.call_table.proofs.Steps.{comes_here, own_same, ready_called, step_call, step_sleep}
@@ -50,19 +50,6 @@ returns-in_err-called-clause-memory c =
     (own_same c.args.cells.now c.args.context.now.task c.args.standing c.requires.stands c.in-Some.space.now
     c.call.new.space c.in-Some.ensures.value c.in_err-called.ensures.err) c.in_err-called.ensures.err_areas refl
     refl refl)
-
-pub returns-in_err-finish-in-Of-Replies-clause-memory : goal.returns-in_err-finish-in-Of-Replies-clause-memory
-returns-in_err-finish-in-Of-Replies-clause-memory c =
-    let is = c.in-Of-Replies.is ∙ ap Of c.in-Of-Replies.field-0-is in
-    let kept = c.in_err-finish-in-Of-Replies.ensures.err in
-    let apart = c.in_ok-called.ensures.apart (subst IsApartIn (sym is) c.in_err-finish-in-Of-Replies.ensures.lacking) in
-    err_by c.from_residual-in_err-finish-in-Of-Replies.result (part_none c.args.cells.now c.finish.new.cells
-    c.args.context.now.task c.args.standing c.requires.stands kept.tasks kept.registers
-    (kept.spaces
-    ∙ own_same c.args.cells.now c.args.context.now.task c.args.standing c.requires.stands c.in-Some.space.now
-    c.call.new.space c.in-Some.ensures.value apart.0)
-    (λ place index. ap (λ (x : NamedMap AreaState). get_named x place index) (kept.areas ∙ apart.1)) kept.files
-    kept.sleepers kept.console)
 
 pub returns-in_err-make_child-in-Of-Makes-clause-memory : goal.returns-in_err-make_child-in-Of-Makes-clause-memory
 returns-in_err-make_child-in-Of-Makes-clause-memory c =
@@ -117,8 +104,8 @@ returns-in_err-open_pipe-in-MakesPipe-clause-memory c =
 
 -- ---- a call that replies
 
-pub returns-in_ok-finish-in-Of-Replies-clause-step : goal.returns-in_ok-finish-in-Of-Replies-clause-step
-returns-in_ok-finish-in-Of-Replies-clause-step c = λ beside n seed place.
+pub returns-in-Of-Replies-clause-step : goal.returns-in-Of-Replies-clause-step
+returns-in-Of-Replies-clause-step c = λ beside n seed place.
     let is = c.in-Of-Replies.is ∙ ap Of c.in-Of-Replies.field-0-is in
     let p = c.args.cells.now in
     let r = c.args.standing.registers in
@@ -139,19 +126,19 @@ returns-in_ok-finish-in-Of-Replies-clause-step c = λ beside n seed place.
       areas = m.areas;
       files = c.finish.new.cells.files;
       sleepers = c.finish.new.cells.sleepers;
-      console = c.finish.new.cells.console;
     } in
-    ap (λ (e : Entry). step k e) c.in_ok-finish-in-Of-Replies.ensures.entry
+    ap (λ (e : Entry). step k e) c.finish.ensures.entry
     ∙ step_call p c.args.context.now.task c.args.standing c.requires.stands (call_of r) (args_of r)
     (record { fresh = []; rises = [] }) c.in-Of-Replies.prepared.reply answers.changes h p.registers
     c.finish.new.cells.registers beside n c.requires.awake c.requires.calls refl refl refl answers.row_is
     (answers.done_is
     ∙ ap (λ g. with_effect effect g m) (sym c.requires.known.group)
-    ∙ c.in_ok-finish-in-Of-Replies.ensures.does m refl refl refl refl)
-    c.in_ok-finish-in-Of-Replies.ensures.registers
+    ∙ c.finish.ensures.does m refl refl refl)
+    c.finish.ensures.registers
     ∙ ap (λ (y : Held). Some (kernel_with y beside (n + 1))) (
     ap (λ s. record h { registers = c.finish.new.cells.registers; spaces = s }) (sym c.finish.ensures.spaces)
-    ∙ ap (λ a. record (held_by c.finish.new.cells) { areas = a }) (sym c.finish.ensures.areas))
+    ∙ ap (λ a. record (held_by c.finish.new.cells) { areas = a; console = p.console }) (sym c.finish.ensures.areas)
+    ∙ ap (λ b. record (held_by c.finish.new.cells) { console = b }) (sym c.finish.ensures.console))
 
 -- ---- one that makes a child
 
@@ -308,8 +295,8 @@ returns-in_ok-open_pipe-in-MakesPipe-clause-step c = λ beside n seed place.
 
 -- ---- whether the step was ready
 
-pub returns-in_ok-finish-in-Of-Replies-clause-ready : goal.returns-in_ok-finish-in-Of-Replies-clause-ready
-returns-in_ok-finish-in-Of-Replies-clause-ready c =
+pub returns-in-Of-Replies-clause-ready : goal.returns-in-Of-Replies-clause-ready
+returns-in-Of-Replies-clause-ready c =
     let is = c.in-Of-Replies.is ∙ ap Of c.in-Of-Replies.field-0-is in
     ready_called c.args.cells.now c.args.context.now.task c.args.standing c.requires.stands c.args.context.now
     (Of (Replies c.in-Of-Replies.prepared)) c.call.new.space c.call.new.areas c.requires.place c.requires.awake
@@ -389,13 +376,11 @@ returns-in-Of-Waits-clause-kept c =
 
 -- ---- what it leaves as it was
 
-pub returns-in_ok-finish-in-Of-Replies-clause-moves : goal.returns-in_ok-finish-in-Of-Replies-clause-moves
-returns-in_ok-finish-in-Of-Replies-clause-moves c =
-    let is = c.in-Of-Replies.is ∙ ap Of c.in-Of-Replies.field-0-is in
+pub returns-in-Of-Replies-clause-moves : goal.returns-in-Of-Replies-clause-moves
+returns-in-Of-Replies-clause-moves c =
     moves_behind c.args.context.now.task c.args.standing.memory c.args.context.now.memory _ c.args.cells.now _ _
-    c.in_ok-finish-in-Of-Replies.ensures.moves c.requires.known.memory refl refl
-    (λ e. (c.in_ok-called.ensures.apart (subst IsApartIn (sym is) (takes_bytes c.in-Of-Replies.prepared.effect
-    (sym c.in_ok-finish-in-Of-Replies.ensures.told ∙ e)))).1) refl (record {
+    c.finish.ensures.moves c.requires.known.memory refl refl (λ e. absurd (cc (c.finish.ensures.told, e))) refl
+    (record {
       registers = λ other apart. refl;
       spaces = λ name apart.
           others_stay c.args.cells.now.spaces _ c.args.standing.memory name c.call.new.space refl apart;

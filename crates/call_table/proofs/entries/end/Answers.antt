@@ -1,7 +1,6 @@
 -- The end of a thread group is a step of the kernel.
-use Rattle.std.proofs.Common.{ap, sym, refl, ◌∙◌, subst, length}
+use Rattle.std.proofs.Common.{ap, sym, refl, ◌∙◌, length}
 use Rattle.task_table.specs.Ends.{ended_tasks, is_member}
-use Rattle.task_table.specs.Table.{TaskTable}
 use Rattle.kernel_model.specs.declared.kernel.Kernel.{Kernel}
 use Rattle.kernel_model.specs.declared.traps.Next.TheVariants.{Traps}
 use Rattle.kernel_model.specs.Names.{with_named}
@@ -14,7 +13,7 @@ use Rattle.call_table.proofs.Homes.{home_committed}
 use Rattle.call_table.proofs.Kept.{part_none}
 use Rattle.call_table.proofs.Moves.{lists_of, moves_done, others_stay}
 use Rattle.call_table.proofs.MovedParts.{Lists, lists_are}
-use Rattle.call_table.proofs.Results.{by_result, err_by}
+use Rattle.call_table.proofs.Results.{err_by}
 use Rattle.call_table.proofs.Steps.{calling_here, own_same, ready_next, step_end}
 use Rattle.call_table.proofs.entries.end.Goals as goal
 
@@ -35,12 +34,8 @@ invariant_of-cells-2 c =
     c.end_group.new.space p.at_home in
     record {
       at_home =
-          by_result c.commit.result c.commit.ensures.ok c.commit.ensures.err
-          (λ does. home_committed (EndsGroup c.in_ok-ending.ending) c.args.standing.group k c.commit.new.tasks
-          p.registers _ (ap (λ (m : Kernel). m.tasks) (does k refl refl refl refl)) home)
-          (λ same. subst (λ (t : TaskTable). AreAtHome t p.registers
-          (with_named p.spaces c.args.standing.memory.place c.args.standing.memory.index c.end_group.new.space))
-          (sym same) home);
+          home_committed (EndsGroup c.in_ok-ending.ending) c.args.standing.group k c.commit.new.tasks p.registers _
+          (ap (λ (m : Kernel). m.tasks) (c.commit.ensures k refl refl refl)) home;
     }
 
 pub returns-in_err-ending-clause-memory : goal.returns-in_err-ending-clause-memory
@@ -69,10 +64,9 @@ returns-clause-step c = λ beside n seed place.
       areas = m.areas;
       files = c.commit.new.files;
       sleepers = c.commit.new.sleepers;
-      console = c.commit.new.console;
     }) beside n c.requires.awake c.requires.traps
     (ends.done_is
-    ∙ c.in_ok-commit.ensures.ok m refl refl refl refl)
+    ∙ c.commit.ensures m refl refl refl)
 
 pub returns-clause-ready : goal.returns-clause-ready
 returns-clause-ready c = λ beside n.
@@ -92,8 +86,8 @@ returns-clause-moves c =
     in
     let after : Lists = record { tasks = c.commit.new.tasks; sleepers = c.commit.new.sleepers } in
     moves_done task c.args.standing.memory _ p _ effect group
-    (lists_are task group (lists_of p) effect after p.console c.commit.new.console p.files c.commit.new.files
-    (c.in_ok-commit.ensures.ok k refl refl refl refl)) tt
+    (lists_are task group (lists_of p) effect after p.console p.files c.commit.new.files
+    (c.commit.ensures k refl refl refl)) tt
     (c.in_ok-ending.ensures.ended ∙ ap (λ g. ended_tasks (is_member g) p.tasks.tasks) c.requires.known.group)
     c.requires.awake refl refl (λ e. absurd (cc e)) (λ e. absurd (cc e)) (record {
       registers = λ other apart. refl;

@@ -16,7 +16,7 @@ returns c = λ changes told.
     call_done c.args.kernel.now c.args.caller c.args.reply c.args.prepared.reply changes c.settle.new.kernel
     c.go_on.new.kernel
     ((Decides-int_eq c.args.reply c.args.prepared.reply).1 (sym (to_z-of_z c.ranges.reply)
-    ∙ ap (to_z w64) c.if-reply-prepared.false ∙ to_z-of_z fits)) (told ∙ sym c.in_ok-settle.ensures.ok)
+    ∙ ap (to_z w64) c.if-reply-prepared.false ∙ to_z-of_z fits)) (told ∙ sym c.settle.ensures.does)
     (c.go_on.ensures
     ∙ ap (λ v. put (OfTask c.args.caller.task) (Some (replied c.args.caller.registers v)) c.settle.new.kernel)
     (to_z-of_z fits))

@@ -1,7 +1,7 @@
 -- What has become of a call is done as its row says.
 use mir.Val.{SFits, to_z, of_z}
 use mir.Syntax.{w64}
-use Rattle.std.proofs.Common.{ap, ◌∙◌, rules}
+use Rattle.std.proofs.Common.{Ok, ap, ◌∙◌, rules}
 use Rattle.std.proofs.Math.Facts.{to_z-of_z}
 use Rattle.call_fs.specs.declared.called.Called.TheVariants.{Of}
 use Rattle.plain_kernel.proofs.CallLemmas.{finish_makes, finish_moves, finish_pipe, finish_replies}
@@ -10,7 +10,7 @@ use Rattle.plain_kernel.proofs.calls.finish.Goals as goal
 pub returns-in-Replies : goal.returns-in-Replies
 returns-in-Replies c =
     finish_replies c.args.kernel.now c.answer.new.kernel c.args.caller c.args.areas (to_z w64 (of_z w64 c.args.reply))
-    c.args.reply (to_z-of_z c.ranges.reply) c.answer.result c.args.called c.in-Replies.prepared
+    c.args.reply (to_z-of_z c.ranges.reply) (Ok c.answer.result) c.args.called c.in-Replies.prepared
     (c.in-Of.is ∙ ap Of c.in-Replies.is) c.answer.ensures
 
 pub returns-in-Makes : goal.returns-in-Makes

@@ -4,14 +4,13 @@ use Rattle.kernel_calls.specs.Memories.{with_memory}
 use Rattle.kernel_model.specs.declared.kernel.Kernel.{Kernel}
 use Rattle.plain_kernel.proofs.effects.settle.Goals as goal
 
-pub returns-clause-ok : goal.returns-clause-ok
-returns-clause-ok c =
+pub returns-clause-does : goal.returns-clause-does
+returns-clause-does c =
     let memory : Kernel = with_memory c.args.caller c.args.caller.space c.args.areas c.args.kernel.now in
     let after : Kernel = record memory {
       tasks = c.commit.new.tasks;
       sleepers = c.commit.new.sleepers;
-      console = c.commit.new.console;
       files = c.commit.new.files;
     } in
     ap (λ s. record after { spaces = s }) c.replace.ensures
-    ∙ sym (c.in_ok-commit.ensures.ok memory refl refl refl refl)
+    ∙ sym (c.commit.ensures memory refl refl refl)

@@ -21,4 +21,4 @@ returns c =
       tasks = refl;
       sleepers = refl;
       console = refl;
-    })).done_is ∙ sym c.in_ok-settle.ensures.ok)
+    })).done_is ∙ sym c.settle.ensures.does)
