@@ -14,13 +14,12 @@ use Rattle.kernel_calls.specs.declared.prepared.Ending.{Ending}
 abbrev pub kept : Kernel → TaskTable → FutexList → OpenFiles → Kernel
 kept k list waiting files = record k { tasks = list; sleepers = waiting; files = files }
 
-module _ (k : Kernel) (list : TaskTable) (waiting : FutexList) (files : OpenFiles)
-    (e : k.tasks ≡ list) (f : k.sleepers ≡ waiting) (h : k.files ≡ files) where
+module _ (k : Kernel) (list : TaskTable) (waiting : FutexList) (files : OpenFiles) (e : k.tasks ≡ list)
+    (f : k.sleepers ≡ waiting) (g : k.files ≡ files) where
   -- is one with those that it has, where they are these
   pub same_kernel : k ≡ kept k list waiting files
   same_kernel =
-      ap (λ t. kept k t k.sleepers k.files) e ∙ ap (λ w. kept k list w k.files) f
-      ∙ ap (λ o. kept k list waiting o) h
+      ap (λ t. kept k t k.sleepers k.files) e ∙ ap (λ w. kept k list w k.files) f ∙ ap (kept k list waiting) g
 
   -- and so where an effect changes some of them
   module _ (effect : Effect) (group : ℕ) (list' : TaskTable) (waiting' : FutexList) (files' : OpenFiles) where

@@ -96,8 +96,8 @@ pub record HasSpace (c : Caller) (k : Kernel) (own : AddressSpace) : Type 0 wher
   pub space : c.space ≡ own
   pub there : get_named k.spaces c.memory.place c.memory.index ≡ Some c.space
 
--- a row comes to what a call prepared that leaves memory as it is: the same reply, and its changes leave what the effect
--- does
+-- a row comes to what a call prepared that leaves memory as it is: the same reply, and its changes leave what the
+-- effect does
 -- syscall(2)
 pub record AnswersKept (row : Prog Answer) (p : Prepared) (group : ℕ) (k : Kernel) : Type 0 where
   pub changes : List Change

@@ -23,10 +23,10 @@ pub struct Ending {
     pub closes: Option<Made>,
 }
 
-/// What a call is to do beside its reply: nothing, or the caller's thread group ends, or a task does, or a task's clear
-/// word is at another address, or so many at most are woken who sleep on a word, or the ended child that the group waits
-/// for, the one of a number or any, is nobody's child any more, or what is open changes, for a caller of that descriptor
-/// table.
+/// What a call is to do beside its reply: nothing, or the caller's thread group ends, or a task does, or a task's
+/// clear word is at another address, or so many at most are woken who sleep on a word, or the ended child that the
+/// group waits for, the one of a number or any, is nobody's child any more, or what is open changes, for a caller of
+/// that descriptor table.
 #[derive(Debug, Drop)]
 pub enum Effect {
     Nothing,

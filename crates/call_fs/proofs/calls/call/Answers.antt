@@ -25,7 +25,8 @@ pub returns-in-Reads-clause-waits : goal.returns-in-Reads-clause-waits
 returns-in-Reads-clause-waits c =
     let a = c.args in
     IfOk-weaker c.reading.result _ _ (λ d waits caller k calling files.
-    waits_alike d caller.table (parts k) (λ of_row. read_row_by c.in-Reads.by a.args.now.a0 a.args.now.a1 a.args.now.a2 caller)
+    waits_alike d caller.table (parts k)
+    (λ of_row. read_row_by c.in-Reads.by a.args.now.a0 a.args.now.a1 a.args.now.a2 caller)
     (λ context. call_row context caller a.number a.args.now)
     (λ context. called_read context caller a.number a.args.now c.in-Reads.by c.in-Reads.ensures.asked)
     (waits caller k a.console (moving caller k a.context.now a.space.now a.areas.now a.tasks.now a.sleepers.now
@@ -46,7 +47,8 @@ pub returns-in-Writes-clause-waits : goal.returns-in-Writes-clause-waits
 returns-in-Writes-clause-waits c =
     let a = c.args in
     IfOk-weaker c.writing.result _ _ (λ d waits caller k calling files.
-    waits_alike d caller.table (parts k) (λ of_row. write_row_by c.in-Writes.by a.args.now.a0 a.args.now.a1 a.args.now.a2 caller)
+    waits_alike d caller.table (parts k)
+    (λ of_row. write_row_by c.in-Writes.by a.args.now.a0 a.args.now.a1 a.args.now.a2 caller)
     (λ context. call_row context caller a.number a.args.now)
     (λ context. called_write context caller a.number a.args.now c.in-Writes.by c.in-Writes.ensures.asked)
     (waits caller k (moving caller k a.context.now a.space.now a.areas.now a.tasks.now a.sleepers.now
