@@ -8,11 +8,13 @@
 //! Proved: `load` and `fetch` answer what the access comes to (`number`, `word`): the number of the bytes, the lowest
 //! first; the first that lacks the right, before any shared area is asked for; else the area of the first that lies in
 //! one which isn't handed in. `allowed`, `read`, `writable`, `store` and `write` are refused by the same rule (`room`),
-//! which changes nothing (`err`). `read` takes the bytes of a run, and `piece` lends those in a page; `store`, `write` and
-//! `write_two` leave bytes in their places, and end other tasks' reservations of their granules, in the address space
-//! and in the area (`ok`). Only `writable`, these and `reserve` may want memory, and no store after `writable` (`ready`,
-//! `lean`). `take` answers
-//! whether the task has the reservation of just that address and width, and in a shared area has it there too (`held`).
+//! which changes nothing (`err`). `read` takes the bytes of a run, and `piece` lends those in a page; `store` and
+//! `write` leave bytes in their places, and end other tasks' reservations of their granules, in the address space and
+//! in the area (`ok`), and so does `put_two`, of two runs (`put`). Only `writable`, these and `reserve` may want
+//! memory, and no store after `writable` (`ready`, `lean`); `put_two` wants none, since `own_run` goes before it, which
+//! makes the pages of a run their own and changes nothing that an access sees (`ready`, `still`, `same`). `take`
+//! answers whether the task has the reservation of just that address and width, and in a shared area has it there too
+//! (`held`).
 //! What is done by a hint is what the exact call does, or nothing (`near`, `done`, `unchanged`). `area_byte` answers
 //! which byte of a shared area lies at an address: a futex word is known by it. Decoded words are those of the page's
 //! bytes (`words`). `map`, `unmap`, `protect` and `brk` leave the mapping that mm_areas' definitions make of the old

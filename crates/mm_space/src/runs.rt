@@ -63,8 +63,8 @@ impl Space {
         Ok(())
     }
 
-    /// The bytes from an address on that lie in its page, so many at most, and 0 for each that may not be read. It takes
-    /// no memory: a run of bytes is so many of these, one behind another.
+    /// The bytes from an address on that lie in its page, so many at most, and 0 for each that may not be read. It
+    /// takes no memory: a run of bytes is so many of these, one behind another.
     pub fn piece<'a>(&'a self, handed: &'a Handed, at: u64, count: usize) -> &'a [u8]
         ensures bytes { result.now ≡ bytes_from (byte_at readable (reach self.now handed.now)) at (length result.now) }
         ensures within { length result.now ≤ count }

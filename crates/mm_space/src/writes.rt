@@ -51,49 +51,40 @@ impl Space {
         }
     }
 
-    /// The same, of two runs of bytes, the second behind the first.
-    pub fn write_two(
-        &mut self,
-        alloc: Global,
-        handed: &mut Handed,
-        task: u32,
-        at: u64,
-        first: &[u8],
-        second: &[u8],
-    ) -> Result<(), MemErr>
-        requires { length first.now + length second.now < 2 ^ 63 }
-        ensures room { AllowsAs (loaded (byte_at writable (reach self.old handed.old)) at
-            (length first.now + length second.now)) result }
-        ensures lean { is_ready self.old handed.old at (length first.now + length second.now) ≡ true →
-            result ≢ Err MemErr.Memory }
-        ensures ok { OnOk result (reach self.new handed.new ≡
-            after_run_stored task at (first.now ++ second.now) (reach self.old handed.old)) }
-        ensures err { OnErr result (reach self.new handed.new ≡ reach self.old handed.old) }
+    /// Puts two runs of bytes from an address on for a task, the second behind the first, into pages that have their
+    /// bytes for themselves. It ends other tasks' reservations of the granules that they meet, and takes no memory.
+    /// Whether each byte may be written isn't looked at: `allowed` answers that.
+    ///
+    /// readv(2): what a call puts into one of a guest's buffers.
+    pub fn put_two(&mut self, handed: &mut Handed, task: u32, at: u64, first: &[u8], second: &[u8])
+        requires fits { length first.now + length second.now < 2 ^ 63 }
+        requires ready { is_ready self.old handed.old at (length first.now + length second.now) ≡ true }
+        ensures put { reach self.new handed.new ≡
+            after_run_stored task at (first.now ++ second.now) (reach self.old handed.old) }
+        ensures ready { AreAsReady self.old self.new handed.old handed.new }
     {
+        self.put_both(handed, task, at, first, second);
         let count = first.len() + second.len();
-        self.allowed(handed, Rights::WRITE, at, count)?;
-        match self.own_run(alloc, handed, at, count) {
-            Ok(()) => {
-                self.put_two(handed, task, at, first, second);
-                self.reservations.stored_run(task, at, count as u64);
-                Ok(())
-            }
-            Err(_) => Err(MemErr::Memory),
-        }
+        self.reservations.stored_run(task, at, count as u64);
     }
 
     /// Puts two runs of bytes from an address on, whose pages have their bytes for themselves.
-    fn put_two(&mut self, handed: &mut Handed, task: u32, at: u64, first: &[u8], second: &[u8])
+    fn put_both(&mut self, handed: &mut Handed, task: u32, at: u64, first: &[u8], second: &[u8])
         requires { is_ready self.old handed.old at (length first.now + length second.now) ≡ true }
-        ensures { reach self.new handed.new ≡ put_run task at (first.now ++ second.now) (reach self.old handed.old) }
+        ensures put { reach self.new handed.new ≡
+            put_run task at (first.now ++ second.now) (reach self.old handed.old) }
+        ensures ready { AreAsReady self.old self.new handed.old handed.new }
     {
         self.put_run(handed, task, at, first);
         let behind = at.wrapping_add(first.len() as u64);
         self.put_run(handed, task, behind, second);
     }
 
-    /// Makes the bytes of the pages of so many bytes from an address on their own.
-    fn own_run(
+    /// Makes the bytes of the pages of so many bytes from an address on their own, so that bytes put there take no
+    /// memory. Nothing that an access sees changes, and an `Err` leaves some pages so that were not.
+    ///
+    /// fork(2), NOTES: copy-on-write pages.
+    pub fn own_run(
         &mut self,
         alloc: Global,
         handed: &mut Handed,
@@ -102,6 +93,8 @@ impl Space {
     ) -> Result<(), Memory>
         ensures same { reach self.new handed.new ≡ reach self.old handed.old }
         ensures ready { OnOk result (is_ready self.new handed.new at count ≡ true) }
+        ensures still { (other : ℕ) →
+            is_ready_at self.old handed.old other ≡ true → is_ready_at self.new handed.new other ≡ true }
         ensures lacking { OnErr result (is_ready self.old handed.old at count ≡ false) }
     {
         let mut done = 0;

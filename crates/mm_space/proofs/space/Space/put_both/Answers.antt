@@ -4,7 +4,7 @@ use Rattle.mm_space.specs.Spaces.{reach}
 use Rattle.mm_space.proofs.PageRuns.{put_split}
 use Rattle.mm_space.proofs.Readied.{ready_same}
 use Rattle.mm_space.proofs.ReadyRuns.{first_ready, rest_ready}
-use Rattle.mm_space.proofs.space.Space.put_two.Goals as goal
+use Rattle.mm_space.proofs.space.Space.put_both.Goals as goal
 
 pub put_run-requires : goal.put_run-requires
 put_run-requires c =
@@ -17,9 +17,12 @@ put_run-requires-2 c =
     ∙ rest_ready c.args.self.now c.args.handed.now c.args.at (length c.args.first.now) (length c.args.second.now)
     c.ranges.at.fits c.requires
 
-pub returns : goal.returns
-returns c =
+pub returns-clause-put : goal.returns-clause-put
+returns-clause-put c =
     c.put_run-2.ensures.put
     ∙ ap (put_run c.args.task ((c.args.at + length c.args.first.now) % 2 ^ 64) c.args.second.now) c.put_run.ensures.put
     ∙ sym (put_split c.args.task c.args.at c.args.first.now c.args.second.now
     (reach c.args.self.now c.args.handed.now) c.ranges.at.fits)
+
+pub returns-clause-ready : goal.returns-clause-ready
+returns-clause-ready c = λ address. c.put_run-2.ensures.ready address ∙ c.put_run.ensures.ready address
