@@ -108,7 +108,8 @@ changed_behind changes k other files are same leaves =
 abbrev pub AllOpen : Prog (List Change) → Type 0
 AllOpen piece = (s : Parts) → AreOpenParts (outcome_in s piece)
 
-pub followed_open : (first second : Prog (List Change)) → AllOpen first → AllOpen second → AllOpen (followed first second)
+pub followed_open : (first second : Prog (List Change)) → AllOpen first → AllOpen second
+    → AllOpen (followed first second)
 followed_open first second here there s =
     subst AreOpenParts
     (sym (outcome_followed s first second

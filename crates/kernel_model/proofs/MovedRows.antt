@@ -20,7 +20,6 @@ use Rattle.stat_layout.specs.IoVecs.{iovecs_in, total_of}
 use Rattle.stat_layout.specs.declared.iovec.IoVec.{IoVec}
 use Rattle.kernel_model.specs.declared.caller.Caller.{Caller}
 use Rattle.kernel_model.specs.declared.kernel.Part.TheVariants.{OfConsole, OfDescription, OfPipe, OfTable}
-use Rattle.kernel_model.specs.machine.Spaces.{reach_with}
 use Rattle.kernel_model.specs.calls.Answers.{Answer, refuses, replies}
 use Rattle.kernel_model.specs.calls.Callers.{Context}
 use Rattle.kernel_model.specs.calls.Lookups.{descriptor, if_may, opened_for, or_refuse, with_file, with_table}
@@ -80,9 +79,9 @@ module _ (s : Parts) where
   put_leaves : (c : Caller) (buffers : List IoVec) (bytes : List ℕ) (changes : List Change) → LeavesNodes changes
       → Leaves s (put_into c buffers bytes changes)
   put_leaves c buffers bytes changes none =
-      behind_leaves s (scattered c.task bytes buffers (reach_with c.space [])) _
+      behind_leaves s (scattered c.task c.space bytes buffers) _
       (moved_leaves c (length bytes) changes none
-      (outcome_in s (scattered c.task bytes buffers (reach_with c.space []))))
+      (outcome_in s (scattered c.task c.space bytes buffers)))
 
   from_pipe_leaves : (c : Caller) (nonblock : Bool) (buffers : List IoVec) (name : Made) (pipe : PipeState)
       → Leaves s (from_pipe c nonblock buffers name pipe)

@@ -41,7 +41,7 @@ pub use guest_area::GuestArea;
 pub use guest_space::GuestSpace;
 pub use kernel::{Kernel, Node, Numbered, Part};
 pub use laws::locality;
-pub use limits::{CONSOLE_ROOM, LAST_NUMBER, LONGEST_IMAGE, MOST_RANDOM, MOST_WRITTEN};
+pub use limits::{CONSOLE_ROOM, LAST_NUMBER, LONGEST_IMAGE, MOST_MOVED, MOST_RANDOM};
 pub use named::{Former, Named};
 pub use open_files::{OpenFile, OpenFiles};
 pub use opening::{Fresh, Given, Left, LeftRise, Opened, Opening, Rise};

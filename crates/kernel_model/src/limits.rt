@@ -9,8 +9,8 @@ pub const LONGEST_IMAGE: u64 = 67_108_864;
 /// The most bytes of the console: write(2), ENOSPC.
 pub const CONSOLE_ROOM: usize = 1_048_576;
 
-/// The most bytes that one write takes.
-pub const MOST_WRITTEN: u64 = 65_536;
+/// The most bytes that one read or write moves: profile.
+pub const MOST_MOVED: u64 = 65_536;
 
 /// The most bytes that one getrandom gives: getrandom(2), NOTES.
 pub const MOST_RANDOM: u64 = 256;

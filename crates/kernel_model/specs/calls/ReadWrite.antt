@@ -14,8 +14,7 @@ use Rattle.stat_layout.specs.IoVecs.{total_of}
 use Rattle.stat_layout.specs.declared.iovec.IoVec.{IoVec}
 use Rattle.kernel_model.specs.declared.caller.Caller.{Caller}
 use Rattle.kernel_model.specs.declared.kernel.Part.TheVariants.{OfConsole, OfPipe}
-use Rattle.kernel_model.specs.declared.limits.TheConstants.{CONSOLE_ROOM, MOST_WRITTEN}
-use Rattle.kernel_model.specs.machine.Spaces.{reach_with}
+use Rattle.kernel_model.specs.declared.limits.TheConstants.{CONSOLE_ROOM, MOST_MOVED}
 use Rattle.kernel_model.specs.calls.Answers.{Answer, not_ready, refuses, replies}
 use Rattle.kernel_model.specs.calls.Lookups.{opened_for, or_refuse}
 use Rattle.kernel_model.specs.calls.Vectors.{are_accessible, cut, gathered, one_buffer, scattered, with_buffers}
@@ -38,7 +37,7 @@ moved c count changes (Some reach) = replies (pos count) (changes ++ reach_chang
 
 abbrev pub put_into : Caller → List IoVec → List ℕ → List Change → Prog Answer
 put_into c buffers bytes changes =
-    scattered c.task bytes buffers (reach_with c.space []) >>= λ reach. done (moved c (length bytes) changes reach)
+    scattered c.task c.space bytes buffers >>= λ reach. done (moved c (length bytes) changes reach)
 
 -- a pipe's oldest bytes, as many as are there and fit; none where no write end is left
 -- pipe(7), I/O on pipes and FIFOs
@@ -70,7 +69,7 @@ reads_into c d buffers =
 
 abbrev pub reads : Caller → List IoVec → Description → Prog Answer
 reads c buffers d =
-    if total_of buffers == 0 then done (replies (pos 0) []) else reads_into c d (cut MOST_WRITTEN buffers)
+    if total_of buffers == 0 then done (replies (pos 0) []) else reads_into c d (cut MOST_MOVED buffers)
 
 -- ---- what is written
 
@@ -106,7 +105,7 @@ abbrev pub writes : Caller → List IoVec → Description → Prog Answer
 writes c buffers d =
     if total_of buffers == 0
     then done (replies (pos 0) [])
-    else gathered c.space (cut MOST_WRITTEN buffers)
+    else gathered c.space (cut MOST_MOVED buffers)
     >>= or_refuse EFAULT (λ bytes. writes_of d.nonblock bytes d.object)
 
 -- ---- the calls

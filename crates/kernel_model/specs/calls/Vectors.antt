@@ -1,8 +1,11 @@
 -- The buffers of a call: one, or several whose records lie in memory.
-use Rattle.std.specs.Prelude.{ℕ, ◌-◌, ◌*◌, ◌^◌, nat_lt, min, Bool, true, false, List, [], ◌∷◌, ◌++◌, take, drop}
-use Rattle.std.specs.Prelude.{Option, Some, None, option_map, is_some, if◌then◌else◌}
+use Rattle.std.specs.Prelude.{ℕ, ◌-◌, ◌*◌, ◌^◌, nat_lt, min, Bool, true, false, List, [], ◌∷◌, ◌++◌, length}
+use Rattle.std.specs.Prelude.{take, drop, Option, Some, None, option_map, is_some, if◌then◌else◌}
 use Rattle.sn_errno.specs.declared.errno.Errno.TheVariants.{EFAULT, EINVAL}
 use Rattle.mm_areas.specs.declared.rights.Rights.{Rights}
+use Rattle.mm_space.specs.Accesses.{writable}
+use Rattle.mm_space.specs.Handing.{InHand}
+use Rattle.mm_space.specs.Puts.{after_run_stored}
 use Rattle.mm_space.specs.Spaces.{AddressSpace, Reach}
 use Rattle.stat_layout.specs.IoVecs.{iovecs_in, total_of}
 use Rattle.stat_layout.specs.declared.iovec.IoVec.{IoVec}
@@ -10,8 +13,9 @@ use Rattle.stat_layout.specs.declared.iovec.TheConstants.{IOV_MAX}
 use Rattle.kernel_model.specs.declared.caller.Caller.{Caller}
 use Rattle.kernel_model.specs.calls.Answers.{Answer, refuses}
 use Rattle.kernel_model.specs.calls.Lookups.{or_refuse}
-use Rattle.kernel_model.specs.entries.Areas.{access_row, bytes_read, bytes_written_over}
+use Rattle.kernel_model.specs.entries.Areas.{access_row, access_tried, bytes_read, most_areas, tried_with}
 use Rattle.kernel_model.specs.entries.Parts.{Prog, done, ◌>>=◌}
+use Rattle.kernel_model.specs.machine.Spaces.{reach_with}
 
 -- ---- which they are
 
@@ -61,10 +65,28 @@ gathered space (b ∷ buffers) =
     bytes_read space b.base b.length
     >>= if_some (λ first. gathered space buffers >>= λ rest. done (option_map (λ bytes. first ++ bytes) rest))
 
+-- the shared areas that an access to each of them by a right needs, beside those in hand, or None where a byte may not
+-- be accessed so
+-- readv(2), EFAULT
+abbrev pub accessed : Rights → AddressSpace → List IoVec → List InHand → Prog (Option (List InHand))
+accessed right space [] hand = done (Some hand)
+accessed right space (b ∷ buffers) hand =
+    tried_with (access_tried right space b.base b.length) None most_areas hand
+    >>= if_some (accessed right space buffers)
+
 -- what is reached once a task has put bytes into them, each filled before the next
 -- readv(2), DESCRIPTION
-abbrev pub scattered : (task : ℕ) → List ℕ → List IoVec → Reach → Prog (Option Reach)
-scattered task bytes [] r = done (Some r)
-scattered task bytes (b ∷ buffers) r =
-    bytes_written_over task r.space r.hand b.base (take b.length bytes)
-    >>= if_some (scattered task (drop b.length bytes) buffers)
+abbrev pub filled : (task : ℕ) → List ℕ → List IoVec → Reach → Reach
+filled task bytes [] r = r
+filled task bytes (b ∷ buffers) r =
+    filled task (drop b.length bytes) buffers (after_run_stored task b.base (take b.length bytes) r)
+
+abbrev pub filled_with : (task : ℕ) → AddressSpace → List ℕ → List IoVec → List InHand → Reach
+filled_with task space bytes buffers hand = filled task bytes buffers (reach_with space hand)
+
+-- the same, where each byte of them that is put may be written
+-- readv(2), EFAULT
+abbrev pub scattered : (task : ℕ) → AddressSpace → List ℕ → List IoVec → Prog (Option Reach)
+scattered task space bytes buffers =
+    accessed writable space (cut (length bytes) buffers) []
+    >>= λ hand. done (option_map (filled_with task space bytes buffers) hand)
