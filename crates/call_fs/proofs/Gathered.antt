@@ -32,7 +32,7 @@ use Rattle.call_fs.specs.Records.{AppendedEach, SentEach, buffers_in}
 use Rattle.call_fs.specs.declared.vectors.Buffers.{Buffers}
 use Rattle.call_fs.specs.declared.vectors.Buffers.TheVariants.{One, Several}
 use Rattle.call_fs.proofs.Opened.{accessible_one}
-use Rattle.call_fs.proofs.Scattered.{of_first}
+use Rattle.kernel_calls.proofs.Scattered.{of_first}
 use Rattle.call_fs.proofs.Writing.{gathered_one}
 
 -- ---- which bytes they are

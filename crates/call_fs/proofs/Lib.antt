@@ -10,6 +10,5 @@ pub mod MadePipes
 pub mod Opened
 pub mod PipeWaits
 pub mod Reading
-pub mod Scattered
 pub mod Transferring
 pub mod Writing

@@ -58,7 +58,8 @@ granted s None = refl
 granted s (Some hand) = refl
 
 pub accessible_one : (s : Parts) (right : Rights) (space : AddressSpace) (b : IoVec)
-    → outcome_in s (are_accessible right space (b ∷ [])) ≡ is_some (outcome_in s (access_row right space b.base b.length))
+    → outcome_in s (are_accessible right space (b ∷ []))
+    ≡ is_some (outcome_in s (access_row right space b.base b.length))
 accessible_one s right space b =
     outcome-bind s (access_row right space b.base b.length)
     (λ hand. if is_some hand then are_accessible right space [] else done false)

@@ -26,9 +26,8 @@ use Rattle.kernel_model.specs.Names.{get_named}
 use Rattle.kernel_model.specs.declared.caller.Caller.{Caller}
 use Rattle.kernel_model.specs.declared.kernel.Kernel.{Kernel}
 use Rattle.kernel_model.specs.declared.kernel.Part.TheVariants.{OfArea, OfConsole, OfDescription, OfPipe, OfTable}
-use Rattle.kernel_model.specs.declared.limits.TheConstants.{CONSOLE_ROOM, MOST_WRITTEN}
+use Rattle.kernel_model.specs.declared.limits.TheConstants.{CONSOLE_ROOM, MOST_MOVED}
 use Rattle.kernel_model.specs.declared.open_files.OpenFile.{OpenFile}
-use Rattle.kernel_model.specs.machine.Spaces.{reach_with}
 use Rattle.kernel_model.specs.calls.Answers.{Answer, NotReady, Replies, not_ready, refuses, replies}
 use Rattle.kernel_model.specs.calls.Lookups.{descriptor, if_may, opened_for, or_refuse, with_file}
 use Rattle.kernel_model.specs.calls.ReadWrite.{from_pipe, is_awaited, moved, put_into, read_row, readv_row, reads}
@@ -124,8 +123,8 @@ module _ (c : Caller) (s those : Parts) (nonblock : Bool) where
     put_at_once : (bytes : List ℕ) (changes : List Change)
         → outcome_in s (put_into c buffers bytes changes) ≡ not_ready → ⊥
     put_at_once bytes changes e =
-        moved_at_once (length bytes) changes (outcome_in s (scattered c.task bytes buffers (reach_with c.space [])))
-        (sym (outcome-bind s (scattered c.task bytes buffers (reach_with c.space []))
+        moved_at_once (length bytes) changes (outcome_in s (scattered c.task c.space bytes buffers))
+        (sym (outcome-bind s (scattered c.task c.space bytes buffers)
         (λ reach. done (moved c (length bytes) changes reach))) ∙ e)
 
     if_awaited : (bytes : List ℕ) (changes : List Change) (awaited : Bool)
@@ -189,7 +188,7 @@ module _ (c : Caller) (s those : Parts) (nonblock : Bool) where
 
 module _ (c : Caller) (d : Description) (buffers : List IoVec) (s those : Parts) where
   abbrev first : List IoVec
-  first = cut MOST_WRITTEN buffers
+  first = cut MOST_MOVED buffers
 
   module _ (alike : outcome_in those (are_accessible writable c.space first)
       ≡ outcome_in s (are_accessible writable c.space first)) where
@@ -253,7 +252,7 @@ module _ (c : Caller) (d : Description) (buffers : List IoVec) (s those : Parts)
 module _ (s those : Parts) (space : AddressSpace) (b : IoVec) (areas : Bool)
     (same : areas ≡ true → (name : Area) → those (OfArea name) ≡ s (OfArea name)) where
   abbrev start : IoVec
-  start = record { base = b.base; length = min b.length MOST_WRITTEN }
+  start = record { base = b.base; length = min b.length MOST_MOVED }
 
   abbrev LooksNowhere : Rights → Type 0
   LooksNowhere right = areas ≡ false → (t : Parts) → uses t (access_row right space start.base start.length) ≡ []
@@ -290,7 +289,8 @@ module _ (s those : Parts) (space : AddressSpace) (same : (name : Area) → thos
 
   same_bytes : (at count : ℕ) → outcome_in those (bytes_read space at count) ≡ outcome_in s (bytes_read space at count)
   same_bytes at count =
-      outcome-bind those (access_row readable space at count) (λ hand. done (option_map (bytes_with space at count) hand))
+      outcome-bind those (access_row readable space at count)
+      (λ hand. done (option_map (bytes_with space at count) hand))
       ∙ ap (option_map (bytes_with space at count)) (same_access readable at count)
       ∙ sym (outcome-bind s (access_row readable space at count)
       (λ hand. done (option_map (bytes_with space at count) hand)))
@@ -311,7 +311,8 @@ module _ (s those : Parts) (space : AddressSpace) (same : (name : Area) → thos
   all_accessible right (b ∷ buffers) =
       outcome-bind those (access_row right space b.base b.length) (tested right buffers)
       ∙ ap (λ o. outcome_in those (tested right buffers o)) (same_access right b.base b.length)
-      ∙ tested_alike right buffers (all_accessible right buffers) (outcome_in s (access_row right space b.base b.length))
+      ∙ tested_alike right buffers (all_accessible right buffers)
+      (outcome_in s (access_row right space b.base b.length))
       ∙ sym (outcome-bind s (access_row right space b.base b.length) (tested right buffers))
 
   abbrev joined : List ℕ → Option (List ℕ) → Prog (Option (List ℕ))
@@ -339,7 +340,8 @@ module _ (s those : Parts) (space : AddressSpace) (same : (name : Area) → thos
       ∙ sym (outcome-bind s (bytes_read space b.base b.length) (if_some (behind_head buffers)))
 
   module _ (c : Caller) (is : space ≡ c.space) (at count : ℕ) (row : List IoVec → Prog Answer) (object : Object)
-      (awaits : (buffers : List IoVec) → outcome_in s (row buffers) ≡ not_ready → AwaitsPipe object s those (row buffers))
+      (awaits : (buffers : List IoVec) → outcome_in s (row buffers) ≡ not_ready
+      → AwaitsPipe object s those (row buffers))
     where
       abbrev records_of : Option (List ℕ) → Prog Answer
       records_of = or_refuse EFAULT (λ records. if_countable row (iovecs_in records))
@@ -444,7 +446,7 @@ module _ (c : Caller) (k : Kernel) (fd : ℕ) (awaited : Awaited)
 
     abbrev AsksNowhere : Rights → AddressSpace → Type 0
     AsksNowhere right space =
-        awaited.areas ≡ false → (t : Parts) → uses t (access_row right space buffer (min count MOST_WRITTEN)) ≡ []
+        awaited.areas ≡ false → (t : Parts) → uses t (access_row right space buffer (min count MOST_MOVED)) ≡ []
 
     read_waits : AsksNowhere writable own → outcome_in (parts k) (read_row fd buffer count c) ≡ not_ready
         → WaitsWith awaited c.table (parts k) (λ of_row. read_row fd buffer count c)
@@ -472,7 +474,7 @@ module _ (c : Caller) (k : Kernel) (fd : ℕ) (awaited : Awaited)
         (λ d. buffers_await (parts k) those c.space (agrees.areas all) c refl records count
         (λ buffers. reads c buffers d) d.object
         (λ buffers. reads_await c d buffers (parts k) those
-        (all_accessible (parts k) those c.space (agrees.areas all) writable (cut MOST_WRITTEN buffers)))) is
+        (all_accessible (parts k) those c.space (agrees.areas all) writable (cut MOST_MOVED buffers)))) is
         (subst (λ e. AgreesOnEnd e c.table (parts k) those) end agrees.end)
 
     writev_waits : outcome_in (parts k) (writev_row fd records count c) ≡ not_ready
@@ -482,7 +484,7 @@ module _ (c : Caller) (k : Kernel) (fd : ℕ) (awaited : Awaited)
         (λ d. buffers_await (parts k) those c.space (agrees.areas all) c refl records count
         (λ buffers. writes c buffers d) d.object
         (λ buffers. writes_await c d buffers (parts k) those
-        (all_gathered (parts k) those c.space (agrees.areas all) (cut MOST_WRITTEN buffers)))) is
+        (all_gathered (parts k) those c.space (agrees.areas all) (cut MOST_MOVED buffers)))) is
         (subst (λ e. AgreesOnEnd e c.table (parts k) those) end agrees.end)
 
   module _ (at count : ℕ) (own : AddressSpace) (same : own ≡ c.space) where

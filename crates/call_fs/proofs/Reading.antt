@@ -20,7 +20,6 @@ use Rattle.kernel_model.specs.declared.caller.Caller.{Caller}
 use Rattle.kernel_model.specs.declared.kernel.Kernel.{Kernel}
 use Rattle.kernel_model.specs.declared.kernel.Part.TheVariants.{OfPipe}
 use Rattle.kernel_model.specs.declared.open_files.OpenFiles.{OpenFiles}
-use Rattle.kernel_model.specs.machine.Spaces.{reach_with}
 use Rattle.kernel_model.specs.calls.Answers.{Answer, refuses, replies}
 use Rattle.kernel_model.specs.calls.Lookups.{or_refuse}
 use Rattle.kernel_model.specs.calls.ReadWrite.{from_pipe, moved, put_into, reads_into, reads_of}
@@ -59,7 +58,8 @@ into_by c k own d buffers allowed same is =
 -- ---- which pipe it is
 
 pub of_pipe : (c : Caller) (k : Kernel) (nonblock : Bool) (buffers : List IoVec) (object : Object) (name : Made)
-    (side : PipeSide) (pipe : Option PipeState) → object ≡ PipeEnd name side → get_named k.files.pipes name.place name.index ≡ pipe
+    (side : PipeSide) (pipe : Option PipeState) → object ≡ PipeEnd name side
+    → get_named k.files.pipes name.place name.index ≡ pipe
     → outcome_in (parts k) (reads_of c nonblock buffers object)
     ≡ outcome_in (parts k) (or_refuse EBADF (from_pipe c nonblock buffers name) pipe)
 of_pipe c k nonblock buffers object name side pipe is there =
@@ -73,7 +73,7 @@ module _ (c : Caller) (k : Kernel) (task : ℕ) (own space : AddressSpace) (shar
     (has : HasMemory c k own shared) (there : get_named k.files.pipes name.place name.index ≡ Some pipe)
     (all : count ≡ total_of buffers) (are : runs ≡ take count pipe.bytes) where
   abbrev reached : Option Reach
-  reached = outcome_in (parts k) (scattered task runs buffers (reach_with own []))
+  reached = outcome_in (parts k) (scattered task own runs buffers)
 
   abbrev taking : (count : ℕ) → List Change
   taking count = (OfPipe name, Some (after_read pipe count)) ∷ []
@@ -84,14 +84,14 @@ module _ (c : Caller) (k : Kernel) (task : ℕ) (own space : AddressSpace) (shar
   comes : outcome_in (parts k) (puts (total_of buffers)) ≡ moved c (length runs) (taking count) reached
   comes =
       ap (λ n. outcome_in (parts k) (puts n)) (sym all)
-      ∙ outcome-bind (parts k) (scattered c.task (take count pipe.bytes) buffers (reach_with c.space []))
+      ∙ outcome-bind (parts k) (scattered c.task c.space (take count pipe.bytes) buffers)
       (λ reach. done (moved c (length (take count pipe.bytes)) (taking count) reach))
       ∙ ap (λ t. moved c (length (take count pipe.bytes)) (taking count)
-      (outcome_in (parts k) (scattered t (take count pipe.bytes) buffers (reach_with c.space [])))) same
+      (outcome_in (parts k) (scattered t c.space (take count pipe.bytes) buffers))) same
       ∙ ap (λ s. moved c (length (take count pipe.bytes)) (taking count)
-      (outcome_in (parts k) (scattered task (take count pipe.bytes) buffers (reach_with s [])))) has.space
+      (outcome_in (parts k) (scattered task s (take count pipe.bytes) buffers))) has.space
       ∙ ap (λ bs. moved c (length bs) (taking count)
-      (outcome_in (parts k) (scattered task bs buffers (reach_with own [])))) (sym are)
+      (outcome_in (parts k) (scattered task own bs buffers))) (sym are)
 
   abbrev with_it : PipeState → OpenFiles
   with_it p = record k.files { pipes = with_named k.files.pipes name.place name.index p }

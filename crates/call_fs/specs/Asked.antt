@@ -7,7 +7,7 @@ use Rattle.kernel_calls.specs.declared.prepared.Prepared.{Prepared}
 use Rattle.kernel_model.specs.declared.caller.Caller.{Caller}
 use Rattle.kernel_model.specs.calls.Answers.{Answer}
 use Rattle.kernel_model.specs.calls.ReadWrite.{read_row, readv_row, write_row, writev_row}
-use Rattle.kernel_model.specs.declared.limits.TheConstants.{MOST_WRITTEN}
+use Rattle.kernel_model.specs.declared.limits.TheConstants.{MOST_MOVED}
 use Rattle.kernel_model.specs.entries.Areas.{access_row}
 use Rattle.kernel_model.specs.entries.Parts.{Parts, Prog, uses}
 use Rattle.mm_areas.specs.declared.rights.Rights.{Rights}
@@ -61,5 +61,5 @@ IfChanges asked.Others fact = ⊤
 -- read(2); readv(2); mmap(2), MAP_SHARED
 abbrev pub LooksNowhereElse : By → (told : Bool) → Rights → AddressSpace → (at count : ℕ) → Type 0
 LooksNowhereElse Buffer told right space at count =
-    told ≡ false → (s : Parts) → uses s (access_row right space at (min count MOST_WRITTEN)) ≡ []
+    told ≡ false → (s : Parts) → uses s (access_row right space at (min count MOST_MOVED)) ≡ []
 LooksNowhereElse Records told right space at count = told ≡ true

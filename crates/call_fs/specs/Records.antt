@@ -1,15 +1,11 @@
 -- The buffers of a call whose records lie in memory.
 use Rattle.std.specs.Prelude.{◌≡◌, ℕ, ◌≤◌, ◌^◌, ◌-◌, List, [], ◌∷◌, ◌++◌, take, Bool, true, false, Option, Some, None}
 use Rattle.pipe_core.specs.Pipes.{PipeState, after_write}
-use Rattle.mm_space.specs.Handing.{AreaState}
-use Rattle.mm_space.specs.Spaces.{AddressSpace, Reach}
 use Rattle.stat_layout.specs.IoVecs.{total_of}
 use Rattle.stat_layout.specs.declared.iovec.IoVec.{IoVec}
-use Rattle.kernel_model.specs.Names.{NamedMap}
 use Rattle.kernel_model.specs.declared.kernel.Kernel.{Kernel}
 use Rattle.kernel_model.specs.calls.Answers.{Answer, refuses}
 use Rattle.kernel_model.specs.entries.Parts.{Prog, outcome_in, parts}
-use Rattle.kernel_calls.specs.Lending.{with_hand}
 use Rattle.call_fs.specs.declared.vectors.Buffers.{Buffers}
 use Rattle.call_fs.specs.declared.vectors.Buffers.TheVariants.{One, Several}
 use Rattle.call_fs.specs.declared.vectors.Vectors.{Vectors}
@@ -32,21 +28,6 @@ IsCountable (Found buffers) = total_of buffers ≤ 2 ^ 63 - 1
 abbrev pub buffers_in : Buffers → List IoVec
 buffers_in (One buffer) = buffer ∷ []
 buffers_in (Several buffers) = buffers
-
--- ---- bytes that go into them
-
--- this address space and these areas are what is reached, with all areas as they were before
--- profile
-pub record IsReached (r : Reach) (all : NamedMap AreaState) (space : AddressSpace) (areas : NamedMap AreaState) : Type 0
-  where
-    pub space_is : space ≡ r.space
-    pub areas_are : areas ≡ with_hand r.hand all
-
--- bytes were put into buffers, so that this is reached, or one of them may not be written
--- readv(2), EFAULT
-abbrev pub Scattered : Option Reach → Bool → (all : NamedMap AreaState) → AddressSpace → NamedMap AreaState → Type 0
-Scattered None put all space areas = put ≡ false
-Scattered (Some r) put all space areas = (put ≡ true) × IsReached r all space areas
 
 -- ---- bytes that come from them
 

@@ -32,7 +32,6 @@ mod moving;
 mod pipes;
 mod prepared;
 mod reads;
-mod scattering;
 mod seek;
 mod transfers;
 mod vectors;

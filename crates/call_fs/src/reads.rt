@@ -1,6 +1,6 @@
 //! read, on pipes, the console and the empty input.
 
-ghost use Rattle.std.specs.Prelude.{◌≡◌, ◌≢◌, ℕ, ◌+◌, ◌≤◌, ◌∷◌, [], ◌++◌, Some, length, min, take, true, IfOk, OnErr};
+ghost use Rattle.std.specs.Prelude.{◌≡◌, ℕ, ◌+◌, ◌≤◌, ◌∷◌, [], Some, length, min, take, IfOk, OnErr};
 ghost use Rattle.std.specs.Prelude.{if◌then◌else◌};
 ghost use Rattle.sn_errno.specs.declared.errno.Errno.TheVariants.{EBADF};
 ghost use Rattle.fd_table.specs.Flags.{may_read};
@@ -20,12 +20,11 @@ ghost use Rattle.call_fs.specs.Called.{IsApartBy};
 ghost use Rattle.call_fs.specs.Transfers.{HasMemory, IsMoving, IsSure, Moves};
 
 use crate::lookups::open_file;
-use crate::scattering::{front, scatter};
 use crate::transfers::{Transfer, Transferred, denied, told, waits};
 use crate::vectors::are_accessible;
 use fd_table::{Description, Object};
-use kernel_calls::Context;
-use kernel_model::{GuestArea, GuestSpace, MOST_WRITTEN, Named, OpenFiles};
+use kernel_calls::{Context, front, scatter};
+use kernel_model::{GuestArea, GuestSpace, MOST_MOVED, Named, OpenFiles};
 use mm_areas::Rights;
 use pipe_core::Pipe;
 use sn_base::{Made, Memory};
@@ -135,12 +134,12 @@ fn reads(
 
 /// The first bytes of a buffer, as many as one call moves.
 pub(crate) fn cut(buffer: IoVec) -> IoVec
-    ensures cut { result ∷ [] ≡ cut MOST_WRITTEN (buffer ∷ []) }
-    ensures within { result.length ≤ MOST_WRITTEN }
+    ensures cut { result ∷ [] ≡ cut MOST_MOVED (buffer ∷ []) }
+    ensures within { result.length ≤ MOST_MOVED }
 {
     IoVec {
         base: buffer.base,
-        length: buffer.length.min(MOST_WRITTEN),
+        length: buffer.length.min(MOST_MOVED),
     }
 }
 
@@ -155,7 +154,7 @@ pub(crate) fn reads_into(
     areas: &mut Named<GuestArea>,
     files: &OpenFiles,
 ) -> Result<Transferred, Memory>
-    requires few { count ≤ MOST_WRITTEN }
+    requires few { count ≤ MOST_MOVED }
     requires all { count ≡ total_of buffers.now }
     ensures row { IfOk result (λ t. (c : ACaller) (k : AKernel) (console : ℕ) →
         IsMoving c k context.now space.old areas.old files.now console →
@@ -191,7 +190,7 @@ fn reads_of(
     areas: &mut Named<GuestArea>,
     files: &OpenFiles,
 ) -> Result<Transferred, Memory>
-    requires few { count ≤ MOST_WRITTEN }
+    requires few { count ≤ MOST_MOVED }
     requires all { count ≡ total_of buffers.now }
     ensures row { IfOk result (λ t. (c : ACaller) (k : AKernel) (console : ℕ) →
         IsMoving c k context.now space.old areas.old files.now console →
@@ -233,7 +232,7 @@ fn from_pipe(
     space: &mut GuestSpace,
     areas: &mut Named<GuestArea>,
 ) -> Result<Transferred, Memory>
-    requires few { count ≤ MOST_WRITTEN }
+    requires few { count ≤ MOST_MOVED }
     requires all { count ≡ total_of buffers.now }
     ensures row { IfOk result (λ t. (c : ACaller) (k : AKernel) → c.task ≡ context.now.task →
         HasMemory c k space.old areas.old → get_named k.files.pipes name.place name.index ≡ Some pipe.now →
@@ -267,7 +266,7 @@ fn take_from(
     space: &mut GuestSpace,
     areas: &mut Named<GuestArea>,
 ) -> Result<Transferred, Memory>
-    requires few { count ≤ MOST_WRITTEN }
+    requires few { count ≤ MOST_MOVED }
     requires all { count ≡ total_of buffers.now }
     ensures row { IfOk result (λ t. (c : ACaller) (k : AKernel) → c.task ≡ context.now.task →
         HasMemory c k space.old areas.old → get_named k.files.pipes name.place name.index ≡ Some pipe.now →

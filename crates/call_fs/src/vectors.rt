@@ -16,7 +16,7 @@ ghost use Rattle.call_fs.specs.Records.{GoesOn, IsCountable, buffers_in};
 ghost use Rattle.call_fs.specs.Transfers.{HasMemory};
 
 use kernel_calls::{is_accessible, read};
-use kernel_model::{GuestArea, GuestSpace, MOST_WRITTEN, Named};
+use kernel_model::{GuestArea, GuestSpace, MOST_MOVED, Named};
 use mm_areas::Rights;
 use sn_base::{List, Memory};
 use sn_errno::Errno;
@@ -89,10 +89,10 @@ pub(crate) fn bytes_of(buffers: &[IoVec]) -> u64
 
 /// The first bytes of buffers, as many as one call moves.
 pub(crate) fn cut_all(alloc: Global, buffers: &[IoVec]) -> Result<List<IoVec>, Memory>
-    ensures { IfOk result (λ first. first ≡ cut MOST_WRITTEN buffers.now) }
+    ensures { IfOk result (λ first. first ≡ cut MOST_MOVED buffers.now) }
 {
     let mut first = List::with_capacity(alloc, buffers.len())?;
-    let mut left = MOST_WRITTEN;
+    let mut left = MOST_MOVED;
     for buffer in buffers {
         first.push(IoVec {
             base: buffer.base,

@@ -19,7 +19,7 @@ use crate::transfers::{Transferred, denied, told};
 use crate::vectors::{Vectors, buffers_at, bytes_of, cut_all};
 use fd_table::Description;
 use kernel_calls::Context;
-use kernel_model::{GuestArea, GuestSpace, MOST_WRITTEN, Named, OpenFiles};
+use kernel_model::{GuestArea, GuestSpace, MOST_MOVED, Named, OpenFiles};
 use sn_base::Memory;
 use sn_errno::Errno;
 use stat_layout::IoVec;
@@ -159,7 +159,7 @@ fn reads_all(
             context,
             description,
             first.as_slice(),
-            count.min(MOST_WRITTEN),
+            count.min(MOST_MOVED),
             space,
             areas,
             files,

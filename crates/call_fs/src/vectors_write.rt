@@ -1,6 +1,6 @@
 //! writev, on pipes, the console and the empty input.
 
-ghost use Rattle.std.specs.Prelude.{◌≡◌, ℕ, ◌^◌, ◌-◌, ◌≤◌, length, IfOk, if◌then◌else◌};
+ghost use Rattle.std.specs.Prelude.{◌≡◌, ◌^◌, ◌-◌, ◌≤◌, length, IfOk, if◌then◌else◌};
 ghost use Rattle.sn_errno.specs.declared.errno.Errno.TheVariants.{EBADF};
 ghost use Rattle.fd_table.specs.Flags.{may_write};
 ghost use Rattle.stat_layout.specs.IoVecs.{total_of};
@@ -18,7 +18,7 @@ use crate::vectors::{Buffers, Vectors, buffers_at, bytes_of, cut_all};
 use crate::writes::writes_from;
 use fd_table::Description;
 use kernel_calls::Context;
-use kernel_model::{GuestArea, GuestSpace, MOST_WRITTEN, Named, OpenFiles};
+use kernel_model::{GuestArea, GuestSpace, MOST_MOVED, Named, OpenFiles};
 use sn_base::Memory;
 use sn_errno::Errno;
 use stat_layout::IoVec;
@@ -154,7 +154,7 @@ fn writes_all(
             alloc,
             description,
             Buffers::Several(first),
-            count.min(MOST_WRITTEN),
+            count.min(MOST_MOVED),
             space,
             areas,
             files,

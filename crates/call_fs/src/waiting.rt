@@ -9,7 +9,7 @@ ghost use Rattle.call_fs.specs.Looked.{end_by, end_in};
 use crate::lookups::{descriptor, file_of};
 use fd_table::Object;
 use kernel_calls::{Awaited, UsedEnd, asks_for_area};
-use kernel_model::{GuestSpace, MOST_WRITTEN, OpenFiles};
+use kernel_model::{GuestSpace, MOST_MOVED, OpenFiles};
 use mm_areas::Rights;
 use sn_base::Made;
 use std::alloc::Global;
@@ -28,9 +28,9 @@ pub(crate) fn awaited_by(
 ) -> Awaited
     ensures end { result.end ≡ end_in files.now table (descriptor fd) }
     ensures areas { result.areas ≡ false → (s : Parts) →
-        uses s (access_row right space.now buffer (min count MOST_WRITTEN)) ≡ [] }
+        uses s (access_row right space.now buffer (min count MOST_MOVED)) ≡ [] }
 {
-    let most = count.min(MOST_WRITTEN);
+    let most = count.min(MOST_MOVED);
     Awaited {
         end: used_end(table, fd, files),
         areas: asks_for_area(alloc, space, right, buffer, most),

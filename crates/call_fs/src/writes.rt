@@ -25,7 +25,7 @@ use crate::transfers::{Transfer, Transferred, denied, told, waits};
 use crate::vectors::{Buffers, may_be_read};
 use fd_table::{Description, Object};
 use kernel_calls::Context;
-use kernel_model::{CONSOLE_ROOM, GuestArea, GuestSpace, MOST_WRITTEN, Named, OpenFiles};
+use kernel_model::{CONSOLE_ROOM, GuestArea, GuestSpace, MOST_MOVED, Named, OpenFiles};
 use pipe_core::{ATOMIC, CAPACITY, Pipe};
 use sn_base::{Made, Memory};
 use sn_errno::Errno;
@@ -141,7 +141,7 @@ pub(crate) fn writes_from(
     files: &OpenFiles,
     console: usize,
 ) -> Result<Transferred, Memory>
-    requires few { count ≤ MOST_WRITTEN }
+    requires few { count ≤ MOST_MOVED }
     requires all { count ≡ total_of (buffers_in from) }
     ensures row { IfOk result (λ t. (c : ACaller) (k : AKernel) → HasMemory c k space.now areas.old →
         k.files ≡ files.now → length k.console ≡ console →
@@ -164,7 +164,7 @@ fn writes_of(
     files: &OpenFiles,
     console: usize,
 ) -> Transferred
-    requires few { count ≤ MOST_WRITTEN }
+    requires few { count ≤ MOST_MOVED }
     requires all { count ≡ total_of (buffers_in from) }
     ensures row { (c : ACaller) (k : AKernel) (own : AddressSpace) (shared : NamedMap AreaState) (bytes : List ℕ) →
         HasMemory c k own shared → k.files ≡ files.now → length k.console ≡ console →
@@ -185,7 +185,7 @@ fn writes_of(
 
 /// A write to a pipe.
 fn to_pipe(nonblock: bool, from: Buffers, count: u64, name: Made, pipe: &Pipe) -> Transferred
-    requires few { count ≤ MOST_WRITTEN }
+    requires few { count ≤ MOST_MOVED }
     requires all { count ≡ total_of (buffers_in from) }
     ensures row { (c : ACaller) (k : AKernel) (own : AddressSpace) (shared : NamedMap AreaState) (bytes : List ℕ) →
         HasMemory c k own shared → get_named k.files.pipes name.place name.index ≡ Some pipe.now →
@@ -213,7 +213,7 @@ fn room_wanted(count: u64) -> u64
 
 /// As many bytes of buffers as there is room for go into a pipe.
 fn puts(from: Buffers, count: u64, name: Made, room: u64, pipe: &Pipe) -> Transferred
-    requires few { count ≤ MOST_WRITTEN }
+    requires few { count ≤ MOST_MOVED }
     requires all { count ≡ total_of (buffers_in from) }
     requires room { room ≡ room_in pipe.now }
     requires within { length pipe.now.bytes ≤ CAPACITY }
@@ -238,7 +238,7 @@ fn puts(from: Buffers, count: u64, name: Made, room: u64, pipe: &Pipe) -> Transf
 
 /// A write to the console, by how many bytes that has.
 fn to_console(from: Buffers, count: u64, console: usize) -> Transferred
-    requires few { count ≤ MOST_WRITTEN }
+    requires few { count ≤ MOST_MOVED }
     requires all { count ≡ total_of (buffers_in from) }
     ensures row { (c : ACaller) (k : AKernel) (own : AddressSpace) (shared : NamedMap AreaState) (bytes : List ℕ) →
         HasMemory c k own shared → length k.console ≡ console → IsGathered (buffers_in from) own k bytes →
@@ -254,7 +254,7 @@ fn to_console(from: Buffers, count: u64, console: usize) -> Transferred
 
 /// The console gets the bytes of buffers.
 fn appends(from: Buffers, count: u64) -> Transferred
-    requires few { count ≤ MOST_WRITTEN }
+    requires few { count ≤ MOST_MOVED }
     requires all { count ≡ total_of (buffers_in from) }
     ensures row { (c : ACaller) (k : AKernel) (own : AddressSpace) (shared : NamedMap AreaState) (bytes : List ℕ) →
         HasMemory c k own shared → IsGathered (buffers_in from) own k bytes →

@@ -67,7 +67,8 @@ word_unasked task asked space areas at number is = record {
 -- a word that was set is the same for equal data
 pub sets_same : {task : ℕ} {asked due : Bool} {space own space' : AddressSpace}
     {areas shared areas' : NamedMap AreaState} {at number : ℕ} {set told : Bool}
-    → SetsWord task asked space space' areas areas' at number set → asked ≡ due → space ≡ own → areas ≡ shared → set ≡ told
+    → SetsWord task asked space space' areas areas' at number set → asked ≡ due → space ≡ own → areas ≡ shared
+    → set ≡ told
     → SetsWord task due own space' shared areas' at number told
 sets_same {task} {asked} {due} {space} {own} {space'} {areas} {shared} {areas'} {at} {number} {set} {told} sets is
     there lies so =

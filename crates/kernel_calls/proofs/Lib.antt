@@ -18,6 +18,7 @@ pub mod Overlays
 pub mod RandomRows
 pub mod RandomWords
 pub mod Runs
+pub mod Scattered
 pub mod Sendings
 pub mod SteppedLaws
 pub mod Strings

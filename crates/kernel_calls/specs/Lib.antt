@@ -7,5 +7,6 @@ pub mod Families
 pub mod Lending
 pub mod Memories
 pub mod Prepared
+pub mod Scattering
 pub mod Sending
 pub mod Trying

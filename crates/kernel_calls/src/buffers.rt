@@ -1,15 +1,14 @@
 //! Guests' buffers, which may lie in shared areas: these are handed in as they are asked for.
 
-ghost use Rattle.std.specs.Prelude.{◌≡◌, ℕ, ◌+◌, ◌^◌, ◌<◌, false, [], ◌++◌, length, is_some, IfOk, IfSome, OnErr};
-ghost use Rattle.std.specs.Bool.{OnTrue, OnFalse};
+ghost use Rattle.std.specs.Prelude.{◌≡◌, ℕ, false, [], length, is_some, IfOk, IfSome, OnErr};
+ghost use Rattle.std.specs.Bool.{OnTrue};
 ghost use Rattle.futex_core.specs.FutexLists.{FutexList};
 ghost use Rattle.task_table.specs.Table.{TaskTable};
-ghost use Rattle.mm_space.specs.Accesses.{readable, writable};
 ghost use Rattle.mm_space.specs.Handing.{hand_of};
 ghost use Rattle.kernel_model.specs.declared.caller.Caller.{Caller as ACaller};
 ghost use Rattle.kernel_model.specs.declared.kernel.Kernel.{Kernel as AKernel};
 ghost use Rattle.kernel_model.specs.calls.Buffers.{fills};
-ghost use Rattle.kernel_model.specs.entries.Areas.{access_row, bytes_read, bytes_with, bytes_written};
+ghost use Rattle.kernel_model.specs.entries.Areas.{access_row, bytes_read, bytes_written};
 ghost use Rattle.kernel_model.specs.entries.Parts.{Parts, outcome_in, uses};
 ghost use Rattle.kernel_calls.specs.Lending.{AreThere, AreThose, with_hand};
 ghost use Rattle.kernel_calls.specs.Prepared.{Answers, IsCalling};
@@ -164,71 +163,6 @@ fn write_with(
         return Ok(false);
     }
     match space.space.write(alloc, handed, task, at, bytes) {
-        Ok(()) => Ok(true),
-        Err(MemErr::Memory) => Err(Memory),
-        Err(_) => unreachable!(),
-    }
-}
-
-/// The same, of two runs of bytes, the second behind the first.
-pub fn write_two(
-    alloc: Global,
-    task: u32,
-    space: &mut GuestSpace,
-    areas: &mut Named<GuestArea>,
-    at: u64,
-    first: &[u8],
-    second: &[u8],
-) -> Result<bool, Memory>
-    requires { length first.now + length second.now < 2 ^ 63 }
-    ensures wrote { IfOk result (λ b. (s : Parts) → AreThose s areas.old →
-        Wrote (outcome_in s (bytes_written task space.old at (first.now ++ second.now))) b space.old space.new
-        areas.old areas.new) }
-    ensures err { OnErr result ((space.new ≡ space.old) × (areas.new ≡ areas.old)) }
-{
-    let mut handed = Handed::none(alloc);
-    let wrote = write_two_with(alloc, task, space, areas, &mut handed, at, first, second);
-    take_back(areas, &mut handed);
-    wrote
-}
-
-/// The same, with the areas left in hand that were asked for.
-fn write_two_with(
-    alloc: Global,
-    task: u32,
-    space: &mut GuestSpace,
-    areas: &mut Named<GuestArea>,
-    handed: &mut Handed,
-    at: u64,
-    first: &[u8],
-    second: &[u8],
-) -> Result<bool, Memory>
-    requires none { hand_of handed.old ≡ [] }
-    requires fits { length first.now + length second.now < 2 ^ 63 }
-    ensures wrote { IfOk result (λ b. (s : Parts) → AreThose s areas.old →
-        Wrote (outcome_in s (bytes_written task space.old at (first.now ++ second.now))) b space.old space.new
-        areas.old (with_hand (hand_of handed.new) areas.new)) }
-    ensures there { AreThere (hand_of handed.new) areas.new }
-    ensures err { OnErr result
-        ((space.new ≡ space.old) × (with_hand (hand_of handed.new) areas.new ≡ areas.old)) }
-{
-    let count = (first.len() + second.len()) as u64;
-    if !access(
-        alloc,
-        space,
-        areas,
-        handed,
-        Rights::WRITE,
-        at,
-        count,
-        MOST_AREAS,
-    )? {
-        return Ok(false);
-    }
-    match space
-        .space
-        .write_two(alloc, handed, task, at, first, second)
-    {
         Ok(()) => Ok(true),
         Err(MemErr::Memory) => Err(Memory),
         Err(_) => unreachable!(),

@@ -1,9 +1,10 @@
 //! Bytes that go into guests' buffers and from there into pipes: which of them may be accessed, and by which areas.
 
-use kernel_calls::{asks_for_area, is_accessible, read, send, write_two};
+use kernel_calls::{asks_for_area, is_accessible, read, scatter, send};
 use kernel_calls_acts::{Act, Guest, HEAP, MAPPINGS_END, PRIVATE, SHARED, new_guest};
 use mm_areas::Rights;
 use pipe_core::{CAPACITY, Pipe};
+use stat_layout::IoVec;
 use std::alloc::Global;
 use std::test::Fail;
 
@@ -98,18 +99,39 @@ fn bytes_are_accessed_by_the_rights_of_their_pages(rt: HostRuntime) -> Result<()
     Ok(())
 }
 
-/// Puts three bytes and two behind them, and answers whether it has.
-fn puts(guest: &mut Guest, at: u64) -> Result<bool, Fail> {
-    let wrote = write_two(
+/// Puts three bytes and two behind them into buffers, and answers whether it has.
+fn puts(guest: &mut Guest, buffers: &[IoVec]) -> Result<bool, Fail> {
+    let put = scatter(
         guest.alloc,
         1,
         &mut guest.space,
         &mut guest.areas,
-        at,
+        buffers,
         &[1, 2, 3],
         &[4, 5],
     )?;
-    Ok(wrote)
+    Ok(put)
+}
+
+/// Puts them into one buffer.
+fn puts_at(guest: &mut Guest, base: u64) -> Result<bool, Fail> {
+    puts(guest, &[IoVec { base, length: 5 }])
+}
+
+/// Puts them into three, of which the second has no byte and the third one too many.
+fn puts_apart(guest: &mut Guest, first: u64, last: u64) -> Result<bool, Fail> {
+    let buffers = [
+        IoVec {
+            base: first,
+            length: 4,
+        },
+        IoVec { base: 0, length: 0 },
+        IoVec {
+            base: last,
+            length: 2,
+        },
+    ];
+    puts(guest, &buffers)
 }
 
 /// Whether there are these bytes at an address.
@@ -126,8 +148,10 @@ fn has(guest: &mut Guest, at: u64, bytes: &[u8]) -> Result<bool, Fail> {
 
 /// Whether two runs of bytes are put as one, over the ends of pages and up to the last byte of one, or not at all.
 fn are_put(guest: &mut Guest) -> Result<bool, Fail> {
-    let put = puts(guest, HEAP + 4_094)? && puts(guest, UPPER + 4_091)?;
-    let refused = !puts(guest, UPPER - 1)? && !puts(guest, UPPER + 4_092)? && !puts(guest, LOWER)?;
+    let put = puts_at(guest, HEAP + 4_094)? && puts_at(guest, UPPER + 4_091)?;
+    let refused = !puts_at(guest, UPPER - 1)?
+        && !puts_at(guest, UPPER + 4_092)?
+        && !puts_at(guest, LOWER)?;
     let private = has(guest, HEAP + 4_093, &[0, 1, 2, 3, 4, 5, 0])?;
     let shared = has(guest, UPPER + 4_090, &[0, 1, 2, 3, 4, 5])?;
     let kept = has(guest, UPPER - 1, &[0, 0, 0])?;
@@ -138,6 +162,25 @@ fn are_put(guest: &mut Guest) -> Result<bool, Fail> {
 fn two_runs_of_bytes_are_put_as_one_or_not_at_all(rt: HostRuntime) -> Result<(), Fail> {
     let mut guest = begun(rt.alloc())?;
     let put = are_put(&mut guest)?;
+    assert!(rt; put);
+    Ok(())
+}
+
+/// Whether five bytes go into buffers of private and of shared memory, each filled before the next, and none where the
+/// last buffer has a byte that may not be written.
+fn are_put_apart(guest: &mut Guest) -> Result<bool, Fail> {
+    let put = puts_apart(guest, HEAP + 4_094, UPPER + 4_095)?;
+    let refused = !puts_apart(guest, HEAP, LOWER)? && !puts_apart(guest, UPPER, 0)?;
+    let first = has(guest, HEAP + 4_093, &[0, 1, 2, 3, 4, 0])?;
+    let last = has(guest, UPPER + 4_094, &[0, 5])?;
+    let kept = has(guest, HEAP, &[0, 0])? && has(guest, UPPER, &[0, 0])?;
+    Ok(put && refused && first && last && kept)
+}
+
+#[test]
+fn several_buffers_are_filled_in_turn_or_not_at_all(rt: HostRuntime) -> Result<(), Fail> {
+    let mut guest = begun(rt.alloc())?;
+    let put = are_put_apart(&mut guest)?;
     assert!(rt; put);
     Ok(())
 }
@@ -167,7 +210,7 @@ fn sends(
 
 /// Whether the first bytes of buffers are taken, one behind another, where each byte of them may be read.
 fn are_sent(guest: &mut Guest, pipe: &mut Pipe) -> Result<bool, Fail> {
-    let put = puts(guest, HEAP + 4_094)? && puts(guest, UPPER)?;
+    let put = puts_at(guest, HEAP + 4_094)? && puts_at(guest, UPPER)?;
     let sent = sends(guest, HEAP + 4_094, 7, 4, pipe)? && sends(guest, UPPER - 1, 8, 8, pipe)?;
     let none = sends(guest, UPPER, 4_096, 0, pipe)?;
     let refused = !sends(guest, UPPER + 4_095, 2, 1, pipe)? && !sends(guest, 0, 1, 0, pipe)?;

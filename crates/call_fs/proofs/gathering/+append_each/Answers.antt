@@ -5,7 +5,8 @@ use Rattle.kernel_calls.proofs.Tries.{those_same}
 use Rattle.call_fs.proofs.Gathered.{append_goes, append_stops, begins_with}
 use Rattle.call_fs.proofs.gathering.+append_each.Goals as goal
 
-pub returns-in_ok-extend_from_slice-in-Some-clause-appended : goal.returns-in_ok-extend_from_slice-in-Some-clause-appended
+pub returns-in_ok-extend_from_slice-in-Some-clause-appended
+    : goal.returns-in_ok-extend_from_slice-in-Some-clause-appended
 returns-in_ok-extend_from_slice-in-Some-clause-appended t c =
     let a = c.args in
     let same : c.in-Some.bytes ≡ c.as_slice.result.now = search rules in

@@ -16,8 +16,8 @@ pub returns-in-Replies-clause-row : goal.returns-in-Replies-clause-row
 returns-in-Replies-clause-row c caller k console moving =
     let a = c.args in
     let told : to_z w64 (of_z w64 c.in-Replies.reply) ≡ c.in-Replies.reply = search rules in
-    subst (λ r. AnswersTransfer (read_row_by a.by a.fd a.at a.count caller) r c.in-Replies.transfer caller k c.read_by.new.space
-    c.read_by.new.areas) (sym told)
+    subst (λ r. AnswersTransfer (read_row_by a.by a.fd a.at a.count caller) r c.in-Replies.transfer caller k
+    c.read_by.new.space c.read_by.new.areas) (sym told)
     (subst (λ t. Moves (read_row_by a.by a.fd a.at a.count caller) t caller k c.read_by.new.space c.read_by.new.areas)
     c.in-Replies.is (c.in_ok-reply.ensures.row caller k console moving))
 
@@ -34,16 +34,19 @@ returns-in-Waits-clause-apart c waits = c.in_ok-reply.ensures.apart (subst IsApa
 pub returns-in-Waits-clause-row : goal.returns-in-Waits-clause-row
 returns-in-Waits-clause-row c caller k console moving =
     let a = c.args in
-    (subst (λ t. Moves (read_row_by a.by a.fd a.at a.count caller) t caller k c.read_by.new.space c.read_by.new.areas) c.in-Waits.is
+    (subst (λ t. Moves (read_row_by a.by a.fd a.at a.count caller) t caller k c.read_by.new.space
+    c.read_by.new.areas) c.in-Waits.is
     (c.in_ok-reply.ensures.row caller k console moving)).0
 
 pub returns-in-Waits-clause-waits : goal.returns-in-Waits-clause-waits
 returns-in-Waits-clause-waits c caller k console moving =
     let a = c.args in
-    let waits = subst (λ t. Moves (read_row_by a.by a.fd a.at a.count caller) t caller k c.read_by.new.space c.read_by.new.areas)
+    let waits = subst (λ t. Moves (read_row_by a.by a.fd a.at a.count caller) t caller k c.read_by.new.space
+    c.read_by.new.areas)
     c.in-Waits.is (c.in_ok-reply.ensures.row caller k console moving) in
     reading_waits caller k a.fd c.used_by-used.result
     (c.used_by-used.ensures.end
     ∙ ap (λ (f : OpenFiles). end_in f a.context.now.table (descriptor a.fd)) (sym moving.files)
-    ∙ ap (λ (n : Made). end_in k.files n (descriptor a.fd)) (sym moving.table)) a.at a.count c.read_by.new.space waits.1 a.by
+    ∙ ap (λ (n : Made). end_in k.files n (descriptor a.fd)) (sym moving.table)) a.at a.count c.read_by.new.space
+    waits.1 a.by
     c.used_by-used.ensures.areas waits.0

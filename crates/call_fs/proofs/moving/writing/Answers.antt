@@ -15,8 +15,8 @@ pub returns-in-Replies-clause-row : goal.returns-in-Replies-clause-row
 returns-in-Replies-clause-row c caller k moving =
     let a = c.args in
     let told : to_z w64 (of_z w64 c.in-Replies.reply) ≡ c.in-Replies.reply = search rules in
-    subst (λ r. AnswersTransfer (write_row_by a.by a.fd a.at a.count caller) r c.in-Replies.transfer caller k a.space.now
-    a.areas.now) (sym told)
+    subst (λ r. AnswersTransfer (write_row_by a.by a.fd a.at a.count caller) r c.in-Replies.transfer caller k
+    a.space.now a.areas.now) (sym told)
     (subst (λ t. Moves (write_row_by a.by a.fd a.at a.count caller) t caller k a.space.now a.areas.now)
     c.in-Replies.is (c.in_ok-reply.ensures.row caller k moving))
 

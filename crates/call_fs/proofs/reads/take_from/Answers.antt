@@ -18,9 +18,9 @@ returns-then-branch-clause-row c caller k same has there =
     take_answers caller k a.context.now.task a.space.now c.scatter.new.space a.areas.now c.scatter.new.areas a.name
     a.pipe.now a.buffers.now a.count runs same has there c.requires.all
     (c.front.ensures.bytes ∙ ap (take a.count) c.oldest.ensures) c.in_ok-scatter.field-0 _
-    (c.in_ok-scatter.ensures.put (parts k) (are_those k a.areas.now has.areas))
+    (c.in_ok-scatter.ensures.wrote (parts k) (are_those k a.areas.now has.areas))
     c.if-branch.true
-    (to_z_pos w64 _ (omega (arith, c.front.ensures.within, c.requires.few))
+    (to_z_pos w64 _ (omega (arith, c.front.ensures.len, c.requires.few))
     ∙ ap pos (sym (length-append c.front.result.0.now c.front.result.1.now)))
 
 pub returns-else-branch-clause-row : goal.returns-else-branch-clause-row
@@ -30,7 +30,7 @@ returns-else-branch-clause-row c caller k same has there =
     let refused = take_refused caller k a.context.now.task a.space.now c.scatter.new.space a.areas.now
     c.scatter.new.areas a.name a.pipe.now a.buffers.now a.count runs same has there c.requires.all
     (c.front.ensures.bytes ∙ ap (take a.count) c.oldest.ensures) c.in_ok-scatter.field-0
-    (c.in_ok-scatter.ensures.put (parts k) (are_those k a.areas.now has.areas))
+    (c.in_ok-scatter.ensures.wrote (parts k) (are_those k a.areas.now has.areas))
     c.if-branch.false in
     moves_alike _ (done (refuses EFAULT)) c.denied.result caller k c.scatter.new.space c.scatter.new.areas refused.0
     (c.denied.ensures.row caller k c.scatter.new.space c.scatter.new.areas

@@ -18,8 +18,8 @@ returns-then-branch-clause-row c caller k has files console =
     let d = a.description.now in
     let there = gathered_some (parts k) a.space.now (buffers_in a.from)
     (c.in_ok-may_be_read.ensures.row (parts k) (are_those k a.areas.now has.areas) ∙ c.if-branch.true) in
-    moves_alike (writes_from caller d (buffers_in a.from)) (writes_of d.nonblock there.0 d.object) c.writes_of.result caller
-    k a.space.now a.areas.now
+    moves_alike (writes_from caller d (buffers_in a.from)) (writes_of d.nonblock there.0 d.object) c.writes_of.result
+    caller k a.space.now a.areas.now
     (writes_by caller k a.space.now d (buffers_in a.from) (Some there.0) has.space there.1.0)
     (c.writes_of.ensures.row caller k a.space.now a.areas.now there.0 has files console there.1)
 

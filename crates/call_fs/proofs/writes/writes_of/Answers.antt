@@ -42,7 +42,7 @@ returns-in-Console-clause-row c caller k own shared bytes has files console is =
 pub returns-in-EmptyInput-clause-row : goal.returns-in-EmptyInput-clause-row
 returns-in-EmptyInput-clause-row c caller k own shared bytes has files console is =
     let d = c.args.description.now in
-    moves_alike (writes_of d.nonblock bytes d.object) (done (appended bytes k.console)) c.to_console-in-EmptyInput.result
-    caller k own shared
+    moves_alike (writes_of d.nonblock bytes d.object) (done (appended bytes k.console))
+    c.to_console-in-EmptyInput.result caller k own shared
     (written_to k d.nonblock bytes d.object EmptyInput c.in-EmptyInput.is)
     (c.to_console-in-EmptyInput.ensures.row caller k own shared bytes has console is)
