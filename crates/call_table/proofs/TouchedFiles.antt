@@ -196,7 +196,8 @@ module _ (table : Made) (files : OpenFiles) where
       }
 
   pub closes_touched : (number : ℕ) → AreUntouched
-      (touched_with table None (description_at table number files) files) files (files_after (Closes number) table files)
+      (touched_with table None (description_at table number files) files) files
+      (files_after (Closes number) table files)
   closes_touched number = by (get_named files.tables table.place table.index)
     where
       by : (o : Option Table) → AreUntouched

@@ -1,6 +1,6 @@
 //! What becomes of the call that a task stands at: it replies, makes a child, or puts the task to sleep; and ends.
 
-ghost use Rattle.std.specs.Prelude.{◌≡◌, ℕ, ◌+◌, [], true, IsTrue, IfOk, OnErr, pos};
+ghost use Rattle.std.specs.Prelude.{◌≡◌, ◌+◌, [], true, IsTrue, IfOk, OnErr, pos};
 ghost use Rattle.std.specs.FinMap as map;
 ghost use Rattle.std.specs.Ordering.{nat_cmp};
 ghost use Rattle.futex_core.specs.FutexLists.{after_sleep};

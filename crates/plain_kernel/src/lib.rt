@@ -4,8 +4,8 @@
 //! another; it answers whether each of them fits. Its state is a `Kernel` of `kernel_model`, for everybody to see. The
 //! work of instructions and calls is done by the functions of `kernel_calls` and `call_fs`, over copies of the caller's
 //! address space and of the shared areas, which take their places once the entry is seen to fit. Nothing of the
-//! program's run stands on this crate: it shows that the definitions can be obeyed, and tests run traces on it. No entry
-//! of a task that sleeps on a futex word fits, and of one that was woken only the call that it slept in.
+//! program's run stands on this crate: it shows that the definitions can be obeyed, and tests run traces on it. No
+//! entry of a task that sleeps on a futex word fits, and of one that was woken only the call that it slept in.
 //!
 //! Proved: `Plain::opening` and `Plain::step` are the definitions (`ok`, `refused`, `fits`), and a refused step or one
 //! out of memory changes nothing (`ok`, `err`).

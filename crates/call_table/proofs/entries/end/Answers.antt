@@ -43,8 +43,8 @@ returns-in_err-ending-clause-memory c =
     err_by c.from_residual.result (part_none c.args.cells.now _ c.args.context.now.task c.args.standing
     c.requires.stands refl refl
     (own_same c.args.cells.now c.args.context.now.task c.args.standing c.requires.stands c.in-Some.space.now
-    c.end_group.new.space c.in-Some.ensures.value c.in_err-ending.ensures.err) c.in_err-ending.ensures.err_areas refl
-    refl refl)
+    c.end_group.new.space c.in-Some.ensures.value c.in_err-ending.ensures.err) c.in_err-ending.ensures.err_areas
+    refl refl refl)
 
 pub returns-clause-step : goal.returns-clause-step
 returns-clause-step c = λ beside n seed place.

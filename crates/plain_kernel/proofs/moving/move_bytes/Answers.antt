@@ -16,7 +16,10 @@ pub returns : goal.returns
 returns c = λ changes told.
     let fits : SFits w64 c.args.value = search rules in
     let memory : Kernel = with_memory c.args.caller c.args.caller.space c.args.areas c.args.kernel.now in
-    let moved : Kernel = record memory { console = c.commit_transfer.new.console; files = c.commit_transfer.new.files } in
+    let moved : Kernel = record memory {
+      console = c.commit_transfer.new.console;
+      files = c.commit_transfer.new.files;
+    } in
     let after : Kernel = record moved { spaces = c.replace.new.self; areas = c.commit_transfer.new.areas } in
     call_done c.args.kernel.now c.args.caller c.args.reply c.args.value changes after c.go_on.new.kernel
     ((Decides-int_eq c.args.reply c.args.value).1 (sym (to_z-of_z c.ranges.reply)
