@@ -56,7 +56,8 @@ Prepares row (Makes new) context c k = MakesPipe row new context c k
 abbrev pub ints_put : (task : ℕ) → (own : AddressSpace) → Ends → List InHand → Reach
 ints_put task own ends hand = written_with task own ends.buffer (two_ints (ends.first, ends.second)) hand
 
-abbrev pub PutsInts : (task : ℕ) → Ends → (own space : AddressSpace) → (shared areas : NamedMap AreaState) → Type 0
+abbrev pub PutsInts : (task : ℕ) → Ends → (own space : AddressSpace) → (shared areas : NamedMap AreaState)
+    → Type 0
 PutsInts task ends own space shared areas =
     (s : Parts) (hand : List InHand) → AreThose s shared
     → outcome_in s (access_row writable own ends.buffer 8) ≡ Some hand

@@ -87,7 +87,8 @@ fn put_each(
     areas: &mut Named<GuestArea>,
     pipe: &mut Pipe,
 ) -> Result<bool, Memory>
-    ensures sent { IfOk result (λ b. (s : Parts) → AreThose s areas.old → length pipe.old.bytes + taken ≤ CAPACITY →
+    ensures sent { IfOk result (λ b.
+        (s : Parts) → AreThose s areas.old → length pipe.old.bytes + taken ≤ CAPACITY →
         SentEach (outcome_in s (gathered space.now buffers.now)) b taken pipe.old pipe.new) }
     ensures begins { take (length pipe.old.bytes) pipe.new.bytes ≡ pipe.old.bytes }
     ensures readers { pipe.new.readers ≡ pipe.old.readers }

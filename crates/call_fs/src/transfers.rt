@@ -98,7 +98,8 @@ pub fn commit_transfer(
     console: &mut List<u8>,
 ) -> Result<(), Memory>
     requires { HasRoom transfer files.old }
-    ensures ok { OnOk result ((k : AKernel) → k.areas ≡ areas.old → k.files ≡ files.old → k.console ≡ console.old →
+    ensures ok { OnOk result ((k : AKernel) →
+        k.areas ≡ areas.old → k.files ≡ files.old → k.console ≡ console.old →
         after_transfer transfer space.now k ≡ record k { files = files.new; console = console.new }) }
     ensures err { OnErr result (files.new ≡ files.old) }
     ensures err_console { OnErr result (console.new ≡ console.old) }

@@ -81,7 +81,8 @@ pub record Moves (task : ℕ) (memory : Made) (made : Entered) (before after : C
   pub last : before.tasks.last ≤ after.tasks.last
   pub lives : (other : ℕ) → is_live after.tasks.tasks other ≡ true → is_live before.tasks.tasks other ≡ false
       → (other ≡ after.tasks.last) × (before.tasks.last + 1 ≤ after.tasks.last)
-  pub off : (other : ℕ) → task ≢ other → wait_of before.sleepers other ≡ Awake → wait_of after.sleepers other ≡ Awake
+  pub off : (other : ℕ) → task ≢ other → wait_of before.sleepers other ≡ Awake
+      → wait_of after.sleepers other ≡ Awake
   pub was_off : (other : ℕ) → task ≢ other → is_live after.tasks.tasks other ≡ true
       → wait_of after.sleepers other ≡ Awake → wait_of before.sleepers other ≡ Awake
   pub itself : puts_to_sleep made.entry ≡ false → wait_of after.sleepers task ≡ Awake

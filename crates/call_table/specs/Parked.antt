@@ -22,7 +22,8 @@ AreLeft before after = (task : ℕ) (spot : Spot) → map.get after task ≡ Som
 pub record HaveWoken {V : Type 0} (test : Spot → Bool) (before after : map.FinMap nat_cmp Spot)
     (awake awake' : map.FinMap nat_cmp V) : Type 0 where
   pub woken : ℕ → Bool
-  pub passing : (task : ℕ) (spot : Spot) → map.get before task ≡ Some spot → test spot ≡ true → woken task ≡ true
+  pub passing : (task : ℕ) (spot : Spot) → map.get before task ≡ Some spot → test spot ≡ true
+      → woken task ≡ true
   pub only : (task : ℕ) → woken task ≡ true → map.contains_key before task ≡ true
   pub parked : (task : ℕ) → map.get after task ≡ (if woken task then None else map.get before task)
   pub looked_at : (task : ℕ) → map.contains_key awake' task ≡ (map.contains_key awake task || woken task)

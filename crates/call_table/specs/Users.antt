@@ -25,8 +25,8 @@ is_listed by_name name task =
 
 -- the lists where a task is listed under a name too
 -- profile
-abbrev pub with_listed : {V : Type 0} → (by_name : NamedMap (map.FinMap nat_cmp V)) → Made → (task : ℕ) → (mark : V)
-    → NamedMap (map.FinMap nat_cmp V)
+abbrev pub with_listed : {V : Type 0} → (by_name : NamedMap (map.FinMap nat_cmp V)) → Made → (task : ℕ)
+    → (mark : V) → NamedMap (map.FinMap nat_cmp V)
 with_listed by_name name task mark =
     with_named by_name name.place name.index
     (map.insert (unwrap_or (get_named by_name name.place name.index) map.empty) task mark)

@@ -34,7 +34,8 @@ freed d files = by_descriptor (λ e. with_one_fewer e.description) d files
 
 -- a number gets a descriptor's description, in the place of what it had
 -- dup(2), DESCRIPTION
-abbrev pub given_to : (number : ℕ) → (cloexec : Bool) → (name : Made) → Table → Descriptor → OpenFiles → OpenFiles
+abbrev pub given_to : (number : ℕ) → (cloexec : Bool) → (name : Made) → Table → Descriptor → OpenFiles
+    → OpenFiles
 given_to number cloexec name table d files =
     freed (map.get table number)
     (with_table name (map.insert table number (with_mark d cloexec))

@@ -202,7 +202,8 @@ impl HostNode for MemoryNode {
             node.place ≡ place_below self.old.place name.now)) }
         ensures lent { IfOk result (λ lent. IfSome lent (λ node.
             Some node ≡ option_map (lent_from self.old name.now) (child_of name.now self.old.tree))) }
-        ensures lacks { child_of name.now self.old.tree ≡ None → is_to_fail Lend self.old ≡ false → result ≡ Ok None }
+        ensures lacks { child_of name.now self.old.tree ≡ None → is_to_fail Lend self.old ≡ false →
+            result ≡ Ok None }
         ensures after { self.new ≡ after_lend_of result name.now self.old }
     {
         if self.meets(Op::Lend) {

@@ -69,7 +69,8 @@ AnswersBy num walked drawn count (rise ∷ other ∷ rises) answer = ⊥
 
 -- the same, where nothing is walked to if the strings are too long
 -- execve(2), E2BIG
-abbrev pub Answers : Numbering → (long : Bool) → Walked → (drawn : Bool) → (count : ℕ) → List Rise → Answer → Type 0
+abbrev pub Answers : Numbering → (long : Bool) → Walked → (drawn : Bool) → (count : ℕ) → List Rise
+    → Answer → Type 0
 Answers num true walked drawn count rises answer = (drawn ≡ false) × (rises ≡ []) × (answer ≡ Refuses E2BIG)
 Answers num false walked drawn count rises answer = AnswersBy num walked drawn count rises answer
 

@@ -26,7 +26,8 @@ Refusal attr refusal = (s : Shape) → attr ≡ attr_of s → is_lent s ≡ fals
 -- execve(2), ERRORS: EACCES, ENOEXEC
 abbrev pub FileRefusal : ℕ → ℕ → Option Errno → Type 0
 FileRefusal mode size (Some errno) =
-    ((mode / 64 % 2 ≡ 0) × (errno ≡ EACCES)) ⊎ ((mode / 64 % 2 ≡ 1) × (LONGEST_IMAGE < size) × (errno ≡ ENOEXEC))
+    ((mode / 64 % 2 ≡ 0) × (errno ≡ EACCES))
+    ⊎ ((mode / 64 % 2 ≡ 1) × (LONGEST_IMAGE < size) × (errno ≡ ENOEXEC))
 FileRefusal mode size None = (mode / 64 % 2 ≡ 1) × (size ≤ LONGEST_IMAGE)
 
 -- a node that is told stands here, and not with a borrower

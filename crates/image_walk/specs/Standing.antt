@@ -87,7 +87,8 @@ pub record AreNodes (num : Numbering) (nodes : Nodes) (t : Shape) (names : List 
 -- the nodes of the other roots, whose numbers are below those of children, are as they were
 -- inode(7), st_ino
 abbrev pub KeepsRoots : Numbering → (before after : Nodes) → Type 0
-KeepsRoots num before after = (ino : ℕ) → ino ≢ num.root → ino < num.first → map.get after ino ≡ map.get before ino
+KeepsRoots num before after =
+    (ino : ℕ) → ino ≢ num.root → ino < num.first → map.get after ino ≡ map.get before ino
 
 -- nothing that reached no entry, and nothing lent
 -- profile

@@ -35,9 +35,9 @@ pub record IsCleared (x : Cleared) (all : NamedMap AreaState) (space : AddressSp
 -- what clears words leaves this address space, these areas and these names, where there were those before: of each task
 -- of the context, whatever was cleared so far
 -- set_tid_address(2)
-abbrev pub Clears : Context → (Caller → Cleared → Prog Cleared) → (space : AddressSpace) → (areas : NamedMap AreaState)
-    → (keys : List FutexKey) → (space' : AddressSpace) → (areas' : NamedMap AreaState) → (keys' : List FutexKey)
-    → Type 0
+abbrev pub Clears : Context → (Caller → Cleared → Prog Cleared) → (space : AddressSpace)
+    → (areas : NamedMap AreaState) → (keys : List FutexKey)
+    → (space' : AddressSpace) → (areas' : NamedMap AreaState) → (keys' : List FutexKey) → Type 0
 Clears context clearing space areas keys space' areas' keys' =
     (c : Caller) (x : Cleared) (all : NamedMap AreaState) (s : Parts) → c.task ≡ context.task
     → c.memory ≡ context.memory → AreThose s all → IsCleared x all space areas keys

@@ -24,8 +24,8 @@ use Rattle.kernel_calls.specs.Lending.{AreThere, AreThose, with_hand}
 abbrev pub by_right : Bool → List InHand → Option (List InHand)
 by_right allowed hand = if allowed then Some hand else None
 
-abbrev pub Accesses : Rights → AddressSpace → (at count most : ℕ) → (hand : List InHand) → (all : NamedMap AreaState)
-    → Bool → (last : List InHand) → Type 0
+abbrev pub Accesses : Rights → AddressSpace → (at count most : ℕ) → (hand : List InHand)
+    → (all : NamedMap AreaState) → Bool → (last : List InHand) → Type 0
 Accesses right space at count most hand all allowed last =
     (s : Parts) → AreThose s all
     → outcome_in s (tried_with (access_tried right space at count) None most hand) ≡ by_right allowed last
@@ -38,9 +38,11 @@ IsAllowed right space at count hand =
 
 -- bytes were put, so that this is reached, or nothing was and has changed
 -- read(2), EFAULT
-abbrev pub Wrote : Option Reach → Bool → (space space' : AddressSpace) → (areas areas' : NamedMap AreaState) → Type 0
+abbrev pub Wrote : Option Reach → Bool → (space space' : AddressSpace) → (areas areas' : NamedMap AreaState)
+    → Type 0
 Wrote None wrote space space' areas areas' = (wrote ≡ false) × (space' ≡ space) × (areas' ≡ areas)
-Wrote (Some r) wrote space space' areas areas' = (wrote ≡ true) × (space' ≡ r.space) × (areas' ≡ with_hand r.hand areas)
+Wrote (Some r) wrote space space' areas areas' =
+    (wrote ≡ true) × (space' ≡ r.space) × (areas' ≡ with_hand r.hand areas)
 
 -- a task with these registers and this address space
 -- RISC-V Unprivileged ISA 20191213, 1.2

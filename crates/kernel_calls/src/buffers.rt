@@ -96,7 +96,8 @@ pub(crate) fn fill(
     bytes: &[u8],
     reply: u32,
 ) -> Result<Prepared, Memory>
-    ensures row { IfOk result (λ p. (c : ACaller) (k : AKernel) (list : TaskTable) (waiting : FutexList) (console : ℕ) →
+    ensures row { IfOk result (λ p.
+        (c : ACaller) (k : AKernel) (list : TaskTable) (waiting : FutexList) (console : ℕ) →
         IsCalling c k context.now space.old areas.old list waiting console →
         Answers (fills c at bytes.now reply) p c k space.new areas.new) }
     ensures effect { IfOk result (λ p. p.effect ≡ Nothing) }

@@ -133,7 +133,8 @@ pub fn call(
 
 /// A call that the kernel does not have.
 fn lacking() -> Result<Called, Memory>
-    ensures { (p : APrepared) × (result ≡ Ok (Called.Replies p)) × (p.reply ≡ reply_of ENOSYS) × (p.effect ≡ Nothing) }
+    ensures { (p : APrepared) × (result ≡ Ok (Called.Replies p)) × (p.reply ≡ reply_of ENOSYS)
+        × (p.effect ≡ Nothing) }
 {
     Ok(Called::Replies(refused(Errno::ENOSYS)))
 }

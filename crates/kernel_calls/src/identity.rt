@@ -86,7 +86,8 @@ pub(crate) fn uname(
     space: &mut GuestSpace,
     areas: &mut Named<GuestArea>,
 ) -> Result<Prepared, Memory>
-    ensures row { IfOk result (λ p. (c : ACaller) (k : AKernel) (list : TaskTable) (waiting : FutexList) (console : ℕ) →
+    ensures row { IfOk result (λ p.
+        (c : ACaller) (k : AKernel) (list : TaskTable) (waiting : FutexList) (console : ℕ) →
         IsCalling c k context.now space.old areas.old list waiting console →
         Answers (uname_row buffer c) p c k space.new areas.new) }
     ensures effect { IfOk result (λ p. p.effect ≡ Nothing) }

@@ -38,8 +38,9 @@ pub fn make(
     requires lives { IsTrue (is_live tasks.old.tasks context.now.task) }
     requires room { IsRoomFor tasks.old }
     requires memory { IsTrue (has_named spaces.old context.now.memory.place context.now.memory.index) }
-    ensures ok { OnOk result ((c : ACaller) (k : AKernel) → c.task ≡ context.now.task → c.memory ≡ context.now.memory →
-        c.table ≡ context.now.table → k.tasks ≡ tasks.old → k.registers ≡ registers.old → k.spaces ≡ spaces.old →
+    ensures ok { OnOk result ((c : ACaller) (k : AKernel) → c.task ≡ context.now.task →
+        c.memory ≡ context.now.memory → c.table ≡ context.now.table →
+        k.tasks ≡ tasks.old → k.registers ≡ registers.old → k.spaces ≡ spaces.old →
         k.areas ≡ areas.old → k.files ≡ files.old → with_child child context.now.place c k ≡ record k {
           tasks = tasks.new;
           registers = registers.new;
@@ -93,8 +94,9 @@ fn make_task(
     requires lives { IsTrue (is_live tasks.old.tasks context.now.task) }
     requires room { IsRoomFor tasks.old }
     requires memory { IsTrue (has_named spaces.old context.now.memory.place context.now.memory.index) }
-    ensures ok { OnOk result ((c : ACaller) (k : AKernel) → c.task ≡ context.now.task → c.memory ≡ context.now.memory →
-        c.table ≡ context.now.table → k.tasks ≡ tasks.old → k.spaces ≡ spaces.old → k.areas ≡ areas.old →
+    ensures ok { OnOk result ((c : ACaller) (k : AKernel) → c.task ≡ context.now.task →
+        c.memory ≡ context.now.memory → c.table ≡ context.now.table →
+        k.tasks ≡ tasks.old → k.spaces ≡ spaces.old → k.areas ≡ areas.old →
         k.files ≡ files.old → with_task context.now.place child.memory child.clear c (with_words child.words c k)
         ≡ record k { tasks = tasks.new; spaces = spaces.new; areas = areas.new; files = files.new }) }
     ensures err { OnErr result (tasks.new ≡ tasks.old) }

@@ -35,7 +35,8 @@ pub(crate) fn getrandom(
     space: &mut GuestSpace,
     areas: &mut Named<GuestArea>,
 ) -> Result<Prepared, Memory>
-    ensures row { IfOk result (λ p. (c : ACaller) (k : AKernel) (list : TaskTable) (waiting : FutexList) (console : ℕ) →
+    ensures row { IfOk result (λ p.
+        (c : ACaller) (k : AKernel) (list : TaskTable) (waiting : FutexList) (console : ℕ) →
         IsCalling c k context.now space.old areas.old list waiting console →
         Answers (getrandom_row (context_of k) buffer count flags c) p c k space.new areas.new) }
     ensures effect { IfOk result (λ p. p.effect ≡ Nothing) }

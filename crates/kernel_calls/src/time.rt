@@ -40,7 +40,8 @@ pub(crate) fn clock_gettime(
     space: &mut GuestSpace,
     areas: &mut Named<GuestArea>,
 ) -> Result<Prepared, Memory>
-    ensures row { IfOk result (λ p. (c : ACaller) (k : AKernel) (list : TaskTable) (waiting : FutexList) (console : ℕ) →
+    ensures row { IfOk result (λ p.
+        (c : ACaller) (k : AKernel) (list : TaskTable) (waiting : FutexList) (console : ℕ) →
         IsCalling c k context.now space.old areas.old list waiting console →
         Answers (clock_gettime_row (context_of k) id buffer c) p c k space.new areas.new) }
     ensures effect { IfOk result (λ p. p.effect ≡ Nothing) }

@@ -138,7 +138,8 @@ fn reap(
     space: &mut GuestSpace,
     areas: &mut Named<GuestArea>,
 ) -> Result<Prepared, Memory>
-    ensures row { IfOk result (λ p. (c : ACaller) (k : AKernel) (list : TaskTable) (waiting : FutexList) (console : ℕ) →
+    ensures row { IfOk result (λ p.
+        (c : ACaller) (k : AKernel) (list : TaskTable) (waiting : FutexList) (console : ℕ) →
         IsCalling c k context.now space.old areas.old list waiting console →
         reap_end list.groups context.now.group which ≡ Reaped child status →
         Answers (reaps_at c list address child status) p c k space.new areas.new) }

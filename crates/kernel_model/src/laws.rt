@@ -43,7 +43,8 @@ pub fn locality()
     ensures ready { (a b : AKernel) (task : ℕ) →
         AgreeOn (uses (parts a) (ready_row (context_of a) task)) (parts a) (parts b) →
         is_ready b task ≡ is_ready a task }
-    ensures write { (a b : AKernel) (task number : ℕ) (args : AnArgs) (given : AGiven) (reply : ℤ) → IsWrite number →
+    ensures write { (a b : AKernel) (task number : ℕ) (args : AnArgs) (given : AGiven) (reply : ℤ) →
+        IsWrite number →
         let e : AnEntry = ACall task number args given reply in
         AgreeOn (used a e) (parts a) (parts b) → (used b e ≡ used a e)
         × (outcome_in (parts b) (entry_row (context_of b) e) ≡ outcome_in (parts a) (entry_row (context_of a) e)) }

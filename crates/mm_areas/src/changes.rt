@@ -35,15 +35,19 @@ impl Areas {
         ensures fault { IfErr result (λ e. e ≢ AreaErr.Memory → map_fault (mapping self.old) at length ≡ Some e) }
         ensures faulty { IfSome (map_fault (mapping self.old) at length) (λ fault. result ≡ Err fault) }
         ensures err { OnErr result (mapping self.new ≡ mapping self.old) }
-        ensures owned { IfOk result (λ address. (page : ℕ) → is_within (address / 4096) (pages_in length) page ≡ false →
+        ensures owned { IfOk result (λ address.
+            (page : ℕ) → is_within (address / 4096) (pages_in length) page ≡ false →
             owns self.new page ≡ owns self.old page) }
-        ensures fresh { IfOk result (λ address. (page : ℕ) → is_within (address / 4096) (pages_in length) page ≡ true →
+        ensures fresh { IfOk result (λ address.
+            (page : ℕ) → is_within (address / 4096) (pages_in length) page ≡ true →
             owns self.new page ≡ false) }
         ensures kept { OnErr result ((page : ℕ) → owns self.new page ≡ owns self.old page) }
-        ensures rows { IfOk result (λ address. (page : ℕ) → is_within (address / 4096) (pages_in length) page ≡ false →
+        ensures rows { IfOk result (λ address.
+            (page : ℕ) → is_within (address / 4096) (pages_in length) page ≡ false →
             has_row_at self.new page ≡ has_row_at self.old page) }
         ensures undecoded { IfOk result (λ address.
-            (page : ℕ) → is_within (address / 4096) (pages_in length) page ≡ true → has_row_at self.new page ≡ false) }
+            (page : ℕ) → is_within (address / 4096) (pages_in length) page ≡ true →
+            has_row_at self.new page ≡ false) }
         ensures rows_kept { OnErr result ((page : ℕ) → has_row_at self.new page ≡ has_row_at self.old page) }
     {
         let first = place(self, at, length)?;

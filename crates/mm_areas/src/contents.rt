@@ -166,7 +166,8 @@ impl Areas {
         ensures others { (other : ℕ) → (other ≡ page → ⊥) → owns self.new other ≡ owns self.old other }
         ensures row { OnOk result (has_row_at self.new page ≡ false) }
         ensures row_kept { OnErr result (has_row_at self.new page ≡ has_row_at self.old page) }
-        ensures rows { (other : ℕ) → (other ≡ page → ⊥) → has_row_at self.new other ≡ has_row_at self.old other }
+        ensures rows { (other : ℕ) → (other ≡ page → ⊥) →
+            has_row_at self.new other ≡ has_row_at self.old other }
     {
         match find(self.regions.as_slice(), page) {
             Some(index) => {

@@ -89,7 +89,8 @@ impl Areas {
         ensures private { IsTrue result → is_some (bytes_at (mapping self.old).pages page) ≡ true }
         ensures mapped { mapping self.new ≡ mapping self.old }
         ensures owned { (other : ℕ) → owns self.new other ≡ owns self.old other }
-        ensures others { (other : ℕ) → (other ≡ page → ⊥) → has_row_at self.new other ≡ has_row_at self.old other }
+        ensures others { (other : ℕ) → (other ≡ page → ⊥) →
+            has_row_at self.new other ≡ has_row_at self.old other }
     {
         match self.index_near(hint, page) {
             Some(index) => {
@@ -125,7 +126,8 @@ impl Areas {
         ensures row { has_row_at self.new page ≡ is_some row }
         ensures mapped { mapping self.new ≡ mapping self.old }
         ensures owned { (other : ℕ) → owns self.new other ≡ owns self.old other }
-        ensures others { (other : ℕ) → (other ≡ page → ⊥) → has_row_at self.new other ≡ has_row_at self.old other }
+        ensures others { (other : ℕ) → (other ≡ page → ⊥) →
+            has_row_at self.new other ≡ has_row_at self.old other }
     {
         match self.index_near(hint, page) {
             Some(index) => {
@@ -145,7 +147,8 @@ impl Areas {
         ensures row { has_row_at self.new page ≡ false }
         ensures mapped { mapping self.new ≡ mapping self.old }
         ensures owned { (other : ℕ) → owns self.new other ≡ owns self.old other }
-        ensures others { (other : ℕ) → (other ≡ page → ⊥) → has_row_at self.new other ≡ has_row_at self.old other }
+        ensures others { (other : ℕ) → (other ≡ page → ⊥) →
+            has_row_at self.new other ≡ has_row_at self.old other }
     {
         self.swap_row(hint, page, None)
     }
@@ -156,7 +159,8 @@ impl Areas {
         ensures row { has_row_at self.new page ≡ true }
         ensures mapped { mapping self.new ≡ mapping self.old }
         ensures owned { (other : ℕ) → owns self.new other ≡ owns self.old other }
-        ensures others { (other : ℕ) → (other ≡ page → ⊥) → has_row_at self.new other ≡ has_row_at self.old other }
+        ensures others { (other : ℕ) → (other ≡ page → ⊥) →
+            has_row_at self.new other ≡ has_row_at self.old other }
     {
         self.swap_row(hint, page, Some(row));
     }
@@ -166,7 +170,8 @@ impl Areas {
         ensures row { has_row_at self.new page ≡ false }
         ensures mapped { mapping self.new ≡ mapping self.old }
         ensures owned { (other : ℕ) → owns self.new other ≡ owns self.old other }
-        ensures others { (other : ℕ) → (other ≡ page → ⊥) → has_row_at self.new other ≡ has_row_at self.old other }
+        ensures others { (other : ℕ) → (other ≡ page → ⊥) →
+            has_row_at self.new other ≡ has_row_at self.old other }
     {
         self.swap_row(0, page, None);
     }

@@ -79,7 +79,8 @@ impl Areas {
     /// A hint of the region that has a page: 0 where none has it.
     #[tactic(auto, using(crate::proofs::RegionLaws::order_from_test))]
     pub fn hint(&self, page: u64) -> usize
-        ensures held { map_of.contains_key (mapping self.now).pages page ≡ true → is_hint self.now result page ≡ true }
+        ensures held { map_of.contains_key (mapping self.now).pages page ≡ true →
+            is_hint self.now result page ≡ true }
         ensures none { map_of.contains_key (mapping self.now).pages page ≡ false → result ≡ 0 }
     {
         match find(self.regions.as_slice(), page) {
@@ -91,7 +92,8 @@ impl Areas {
     /// A hint of the region that has a page, by another guess, which is the answer where it is right: 0 where none has
     /// the page.
     pub fn hint_from(&self, hint: usize, page: u64) -> usize
-        ensures held { map_of.contains_key (mapping self.now).pages page ≡ true → is_hint self.now result page ≡ true }
+        ensures held { map_of.contains_key (mapping self.now).pages page ≡ true →
+            is_hint self.now result page ≡ true }
         ensures none { map_of.contains_key (mapping self.now).pages page ≡ false → result ≡ 0 }
     {
         if self.is_near(hint, page) {

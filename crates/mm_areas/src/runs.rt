@@ -14,7 +14,8 @@ use crate::{Areas, Content, Page};
 impl Page {
     /// Puts a run of bytes into a page whose bytes are its own, and answers whether it has.
     fn put_bytes(&mut self, offset: usize, run: &[u8]) -> bool
-        ensures fits { IsTrue result ↔ ((is_own_content self.old.content ≡ true) × (offset + length run.now ≤ 4096)) }
+        ensures fits { IsTrue result ↔
+            ((is_own_content self.old.content ≡ true) × (offset + length run.now ≤ 4096)) }
         ensures bytes { OnTrue result (mapped_by self.new ≡
             changed (λ bytes. with_run bytes offset run.now) (mapped_by self.old)) }
         ensures own { is_own_content self.new.content ≡ is_own_content self.old.content }
@@ -46,7 +47,8 @@ impl Areas {
         ensures owned { (other : ℕ) → owns self.new other ≡ owns self.old other }
         ensures row { OnTrue result (has_row_at self.new page ≡ false) }
         ensures row_kept { OnFalse result (has_row_at self.new page ≡ has_row_at self.old page) }
-        ensures rows { (other : ℕ) → (other ≡ page → ⊥) → has_row_at self.new other ≡ has_row_at self.old other }
+        ensures rows { (other : ℕ) → (other ≡ page → ⊥) →
+            has_row_at self.new other ≡ has_row_at self.old other }
     {
         match find(self.regions.as_slice(), page) {
             Some(index) => {

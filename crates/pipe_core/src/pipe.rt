@@ -82,7 +82,8 @@ impl Pipe {
         ensures broken { (result ≡ PipeWrite.Broken) ↔ (self.old.readers ≡ 0) }
         ensures wait { (result ≡ PipeWrite.Wait) ↔ WriteWaits self.old (length bytes.now) }
         ensures put { (n : ℕ) → result ≡ PipeWrite.Put n → n ≡ min (length bytes.now) (room_in self.old) }
-        ensures atomic { length bytes.now ≤ ATOMIC → (n : ℕ) → result ≡ PipeWrite.Put n → n ≡ length bytes.now }
+        ensures atomic { length bytes.now ≤ ATOMIC → (n : ℕ) → result ≡ PipeWrite.Put n →
+            n ≡ length bytes.now }
         ensures after { self.new ≡ after_write self.old (take (put_by result) bytes.now) }
         ensures unchanged { put_by result ≡ 0 → self.new ≡ self.old }
     {

@@ -25,7 +25,8 @@ pub record HasBegun (m : Mounts) (from upto : ℕ) (tasks tasks' : List Opened) 
 
 -- the same of states: where the one before tells a kernel, so does the one after
 -- execve(2); profile
-abbrev pub GoesOn : Mounts → (from upto : ℕ) → (tasks tasks' : List Opened) → (before after : Option Kernel) → Type 0
+abbrev pub GoesOn : Mounts → (from upto : ℕ) → (tasks tasks' : List Opened) → (before after : Option Kernel)
+    → Type 0
 GoesOn m from upto tasks tasks' before after =
     IfSome before (λ k. IsSomeAnd after (HasBegun m from upto tasks tasks' k))
 

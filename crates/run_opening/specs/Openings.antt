@@ -47,7 +47,8 @@ pub record IsStanding (num : Numbering) (t : Shape) (root : Option Shape) (child
 
 -- what comes of an opening execve's answer: the task of the next number begins its image, or why not
 -- execve(2)
-abbrev pub Begins : (seed : List ℕ) → (root : ℕ) → Program → Answer → Processes → Result Processes OpenErr → Type 0
+abbrev pub Begins : (seed : List ℕ) → (root : ℕ) → Program → Answer → Processes
+    → Result Processes OpenErr → Type 0
 Begins seed root program answer p (Ok next) =
     (image : Executable) × (answer ≡ answers.Starts image)
     × (next.cells.tasks

@@ -262,11 +262,13 @@ exec m r = by_word m r (loaded m.code r.pc 4)
 -- a step did as the instruction does, to registers and to what is told of memory; what traps, calls or touches an area
 -- changes nothing, nor does want of memory
 -- RISC-V Unprivileged ISA 20191213, 1.6
-abbrev pub StepsAs : {State : Type 0} → (Write → State → State) → Done → (before after : Regs) → (old new : State)
-    → Step → Type 0
+abbrev pub StepsAs : {State : Type 0} → (Write → State → State) → Done → (before after : Regs)
+    → (old new : State) → Step → Type 0
 StepsAs write (Goes r ws) before after old new steps.Next = (after ≡ r) × (new ≡ all_after write ws old)
 StepsAs write Calls before after old new steps.Call = (after ≡ before) × (new ≡ old)
-StepsAs write (Traps signal) before after old new (steps.Trap told) = (told ≡ signal) × (after ≡ before) × (new ≡ old)
-StepsAs write (Touches area) before after old new (steps.Shared told) = (told ≡ area) × (after ≡ before) × (new ≡ old)
+StepsAs write (Traps signal) before after old new (steps.Trap told) =
+    (told ≡ signal) × (after ≡ before) × (new ≡ old)
+StepsAs write (Touches area) before after old new (steps.Shared told) =
+    (told ≡ area) × (after ≡ before) × (new ≡ old)
 StepsAs write done before after old new steps.Memory = (after ≡ before) × (new ≡ old)
 StepsAs write done before after old new _ = ⊥

@@ -15,4 +15,5 @@ IsOfWord _ told = ⊥
 -- RISC-V Unprivileged ISA 20191213, 1.5; getpagesize(2): 4,096 bytes
 pub record AreOfPage (code : ℕ → Byte) (page : ℕ) (instrs : List Instr) : Type 0 where
   pub whole : length instrs ≡ 1024
-  pub each : (k : ℕ) → k < 1024 → IsOfWord (loaded code (4096 * page + 4 * k) 4) (slice_index_or instrs k instr.Illegal)
+  pub each : (k : ℕ) → k < 1024
+      → IsOfWord (loaded code (4096 * page + 4 * k) 4) (slice_index_or instrs k instr.Illegal)

@@ -49,7 +49,8 @@ each_from code at (suc n) k below =
     (λ j. instr_read (loaded code (at + 4 * j) 4)) refl (each_from code at n k) (cases_eq k n)
 
 word_at_place : (test last : Bool) (n k : ℕ) → k < suc n → (told : ℕ → Bool) → told n ≡ last
-    → (test && last) ≡ true → (test ≡ true → k < n → told k ≡ true) → (k ≡ n) ⊎ (k ≡ n → ⊥) → told k ≡ true
+    → (test && last) ≡ true → (test ≡ true → k < n → told k ≡ true) → (k ≡ n) ⊎ (k ≡ n → ⊥)
+    → told k ≡ true
 word_at_place test last n k below told is h before (inl same) = ap told same ∙ is ∙ (and_parts test last h).1
 word_at_place test last n k below told is h before (inr apart) = before (and_parts test last h).0 (omega (arith, apart))
 

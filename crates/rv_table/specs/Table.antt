@@ -219,16 +219,17 @@ systems =
 
 -- the instructions of rows by funct3, and of rows by one key and then another
 -- profile
-abbrev pub by_funct3 : ((ℕ → ℕ → ℕ → Instr) → ℕ → Instr) → Rows (ℕ → ℕ → ℕ → Instr) → ℕ → List Instr
+abbrev pub by_funct3 : ((ℕ → ℕ → ℕ → Instr) → ℕ → Instr) → Rows (ℕ → ℕ → ℕ → Instr)
+    → ℕ → List Instr
 by_funct3 format rows word = map (λ make. format make word) (rows_at (funct3_of word) rows)
 
-abbrev pub by_two : ((ℕ → ℕ → ℕ → Instr) → ℕ → Instr) → (ℕ → ℕ) → (ℕ → ℕ) → Rows (Rows (ℕ → ℕ → ℕ → Instr))
-    → ℕ → List Instr
+abbrev pub by_two : ((ℕ → ℕ → ℕ → Instr) → ℕ → Instr) → (ℕ → ℕ) → (ℕ → ℕ)
+    → Rows (Rows (ℕ → ℕ → ℕ → Instr)) → ℕ → List Instr
 by_two format first second rows word =
     map (λ make. format make word) (flat_map (rows_at (second word)) (rows_at (first word) rows))
 
-abbrev pub by_three : ((ℕ → ℕ → Instr) → ℕ → Instr) → (ℕ → ℕ) → (ℕ → ℕ) → (ℕ → ℕ) → Rows (Rows (Rows (ℕ → ℕ → Instr)))
-    → ℕ → List Instr
+abbrev pub by_three : ((ℕ → ℕ → Instr) → ℕ → Instr) → (ℕ → ℕ) → (ℕ → ℕ) → (ℕ → ℕ)
+    → Rows (Rows (Rows (ℕ → ℕ → Instr))) → ℕ → List Instr
 by_three format first second third rows word =
     map (λ make. format make word)
     (flat_map (rows_at (third word)) (flat_map (rows_at (second word)) (rows_at (first word) rows)))

@@ -142,7 +142,8 @@ pub record PlaysOver (mounts : Mounts) (before : List Shape) (rest : List Mount)
 
 -- what grants from the mount of that number on, the opening and the run leave of the world
 -- profile
-abbrev pub PlaysFrom : Mounts → List Shape → (number : ℕ) → List Mount → Shape → Option Shape → Played → Type 0
+abbrev pub PlaysFrom : Mounts → List Shape → (number : ℕ) → List Mount → Shape → Option Shape → Played
+    → Type 0
 PlaysFrom mounts before number rest world after played =
     PlaysAs played.end (Untouched world after played) (λ mount. first_lacking number rest world ≡ Some mount)
     (PlaysOver mounts before rest world after played)

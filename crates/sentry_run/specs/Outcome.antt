@@ -126,8 +126,8 @@ WhereRead (Some mounts) (Some world) fact = fact mounts world
 
 -- a fact of the state that the trace leaves, where there is one
 -- profile
-abbrev pub WhereState : Option Mounts → Option Shape → Opening → List Entry → (Mounts → Shape → Kernel → Type 0)
-    → Type 0
+abbrev pub WhereState : Option Mounts → Option Shape → Opening → List Entry
+    → (Mounts → Shape → Kernel → Type 0) → Type 0
 WhereState mounts world opening trace fact =
     WhereRead mounts world (λ m w. IfSome (state_after m w opening trace) (fact m w))
 

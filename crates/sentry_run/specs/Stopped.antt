@@ -14,9 +14,11 @@ abbrev pub EndsAs : Processes → (made entries : ℕ) → End → Type 0
 EndsAs p made entries (ends.Done kernel) =
     (has_any (live_numbers p.cells.tasks.tasks) ≡ false) × (kernel ≡ kernel_of p nothing_beside made)
 EndsAs p made entries (ends.Full kernel) =
-    (has_any (live_numbers p.cells.tasks.tasks) ≡ true) × (made ≡ entries) × (kernel ≡ kernel_of p nothing_beside made)
+    (has_any (live_numbers p.cells.tasks.tasks) ≡ true) × (made ≡ entries)
+    × (kernel ≡ kernel_of p nothing_beside made)
 EndsAs p made entries (ends.Stuck kernel) =
-    (has_any (live_numbers p.cells.tasks.tasks) ≡ true) × (made ≢ entries) × (kernel ≡ kernel_of p nothing_beside made)
+    (has_any (live_numbers p.cells.tasks.tasks) ≡ true) × (made ≢ entries)
+    × (kernel ≡ kernel_of p nothing_beside made)
 EndsAs p made entries _ = ⊥
 
 -- a run ends as its processes do, or for want of memory

@@ -15,7 +15,8 @@ rest_of files (Some place) done = drop done (content_of files place)
 
 -- A read of the open file gave what that file gives, and 0 where none is open. Which file is open stays.
 -- read(2), RETURN VALUE
-abbrev pub ReadsOpened : {F E : Type 0} → (F → Option (List ℕ)) → Option F → Option F → Result ℕ E → List ℕ → Type 0
+abbrev pub ReadsOpened : {F E : Type 0} → (F → Option (List ℕ)) → Option F → Option F → Result ℕ E
+    → List ℕ → Type 0
 ReadsOpened remaining None None result buffer = IfOk result (λ n. n ≡ 0)
 ReadsOpened remaining None (Some file) result buffer = ⊥
 ReadsOpened remaining (Some file) None result buffer = ⊥

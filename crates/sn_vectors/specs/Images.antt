@@ -16,7 +16,8 @@ code (word ∷ words) = number 4 word ++ code words
 -- a class of 64 bits, the lowest byte first, version 1, for the system of no name, and nine bytes of zero
 -- ELF-64 Object File Format, File Header, e_ident
 abbrev pub identification : List ℕ
-identification = 0x7f ∷ 0x45 ∷ 0x4c ∷ 0x46 ∷ 2 ∷ 1 ∷ 1 ∷ 0 ∷ 0 ∷ 0 ∷ 0 ∷ 0 ∷ 0 ∷ 0 ∷ 0 ∷ 0 ∷ []
+identification =
+    0x7f ∷ 0x45 ∷ 0x4c ∷ 0x46 ∷ 2 ∷ 1 ∷ 1 ∷ 0 ∷ 0 ∷ 0 ∷ 0 ∷ 0 ∷ 0 ∷ 0 ∷ 0 ∷ 0 ∷ []
 
 -- e_type ET_EXEC, e_machine EM_RISCV, e_version, e_entry behind the headers, e_phoff, e_shoff, e_flags, e_ehsize,
 -- e_phentsize, e_phnum, e_shentsize, e_shnum, e_shstrndx

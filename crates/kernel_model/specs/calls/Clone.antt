@@ -97,7 +97,8 @@ child_clear flags child_word = if clears_child_word flags then child_word else 0
 
 -- a word at an address gets a number, where that is asked for; areas have been left so before
 -- clone(2), CLONE_PARENT_SETTID, CLONE_CHILD_SETTID
-abbrev pub word_set : (task : ℕ) → Bool → AddressSpace → List InHand → (address number : ℕ) → Prog (Option Reach)
+abbrev pub word_set : (task : ℕ) → Bool → AddressSpace → List InHand → (address number : ℕ)
+    → Prog (Option Reach)
 word_set task asked space hand address number =
     if asked
     then bytes_written_over task space hand address (to_le_bytes w32 number)

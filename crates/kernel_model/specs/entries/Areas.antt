@@ -29,7 +29,8 @@ pub data Tried (A : Type 0) : Type 0 where
 -- it goes on with an area more in hand; where the area is not there, or in hand already, it comes to what is said for
 -- that
 -- profile
-abbrev pub handed_in : {A : Type 0} → A → (List InHand → Prog A) → List InHand → Area → Option AreaState → Prog A
+abbrev pub handed_in : {A : Type 0} → A → (List InHand → Prog A) → List InHand → Area → Option AreaState
+    → Prog A
 handed_in lacking rest hand area None = done lacking
 handed_in lacking rest hand area (Some state) = rest (hand ++ record { name = area; state = state } ∷ [])
 
@@ -146,7 +147,8 @@ reach_over hand r = reach_with r.space (r.hand ++ hand)
 
 -- the same where areas have been left so: what is reached then has these too
 -- read(2), EFAULT
-abbrev pub bytes_written_over : (task : ℕ) → AddressSpace → List InHand → (at : ℕ) → List ℕ → Prog (Option Reach)
+abbrev pub bytes_written_over : (task : ℕ) → AddressSpace → List InHand → (at : ℕ) → List ℕ
+    → Prog (Option Reach)
 bytes_written_over task space hand at bytes =
     over hand (bytes_written task space at bytes) >>= λ reach. done (option_map (reach_over hand) reach)
 

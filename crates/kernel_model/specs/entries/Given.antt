@@ -121,7 +121,8 @@ number_one nodes fresh = node_now nodes fresh.dir >>= λ dir. done (number_at no
 
 -- each fresh number in turn
 -- profile
-abbrev pub number_next : (Nodes_so_far → Prog (Option Nodes_so_far)) → Option Nodes_so_far → Prog (Option Nodes_so_far)
+abbrev pub number_next : (Nodes_so_far → Prog (Option Nodes_so_far)) → Option Nodes_so_far
+    → Prog (Option Nodes_so_far)
 number_next rest None = done None
 number_next rest (Some nodes) = rest nodes
 

@@ -30,8 +30,8 @@ joined_parted (PageOf area number) = refl
 
 abbrev pub coded_held : Coded Held
 coded_held =
-    code_by (List ℕ ⊎ (Area × ℕ)) (coded⊎ (coded_list coded_ℕ) (coded× of_area.the_row.coded coded_ℕ)) parted joined
-    joined_parted
+    code_by (List ℕ ⊎ (Area × ℕ)) (coded⊎ (coded_list coded_ℕ) (coded× of_area.the_row.coded coded_ℕ))
+    parted joined joined_parted
 
 -- an address space, as a tuple of its parts
 -- profile

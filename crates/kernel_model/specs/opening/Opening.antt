@@ -242,7 +242,8 @@ pub data Begun : Type 0 where
 -- the opening tasks in order, the first of them with that number; each draws numbers that are unused, and meets faults
 -- of nodes that have numbers
 -- profile
-abbrev pub task_begun : (Kernel → Begun) → (Image → Kernel → Kernel) → (number : ℕ) → Kernel → Executed → Begun
+abbrev pub task_begun : (Kernel → Begun) → (Image → Kernel → Kernel) → (number : ℕ) → Kernel
+    → Executed → Begun
 task_begun rest begin number k (Starts image changes) = rest (begin image (changed changes k))
 task_begun rest begin number k (Fails errno changes) = Refuses (changed changes k) number errno
 task_begun rest begin number k Unfit = Misfits number

@@ -73,7 +73,8 @@ module _ (r : Reach) (page : ℕ) (words : List Instr) where
   held_words rights (PageOf name number) low there allowed long row = absurd (false≢true long)
 
   mapped_words : (found : Option Mapped) → page < 2 ^ 52 → map.get pages page ≡ found
-      → allows_mapped found executable ≡ true → is_whole (bytes_mapped found) ≡ true → row_mapped found ≡ Some words
+      → allows_mapped found executable ≡ true → is_whole (bytes_mapped found) ≡ true
+      → row_mapped found ≡ Some words
       → AreOfPage (byte_at executable r) page words
   mapped_words None low there allowed long row = absurd (false≢true allowed)
   mapped_words (Some m) low there allowed long row = held_words m.rights m.held low there allowed long row

@@ -58,7 +58,8 @@ area_in_changed name other change (h ∷ hs) = by (is_area h.name name) refl (ar
     this true = refl
     this false = refl
 
-    later : (own same : Bool) → is_area h.name other ≡ own → is_area name other ≡ same → is_area h.name name ≡ false
+    later : (own same : Bool) → is_area h.name other ≡ own → is_area name other ≡ same
+        → is_area h.name name ≡ false
         → (if own then Some h.state else changed_if same change rest) ≡ changed_if same change (found own)
     later true true is is_same apart = absurd (named_apart h.name name other apart is is_same)
     later true false is is_same apart = refl

@@ -36,7 +36,8 @@ changed_apart pages page change other apart = by (map.get pages page)
 
 -- ---- which pages are of areas
 
-shared_held_stays : (change : List ℕ → List ℕ) (held : Held) → shared_held (changed_held change held) ≡ shared_held held
+shared_held_stays : (change : List ℕ → List ℕ) (held : Held)
+    → shared_held (changed_held change held) ≡ shared_held held
 shared_held_stays change (Bytes bytes) = refl
 shared_held_stays change (PageOf name number) = refl
 

@@ -17,7 +17,8 @@ is_own task address width r = (r.task == task) && ((r.address == address) && (r.
 abbrev is_own_here : (task granule : ℕ) → AreaReservation → Bool
 is_own_here task granule r = (r.task == task) && (r.granule == granule)
 
-own_task : (task address width : ℕ) (r : Reservation) → is_own task address width r ≡ true → (r.task == task) ≡ true
+own_task : (task address width : ℕ) (r : Reservation) → is_own task address width r ≡ true
+    → (r.task == task) ≡ true
 own_task task address width r own = (and_parts (r.task == task) ((r.address == address) && (r.width == width)) own).0
 
 -- ---- a task's own store keeps them
