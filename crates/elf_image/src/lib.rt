@@ -25,8 +25,6 @@ mod fault;
 mod header;
 mod image;
 mod table;
-#[cfg(test)]
-mod tests;
 
 pub use fault::{ImageFault, image_fault};
 pub use image::{Image, Rights, Segment, read_image};

@@ -23,8 +23,6 @@
 #![tactic(auto)]
 
 mod keys;
-#[cfg(test)]
-mod tests;
 mod waiters;
 
 pub use keys::{FutexKey, Owner};

@@ -32,6 +32,3 @@ pub use listing::{Listed, Listing};
 pub use node::HostNode;
 pub use tree::{LONGEST_LINK, Tree};
 pub use world::HostWorld;
-
-#[cfg(test)]
-mod tests;

@@ -22,8 +22,6 @@ mod branches;
 mod divide;
 mod multiply;
 mod shifts;
-#[cfg(test)]
-mod tests;
 mod values;
 mod words;
 

@@ -25,8 +25,6 @@
 mod area_reservations;
 mod operations;
 mod reservations;
-#[cfg(test)]
-mod tests;
 mod words;
 
 pub use area_reservations::{AreaReservation, AreaReservations};

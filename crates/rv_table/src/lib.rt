@@ -27,8 +27,6 @@ mod instr;
 mod reg;
 mod registers;
 mod regs;
-#[cfg(test)]
-mod tests;
 
 pub use decoder::decode;
 pub use error::{Area, MemErr};

@@ -41,6 +41,3 @@ pub use sink::Sink;
 pub use source::Source;
 pub use std_sink::StdSink;
 pub use writing::write_all;
-
-#[cfg(test)]
-mod tests;

@@ -1,7 +1,7 @@
 //! Values of instructions at the edges of numbers, by table 7.1 of the manual and by an emulator of the RISC-V.
 //! Rows are what rs1 holds, or pc; then what rs2 holds, or the immediate; then the value.
 
-use super::*;
+use rv_alu::{alu, is_taken};
 use rv_table::{Instr, Reg};
 use std::process::Abort;
 

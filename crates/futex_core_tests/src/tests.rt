@@ -1,6 +1,6 @@
 //! Sleeping, waking and leaving, one task after another. Answers are those that futex(2) gives.
 
-use super::*;
+use futex_core::{FutexKey, Owner, Waited, Waiters};
 use std::test::Fail;
 
 /// The word at 64 in the memory of the first address space.

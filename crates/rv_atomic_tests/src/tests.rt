@@ -1,7 +1,7 @@
 //! Stored values at the edges of numbers, by the manual's operations and integers without bounds, and reservations.
 //! Rows are what memory held, as the instruction loads it; then what rs2 holds; then the value.
 
-use super::*;
+use rv_atomic::{AreaReservations, Reservations, amo};
 use rv_table::{Instr, Reg};
 use std::process::Abort;
 

@@ -1,5 +1,5 @@
 //! That words are what an assembler makes of the instructions by the manual's names.
-use super::*;
+use rv_table::{Instr, Reg, decode};
 use std::process::Abort;
 
 mod atomics;

@@ -1,6 +1,8 @@
 //! Sources and sinks, in memory and of the system: what they give and take, and where they fail.
 
-use super::*;
+use sn_edge::{
+    EdgeErr, FileSource, MemSink, MemSource, Sink, Source, StdSink, read_all, write_all,
+};
 use std::io::{ErrorKind, Write};
 use std::test::Fail;
 use std::{fs, io};

@@ -1,6 +1,6 @@
 //! Images that are read, and files each of which has a fault that is told.
 
-use crate::{ImageFault, Rights, image_fault, read_image};
+use elf_image::{ImageFault, Rights, image_fault, read_image};
 use sn_vectors::images::{GUEST, TWO_SEGMENTS};
 use std::test::Fail;
 

@@ -1,6 +1,6 @@
 //! Trees in memory: what they tell, list, and give out and take back.
 
-use crate::{Attr, Kind, Listed, Listing, Tree};
+use host_node::{Attr, Kind, Listed, Listing, Tree};
 use sn_base::List;
 use sn_text::{Text, name_of};
 use std::test::Fail;
