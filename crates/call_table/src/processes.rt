@@ -1,6 +1,6 @@
 //! The state of a run: the cells that its tasks share, and the tasks that are opened in them.
 
-ghost use Rattle.std.specs.Prelude.{◌≡◌, ◌<◌, ℕ, ◌+◌, [], true, false, IsTrue, IfOk, OnErr};
+ghost use Rattle.std.specs.Prelude.{◌≡◌, ◌<◌, ℕ, ◌+◌, [], true, false, IsTrue, IfOk, OnErr, OnOk};
 ghost use Rattle.std.specs.FinMap as map;
 ghost use Rattle.kernel_model.specs.Names.{with_named};
 ghost use Rattle.kernel_model.specs.entries.Steps.{task_of};
@@ -17,10 +17,13 @@ ghost use Rattle.call_table.specs.Entries.{HasRunPart, IfEntered, IfParked, IsWh
 use elf_image::Image;
 use file_changes::open_files;
 use kernel_calls::{Beginning, open_task, opened};
+use kernel_model::{GuestSpace, Named, OpenFiles};
 use mount_file::Program;
 use proc_cells::Cells;
-use sn_base::Memory;
+use rv_table::Regs;
+use sn_base::{Map, Memory};
 use std::alloc::Global;
+use task_table::Tasks;
 
 /// The parts that the tasks of a run share.
 #[derive(Drop)]
@@ -92,25 +95,57 @@ fn begin(
 {
     let Cells {
         mut tasks,
-        registers: mut all_registers,
+        mut registers,
         mut spaces,
         areas,
         mut files,
         sleepers,
         console,
     } = cells;
-    let Beginning { registers, space } = beginning;
-    open_task(&mut tasks, number, root)?;
-    all_registers.insert(u64::from(number), registers)?;
-    spaces.insert(alloc, 0, number, space)?;
-    open_files(alloc, number, &mut files)?;
+    place(
+        alloc,
+        number,
+        root,
+        beginning,
+        &mut tasks,
+        &mut registers,
+        &mut spaces,
+        &mut files,
+    )?;
     Ok(Cells {
         tasks,
-        registers: all_registers,
+        registers,
         spaces,
         areas,
         files,
         sleepers,
         console,
     })
+}
+
+/// Puts that task into the list of tasks, and what is its own into the other rooms. Want of memory leaves some of it
+/// there.
+fn place(
+    alloc: Global,
+    number: u32,
+    root: u64,
+    beginning: Beginning,
+    tasks: &mut Tasks,
+    all_registers: &mut Map<Regs>,
+    spaces: &mut Named<GuestSpace>,
+    files: &mut OpenFiles,
+) -> Result<(), Memory>
+    requires room { MayOpen tasks.old }
+    requires next { number ≡ tasks.old.last + 1 }
+    ensures tasks { OnOk result (tasks.new ≡ opened_task tasks.old (made_by number) (made_by number) root) }
+    ensures registers { OnOk result
+        (all_registers.new ≡ map.insert all_registers.old number beginning.registers) }
+    ensures spaces { OnOk result (spaces.new ≡ with_named spaces.old 0 number beginning.space) }
+    ensures files { OnOk result (files.new ≡ files_opened number files.old) }
+{
+    let Beginning { registers, space } = beginning;
+    open_task(tasks, number, root)?;
+    all_registers.insert(u64::from(number), registers)?;
+    spaces.insert(alloc, 0, number, space)?;
+    open_files(alloc, number, files)
 }

@@ -1,7 +1,7 @@
 //! Turns: the entries of processes, one after another, until no task's step is ready or the trace is full.
 
 ghost use Rattle.std.specs.Prelude.{◌≡◌, ◌<◌, ◌≤◌, ◌+◌, ◌⊎◌, ℕ, true, length};
-ghost use Rattle.std.specs.Prelude.{nat_lt, find, Some, None, IfSome, OnOk, []};
+ghost use Rattle.std.specs.Prelude.{nat_lt, find, Some, None, IfOk, IfSome, OnOk, []};
 ghost use Rattle.std.specs.List.{flat_map};
 ghost use Rattle.kernel_model.specs.entries.History.{each_whole, replay};
 ghost use Rattle.kernel_model.specs.entries.Ready.{ready_numbers};
@@ -17,6 +17,7 @@ ghost use Rattle.call_table.specs.Turns.{AreInTurn, AreStill, AreStillIn, Leaves
 use crate::Processes;
 use crate::schedule::Schedule;
 use kernel_model::{Entry, Trace};
+use proc_cells::Cells;
 use sn_base::{List, Memory};
 use std::alloc::Global;
 
@@ -87,6 +88,41 @@ impl Schedule {
             None => self.enter_above(alloc, 0, seed, place),
         }
     }
+
+    /// Has tasks make entries in turn, which go into an empty trace, until no task's next step is ready or the trace
+    /// has so many. On want of memory the trace has the entries that were made.
+    fn take_turns(
+        &mut self,
+        alloc: Global,
+        seed: &[u8],
+        entries: u64,
+        trace: &mut Trace,
+    ) -> Result<(), Memory>
+        requires parked { AreParked self.old.cells self.old.parking }
+        requires empty { trace.old ≡ [] }
+        ensures history { (beside : Beside) → beside.seed ≡ seed.now →
+            Leaves beside (replay (kernel_of_cells self.old.cells beside 0) trace.new) }
+        ensures state { OnOk result ((beside : Beside) → beside.seed ≡ seed.now →
+            replay (kernel_of_cells self.old.cells beside 0) trace.new ≡
+            Some (kernel_of_cells self.new.cells beside (length trace.new))) }
+        ensures whole { (beside : Beside) → beside.seed ≡ seed.now →
+            each_whole (kernel_of_cells self.old.cells beside 0) trace.new ≡ true }
+        ensures turns { (beside : Beside) → beside.seed ≡ seed.now →
+            AreInTurn 0 (kernel_of_cells self.old.cells beside 0) trace.new }
+        ensures drawn { flat_map numbers_in trace.new ≡ [] }
+        ensures bound { length trace.new ≤ entries }
+        ensures ended { OnOk result (AreStillIn self.new.cells ⊎ (length trace.new ≡ entries)) }
+    {
+        let mut last = 0;
+        for place in 0..entries {
+            let Some(entry) = self.turn(alloc, last, seed, place + 1)? else {
+                return Ok(());
+            };
+            last = entry.task();
+            trace.push(entry)?;
+        }
+        Ok(())
+    }
 }
 
 /// Has tasks make entries in turn, by the mount file's seed, until no task's next step is ready or the trace has so
@@ -106,43 +142,36 @@ pub fn run_turns(alloc: Global, processes: Processes, seed: &[u8], entries: u64)
     ensures ended { IfSome result.processes (λ p. AreStill p ⊎ (length result.trace ≡ entries)) }
 {
     let mut trace = List::new(alloc);
-    let Ok(mut schedule) = Schedule::begin(alloc, processes.cells) else {
-        return Ran {
-            processes: None,
-            trace,
-        };
+    let processes = match after_turns(alloc, processes.cells, seed, entries, &mut trace) {
+        Ok(cells) => Some(Processes { cells }),
+        Err(Memory) => None,
     };
-    let mut last = 0;
-    for place in 0..entries {
-        let Ok(made) = schedule.turn(alloc, last, seed, place + 1) else {
-            return Ran {
-                processes: None,
-                trace,
-            };
-        };
-        let entry = match made {
-            Some(entry) => entry,
-            None => {
-                return Ran {
-                    processes: Some(Processes {
-                        cells: schedule.cells,
-                    }),
-                    trace,
-                };
-            }
-        };
-        last = entry.task();
-        if trace.push(entry).is_err() {
-            return Ran {
-                processes: None,
-                trace,
-            };
-        }
-    }
-    Ran {
-        processes: Some(Processes {
-            cells: schedule.cells,
-        }),
-        trace,
-    }
+    Ran { processes, trace }
+}
+
+/// The cells that are left by their turns, whose entries go into an empty trace. On want of memory they are gone, and
+/// the trace has the entries that were made.
+fn after_turns(
+    alloc: Global,
+    cells: Cells,
+    seed: &[u8],
+    entries: u64,
+    trace: &mut Trace,
+) -> Result<Cells, Memory>
+    requires empty { trace.old ≡ [] }
+    ensures history { (beside : Beside) → beside.seed ≡ seed.now →
+        Leaves beside (replay (kernel_of_cells cells beside 0) trace.new) }
+    ensures state { IfOk result (λ left. (beside : Beside) → beside.seed ≡ seed.now →
+        replay (kernel_of_cells cells beside 0) trace.new ≡ Some (kernel_of_cells left beside (length trace.new))) }
+    ensures whole { (beside : Beside) → beside.seed ≡ seed.now →
+        each_whole (kernel_of_cells cells beside 0) trace.new ≡ true }
+    ensures turns { (beside : Beside) → beside.seed ≡ seed.now →
+        AreInTurn 0 (kernel_of_cells cells beside 0) trace.new }
+    ensures drawn { flat_map numbers_in trace.new ≡ [] }
+    ensures bound { length trace.new ≤ entries }
+    ensures ended { IfOk result (λ left. AreStillIn left ⊎ (length trace.new ≡ entries)) }
+{
+    let mut schedule = Schedule::begin(alloc, cells)?;
+    schedule.take_turns(alloc, seed, entries, trace)?;
+    Ok(schedule.cells)
 }

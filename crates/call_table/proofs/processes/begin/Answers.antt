@@ -12,10 +12,10 @@ use Rattle.call_table.proofs.processes.begin.Goals as goal
 
 pub invariant_of-result : goal.invariant_of-result
 invariant_of-result c =
-    let registers : c.insert.new.self ≡ map.insert c.args.cells.registers (c.args.cells.tasks.last + 1)
+    let registers : c.place.new.all_registers ≡ map.insert c.args.cells.registers (c.args.cells.tasks.last + 1)
     c.args.beginning.registers =
-    c.in_ok-insert.ensures.ok
-    ∙ ap (λ k. map.insert c.args.cells.registers k c.args.beginning.registers) (c.from.ensures ∙ c.requires.next) in
+    c.in_ok-place.ensures.registers
+    ∙ ap (λ k. map.insert c.args.cells.registers k c.args.beginning.registers) c.requires.next in
     record {
       at_home =
           home_begun c.args.cells.tasks c.args.cells.registers c.args.cells.spaces c.args.cells.at_home (record {
@@ -24,37 +24,34 @@ invariant_of-result c =
             table = made_by c.args.number;
             cwd = c.args.root;
             ended = None;
-          }) 0 c.args.beginning.registers c.args.beginning.space c.open_task.new.tasks c.insert.new.self
-          c.insert-2.new.self c.in_ok-open_task.ensures
-          registers c.in_ok-insert-2.ensures.ok;
+          }) 0 c.args.beginning.registers c.args.beginning.space c.place.new.tasks c.place.new.all_registers
+          c.place.new.spaces c.in_ok-place.ensures.tasks
+          registers c.in_ok-place.ensures.spaces;
     }
 
 pub returns : goal.returns
 returns c = λ beside n.
-    let registers : c.insert.new.self ≡ map.insert c.args.cells.registers c.args.number c.args.beginning.registers =
-    c.in_ok-insert.ensures.ok
-    ∙ ap (λ k. map.insert c.args.cells.registers k c.args.beginning.registers) c.from.ensures in
     ap (λ x. kernel_with (record (held_by c.args.cells) {
       tasks = x;
-      registers = c.insert.new.self;
-      spaces = c.insert-2.new.self;
-      files = c.open_files.new.files;
-    }) beside n) c.in_ok-open_task.ensures
+      registers = c.place.new.all_registers;
+      spaces = c.place.new.spaces;
+      files = c.place.new.files;
+    }) beside n) c.in_ok-place.ensures.tasks
     ∙ ap (λ x. kernel_with (record (held_by c.args.cells) {
       tasks = opened c.args.cells.tasks (made_by c.args.number) (made_by c.args.number) c.args.root;
       registers = x;
-      spaces = c.insert-2.new.self;
-      files = c.open_files.new.files;
-    }) beside n) registers
+      spaces = c.place.new.spaces;
+      files = c.place.new.files;
+    }) beside n) c.in_ok-place.ensures.registers
     ∙ ap (λ x. kernel_with (record (held_by c.args.cells) {
       tasks = opened c.args.cells.tasks (made_by c.args.number) (made_by c.args.number) c.args.root;
       registers = map.insert c.args.cells.registers c.args.number c.args.beginning.registers;
       spaces = x;
-      files = c.open_files.new.files;
-    }) beside n) c.in_ok-insert-2.ensures.ok
+      files = c.place.new.files;
+    }) beside n) c.in_ok-place.ensures.spaces
     ∙ ap (λ x. kernel_with (record (held_by c.args.cells) {
       tasks = opened c.args.cells.tasks (made_by c.args.number) (made_by c.args.number) c.args.root;
       registers = map.insert c.args.cells.registers c.args.number c.args.beginning.registers;
       spaces = with_named c.args.cells.spaces 0 c.args.number c.args.beginning.space;
       files = x;
-    }) beside n) c.in_ok-open_files.ensures
+    }) beside n) c.in_ok-place.ensures.files
