@@ -43,28 +43,27 @@ const BEGINS: [Act; 12] = [
     Act::Stores(RECORDS + 48, BARRED), Act::Stores(RECORDS + 56, 1),
 ];
 
-/// A guest with these bytes and records, for which 0 is of an empty input, 1 and 2 are of the console, and 3 and 4 of a
-/// pipe, to read and to write.
-fn begun(alloc: Global) -> Result<Guest, Fail> {
-    let mut guest = new_guest(alloc)?;
-    guest.expect(&BEGINS)?;
-    Ok(guest)
-}
-
-/// That such a guest does these.
+/// That a guest does these which has these bytes and records, and for which 0 is of an empty input, 1 and 2 are of the
+/// console, and 3 and 4 of a pipe, to read and to write.
 pub(crate) fn expect(alloc: Global, acts: &[Act]) -> Result<(), Fail> {
-    let mut guest = begun(alloc)?;
-    guest.expect(acts)
+    let mut guest = new_guest(alloc)?;
+    begin(&mut guest, &[], acts)
 }
 
 /// The same where so many bytes are on their way in the pipe.
 pub(crate) fn expect_with(alloc: Global, bytes: u32, acts: &[Act]) -> Result<(), Fail> {
-    let mut guest = begun(alloc)?;
     let written = Act::Calls(
         WRITE,
         [4, ZEROS, u64::from(bytes), 0, 0, 0],
         i64::from(bytes),
     );
-    guest.expect(&[written])?;
+    let mut guest = new_guest(alloc)?;
+    begin(&mut guest, &[written], acts)
+}
+
+/// Has a new guest begin so, and then do these.
+fn begin(guest: &mut Guest, first: &[Act], acts: &[Act]) -> Result<(), Fail> {
+    guest.expect(&BEGINS)?;
+    guest.expect(first)?;
     guest.expect(acts)
 }

@@ -1,37 +1,29 @@
 //! Descriptors that are closed, and what goes with the last of a description.
 
-use crate::helpers::{TABLE, counted, done, ends, five_open, open_at};
-use call_fs::{close, dup};
-use file_changes::FileChange;
+use crate::rows::{Row, expect_rows};
 use std::test::Fail;
+
+#[rattlefmt::skip]
+const ONCE: [Row; 7] = [
+    Row::Close((1 << 32) + 1, 0), Row::Stands(1, None), Row::Gone(0, 4),
+    Row::ClosesNothing(1), Row::ClosesNothing(5), Row::ClosesNothing(256), Row::ClosesNothing(0xffff_ffff),
+];
 
 #[test]
 fn a_closed_number_is_not_open(rt: HostRuntime) -> Result<(), Fail> {
-    let mut files = five_open(rt.alloc())?;
-    let call = close(TABLE, (1 << 32) + 1, &files);
-    assert_eq!(rt; done(&mut files, call), 0);
-    assert_eq!(rt; open_at(&files, 1), None);
-    assert!(rt; !files.descriptions.contains(0, 4));
-    for fd in [1, 5, 256, 0xffff_ffff] {
-        let call = close(TABLE, fd, &files);
-        assert_eq!(rt; call.reply, -9);
-        assert_eq!(rt; call.change, FileChange::Nothing);
-    }
-    Ok(())
+    expect_rows(rt.alloc(), &ONCE)
 }
+
+#[rattlefmt::skip]
+const LAST: [Row; 10] = [
+    Row::Dup(3, 5), Row::Counts(5, 2),
+    Row::Close(3, 0), Row::Ends(Some((1, 1))),
+    Row::Close(5, 0), Row::Ends(Some((0, 1))),
+    Row::Close(4, 0), Row::Ends(None),
+    Row::Gone(9, 0), Row::Gone(9, 1),
+];
 
 #[test]
 fn the_last_descriptor_closes_the_end_of_a_pipe(rt: HostRuntime) -> Result<(), Fail> {
-    let mut files = five_open(rt.alloc())?;
-    let call = dup(TABLE, 3, &files);
-    assert_eq!(rt; done(&mut files, call), 5);
-    assert_eq!(rt; counted(&files, 5), Some(2));
-    for (fd, left) in [(3, Some((1, 1))), (5, Some((0, 1))), (4, None)] {
-        let call = close(TABLE, fd, &files);
-        assert_eq!(rt; done(&mut files, call), 0);
-        assert_eq!(rt; ends(&files), left);
-    }
-    assert!(rt; !files.descriptions.contains(9, 0));
-    assert!(rt; !files.descriptions.contains(9, 1));
-    Ok(())
+    expect_rows(rt.alloc(), &LAST)
 }

@@ -1,36 +1,30 @@
 //! Numbers that get what another stands for.
 
-use crate::helpers::{TABLE, counted, done, ends, five_open, open_at};
-use call_fs::{close, dup, dup3};
+use crate::helpers::{TABLE, five_open};
+use crate::rows::{Row, expect_rows, hold};
+use call_fs::{dup, dup3};
 use fd_table::Descriptor;
 use file_changes::FileChange;
+use kernel_model::OpenFiles;
 use sn_base::Made;
 use std::test::Fail;
 
+/// What 0 stands for.
+const INPUT: Descriptor = Descriptor {
+    description: Made { place: 0, index: 3 },
+    cloexec: false,
+};
+
+#[rattlefmt::skip]
+const LOWEST: [Row; 9] = [
+    Row::Dup(0, 5), Row::Close(2, 0), Row::Dup(0, 2),
+    Row::Stands(0, Some(INPUT)), Row::Stands(2, Some(INPUT)), Row::Stands(5, Some(INPUT)), Row::Stands(6, None),
+    Row::Counts(0, 3), Row::Counts(1, 1),
+];
+
 #[test]
 fn dup_gives_the_lowest_free_number(rt: HostRuntime) -> Result<(), Fail> {
-    let mut files = five_open(rt.alloc())?;
-    let call = dup(TABLE, 0, &files);
-    assert_eq!(rt; done(&mut files, call), 5);
-    let call = close(TABLE, 2, &files);
-    assert_eq!(rt; done(&mut files, call), 0);
-    let call = dup(TABLE, 0, &files);
-    assert_eq!(rt; done(&mut files, call), 2);
-    let input = Descriptor {
-        description: Made { place: 0, index: 3 },
-        cloexec: false,
-    };
-    for (fd, there) in [
-        (0, Some(input)),
-        (2, Some(input)),
-        (5, Some(input)),
-        (6, None),
-    ] {
-        assert_eq!(rt; open_at(&files, fd), there);
-    }
-    assert_eq!(rt; counted(&files, 0), Some(3));
-    assert_eq!(rt; counted(&files, 1), Some(1));
-    Ok(())
+    expect_rows(rt.alloc(), &LOWEST)
 }
 
 #[test]
@@ -52,22 +46,24 @@ fn dup_looks_at_32_bits(rt: HostRuntime) -> Result<(), Fail> {
     Ok(())
 }
 
+#[rattlefmt::skip]
+const WHERE_FULL: [Row; 8] = [
+    Row::Counts(0, 252), Row::Dup(0, -24), Row::Dup(255, -24), Row::Dup(256, -9),
+    Row::Close(77, 0), Row::Counts(0, 251), Row::Dup(0, 77), Row::Counts(0, 252),
+];
+
+/// Duplicates 0 until all numbers are open.
+fn fill(files: &mut OpenFiles) -> Result<(), Fail> {
+    for number in 5..256 {
+        hold(files, &[Row::Dup(0, number)])?;
+    }
+    hold(files, &WHERE_FULL)
+}
+
 #[test]
 fn dup_of_a_full_table_is_emfile(rt: HostRuntime) -> Result<(), Fail> {
     let mut files = five_open(rt.alloc())?;
-    for number in 5..256 {
-        let call = dup(TABLE, 0, &files);
-        assert_eq!(rt; done(&mut files, call), number);
-    }
-    assert_eq!(rt; counted(&files, 0), Some(252));
-    assert_eq!(rt; dup(TABLE, 0, &files).reply, -24);
-    assert_eq!(rt; dup(TABLE, 255, &files).reply, -24);
-    assert_eq!(rt; dup(TABLE, 256, &files).reply, -9);
-    let call = close(TABLE, 77, &files);
-    assert_eq!(rt; done(&mut files, call), 0);
-    assert_eq!(rt; counted(&files, 0), Some(251));
-    assert_eq!(rt; dup(TABLE, 0, &files).reply, 77);
-    Ok(())
+    fill(&mut files)
 }
 
 /// dup3's arguments and reply: O_CLOEXEC is octal 2000000.
@@ -108,30 +104,26 @@ fn dup3_replies_the_number_or_is_refused(rt: HostRuntime) -> Result<(), Fail> {
     Ok(())
 }
 
+/// O_CLOEXEC is octal 2000000.
+#[rattlefmt::skip]
+const OVER_OTHERS: [Row; 8] = [
+    Row::Ends(Some((1, 1))),
+    Row::Dup3([0, 3, 0], 3), Row::Ends(Some((0, 1))), Row::Gone(9, 0),
+    Row::Dup3([0, 4, 0o2000000], 4), Row::Ends(None), Row::Gone(9, 1),
+    Row::Counts(0, 3),
+];
+
 #[test]
 fn dup3_closes_what_was_there(rt: HostRuntime) -> Result<(), Fail> {
-    let mut files = five_open(rt.alloc())?;
-    assert_eq!(rt; ends(&files), Some((1, 1)));
-    let call = dup3(TABLE, 0, 3, 0, &files);
-    assert_eq!(rt; done(&mut files, call), 3);
-    assert_eq!(rt; ends(&files), Some((0, 1)));
-    assert!(rt; !files.descriptions.contains(9, 0));
-    let call = dup3(TABLE, 0, 4, 0o2000000, &files);
-    assert_eq!(rt; done(&mut files, call), 4);
-    assert_eq!(rt; ends(&files), None);
-    assert!(rt; !files.descriptions.contains(9, 1));
-    assert_eq!(rt; counted(&files, 0), Some(3));
-    Ok(())
+    expect_rows(rt.alloc(), &OVER_OTHERS)
 }
+
+#[rattlefmt::skip]
+const OVER_A_DUPLICATE: [Row; 4] = [
+    Row::Dup(3, 5), Row::Dup3([3, 5, 0], 5), Row::Counts(3, 2), Row::Ends(Some((1, 1))),
+];
 
 #[test]
 fn dup3_onto_a_duplicate_keeps_the_count(rt: HostRuntime) -> Result<(), Fail> {
-    let mut files = five_open(rt.alloc())?;
-    let call = dup(TABLE, 3, &files);
-    assert_eq!(rt; done(&mut files, call), 5);
-    let call = dup3(TABLE, 3, 5, 0, &files);
-    assert_eq!(rt; done(&mut files, call), 5);
-    assert_eq!(rt; counted(&files, 3), Some(2));
-    assert_eq!(rt; ends(&files), Some((1, 1)));
-    Ok(())
+    expect_rows(rt.alloc(), &OVER_A_DUPLICATE)
 }

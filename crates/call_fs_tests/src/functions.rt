@@ -28,13 +28,11 @@ const BEGINS: [Act; 7] = [
     Act::Stores(RECORDS + 40, 1 << 63),
 ];
 
-/// A guest with eight bytes and the records of two buffers, for which 0 is of an empty input, 1 and 2 are of the
+/// Gives a new guest eight bytes and the records of two buffers; 0 is of an empty input then, 1 and 2 are of the
 /// console, and 3 and 4 of a pipe, to read and to write.
-fn begun(alloc: Global) -> Result<Guest, Fail> {
-    let mut guest = new_guest(alloc)?;
-    guest.files = five_open(alloc)?;
-    guest.expect(&BEGINS)?;
-    Ok(guest)
+fn begin(guest: &mut Guest) -> Result<(), Fail> {
+    guest.files = five_open(guest.alloc)?;
+    guest.expect(&BEGINS)
 }
 
 /// A call that moves bytes.
@@ -122,6 +120,7 @@ const CALLS: [(Moving, [u64; 3], Option<i64>); 12] = [
 
 /// That a guest's calls reply so, and what the console has then.
 fn passes(guest: &mut Guest) -> Result<(), Fail> {
+    begin(guest)?;
     for (row, (moving, args, reply)) in CALLS.iter().enumerate() {
         if moved(guest, *moving, *args)? != *reply {
             return Err(Fail::new(format_args!("row {row}")));
@@ -132,7 +131,7 @@ fn passes(guest: &mut Guest) -> Result<(), Fail> {
 
 #[test]
 fn bytes_come_out_in_their_order(rt: HostRuntime) -> Result<(), Fail> {
-    let mut guest = begun(rt.alloc())?;
+    let mut guest = new_guest(rt.alloc())?;
     passes(&mut guest)
 }
 
@@ -153,11 +152,12 @@ const REFUSED: [(u64, u64, i64); 4] = [
     (RECORDS + 32, 1, -22),
 ];
 
-/// Whether two buffers are found, none of no records, and none where these are refused.
-fn are_found(guest: &mut Guest) -> Result<bool, Fail> {
+/// That two buffers are found, none of no records, and none where these are refused.
+fn finds(guest: &mut Guest) -> Result<(), Fail> {
+    begin(guest)?;
     for (at, count, reply) in REFUSED {
         if found(guest, at, count)?.err() != Some(reply) {
-            return Ok(false);
+            return Err(Fail::new(format_args!("{count} records at {at} aren't refused so")));
         }
     }
     let none = found(guest, 0, 0)?.ok().ok_or("no records are refused")?;
@@ -174,15 +174,16 @@ fn are_found(guest: &mut Guest) -> Result<bool, Fail> {
             length: 5,
         },
     ];
-    Ok(none.is_empty() && two.as_slice() == wanted.as_slice())
+    if !none.is_empty() || two.as_slice() != wanted.as_slice() {
+        return Err(Fail::new("other buffers are found"));
+    }
+    Ok(())
 }
 
 #[test]
 fn buffers_are_found_where_their_records_lie(rt: HostRuntime) -> Result<(), Fail> {
-    let mut guest = begun(rt.alloc())?;
-    let found = are_found(&mut guest)?;
-    assert!(rt; found);
-    Ok(())
+    let mut guest = new_guest(rt.alloc())?;
+    finds(&mut guest)
 }
 
 /// What pipe2 replies to a guest, for which it is done. Its entry has that place.
@@ -232,14 +233,15 @@ fn has(guest: &mut Guest, at: u64, bytes: &[u8]) -> Result<bool, Fail> {
     Ok(told.is_some_and(|told| told.as_slice() == bytes))
 }
 
-/// Whether a pipe is made whose ends have the numbers 2 and 5, each closed by execve(2).
-fn is_made(guest: &mut Guest) -> Result<bool, Fail> {
+/// That a pipe is made whose ends have the numbers 2 and 5, each closed by execve(2).
+fn makes(guest: &mut Guest) -> Result<(), Fail> {
+    begin(guest)?;
     let call = close(TABLE, 2, &guest.files);
     if done(&mut guest.files, call) != 0 || piped(guest, 7, HEAP, 1)? != -22 {
-        return Ok(false);
+        return Err(Fail::new("2 isn't closed, or another flag is taken"));
     }
     if piped(guest, 7, HEAP + 4_093, 0o2004000)? != 0 {
-        return Ok(false);
+        return Err(Fail::new("the pipe is refused"));
     }
     for (fd, index) in [(2, 0), (5, 1)] {
         let end = Descriptor {
@@ -247,16 +249,17 @@ fn is_made(guest: &mut Guest) -> Result<bool, Fail> {
             cloexec: true,
         };
         if open_at(&guest.files, fd) != Some(end) {
-            return Ok(false);
+            return Err(Fail::new(format_args!("{fd} is no end")));
         }
     }
-    has(guest, HEAP + 4_093, &[2, 0, 0, 0, 5, 0, 0, 0])
+    if !has(guest, HEAP + 4_093, &[2, 0, 0, 0, 5, 0, 0, 0])? {
+        return Err(Fail::new("other numbers are told"));
+    }
+    Ok(())
 }
 
 #[test]
 fn the_ends_of_a_pipe_are_named_by_the_place_of_its_entry(rt: HostRuntime) -> Result<(), Fail> {
-    let mut guest = begun(rt.alloc())?;
-    let made = is_made(&mut guest)?;
-    assert!(rt; made);
-    Ok(())
+    let mut guest = new_guest(rt.alloc())?;
+    makes(&mut guest)
 }

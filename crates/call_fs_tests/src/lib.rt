@@ -36,6 +36,8 @@ mod positions;
 #[cfg(test)]
 mod reads;
 #[cfg(test)]
+mod rows;
+#[cfg(test)]
 mod shared;
 #[cfg(test)]
 mod table;

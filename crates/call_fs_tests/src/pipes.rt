@@ -5,7 +5,6 @@ use kernel_calls_acts::{
     Act, CLOSE, DUP, FCNTL, Guest, HEAP, LSEEK, MAPPINGS_END, PIPE2, READ, SHARED, WRITE,
     expect_acts, new_guest,
 };
-use std::alloc::Global;
 use std::test::Fail;
 
 /// pipe(2), ERRORS, with the order of docs/GUESTS.md, where at most one number is free: buffer and flags. None is made
@@ -37,25 +36,19 @@ const WHERE_FULL: &[Act] = &[
     Act::Calls(PIPE2, [HEAP, 0, 0, 0, 0, 0], -24),
 ];
 
-/// A guest does these that has all numbers open but the last.
-fn expect_where_full(alloc: Global) -> Result<(), Fail> {
-    let mut guest = new_guest(alloc)?;
+/// Opens all numbers of a new guest but the last, and has it do these.
+fn does_where_full(guest: &mut Guest) -> Result<(), Fail> {
     guest.expect(&[Act::Brk(END, END)])?;
-    fill(&mut guest)?;
-    guest.expect(WHERE_FULL)
-}
-
-/// Opens all numbers but the last.
-fn fill(guest: &mut Guest) -> Result<(), Fail> {
     for number in 3..255 {
         guest.expect(&[Act::Calls(DUP, [0, 0, 0, 0, 0, 0], number)])?;
     }
-    Ok(())
+    guest.expect(WHERE_FULL)
 }
 
 #[test]
 fn of_two_errors_of_pipe2_the_first_is_told(rt: HostRuntime) -> Result<(), Fail> {
-    expect_where_full(rt.alloc())
+    let mut guest = new_guest(rt.alloc())?;
+    does_where_full(&mut guest)
 }
 
 /// Pipes with each of the flags, which hold for both ends, and not for those of others: pipe(2), fcntl(2). Their

@@ -1,0 +1,80 @@
+//! Calls on descriptors in a row, and what is open then, as rows of a table.
+
+use crate::helpers::{TABLE, counted, done, ends, five_open, open_at};
+use call_fs::{close, dup, dup3};
+use fd_table::Descriptor;
+use file_changes::FileChange;
+use kernel_model::OpenFiles;
+use std::alloc::Global;
+use std::test::Fail;
+
+/// A call, by its arguments and its reply, or what is open.
+#[derive(Clone, Copy)]
+pub(crate) enum Row {
+    Dup(u64, i64),
+    Dup3([u64; 3], i64),
+    Close(u64, i64),
+    /// A close that is refused with EBADF changes nothing.
+    ClosesNothing(u64),
+    /// What a number stands for.
+    Stands(u32, Option<Descriptor>),
+    /// How many descriptors have the description that a number has.
+    Counts(u32, u64),
+    /// How many ends of the pipe are open, to read and to write; nothing where it's gone.
+    Ends(Option<(u64, u64)>),
+    /// A description, by its entry and number, is gone.
+    Gone(u64, u32),
+}
+
+/// Whether a row holds, where its call is done.
+fn holds(files: &mut OpenFiles, row: Row) -> bool {
+    match row {
+        Row::Dup(fd, reply) => {
+            let call = dup(TABLE, fd, files);
+            done(files, call) == reply
+        }
+        Row::Dup3(args, reply) => {
+            let [fd, number, flags] = args;
+            let call = dup3(TABLE, fd, number, flags, files);
+            done(files, call) == reply
+        }
+        Row::Close(fd, reply) => {
+            let call = close(TABLE, fd, files);
+            done(files, call) == reply
+        }
+        Row::ClosesNothing(fd) => closes_nothing(files, fd),
+        Row::Stands(fd, there) => stands(files, fd, there),
+        Row::Counts(fd, count) => counted(files, fd) == Some(count),
+        Row::Ends(open) => has_ends(files, open),
+        Row::Gone(place, index) => !files.descriptions.contains(place, index),
+    }
+}
+
+fn closes_nothing(files: &OpenFiles, fd: u64) -> bool {
+    let call = close(TABLE, fd, files);
+    call.reply == -9 && call.change == FileChange::Nothing
+}
+
+fn stands(files: &OpenFiles, fd: u32, there: Option<Descriptor>) -> bool {
+    open_at(files, fd) == there
+}
+
+fn has_ends(files: &OpenFiles, open: Option<(u64, u64)>) -> bool {
+    ends(files) == open
+}
+
+/// That rows hold, one after another.
+pub(crate) fn hold(files: &mut OpenFiles, rows: &[Row]) -> Result<(), Fail> {
+    for (place, row) in rows.iter().enumerate() {
+        if !holds(files, *row) {
+            return Err(Fail::new(format_args!("row {place}")));
+        }
+    }
+    Ok(())
+}
+
+/// The same where five numbers are open.
+pub(crate) fn expect_rows(alloc: Global, rows: &[Row]) -> Result<(), Fail> {
+    let mut files = five_open(alloc)?;
+    hold(&mut files, rows)
+}
