@@ -60,8 +60,7 @@ const SHAPES: [u64; 33] = [
 ];
 
 /// That each of them is refused, with words that may be written and with words that may not.
-fn expect_shapes(alloc: Global) -> Result<(), Fail> {
-    let mut guest = new_guest(alloc)?;
+fn expect_shapes(guest: &mut Guest) -> Result<(), Fail> {
     for (row, flags) in SHAPES.iter().enumerate() {
         let acts = [
             Act::Calls(CLONE, [*flags, 0, AT, 0, AT, 7], EINVAL),
@@ -74,7 +73,8 @@ fn expect_shapes(alloc: Global) -> Result<(), Fail> {
 
 #[test]
 fn flags_of_neither_shape_are_einval(rt: HostRuntime) -> Result<(), Fail> {
-    expect_shapes(rt.alloc())
+    let mut guest = new_guest(rt.alloc())?;
+    expect_shapes(&mut guest)
 }
 
 /// A byte of the parent's word, of the child's, or of either that may not be written: the other word stays as it was.
@@ -130,9 +130,7 @@ const CROWDED: [Act; 11] = [
 ];
 
 /// That these come of one another, and that one may be made then.
-fn expect_crowded(alloc: Global) -> Result<(), Fail> {
-    let tasks = crowd(alloc)?;
-    let mut guest = guest_among(alloc, tasks)?;
+fn expect_crowded(guest: &mut Guest) -> Result<(), Fail> {
     guest.expect(&CROWDED)?;
     let child = guest.child([PROCESS + PARENT, 0, AT, 0, 0])?;
     guest.go_on(child.words);
@@ -141,7 +139,8 @@ fn expect_crowded(alloc: Global) -> Result<(), Fail> {
 
 #[test]
 fn one_task_more_than_256_is_eagain(rt: HostRuntime) -> Result<(), Fail> {
-    expect_crowded(rt.alloc())
+    let mut guest = guest_among(rt.alloc(), crowd(rt.alloc())?)?;
+    expect_crowded(&mut guest)
 }
 
 /// A clone by its arguments, and what the child begins with: its stack and its thread pointer, the address of its clear
@@ -189,14 +188,12 @@ const BEGINNINGS: [Begins; 14] = [
     Begins { args: [0x3d_0f00, 64, AT, 72, AT + 4], stack: 64, pointer: 72, clear: AT + 4, own: false },
 ];
 
-/// A guest at a call, whose registers are told from one another.
-fn caller(alloc: Global) -> Result<Guest, Fail> {
-    let mut guest = new_guest(alloc)?;
+/// Has a guest stand at a call, with registers that are told from one another.
+fn call(guest: &mut Guest) {
     for number in 1..32u64 {
         guest.registers.x[number as usize] = 1000 + number;
     }
     guest.registers.pc = STORE;
-    Ok(guest)
 }
 
 /// The registers of a child, of those of its caller: it stands behind the call, with 0 in a0.
@@ -222,10 +219,10 @@ fn expect_begins(rt: &impl Abort, guest: &mut Guest, begins: &Begins) -> Result<
 }
 
 /// That each of these begins so.
-fn expect_beginnings(rt: &impl Abort, alloc: Global) -> Result<(), Fail> {
-    let mut guest = caller(alloc)?;
+fn expect_beginnings(rt: &impl Abort, guest: &mut Guest) -> Result<(), Fail> {
+    call(guest);
     for begins in &BEGINNINGS {
-        expect_begins(rt, &mut guest, begins)?;
+        expect_begins(rt, guest, begins)?;
     }
     Ok(())
 }
@@ -234,7 +231,8 @@ fn expect_beginnings(rt: &impl Abort, alloc: Global) -> Result<(), Fail> {
 fn a_child_begins_with_the_registers_of_its_caller_behind_the_call(
     rt: HostRuntime,
 ) -> Result<(), Fail> {
-    expect_beginnings(&rt, rt.alloc())
+    let mut guest = new_guest(rt.alloc())?;
+    expect_beginnings(&rt, &mut guest)
 }
 
 /// A clone by its arguments, what its caller does then, what the child does, and what the caller does at last.
@@ -352,8 +350,7 @@ const CLONES: [Cloned; 11] = [
 ];
 
 /// That one of these comes to what is expected.
-fn expect_cloned(alloc: Global, cloned: &Cloned) -> Result<(), Fail> {
-    let mut guest = new_guest(alloc)?;
+fn expect_cloned(guest: &mut Guest, cloned: &Cloned) -> Result<(), Fail> {
     guest.expect(&BEFORE)?;
     let Child { memory, words, .. } = guest.child(cloned.args)?;
     guest.go_on(words);
@@ -362,10 +359,16 @@ fn expect_cloned(alloc: Global, cloned: &Cloned) -> Result<(), Fail> {
     guest.expect(cloned.last)
 }
 
+/// The same of a new guest.
+fn expect_clone(alloc: Global, cloned: &Cloned) -> Result<(), Fail> {
+    let mut guest = new_guest(alloc)?;
+    expect_cloned(&mut guest, cloned)
+}
+
 #[test]
 fn a_process_has_a_copy_of_memory_and_a_thread_the_same(rt: HostRuntime) -> Result<(), Fail> {
     for cloned in &CLONES {
-        expect_cloned(rt.alloc(), cloned)?;
+        expect_clone(rt.alloc(), cloned)?;
     }
     Ok(())
 }

@@ -1,7 +1,7 @@
 //! Tasks that end: their statuses, their clear words, and who is woken by these.
 
 use kernel_calls_acts::{
-    Act, EXIT, EXIT_GROUP, Ends, HEAP, MAPPINGS_END, PRIVATE, SHARED, TOP, Word, end,
+    Act, EXIT, EXIT_GROUP, Ends, Guest, HEAP, MAPPINGS_END, PRIVATE, SHARED, TOP, Word, end,
     expect_acts_among, family, guest_among,
 };
 use std::alloc::Global;
@@ -22,10 +22,9 @@ const SETTINGS: [Act; 18] = [
 ];
 
 /// That these come of one another, and that the group 2 then ends with the words of its two tasks.
-fn expect_settings(rt: &impl Abort, alloc: Global) -> Result<(), Fail> {
-    let mut guest = guest_among(alloc, family(alloc)?)?;
+fn expect_settings(rt: &impl Abort, guest: &mut Guest) -> Result<(), Fail> {
     guest.expect(&SETTINGS)?;
-    let ended = end(alloc, &mut guest.tasks, 2)?;
+    let ended = end(guest.alloc, &mut guest.tasks, 2)?;
     let wanted = [
         EndedTask { task: 2, clear: 3 },
         EndedTask { task: 4, clear: 3 },
@@ -36,7 +35,8 @@ fn expect_settings(rt: &impl Abort, alloc: Global) -> Result<(), Fail> {
 
 #[test]
 fn a_task_has_its_clear_word_where_it_last_said(rt: HostRuntime) -> Result<(), Fail> {
-    expect_settings(&rt, rt.alloc())
+    let mut guest = guest_among(rt.alloc(), family(rt.alloc())?)?;
+    expect_settings(&rt, &mut guest)
 }
 
 /// That the family of tasks 1 to 4 does these: 2 and 4 are of the group 2, and 1 and 3 of their own.

@@ -1,8 +1,8 @@
 //! Tasks that sleep on words, are told why they may not, and are woken.
 
 use kernel_calls_acts::{
-    Act, EAGAIN, EFAULT, EINVAL, ENOSYS, FIXED, FUTEX, GETTID, HEAP, MAPPINGS_END, MEMORY, PRIVATE,
-    SHARED, TOP, expect_acts, expect_acts_among, family, guest_among,
+    Act, EAGAIN, EFAULT, EINVAL, ENOSYS, FIXED, FUTEX, GETTID, Guest, HEAP, MAPPINGS_END, MEMORY,
+    PRIVATE, SHARED, TOP, expect_acts, expect_acts_among, family, guest_among,
 };
 use sn_base::Made;
 use std::alloc::Global;
@@ -198,6 +198,10 @@ const WAKINGS: [Act; 18] = [
 /// That the sleepers sleep, and then these come of one another.
 fn expect_of_sleepers(alloc: Global, acts: &[Act]) -> Result<(), Fail> {
     let mut guest = guest_among(alloc, family(alloc)?)?;
+    sleep_and_do(&mut guest, acts)
+}
+
+fn sleep_and_do(guest: &mut Guest, acts: &[Act]) -> Result<(), Fail> {
     guest.expect(&SLEEPERS)?;
     guest.expect(acts)
 }

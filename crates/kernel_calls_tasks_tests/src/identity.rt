@@ -1,11 +1,10 @@
 //! Who a guest is told that it is, and which system it runs on.
 
 use kernel_calls_acts::{
-    Act, EFAULT, GETEGID, GETEUID, GETGID, GETPID, GETPPID, GETTID, GETUID, HEAP, MAPPINGS_END,
-    PRIVATE, SET_ROBUST_LIST, SHARED, TOP, UNAME, expect_acts, expect_acts_among, family,
-    new_guest,
+    Act, EFAULT, GETEGID, GETEUID, GETGID, GETPID, GETPPID, GETTID, GETUID, Guest, HEAP,
+    MAPPINGS_END, PRIVATE, SET_ROBUST_LIST, SHARED, TOP, UNAME, expect_acts, expect_acts_among,
+    family, new_guest,
 };
-use std::alloc::Global;
 use std::test::Fail;
 use task_table::Status;
 
@@ -94,8 +93,7 @@ const NAMES: [Act; 17] = [
 ];
 
 /// That a guest, which has words of ones where the names will be, is told them.
-fn expect_names(alloc: Global) -> Result<(), Fail> {
-    let mut guest = new_guest(alloc)?;
+fn expect_names(guest: &mut Guest) -> Result<(), Fail> {
     for word in 0..49u64 {
         let at = word.wrapping_mul(8).wrapping_add(AT);
         guest.expect(&[Act::Stores(at, u64::MAX)])?;
@@ -105,7 +103,8 @@ fn expect_names(alloc: Global) -> Result<(), Fail> {
 
 #[test]
 fn uname_puts_six_fields_of_65_bytes(rt: HostRuntime) -> Result<(), Fail> {
-    expect_names(rt.alloc())
+    let mut guest = new_guest(rt.alloc())?;
+    expect_names(&mut guest)
 }
 
 /// A private page under a shared one, and both under one that may only be read.
