@@ -11,7 +11,7 @@ use Rattle.kernel_model.specs.calls.Vectors.{are_accessible, cut}
 use Rattle.kernel_model.specs.entries.Areas.{access_row}
 use Rattle.kernel_model.specs.entries.Parts.{Parts, done, outcome_in}
 use Rattle.kernel_model.proofs.Trees.{outcome-bind}
-use Rattle.kernel_calls.proofs.Scattered.{of_first}
+use Rattle.guest_access.proofs.Scattered.{of_first}
 
 -- ---- their first bytes
 

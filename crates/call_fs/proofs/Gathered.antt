@@ -25,14 +25,14 @@ use Rattle.kernel_model.specs.calls.Vectors.{are_accessible, gathered, if_some}
 use Rattle.kernel_model.specs.entries.Areas.{access_row, bytes_read, bytes_with}
 use Rattle.kernel_model.specs.entries.Parts.{Parts, done, outcome_in, ◌>>=◌}
 use Rattle.kernel_model.proofs.Trees.{outcome-bind}
-use Rattle.kernel_calls.specs.Lending.{AreThose}
-use Rattle.kernel_calls.specs.Sending.{Sent}
-use Rattle.kernel_calls.proofs.Sendings.{length_from}
+use Rattle.guest_access.specs.Lending.{AreThose}
+use Rattle.guest_access.specs.Sending.{Sent}
+use Rattle.guest_access.proofs.Sendings.{length_from}
 use Rattle.call_fs.specs.Records.{AppendedEach, SentEach, buffers_in}
 use Rattle.call_fs.specs.declared.vectors.Buffers.{Buffers}
 use Rattle.call_fs.specs.declared.vectors.Buffers.TheVariants.{One, Several}
 use Rattle.call_fs.proofs.Opened.{accessible_one}
-use Rattle.kernel_calls.proofs.Scattered.{of_first}
+use Rattle.guest_access.proofs.Scattered.{of_first}
 use Rattle.call_fs.proofs.Writing.{gathered_one}
 
 -- ---- which bytes they are

@@ -22,11 +22,11 @@ use Rattle.kernel_model.specs.calls.Pipes.{are_pipe_flags, pipe2_of, pipe_made, 
 use Rattle.kernel_model.specs.entries.Areas.{access_row, bytes_written, written_with}
 use Rattle.kernel_model.specs.entries.Parts.{Parts, Prog, changed, done, ◌>>=◌, outcome_in, parts}
 use Rattle.kernel_model.proofs.Trees.{outcome-bind}
-use Rattle.kernel_calls.specs.Lending.{with_hand}
-use Rattle.kernel_calls.specs.Memories.{with_memory}
-use Rattle.kernel_calls.specs.Trying.{Wrote}
+use Rattle.guest_access.specs.Lending.{with_hand}
+use Rattle.guest_access.specs.Memories.{with_memory}
+use Rattle.guest_access.specs.Trying.{Wrote}
 use Rattle.kernel_calls.specs.declared.context.Context.{Context}
-use Rattle.kernel_calls.proofs.Answering.{are_those, areas_changed}
+use Rattle.guest_access.proofs.KernelAreas.{are_those, areas_changed}
 use Rattle.call_fs.specs.NewPipes.{MakesPipe, PutsInts, ints_put, read_file, write_file}
 use Rattle.call_fs.specs.Transfers.{IsMoving}
 use Rattle.call_fs.specs.declared.pipes.NewPipe.{NewPipe}

@@ -27,11 +27,11 @@ use Rattle.kernel_model.specs.calls.Vectors.{are_accessible, scattered}
 use Rattle.kernel_model.specs.entries.Areas.{reach_changes}
 use Rattle.kernel_model.specs.entries.Parts.{Change, Prog, done, outcome_in, parts}
 use Rattle.kernel_model.proofs.Trees.{outcome-bind}
-use Rattle.kernel_calls.specs.Lending.{with_hand}
-use Rattle.kernel_calls.specs.Memories.{with_memory}
-use Rattle.kernel_calls.specs.Trying.{Wrote}
+use Rattle.guest_access.specs.Lending.{with_hand}
+use Rattle.guest_access.specs.Memories.{with_memory}
+use Rattle.guest_access.specs.Trying.{Wrote}
 use Rattle.kernel_calls.specs.declared.context.Context.{Context}
-use Rattle.kernel_calls.proofs.Answering.{areas_changed}
+use Rattle.guest_access.proofs.KernelAreas.{areas_changed}
 use Rattle.call_fs.specs.Transfers.{AnswersTransfer, HasMemory, IsMoving}
 use Rattle.call_fs.specs.declared.transfers.Transfer.TheVariants.{Takes}
 

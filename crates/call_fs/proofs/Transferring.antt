@@ -13,7 +13,7 @@ use Rattle.kernel_model.specs.declared.open_files.OpenFiles.{OpenFiles}
 use Rattle.kernel_model.specs.calls.Answers.{Answer, replies}
 use Rattle.kernel_model.specs.entries.Parts.{Prog, outcome_in, parts}
 use Rattle.kernel_model.proofs.NamedMaps.{with_same}
-use Rattle.kernel_calls.specs.Sending.{Sent}
+use Rattle.guest_access.specs.Sending.{Sent}
 use Rattle.kernel_calls.proofs.Answering.{kept_memory}
 use Rattle.call_fs.specs.Transfers.{AnswersTransfer, HasMemory, Moves, after_transfer, by_bytes, put_by}
 use Rattle.call_fs.specs.declared.transfers.Transfer.{Transfer}

@@ -27,7 +27,7 @@ use Rattle.kernel_model.specs.calls.Vectors.{gathered, if_some}
 use Rattle.kernel_model.specs.entries.Areas.{bytes_read}
 use Rattle.kernel_model.specs.entries.Parts.{Parts, done, ◌>>=◌, outcome_in, parts}
 use Rattle.kernel_model.proofs.Trees.{outcome-bind}
-use Rattle.kernel_calls.specs.Memories.{with_memory}
+use Rattle.guest_access.specs.Memories.{with_memory}
 use Rattle.kernel_calls.proofs.Answering.{kept_memory}
 use Rattle.call_fs.specs.Records.{buffers_in}
 use Rattle.call_fs.specs.Transfers.{AnswersTransfer, HasMemory, HasRoom, IsGathered, after_transfer, appended_by}

@@ -19,7 +19,7 @@ use Rattle.kernel_model.specs.calls.Callers.{Context as RowContext}
 use Rattle.kernel_model.specs.calls.Pipes.{pipe_made, read_end_at, two_free, two_ints}
 use Rattle.kernel_model.specs.entries.Areas.{access_row, written_with}
 use Rattle.kernel_model.specs.entries.Parts.{Parts, Prog, outcome_in, parts}
-use Rattle.kernel_calls.specs.Lending.{AreThose, with_hand}
+use Rattle.guest_access.specs.Lending.{AreThose, with_hand}
 use Rattle.call_fs.specs.declared.pipes.Ends.{Ends}
 use Rattle.call_fs.specs.declared.pipes.NewPipe.{NewPipe}
 use Rattle.call_fs.specs.declared.pipes.PipeCall.{PipeCall}

@@ -19,7 +19,7 @@ use Rattle.kernel_model.specs.calls.Lookups.{or_refuse}
 use Rattle.kernel_model.specs.calls.ReadWrite.{writes_of}
 use Rattle.kernel_model.specs.calls.Vectors.{gathered}
 use Rattle.kernel_model.specs.entries.Parts.{Change, Prog, ◌>>=◌, changed, outcome_in, parts}
-use Rattle.kernel_calls.specs.Memories.{with_memory}
+use Rattle.guest_access.specs.Memories.{with_memory}
 use Rattle.kernel_calls.specs.declared.context.Context.{Context}
 use Rattle.call_fs.specs.Records.{buffers_in}
 use Rattle.call_fs.specs.declared.transfers.Transfer.{Transfer}

@@ -9,7 +9,7 @@ ghost use Rattle.kernel_model.specs.calls.Answers.{Answer};
 ghost use Rattle.kernel_model.specs.calls.Callers.{Context as RowContext, context_of};
 ghost use Rattle.kernel_model.specs.calls.Table.{call_row, row_of_call};
 ghost use Rattle.kernel_model.specs.entries.Parts.{Prog, parts};
-ghost use Rattle.kernel_calls.specs.Lending.{AreAlike};
+ghost use Rattle.guest_access.specs.Lending.{AreAlike};
 ghost use Rattle.kernel_calls.specs.Prepared.{AnswersKept, EndsCaller, EndsEach, EndsOnly, EndsTheirs, HasRoomFor};
 ghost use Rattle.kernel_calls.specs.Prepared.{IfWaits, IsCalling, WaitsWith};
 ghost use Rattle.kernel_calls.specs.declared.prepared.Effect.TheVariants.{ChangesFiles};
@@ -32,7 +32,7 @@ use std::alloc::Global;
 use task_table::Tasks;
 
 /// What a call asks for: a read or a write, a pipe, what was prepared of what is open, or none of these.
-#[derive(Debug, Drop)]
+#[derive(Drop)]
 pub(crate) enum Asked {
     Reads(By),
     Writes(By),

@@ -6,13 +6,13 @@ ghost use Rattle.kernel_model.specs.declared.kernel.Kernel.{Kernel as AKernel};
 ghost use Rattle.kernel_model.specs.calls.Vectors.{gathered};
 ghost use Rattle.kernel_model.specs.entries.Areas.{bytes_read};
 ghost use Rattle.kernel_model.specs.entries.Parts.{Parts, outcome_in, parts};
-ghost use Rattle.kernel_calls.specs.Lending.{AreThose};
-ghost use Rattle.kernel_calls.specs.Sending.{Sent};
+ghost use Rattle.guest_access.specs.Lending.{AreThose};
+ghost use Rattle.guest_access.specs.Sending.{Sent};
 ghost use Rattle.call_fs.specs.Records.{AppendedEach, SentEach, buffers_in};
 ghost use Rattle.call_fs.specs.Transfers.{appended_by, by_bytes};
 
 use crate::vectors::Buffers;
-use kernel_calls::{read, send};
+use guest_access::{read, send};
 use kernel_model::{GuestArea, GuestSpace, Named};
 use pipe_core::{CAPACITY, Pipe};
 use sn_base::{List, Memory};

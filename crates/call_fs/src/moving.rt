@@ -29,7 +29,7 @@ use sn_base::{Boxed, Made, Memory};
 use std::alloc::Global;
 
 /// How a call names the bytes that it moves: by one buffer, or by records of several.
-#[derive(Clone, Copy, Debug, Drop)]
+#[derive(Clone, Copy, Drop)]
 pub(crate) enum By {
     Buffer,
     Records,

@@ -15,13 +15,14 @@ ghost use Rattle.kernel_model.specs.descriptors.OpenFiles.{new_file};
 ghost use Rattle.kernel_model.specs.calls.Pipes.{are_pipe_flags, pipe2_row, pipe_made, read_end_at, two_free, two_ints};
 ghost use Rattle.kernel_model.specs.calls.Pipes.{with_ends_of};
 ghost use Rattle.kernel_model.specs.entries.Parts.{Prog, changed};
-ghost use Rattle.kernel_calls.specs.Memories.{with_memory};
+ghost use Rattle.guest_access.specs.Memories.{with_memory};
 ghost use Rattle.call_fs.specs.NewPipes.{MakesPipe, Prepares, PutsInts, read_file, write_file};
 ghost use Rattle.call_fs.specs.Transfers.{IsMoving};
 
 use crate::lookups::lowest_free;
 use fd_table::{Access, Description, Descriptor, FdTable, OPEN_MAX, Object, PipeSide};
-use kernel_calls::{Context, is_accessible, write};
+use guest_access::{is_accessible, write};
+use kernel_calls::Context;
 use kernel_model::{GuestArea, GuestSpace, Named, OpenFile, OpenFiles};
 use mm_areas::Rights;
 use pipe_core::Pipe;

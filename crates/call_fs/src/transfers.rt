@@ -23,7 +23,7 @@ use std::alloc::Global;
 
 /// What a call that reads or writes changes beside its caller's memory: nothing; or a pipe's oldest bytes are taken, so
 /// many; or a pipe gets the first bytes of buffers, `taken` of them; or the console gets the bytes of buffers.
-#[derive(Debug, Drop)]
+#[derive(Drop)]
 pub enum Transfer {
     Nothing,
     Takes {
@@ -42,7 +42,7 @@ pub enum Transfer {
 
 /// What becomes of a call that reads or writes: it replies (a negative reply is an error's number), or waits for bytes
 /// or for room in a pipe.
-#[derive(Debug, Drop)]
+#[derive(Drop)]
 pub enum Transferred {
     Replies { reply: i64, transfer: Transfer },
     Waits { pipe: Made },

@@ -3,7 +3,7 @@
 ghost use Rattle.std.specs.Prelude.{◌≡◌, ◌≤◌, ◌^◌, ◌-◌, List, IfOk};
 ghost use Rattle.kernel_model.specs.calls.Vectors.{are_accessible, cut};
 ghost use Rattle.kernel_model.specs.entries.Parts.{Parts, outcome_in};
-ghost use Rattle.kernel_calls.specs.Lending.{AreThose};
+ghost use Rattle.guest_access.specs.Lending.{AreThose};
 ghost use Rattle.mm_space.specs.Accesses.{readable};
 ghost use Rattle.stat_layout.specs.declared.iovec.IoVec.{IoVec as AnIoVec};
 ghost use Rattle.stat_layout.specs.IoVecs.{iovecs_in, total_of};
@@ -15,7 +15,7 @@ ghost use Rattle.kernel_model.specs.entries.Parts.{Prog};
 ghost use Rattle.call_fs.specs.Records.{GoesOn, IsCountable, buffers_in};
 ghost use Rattle.call_fs.specs.Transfers.{HasMemory};
 
-use kernel_calls::{is_accessible, read};
+use guest_access::{is_accessible, read};
 use kernel_model::{GuestArea, GuestSpace, MOST_MOVED, Named};
 use mm_areas::Rights;
 use sn_base::{List, Memory};
@@ -31,7 +31,7 @@ pub enum Vectors {
 }
 
 /// The buffers of one call: one, or several.
-#[derive(Debug, Drop)]
+#[derive(Drop)]
 pub enum Buffers {
     One(IoVec),
     Several(List<IoVec>),

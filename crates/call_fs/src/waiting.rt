@@ -8,7 +8,8 @@ ghost use Rattle.call_fs.specs.Looked.{end_by, end_in};
 
 use crate::lookups::{descriptor, file_of};
 use fd_table::Object;
-use kernel_calls::{Awaited, UsedEnd, asks_for_area};
+use guest_access::asks_for_area;
+use kernel_calls::{Awaited, UsedEnd};
 use kernel_model::{GuestSpace, MOST_MOVED, OpenFiles};
 use mm_areas::Rights;
 use sn_base::Made;

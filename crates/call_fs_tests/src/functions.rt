@@ -10,7 +10,8 @@ use call_fs::{
     readv, write, writev,
 };
 use fd_table::Descriptor;
-use kernel_calls::{Context, read as read_bytes};
+use guest_access::read as read_bytes;
+use kernel_calls::Context;
 use kernel_calls_acts::{Act, Guest, HEAP, new_guest};
 use kernel_model::{GuestArea, GuestSpace, Named, OpenFiles};
 use sn_base::{List, Made};

@@ -3,8 +3,8 @@ use Rattle.std.proofs.Common.{◌≡◌, ℕ, Bool, refl, ap, sym, ◌∙◌, ar
 use Rattle.std.specs.FinMap as map
 use Rattle.kernel_model.specs.Names.{get_named}
 use Rattle.kernel_model.specs.machine.Spaces.{going_in}
-use Rattle.kernel_calls.specs.Lending.{AreAlike}
-use Rattle.kernel_calls.proofs.Runs.{ran_none}
+use Rattle.guest_access.specs.Lending.{AreAlike}
+use Rattle.guest_access.proofs.Runs.{ran_none}
 use Rattle.proc_cells.specs.declared.cells.Cells.{Cells}
 use Rattle.proc_cells.specs.declared.cells.Standing.{Standing}
 use Rattle.proc_cells.specs.Beside.{Beside, Held, found_in, kernel_with}

@@ -1,7 +1,6 @@
 -- Lemmas of processes and their entries, by subject.
 pub mod Histories
 pub mod Homes
-pub mod Indexes
 pub mod Kept
 pub mod MovedFiles
 pub mod Moves
@@ -15,7 +14,3 @@ pub mod Parks
 pub mod Results
 pub mod Settling
 pub mod Steps
-pub mod TouchedFiles
-pub mod TouchedThings
-pub mod UserLists
-pub mod Woken

@@ -17,9 +17,9 @@ use Rattle.kernel_model.specs.calls.Vectors.{gathered}
 use Rattle.kernel_model.specs.calls.Pipes.{pipe_made, read_end_at, two_ints, with_ends_of, write_end_at}
 use Rattle.kernel_model.specs.entries.Areas.{written_with}
 use Rattle.kernel_model.specs.entries.Parts.{Prog, changed, outcome_in, parts}
-use Rattle.kernel_calls.specs.Memories.{with_memory}
+use Rattle.guest_access.specs.Memories.{with_memory}
 use Rattle.kernel_calls.specs.declared.context.Context.{Context}
-use Rattle.kernel_calls.proofs.Answering.{areas_changed}
+use Rattle.guest_access.proofs.KernelAreas.{areas_changed}
 use Rattle.call_fs.specs.Called.{MayLack}
 use Rattle.call_fs.specs.NewPipes.{MakesPipe, read_file, write_file}
 use Rattle.call_fs.specs.Transfers.{IsMoving, after_transfer, appended_by, by_bytes, put_by, with_pipe}
@@ -27,11 +27,11 @@ use Rattle.call_fs.specs.Records.{buffers_in}
 use Rattle.call_fs.specs.declared.pipes.NewPipe.{NewPipe}
 use Rattle.call_fs.specs.declared.transfers.Transfer.{Transfer}
 use Rattle.call_fs.specs.declared.transfers.Transfer.TheVariants.{Nothing, Takes, Puts, Appends}
-use Rattle.call_table.specs.Moves.{AreUntouched, FilesMove}
+use Rattle.parked_tasks.specs.Untouched.{AreUntouched, FilesMove}
+use Rattle.parked_tasks.specs.Used.{same_made}
+use Rattle.parked_tasks.specs.declared.touched.Touched.{Touched}
+use Rattle.parked_tasks.proofs.TouchedFiles.{none_of, other_stays}
 use Rattle.call_table.specs.Moving.{may_have_read, one_pipe, touched_by_pipe, touched_by_transfer}
-use Rattle.call_table.specs.Used.{same_made}
-use Rattle.call_table.specs.declared.entered.Touched.{Touched}
-use Rattle.call_table.proofs.TouchedFiles.{none_of, other_stays}
 
 -- ---- bytes that are moved
 

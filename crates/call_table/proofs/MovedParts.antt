@@ -16,8 +16,8 @@ use Rattle.kernel_calls.specs.declared.prepared.Effect.{Effect}
 use Rattle.kernel_calls.specs.declared.prepared.Effect.TheVariants.{Nothing, EndsGroup, EndsTask, SetsClear}
 use Rattle.kernel_calls.specs.declared.prepared.Effect.TheVariants.{Wakes, Reaps, ChangesFiles}
 use Rattle.proc_cells.specs.Beside.{kernel_with, nothing_beside, nothing_held}
-use Rattle.call_table.specs.Moves.{changes_list, files_left}
 use Rattle.proc_cells.proofs.Ends.{live_cleared, tasks_released}
+use Rattle.parked_tasks.specs.Untouched.{changes_list, files_left}
 use Rattle.call_table.proofs.OffList.{lives_on, off_before_left_by, off_before_wake, off_before_woken_on, off_left_by}
 use Rattle.call_table.proofs.OffList.{off_wake, off_woken_on, IsNone}
 

@@ -25,8 +25,9 @@ use Rattle.kernel_calls.specs.declared.clone.Words.{Words}
 use Rattle.kernel_calls.specs.declared.prepared.Effect.{Effect}
 use Rattle.proc_cells.specs.declared.cells.Cells.{Cells}
 use Rattle.proc_cells.specs.Cells.{AreKept, IsAwake}
-use Rattle.call_table.specs.Moves.{FilesMove, Moves, changes_list, puts_to_sleep}
-use Rattle.call_table.specs.Used.{same_made}
+use Rattle.parked_tasks.specs.Untouched.{FilesMove, changes_list}
+use Rattle.parked_tasks.specs.Used.{same_made}
+use Rattle.call_table.specs.Moves.{Moves, puts_to_sleep}
 use Rattle.call_table.specs.declared.entered.Entered.{Entered}
 use Rattle.call_table.proofs.MovedParts.{Left, Lists, left_after, left_same, list_stays, lists_after}
 use Rattle.call_table.proofs.OffList.{left_off, off_before_leave, off_before_sleep, off_leave, off_sleep, sleeper_on}

@@ -9,11 +9,11 @@ use Rattle.kernel_model.specs.entries.Waiting.{Woken, wait_of}
 use Rattle.kernel_model.proofs.NamedMaps.{same_or_other}
 use Rattle.proc_cells.specs.declared.cells.Cells.{Cells}
 use Rattle.proc_cells.specs.Cells.{AreKept, IsAwake}
-use Rattle.call_table.specs.Parking.{AreAlike, IsParkedAt, parked_at}
+use Rattle.parked_tasks.specs.Parking.{AreAlike, IsParkedAt, parked_at}
+use Rattle.parked_tasks.specs.declared.used.Spot.{Spot}
+use Rattle.parked_tasks.specs.declared.parking.Parking.{Parking}
 use Rattle.call_table.specs.Parks.{Parks}
 use Rattle.call_table.specs.Schedules.{AreParked, AreParkedBut, is_covered}
-use Rattle.call_table.specs.declared.used.Spot.{Spot}
-use Rattle.call_table.specs.declared.parking.Parking.{Parking}
 use Rattle.call_table.proofs.Parks.{parks_still}
 
 -- ---- where nothing of the cells has changed

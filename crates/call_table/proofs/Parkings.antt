@@ -14,11 +14,11 @@ use Rattle.kernel_model.proofs.Trees.{outcome-bind}
 use Rattle.proc_cells.specs.declared.cells.Cells.{Cells}
 use Rattle.proc_cells.specs.Beside.{found_in}
 use Rattle.proc_cells.specs.Cells.{caller_in, kernel_of}
+use Rattle.parked_tasks.specs.Parking.{parked_at}
+use Rattle.parked_tasks.specs.declared.used.Spot.{Spot}
+use Rattle.parked_tasks.specs.declared.parking.Parking.{Parking}
 use Rattle.call_table.specs.Entries.{ReadyIs}
-use Rattle.call_table.specs.Parking.{parked_at}
 use Rattle.call_table.specs.Schedules.{AreParked, MayNotTurn, is_off}
-use Rattle.call_table.specs.declared.used.Spot.{Spot}
-use Rattle.call_table.specs.declared.parking.Parking.{Parking}
 use Rattle.call_table.proofs.Parks.{parks_wait, ready_by_wait}
 
 -- ---- one that doesn't live, and one that sleeps

@@ -32,20 +32,21 @@ use Rattle.call_fs.specs.declared.called.Called.{Called}
 use Rattle.call_fs.specs.declared.called.Called.TheVariants.{Of}
 use Rattle.kernel_calls.specs.declared.prepared.Called.TheVariants.{Waits}
 use Rattle.kernel_calls.specs.declared.prepared.UsedEnd.{UsedEnd}
-use Rattle.kernel_calls.proofs.Runs.{stands_alone}
+use Rattle.guest_access.proofs.Runs.{stands_alone}
 use Rattle.proc_cells.specs.declared.cells.Cells.{Cells}
 use Rattle.proc_cells.specs.declared.cells.Standing.{Standing}
 use Rattle.proc_cells.specs.Beside.{Beside, found_in, nothing_beside}
 use Rattle.proc_cells.specs.Cells.{AreKept, IsAwake, StandsAs, caller_in, caller_with, held_by, kernel_of}
 use Rattle.proc_cells.proofs.Found.{Parted, found_by, parted}
+use Rattle.parked_tasks.specs.Untouched.{AreUntouched, FilesMove}
+use Rattle.parked_tasks.specs.Touched.{are_named, is_name, is_touched}
+use Rattle.parked_tasks.specs.Used.{same_made, uses_areas}
+use Rattle.parked_tasks.specs.declared.touched.Touched.{Touched}
+use Rattle.parked_tasks.specs.declared.used.Spot.{Spot}
 use Rattle.call_table.specs.Entries.{IsNextOf, IsOf, NextIn, ReadyIs, is_touching}
-use Rattle.call_table.specs.Moves.{AreUntouched, FilesMove, Moves}
+use Rattle.call_table.specs.Moves.{Moves}
 use Rattle.call_table.specs.Parks.{Parks}
-use Rattle.call_table.specs.Touched.{are_named, is_name, is_touched}
-use Rattle.call_table.specs.Used.{same_made, uses_areas}
 use Rattle.call_table.specs.declared.entered.Entered.{Entered}
-use Rattle.call_table.specs.declared.entered.Touched.{Touched}
-use Rattle.call_table.specs.declared.used.Spot.{Spot}
 use Rattle.call_table.proofs.Kept.{caller_kept, kept_back}
 use Rattle.call_table.proofs.Steps.{calling_here, found_beside, ready_found}
 

@@ -1,40 +1,12 @@
--- What holds of a result, by what else does.
+-- What holds of what was made, and of what a turn came to, by what else does.
 use Rattle.std.proofs.Common.{◌≡◌, subst}
-use Rattle.std.specs.Prelude.{Result, Ok, Err, IfOk, OnOk, OnErr, Option, Some, None, IfSome, IfNone}
+use Rattle.std.specs.Prelude.{Result, Ok, Err, Option, Some, None, IfSome, IfNone}
 use Rattle.sn_base.specs.declared.memory.Memory.{Memory}
+use Rattle.parked_tasks.specs.declared.used.Spot.{Spot}
 use Rattle.call_table.specs.Entries.{IfEntered, IfEnters, IfParked, IfWaits}
 use Rattle.call_table.specs.declared.entered.Entered.{Entered}
 use Rattle.call_table.specs.declared.entered.Turn.{Turn}
 use Rattle.call_table.specs.declared.entered.Turn.TheVariants.{Enters, Waits}
-use Rattle.call_table.specs.declared.used.Spot.{Spot}
-
--- on success
-pub on_ok : {A E : Type 0} (P Q : A → Type 0) (r : Result A E) → ((x : A) → P x → Q x) → IfOk r P → IfOk r Q
-on_ok P Q (Ok x) f p = f x p
-on_ok P Q (Err e) f p = tt
-
-pub with_ok : {A E : Type 0} (P Q S : A → Type 0) (r : Result A E) → ((x : A) → P x → Q x → S x) → IfOk r P
-    → IfOk r Q → IfOk r S
-with_ok P Q S (Ok x) f p q = f x p q
-with_ok P Q S (Err e) f p q = tt
-
--- and on an error
-pub on_err : {A E P Q : Type 0} (r : Result A E) → (P → Q) → OnErr r P → OnErr r Q
-on_err (Ok x) f p = tt
-on_err (Err e) f p = f p
-
-pub err_by : {A E P : Type 0} (r : Result A E) → P → OnErr r P
-err_by (Ok x) p = tt
-err_by (Err e) p = p
-
--- by what holds on success, or on an error
-pub by_result : {A E P Q S : Type 0} (r : Result A E) → OnOk r P → OnErr r Q → (P → S) → (Q → S) → S
-by_result (Ok x) p q f g = f p
-by_result (Err e) p q f g = g q
-
-pub both_err : {A E : Type 0} (P Q : Type 0) (r : Result A E) → OnErr r P → OnErr r Q → OnErr r (P × Q)
-both_err P Q (Ok x) p q = tt
-both_err P Q (Err e) p q = (p, q)
 
 -- of what was made, or of a step that was not ready
 pub entered_behind : {A : Type 0} (r : Result (Option A) Memory) (P Q : A → Type 0) → ((made : A) → P made → Q made)

@@ -10,15 +10,15 @@ use Rattle.kernel_model.specs.entries.Waiting.{wait_of}
 use Rattle.kernel_model.proofs.NamedMaps.{same_or_other}
 use Rattle.proc_cells.specs.declared.cells.Cells.{Cells}
 use Rattle.proc_cells.specs.Cells.{IsAwake}
+use Rattle.parked_tasks.specs.Parking.{AreAlike, AreWoken, parked_at}
+use Rattle.parked_tasks.specs.Touched.{is_touched}
+use Rattle.parked_tasks.specs.Used.{same_made, uses_areas}
+use Rattle.parked_tasks.specs.declared.used.Spot.{Spot}
+use Rattle.parked_tasks.specs.declared.parking.Parking.{Parking}
 use Rattle.call_table.specs.Moves.{Moves, is_woken_by, puts_to_sleep}
-use Rattle.call_table.specs.Parking.{AreAlike, AreWoken, parked_at}
 use Rattle.call_table.specs.Parks.{Parks}
 use Rattle.call_table.specs.Schedules.{AreParked, AreParkedBut, is_child, is_covered, is_off}
-use Rattle.call_table.specs.Touched.{is_touched}
-use Rattle.call_table.specs.Used.{same_made, uses_areas}
 use Rattle.call_table.specs.declared.entered.Entered.{Entered}
-use Rattle.call_table.specs.declared.used.Spot.{Spot}
-use Rattle.call_table.specs.declared.parking.Parking.{Parking}
 use Rattle.call_table.proofs.Parkings.{awake_off, off_awake}
 use Rattle.call_table.proofs.Parks.{parks_on}
 

@@ -54,12 +54,13 @@ use Rattle.kernel_model.proofs.Trees.{outcome-bind}
 use Rattle.call_fs.specs.Called.{ComesTo}
 use Rattle.call_fs.specs.declared.called.Called.{Called}
 use Rattle.call_fs.specs.declared.called.Called.TheVariants.{Of, Moves, MakesPipe}
-use Rattle.kernel_calls.specs.Prepared.{Comes, IsCalling, Steps}
+use Rattle.kernel_calls.specs.Prepared.{Comes, IsCalling}
+use Rattle.guest_access.specs.Stepping.{Steps}
 use Rattle.kernel_calls.specs.declared.context.Context.{Context}
 use Rattle.kernel_calls.specs.declared.prepared.Called.{Called as Known}
 use Rattle.kernel_calls.specs.declared.prepared.Called.TheVariants.{Replies, Makes, Sleeps, Waits}
-use Rattle.kernel_calls.proofs.Runs.{alone_ran, alone_short, alone_touching, nothing_ran, ran_none, row_by_step}
-use Rattle.kernel_calls.proofs.Runs.{row_ran, stands_alone}
+use Rattle.guest_access.proofs.Runs.{alone_ran, alone_short, alone_touching, nothing_ran, ran_none, row_by_step}
+use Rattle.guest_access.proofs.Runs.{row_ran, stands_alone}
 use Rattle.proc_cells.specs.declared.cells.Cells.{Cells}
 use Rattle.proc_cells.specs.declared.cells.Standing.{Standing}
 use Rattle.proc_cells.specs.Beside.{Beside, Held, nothing_beside, nothing_held, kernel_with, found_in}

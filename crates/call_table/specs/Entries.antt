@@ -18,16 +18,16 @@ use Rattle.kernel_model.specs.declared.entry.Entry.{Entry}
 use Rattle.kernel_model.specs.entries.Parts.{parts, outcome_in, set_at}
 use Rattle.kernel_model.specs.entries.Ready.{is_ready}
 use Rattle.kernel_model.specs.entries.Steps.{step}
-use Rattle.kernel_calls.specs.Lending.{AreAlike}
+use Rattle.guest_access.specs.Lending.{AreAlike}
 use Rattle.kernel_calls.specs.declared.context.Context.{Context}
 use Rattle.proc_cells.specs.declared.cells.Cells.{Cells}
 use Rattle.proc_cells.specs.declared.cells.Standing.{Standing}
 use Rattle.proc_cells.specs.Beside.{Beside}
 use Rattle.proc_cells.specs.Cells.{caller_in, kernel_of}
+use Rattle.parked_tasks.specs.declared.used.Spot.{Spot}
 use Rattle.call_table.specs.declared.entered.Entered.{Entered}
 use Rattle.call_table.specs.declared.entered.Turn.{Turn}
 use Rattle.call_table.specs.declared.entered.Turn.TheVariants.{Enters, Waits}
-use Rattle.call_table.specs.declared.used.Spot.{Spot}
 
 -- so many instructions of a task ran over its group's memory, and nothing else changed there
 -- RISC-V Unprivileged ISA 20191213, 1.2

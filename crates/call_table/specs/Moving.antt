@@ -10,7 +10,7 @@ use Rattle.kernel_calls.specs.declared.context.Context.{Context}
 use Rattle.call_fs.specs.declared.transfers.Transfer.{Transfer}
 use Rattle.call_fs.specs.declared.transfers.Transfer.TheVariants.{Nothing, Takes, Puts, Appends}
 use Rattle.proc_cells.specs.declared.cells.Cells.{Cells}
-use Rattle.call_table.specs.declared.entered.Touched.{Touched}
+use Rattle.parked_tasks.specs.declared.touched.Touched.{Touched}
 
 -- a pipe alone
 -- read(2); write(2); pipe(7)

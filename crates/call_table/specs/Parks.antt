@@ -10,8 +10,8 @@ use Rattle.kernel_calls.specs.Prepared.{WaitsWith}
 use Rattle.proc_cells.specs.declared.cells.Cells.{Cells}
 use Rattle.proc_cells.specs.Beside.{nothing_beside}
 use Rattle.proc_cells.specs.Cells.{IsAwake, caller_in, kernel_of}
+use Rattle.parked_tasks.specs.declared.used.Spot.{Spot}
 use Rattle.call_table.specs.Entries.{IsNextOf}
-use Rattle.call_table.specs.declared.used.Spot.{Spot}
 
 -- A live task that is not on the futex list, with the memory and the descriptor table of those names, stands at a call
 -- by the areas that there are, and the call waits in each state that holds the same as the cells in what it used. Its

@@ -7,9 +7,9 @@ use Rattle.task_table.specs.Table.{is_live}
 use Rattle.kernel_model.specs.entries.Waiting.{Woken, wait_of}
 use Rattle.proc_cells.specs.declared.cells.Cells.{Cells}
 use Rattle.proc_cells.specs.Cells.{IsAwake}
-use Rattle.call_table.specs.Parking.{parked_at}
-use Rattle.call_table.specs.declared.used.Spot.{Spot}
-use Rattle.call_table.specs.declared.parking.Parking.{Parking}
+use Rattle.parked_tasks.specs.Parking.{parked_at}
+use Rattle.parked_tasks.specs.declared.used.Spot.{Spot}
+use Rattle.parked_tasks.specs.declared.parking.Parking.{Parking}
 use Rattle.call_table.specs.declared.schedule.Candidate.{Candidate}
 use Rattle.call_table.specs.Parks.{Parks}
 

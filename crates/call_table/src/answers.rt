@@ -15,16 +15,17 @@ ghost use Rattle.kernel_model.specs.machine.Registers.{args_of, call_of, replied
 ghost use Rattle.kernel_calls.specs.Children.{with_child};
 ghost use Rattle.kernel_calls.specs.Prepared.{EndsEach, EndsLive, EndsOnly, with_effect};
 ghost use Rattle.proc_cells.specs.Cells.{AreKept, IsAwake};
-ghost use Rattle.call_table.specs.Moves.{Moves, changes_list};
+ghost use Rattle.parked_tasks.specs.Untouched.{changes_list};
+ghost use Rattle.call_table.specs.Moves.{Moves};
 ghost use Rattle.sn_base.specs.declared.made.Made.{Made as AMade};
 
 use crate::entered::Entered;
-use crate::touched::touched_by;
 use futex_core::FutexKey;
 use kernel_calls::{
     Child, Context, Effect, Prepared, args_of, call_of, commit, make, reply, sleep,
 };
 use kernel_model::{Entry, Given};
+use parked_tasks::touched_by;
 use proc_cells::Cells;
 use rv_table::Regs;
 use sn_base::{Boxed, List, Memory};

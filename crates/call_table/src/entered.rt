@@ -1,8 +1,7 @@
 //! What a turn of a task comes to.
 
-use crate::used::Spot;
 use kernel_model::Entry;
-use sn_base::Made;
+use parked_tasks::{Spot, Touched};
 
 /// An entry that a task made, whether it changed the task list, whether it may have changed a shared area, and what of
 /// what is open it may have changed, where it left the task list.
@@ -12,22 +11,6 @@ pub(crate) struct Entered {
     pub(crate) tasks: bool,
     pub(crate) areas: bool,
     pub(crate) touched: Option<Touched>,
-}
-
-/// What an entry touched of what is open: a descriptor table, open file descriptions and pipes, by name. What moves
-/// bytes leaves all tables as they are.
-#[derive(Clone, Copy)]
-pub(crate) struct Touched {
-    pub(crate) table: Option<Made>,
-    pub(crate) descriptions: UpToTwo,
-    pub(crate) pipes: UpToTwo,
-}
-
-/// Up to two names.
-#[derive(Clone, Copy)]
-pub(crate) struct UpToTwo {
-    pub(crate) first: Option<Made>,
-    pub(crate) second: Option<Made>,
 }
 
 /// What a turn of a task that is not on the futex list comes to.

@@ -11,8 +11,8 @@
 //! A task that sleeps on a futex word is not looked at before it was woken, and one whose call waits not before the
 //! list of tasks has changed, another task of its memory made an entry, or something else may have changed that the
 //! call used: a shared area, or a pipe, its description or the descriptor table that it was found by. A call that moves
-//! bytes touches its pipe alone, and one that makes a pipe the names that it makes and its table. Who is looked at
-//! again is found without a walk over all tasks.
+//! bytes touches its pipe alone, and one that makes a pipe the names that it makes and its table. Tasks are parked in
+//! parked_tasks, which finds who is looked at again without a walk over all tasks.
 //!
 //! Proved: with an opening task more the processes are the kernel with that task (`begun`). A run of turns is a history
 //! of the kernel that the processes are with that seed, whatever else stands beside them (`history`), each of whose
@@ -29,16 +29,10 @@
 mod answers;
 mod entered;
 mod entries;
-mod index;
 mod moving;
-mod parked;
-mod parking;
 mod processes;
 mod schedule;
-mod touched;
 mod turns;
-mod used;
-mod users;
 
 pub use processes::Processes;
 pub use turns::{Ran, run_turns};

@@ -20,9 +20,10 @@ ghost use Rattle.call_table.specs.Moves.{Moves};
 ghost use Rattle.call_table.specs.Moving.{IsMaking, may_have_read, one_pipe, touched_by_pipe, touched_by_transfer};
 
 use crate::answers::{call_entry, go_on};
-use crate::entered::{Entered, Touched, UpToTwo};
+use crate::entered::Entered;
 use call_fs::{NewPipe, Transfer, commit_transfer, make_pipe};
 use kernel_calls::Context;
+use parked_tasks::{Touched, UpToTwo};
 use proc_cells::Cells;
 use rv_table::Regs;
 use sn_base::{Boxed, Made, Memory};

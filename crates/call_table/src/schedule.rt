@@ -13,16 +13,16 @@ ghost use Rattle.kernel_model.specs.files.Numbers.{numbers_in};
 ghost use Rattle.proc_cells.specs.Beside.{Beside};
 ghost use Rattle.proc_cells.specs.declared.cells.Cells.{Cells as ACells};
 ghost use Rattle.proc_cells.specs.Cells.{AreKept, StandsAs, kernel_of};
+ghost use Rattle.parked_tasks.specs.Parking.{AreAlike, AreWoken};
 ghost use Rattle.call_table.specs.Entries.{IfEntered, IfParked, IsWholeTo, ReadyIs, StepsTo};
 ghost use Rattle.call_table.specs.Moves.{Moves, is_woken_by, puts_to_sleep};
-ghost use Rattle.call_table.specs.Parking.{AreAlike, AreWoken};
 ghost use Rattle.call_table.specs.Schedules.{AreParked, AreParkedBut, IsCandidate, IsNextAbove, is_child, is_off};
 
 use crate::entered::{Entered, Turn};
 use crate::entries::{advance, go_on_woken};
-use crate::parking::Parking;
 use futex_core::Waiters;
 use kernel_model::Entry;
+use parked_tasks::Parking;
 use proc_cells::{Cells, Standing};
 use sn_base::{Made, Memory};
 use std::alloc::Global;

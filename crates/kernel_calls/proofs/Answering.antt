@@ -23,8 +23,8 @@ use Rattle.kernel_model.specs.entries.Areas.{area_changes}
 use Rattle.kernel_model.specs.entries.Parts.{parts, Prog, done, outcome_in, Change, changed}
 use Rattle.kernel_model.proofs.ChildLaws.{changed-append}
 use Rattle.kernel_model.proofs.NamedMaps.{with_same}
-use Rattle.kernel_calls.specs.Lending.{with_hand, AreThose}
-use Rattle.kernel_calls.specs.Memories.{with_memory}
+use Rattle.guest_access.specs.Lending.{with_hand, AreThose}
+use Rattle.guest_access.specs.Memories.{with_memory}
 use Rattle.kernel_calls.specs.Prepared.{Answers, AnswersKept, HasSpace, IsCalling, with_effect}
 use Rattle.kernel_calls.specs.declared.context.Context.{Context}
 use Rattle.kernel_calls.specs.declared.prepared.Effect.TheVariants.{Nothing, SetsClear, Wakes}
@@ -35,10 +35,6 @@ pub has_space : (c : Caller) (k : Kernel) (context : Context) (space : AddressSp
     (list : TaskTable) (waiting : FutexList) (console : ℕ) → IsCalling c k context space areas list waiting console
     → HasSpace c k space
 has_space c k context space areas list waiting console calling = record { space = calling.space; there = calling.there }
-
--- the areas of a kernel, as a state
-pub are_those : (k : Kernel) (areas : NamedMap AreaState) → k.areas ≡ areas → AreThose (parts k) areas
-are_those k areas same name = ap (λ (m : NamedMap AreaState). get_named m name.place name.index) same
 
 -- a kernel with the memory that it has
 pub kept_memory : (c : Caller) (k : Kernel) (space : AddressSpace) (areas : NamedMap AreaState)
@@ -173,11 +169,3 @@ pub answers_lacking : (row : Prog Answer) (p : Prepared) (c : Caller) (k : Kerne
 answers_lacking row p c k space areas own there shared is reply none =
     answers_refused row p c k space space areas (record { space = own; there = there }) ENOSYS is reply none refl
     (sym shared)
-
--- areas that were in hand, put back
-pub areas_changed : (hand : List InHand) (k : Kernel)
-    → changed (area_changes hand) k ≡ record k { areas = with_hand hand k.areas }
-areas_changed [] k = refl
-areas_changed (h ∷ hand) k =
-    changed-append (area_changes hand) ((OfArea h.name, Some h.state) ∷ []) k
-    ∙ ap (λ m. changed ((OfArea h.name, Some h.state) ∷ []) m) (areas_changed hand k)

@@ -23,14 +23,15 @@ use Rattle.kernel_model.specs.calls.Wait.{asked_child, by_child, is_child_asked,
 use Rattle.kernel_model.specs.entries.Areas.{bytes_written, reach_changes}
 use Rattle.kernel_model.specs.entries.Parts.{Parts, parts, done, outcome_in, Change}
 use Rattle.kernel_model.proofs.Trees.{outcome-bind}
-use Rattle.kernel_calls.specs.Lending.{with_hand}
-use Rattle.kernel_calls.specs.Memories.{with_memory}
+use Rattle.guest_access.specs.Lending.{with_hand}
+use Rattle.guest_access.specs.Memories.{with_memory}
 use Rattle.kernel_calls.specs.Prepared.{Answers, IsCalling, with_effect}
-use Rattle.kernel_calls.specs.Trying.{Wrote}
+use Rattle.guest_access.specs.Trying.{Wrote}
 use Rattle.kernel_calls.specs.declared.context.Context.{Context}
 use Rattle.kernel_calls.specs.declared.prepared.Effect.TheVariants.{Nothing, Reaps}
 use Rattle.kernel_calls.specs.declared.prepared.Prepared.{Prepared}
-use Rattle.kernel_calls.proofs.Answering.{answers_kept, answers_refused, areas_changed, has_space}
+use Rattle.kernel_calls.proofs.Answering.{answers_kept, answers_refused, has_space}
+use Rattle.guest_access.proofs.KernelAreas.{areas_changed}
 
 module _ (s : Parts) (c : Caller) (child address options usage : ℕ) where
   -- a child, an option or a usage that is refused,

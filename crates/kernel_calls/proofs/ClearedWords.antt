@@ -17,10 +17,10 @@ use Rattle.kernel_model.specs.entries.Parts.{Parts, done, outcome_in, ◌>>=◌}
 use Rattle.kernel_model.specs.machine.FutexWords.{key_at}
 use Rattle.kernel_model.proofs.Trees.{outcome-bind}
 use Rattle.kernel_calls.specs.ClearWords.{IsCleared}
-use Rattle.kernel_calls.specs.Lending.{AreThose, with_hand}
-use Rattle.kernel_calls.specs.Trying.{Wrote}
+use Rattle.guest_access.specs.Lending.{AreThose, with_hand}
+use Rattle.guest_access.specs.Trying.{Wrote}
 use Rattle.kernel_calls.proofs.Overlays.{outcome-over, overlay, those_over, with_hand-append}
-use Rattle.kernel_calls.proofs.Tries.{those_same}
+use Rattle.guest_access.proofs.Tries.{those_same}
 
 module _ (c : Caller) (e : EndedTask) (x : Cleared) (s : Parts) where
   -- a task with no clear word

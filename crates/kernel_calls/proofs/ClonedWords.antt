@@ -12,12 +12,12 @@ use Rattle.kernel_model.specs.entries.Areas.{bytes_written, bytes_written_over, 
 use Rattle.kernel_model.specs.entries.Parts.{Parts, parts, done, outcome_in, ◌>>=◌}
 use Rattle.kernel_model.proofs.Trees.{outcome-bind}
 use Rattle.kernel_calls.specs.Cloning.{HasSet, LeavesWords, SetsWord}
-use Rattle.kernel_calls.specs.Lending.{with_hand, AreThose}
+use Rattle.guest_access.specs.Lending.{with_hand, AreThose}
 use Rattle.kernel_calls.specs.declared.clone.Words.{Words}
-use Rattle.kernel_calls.specs.Trying.{Wrote}
-use Rattle.kernel_calls.proofs.Answering.{are_those}
+use Rattle.guest_access.specs.Trying.{Wrote}
+use Rattle.guest_access.proofs.KernelAreas.{are_those}
 use Rattle.kernel_calls.proofs.Overlays.{overlay, outcome-over, those_over, with_hand-append}
-use Rattle.kernel_calls.proofs.Tries.{those_same}
+use Rattle.guest_access.proofs.Tries.{those_same}
 
 wrote_over : (hand : List InHand) (o : Option Reach) (set : Bool) (space space' : AddressSpace)
     (areas areas' all : NamedMap AreaState) → areas ≡ with_hand hand all → Wrote o set space space' areas areas'

@@ -30,13 +30,14 @@ use Rattle.kernel_model.proofs.FileChanges.{copied_behind}
 use Rattle.kernel_model.proofs.Trees.{outcome-bind}
 use Rattle.kernel_calls.specs.Children.{with_child, with_task, with_words}
 use Rattle.kernel_calls.specs.Cloning.{HasSet, MakesIf, SetsWord, is_shape}
-use Rattle.kernel_calls.specs.Lending.{with_hand}
-use Rattle.kernel_calls.specs.Memories.{with_memory}
+use Rattle.guest_access.specs.Lending.{with_hand}
+use Rattle.guest_access.specs.Memories.{with_memory}
 use Rattle.kernel_calls.specs.Prepared.{IsCalling, MakesChild}
 use Rattle.kernel_calls.specs.declared.clone.Child.{Child}
 use Rattle.kernel_calls.specs.declared.clone.Words.{Words}
 use Rattle.kernel_calls.specs.declared.context.Context.{Context}
-use Rattle.kernel_calls.proofs.Answering.{areas_changed, kept_memory}
+use Rattle.kernel_calls.proofs.Answering.{kept_memory}
+use Rattle.guest_access.proofs.KernelAreas.{areas_changed}
 use Rattle.kernel_calls.proofs.ClonedWords.{row_word}
 
 -- ---- a child

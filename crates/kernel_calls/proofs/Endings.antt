@@ -22,14 +22,14 @@ use Rattle.kernel_model.proofs.FileChanges.{closed_behind}
 use Rattle.kernel_model.proofs.Trees.{outcome-bind}
 use Rattle.kernel_calls.specs.ClearWords.{IsCleared}
 use Rattle.kernel_calls.specs.Ends.{Ends}
-use Rattle.kernel_calls.specs.Lending.{with_hand}
-use Rattle.kernel_calls.specs.Memories.{with_memory}
+use Rattle.guest_access.specs.Lending.{with_hand}
+use Rattle.guest_access.specs.Memories.{with_memory}
 use Rattle.kernel_calls.specs.Prepared.{Answers, EndsGroupAs, IsCalling, left_behind, with_closed, with_effect}
 use Rattle.kernel_calls.specs.declared.context.Context.{Context}
 use Rattle.kernel_calls.specs.declared.prepared.Effect.TheVariants.{EndsTask}
 use Rattle.kernel_calls.specs.declared.prepared.Ending.{Ending}
 use Rattle.kernel_calls.specs.declared.prepared.Prepared.{Prepared}
-use Rattle.kernel_calls.proofs.Answering.{areas_changed}
+use Rattle.guest_access.proofs.KernelAreas.{areas_changed}
 
 -- a call that is nothing but an end
 pub answers_ended : (tree : Prog (List Change)) (p : Prepared) (c : Caller) (k : Kernel) (space : AddressSpace)

@@ -1,5 +1,4 @@
 -- Lemmas of system calls and of what an execve reads, by subject.
-pub mod AccessLaws
 pub mod Answering
 pub mod ChildRows
 pub mod Children
@@ -10,17 +9,11 @@ pub mod Coming
 pub mod Effects
 pub mod Endings
 pub mod Executables
-pub mod Filling
+pub mod Filled
 pub mod FutexRows
 pub mod Keys
-pub mod Lendings
 pub mod Overlays
 pub mod RandomRows
 pub mod RandomWords
-pub mod Runs
-pub mod Scattered
-pub mod Sendings
-pub mod SteppedLaws
 pub mod Strings
 pub mod TimeRows
-pub mod Tries

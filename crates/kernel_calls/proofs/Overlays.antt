@@ -12,8 +12,8 @@ use Rattle.kernel_model.specs.declared.kernel.Part.TheVariants.{OfPipe, OfNode, 
 use Rattle.kernel_model.specs.entries.Areas.{left_in, over}
 use Rattle.kernel_model.specs.entries.Parts.{Parts, Prog, done, look, outcome_in}
 use Rattle.kernel_model.proofs.NamedMaps.{get-with_same, get-with_other}
-use Rattle.kernel_calls.specs.Lending.{AreThose, with_hand}
-use Rattle.kernel_calls.proofs.Lendings.{apart_by}
+use Rattle.guest_access.specs.Lending.{AreThose, with_hand}
+use Rattle.guest_access.proofs.Lendings.{apart_by}
 
 -- a state in which these areas are as they were left in hand
 abbrev pub overlay : List InHand → Parts → Parts

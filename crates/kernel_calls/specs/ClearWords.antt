@@ -8,7 +8,7 @@ use Rattle.kernel_model.specs.Names.{NamedMap}
 use Rattle.kernel_model.specs.declared.caller.Caller.{Caller}
 use Rattle.kernel_model.specs.calls.ClearWords.{Cleared}
 use Rattle.kernel_model.specs.entries.Parts.{Parts, Prog, outcome_in}
-use Rattle.kernel_calls.specs.Lending.{AreThose, with_hand}
+use Rattle.guest_access.specs.Lending.{AreThose, with_hand}
 use Rattle.kernel_calls.specs.declared.context.Context.{Context}
 
 -- whether any of these tasks has a clear word

@@ -9,7 +9,7 @@ use Rattle.kernel_model.specs.declared.kernel.Kernel.{Kernel}
 use Rattle.kernel_model.specs.calls.Answers.{Answer, refuses}
 use Rattle.kernel_model.specs.calls.Clone.{is_process, is_thread, word_set}
 use Rattle.kernel_model.specs.entries.Parts.{Parts, parts, Prog, outcome_in}
-use Rattle.kernel_calls.specs.Lending.{with_hand, AreThose}
+use Rattle.guest_access.specs.Lending.{with_hand, AreThose}
 use Rattle.kernel_calls.specs.Prepared.{MakesChild}
 use Rattle.kernel_calls.specs.declared.clone.Child.{Child}
 use Rattle.kernel_calls.specs.declared.clone.Words.{Words}

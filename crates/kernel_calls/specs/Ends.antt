@@ -10,7 +10,7 @@ use Rattle.kernel_model.specs.declared.kernel.Kernel.{Kernel}
 use Rattle.kernel_model.specs.declared.kernel.Part.TheVariants.{OfTasks, OfSleepers}
 use Rattle.kernel_model.specs.calls.Ending.{ends_as}
 use Rattle.kernel_model.specs.entries.Parts.{parts, outcome_in, changed}
-use Rattle.kernel_calls.specs.Memories.{with_memory}
+use Rattle.guest_access.specs.Memories.{with_memory}
 use Rattle.kernel_calls.specs.Prepared.{left_behind}
 use Rattle.kernel_calls.specs.declared.prepared.Ending.{Ending}
 

@@ -27,7 +27,7 @@ use Rattle.kernel_model.specs.entries.Parts.{Parts, parts, Prog, outcome_in, Cha
 use Rattle.kernel_model.specs.entries.Steps.{step_row}
 use Rattle.file_changes.specs.Changes.{files_after}
 use Rattle.kernel_calls.specs.Children.{with_child}
-use Rattle.kernel_calls.specs.Memories.{with_memory}
+use Rattle.guest_access.specs.Memories.{with_memory}
 use Rattle.kernel_calls.specs.declared.context.Context.{Context}
 use Rattle.kernel_calls.specs.declared.clone.Child.{Child}
 use Rattle.kernel_calls.specs.declared.prepared.Awaited.{Awaited}
@@ -232,22 +232,3 @@ EndsLive (SetsClear task address) group list = ⊤
 EndsLive (Wakes key most) group list = ⊤
 EndsLive (Reaps which) group list = ⊤
 EndsLive (ChangesFiles table change) group list = ⊤
-
--- a task before its next instruction, in a kernel: with its number, registers and address space, and the shared areas
--- as they are
--- RISC-V Unprivileged ISA 20191213, 1.2
-pub record IsAt (c : Caller) (k : Kernel) (number : ℕ) (before : Regs) (own : AddressSpace)
-    (shared : NamedMap AreaState) : Type 0 where
-  pub task : c.task ≡ number
-  pub registers : c.registers ≡ before
-  pub space : c.space ≡ own
-  pub areas : k.areas ≡ shared
-
--- an instruction that may touch shared areas leaves a task these registers and this address space, and these areas
--- RISC-V Unprivileged ISA 20191213, 1.2; mmap(2), MAP_SHARED
-pub record Steps (c : Caller) (k : Kernel) (registers : Regs) (space : AddressSpace) (areas : NamedMap AreaState)
-    : Type 0 where
-  pub changes : List Change
-  pub row_is : outcome_in (parts k) (step_row c) ≡ Some changes
-  pub done_is : changed changes k
-      ≡ record (with_memory c space areas k) { registers = map.insert k.registers c.task registers }

@@ -11,7 +11,7 @@ ghost use Rattle.kernel_model.specs.calls.Callers.{context_of};
 ghost use Rattle.kernel_model.specs.calls.Table.{call_row};
 ghost use Rattle.kernel_model.specs.entries.Parts.{parts};
 ghost use Rattle.kernel_calls.specs.Families.{is_on_files};
-ghost use Rattle.kernel_calls.specs.Lending.{AreAlike};
+ghost use Rattle.guest_access.specs.Lending.{AreAlike};
 ghost use Rattle.kernel_calls.specs.Prepared.{Comes, EndsCaller, EndsTheirs, HasRoomFor, IfWaits, IsApart, IsCalling};
 ghost use Rattle.kernel_calls.specs.Prepared.{WaitsWith};
 ghost use Rattle.kernel_calls.specs.declared.prepared.Effect.TheVariants.{Nothing};

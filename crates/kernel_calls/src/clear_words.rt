@@ -5,12 +5,12 @@ ghost use Rattle.kernel_model.specs.declared.caller.Caller.{Caller as ACaller};
 ghost use Rattle.kernel_model.specs.calls.ClearWords.{nothing_cleared, word_cleared, words_cleared};
 ghost use Rattle.kernel_model.specs.entries.Parts.{Parts, outcome_in};
 ghost use Rattle.kernel_calls.specs.ClearWords.{Clears, IsCleared, has_few, has_word};
-ghost use Rattle.kernel_calls.specs.Lending.{AreThose};
+ghost use Rattle.guest_access.specs.Lending.{AreThose};
 
 use crate::Context;
-use crate::buffers::write;
 use crate::futex::key_at;
 use futex_core::FutexKey;
+use guest_access::write;
 use kernel_model::{GuestArea, GuestSpace, Named};
 use sn_base::{List, Memory};
 use std::alloc::Global;

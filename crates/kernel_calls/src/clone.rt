@@ -14,10 +14,10 @@ ghost use Rattle.kernel_calls.specs.Cloning.{LeavesWords, MakesIf, SetsWord, is_
 ghost use Rattle.kernel_calls.specs.Prepared.{Comes, EndsCaller, EndsTheirs, HasRoomFor, IfWaits, IsCalling};
 
 use crate::Context;
-use crate::buffers::write;
 use crate::calls::refused;
 use crate::prepared::Called;
 use crate::registers::reply;
+use guest_access::write;
 use kernel_model::{Args, GuestArea, GuestSpace, Named};
 use rv_table::{Reg, Regs};
 use sn_base::{Boxed, Memory};

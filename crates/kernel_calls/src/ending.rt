@@ -10,7 +10,7 @@ ghost use Rattle.kernel_model.specs.declared.caller.Caller.{Caller as ACaller};
 ghost use Rattle.kernel_model.specs.declared.kernel.Kernel.{Kernel as AKernel};
 ghost use Rattle.kernel_model.specs.calls.Ending.{exit_group_row, exit_row, set_robust_list_row, set_tid_address_row};
 ghost use Rattle.kernel_calls.specs.Ends.{Ends};
-ghost use Rattle.kernel_calls.specs.Lending.{AreAlike};
+ghost use Rattle.guest_access.specs.Lending.{AreAlike};
 ghost use Rattle.kernel_calls.specs.Prepared.{Answers, AnswersKept, EndsEach, EndsGroupAs, EndsOnly, HasSpace};
 ghost use Rattle.kernel_calls.specs.Prepared.{IsCalling};
 ghost use Rattle.kernel_calls.specs.declared.prepared.Effect.TheVariants.{Nothing};

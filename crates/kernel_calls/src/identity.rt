@@ -1,6 +1,6 @@
 //! getpid, getppid, gettid, the user and the group of a task, and uname.
 
-ghost use Rattle.std.specs.Prelude.{◌≡◌, ℕ, ◌≤◌, ◌++◌, length, IfOk, OnOk, OnErr};
+ghost use Rattle.std.specs.Prelude.{◌≡◌, ℕ, ◌≤◌, ◌++◌, [], length, IfOk, OnOk, OnErr};
 ghost use Rattle.futex_core.specs.FutexLists.{FutexList};
 ghost use Rattle.task_table.specs.Table.{TaskTable};
 ghost use Rattle.mm_space.specs.Spaces.{AddressSpace};
@@ -12,7 +12,7 @@ ghost use Rattle.kernel_model.specs.calls.Identity.{uname_row, utsname};
 ghost use Rattle.kernel_calls.specs.Prepared.{Answers, HasSpace, IsCalling};
 ghost use Rattle.kernel_calls.specs.declared.prepared.Effect.TheVariants.{Nothing};
 
-use crate::buffers::fill;
+use crate::filling::fill;
 use crate::memory::replied;
 use crate::{Context, Prepared};
 use kernel_model::{GuestArea, GuestSpace, Named};
@@ -98,18 +98,26 @@ pub(crate) fn uname(
 }
 
 /// The six fields of struct utsname: sysname, nodename, release, version, machine and domainname.
-#[tactic(auto, unfolding(kernel_model::specs::calls::Identity::utsname))]
 fn utsname(alloc: Global) -> Result<List<u8>, Memory>
     ensures { IfOk result (λ names. names ≡ utsname) }
 {
     let mut names = List::new(alloc);
-    add_field(&mut names, b"Linux")?;
-    add_field(&mut names, b"sentry")?;
-    add_field(&mut names, b"5.15.0")?;
-    add_field(&mut names, b"#1")?;
-    add_field(&mut names, b"riscv64")?;
-    add_field(&mut names, b"(none)")?;
+    add_names(&mut names)?;
     Ok(names)
+}
+
+/// Puts the fields into an empty list.
+#[tactic(auto, unfolding(kernel_model::specs::calls::Identity::utsname))]
+fn add_names(names: &mut List<u8>) -> Result<(), Memory>
+    requires { names.old ≡ [] }
+    ensures { OnOk result (names.new ≡ utsname) }
+{
+    add_field(names, b"Linux")?;
+    add_field(names, b"sentry")?;
+    add_field(names, b"5.15.0")?;
+    add_field(names, b"#1")?;
+    add_field(names, b"riscv64")?;
+    add_field(names, b"(none)")
 }
 
 /// Puts a field behind others: a text, filled up with zeros.

@@ -12,7 +12,7 @@ ghost use Rattle.kernel_model.specs.calls.Memory.{address_in, area_made_at, aske
 ghost use Rattle.kernel_model.specs.calls.Memory.{is_anonymous, is_fixed, is_of_one_kind, is_private, is_shared};
 ghost use Rattle.kernel_model.specs.calls.Memory.{map_refusal, maps, mmap_row};
 ghost use Rattle.kernel_model.specs.entries.Parts.{done, outcome_in, parts};
-ghost use Rattle.kernel_calls.specs.Lending.{AreAlike};
+ghost use Rattle.guest_access.specs.Lending.{AreAlike};
 ghost use Rattle.kernel_calls.specs.Prepared.{Answers, HasSpace};
 ghost use Rattle.kernel_calls.specs.declared.prepared.Effect.TheVariants.{Nothing};
 

@@ -15,7 +15,7 @@ use task_table::{EndedTask, Status, Tasks};
 
 /// How tasks end: with which status, which they are, the clear words of theirs that were cleared, and the descriptor
 /// table that is closed with their thread group, where that ends.
-#[derive(Debug, Drop)]
+#[derive(Drop)]
 pub struct Ending {
     pub status: Status,
     pub ended: List<EndedTask>,
@@ -27,7 +27,7 @@ pub struct Ending {
 /// clear word is at another address, or so many at most are woken who sleep on a word, or the ended child that the
 /// group waits for, the one of a number or any, is nobody's child any more, or what is open changes, for a caller of
 /// that descriptor table.
-#[derive(Debug, Drop)]
+#[derive(Drop)]
 pub enum Effect {
     Nothing,
     EndsGroup(Ending),
@@ -39,7 +39,7 @@ pub enum Effect {
 }
 
 /// What a call comes to: its reply (a negative one is an error's number), and what is to be done.
-#[derive(Debug, Drop)]
+#[derive(Drop)]
 pub struct Prepared {
     pub reply: i64,
     pub effect: Effect,
@@ -55,7 +55,7 @@ pub struct UsedEnd {
 
 /// What a call used that waits, beside the task list, its caller's registers and memory: an end of a pipe, and with it
 /// the caller's descriptor table, where it used one; and the shared areas, where it looked into any.
-#[derive(Clone, Copy, Debug)]
+#[derive(Clone, Copy)]
 pub struct Awaited {
     pub end: Option<UsedEnd>,
     pub areas: bool,

@@ -11,8 +11,8 @@ ghost use Rattle.kernel_model.specs.machine.Random.{opening_random, random_at, r
 ghost use Rattle.kernel_calls.specs.Prepared.{Answers, IsCalling};
 ghost use Rattle.kernel_calls.specs.declared.prepared.Effect.TheVariants.{Nothing};
 
-use crate::buffers::fill;
 use crate::calls::refused;
+use crate::filling::fill;
 use crate::{Context, Prepared};
 use kernel_model::{GuestArea, GuestSpace, MOST_RANDOM, Named};
 use rand_chacha::ChaCha20Rng;

@@ -11,8 +11,8 @@ ghost use Rattle.kernel_model.specs.calls.Time.{clock_gettime_row, sched_yield_r
 ghost use Rattle.kernel_calls.specs.Prepared.{Answers, HasSpace, IsCalling};
 ghost use Rattle.kernel_calls.specs.declared.prepared.Effect.TheVariants.{Nothing};
 
-use crate::buffers::fill;
 use crate::calls::refused;
+use crate::filling::fill;
 use crate::memory::replied;
 use crate::{Context, Prepared};
 use kernel_model::{GuestArea, GuestSpace, Named};

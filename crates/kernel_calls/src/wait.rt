@@ -19,10 +19,10 @@ ghost use Rattle.kernel_calls.specs.Prepared.{WaitsWith};
 ghost use Rattle.kernel_calls.specs.declared.prepared.Effect.TheVariants.{Reaps};
 
 use crate::Context;
-use crate::buffers::write;
 use crate::calls::refused;
 use crate::memory::replied;
 use crate::prepared::{Awaited, Called, Effect, Prepared};
+use guest_access::write;
 use kernel_model::{Args, GuestArea, GuestSpace, Named};
 use sn_base::Memory;
 use sn_errno::Errno;

@@ -5,7 +5,7 @@ use crate::ends::Ends;
 use crate::families::close;
 use crate::guest::{Guest, LOAD, STORE, STORE_RESERVED, guest_among, new_guest};
 use crate::words::Word;
-use kernel_calls::Ran;
+use guest_access::Ran;
 use kernel_model::Next;
 use sn_base::Made;
 use std::alloc::Global;

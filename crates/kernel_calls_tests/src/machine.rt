@@ -1,7 +1,8 @@
 //! What a guest begins with, and runs of its instructions.
 
 use crate::guests::{expect_bytes, expect_pages, expect_register, expect_rights, expect_unmapped};
-use kernel_calls::{Beginning, Ran, args_of, call_of, reply, run, step};
+use guest_access::{Ran, run, step};
+use kernel_calls::{Beginning, args_of, call_of, reply};
 use kernel_calls_acts::opened;
 use kernel_model::{Args, GuestSpace, Named, Next};
 use mm_areas::Rights;

@@ -1,4 +1,4 @@
--- What an entry does, piece by piece.
+-- A whole step.
 use Rattle.std.proofs.Common.{◌≡◌, ℕ, ◌+◌, Bool, true, false, cond, List, [], ◌∷◌, Option, Some, None, refl, ap}
 use Rattle.std.proofs.Common.{sym, ◌∙◌, subst, option_map, is_some, unwrap_or}
 use Rattle.std.specs.Prelude.{Result, Ok}
@@ -16,50 +16,7 @@ use Rattle.kernel_model.specs.entries.Parts.{Holds, parts, outcome_in, Change, p
 use Rattle.kernel_model.specs.entries.Steps.{may_enter, row_of, task_of, if_live, entry_row, stepped, step}
 use Rattle.kernel_model.specs.entries.Waiting.{Wait, Awake, Asleep, Woken, wait_of}
 use Rattle.kernel_model.proofs.Trees.{outcome-bind}
-use Rattle.plain_kernel.specs.Doing.{Does}
-
--- ---- the row of an entry
-
--- what is done over the kernel that is found as it was, of the row of who is found, the entry does
-module _ (k kept : Kernel) (e : Entry) (number : ℕ) (found : Option Caller) (same : kept ≡ k) (of : number ≡ task_of e)
-    (is : outcome_in (parts k) (caller_of number) ≡ found) where
-  row_found : outcome_in (parts k) (entry_row (context_of k) e) ≡ outcome_in (parts k) (if_live (context_of k) e found)
-  row_found =
-      outcome-bind (parts k) (caller_of (task_of e)) (if_live (context_of k) e)
-      ∙ ap (λ n. outcome_in (parts k) (if_live (context_of k) e (outcome_in (parts k) (caller_of n)))) (sym of)
-      ∙ ap (λ o. outcome_in (parts k) (if_live (context_of k) e o)) is
-
-  pub entry_does : (left : Kernel) (r : Result Bool Memory)
-      → Does (outcome_in (parts kept) (if_live (context_of kept) e found)) kept left r
-      → Does (outcome_in (parts k) (entry_row (context_of k) e)) k left r
-  entry_does left r does =
-      subst (λ (o : Option (List Change)). Does o k left r) (sym row_found)
-      (subst (λ (x : Kernel). Does (outcome_in (parts x) (if_live (context_of x) e found)) x left r) same does)
-
--- ---- how a task stands to the futex list
-
-module _ (list : FutexList) (task : ℕ) (not_asleep : is_asleep list task ≡ false) where
-  waits_by : (b : Bool) → is_woken list task ≡ b → wait_of list task ≡ cond b Woken Awake
-  waits_by b is =
-      ap (λ a. cond a Asleep (cond (is_woken list task) Woken Awake)) not_asleep ∙ ap (λ w. cond w Woken Awake) is
-
-  pub woken_so : is_woken list task ≡ true → wait_of list task ≡ Woken
-  woken_so is = waits_by true is
-
-  pub awake_so : is_woken list task ≡ false → wait_of list task ≡ Awake
-  awake_so is = waits_by false is
-
--- what an entry does by how its task stands to the futex list, the entry does
-module _ (k kept : Kernel) (e : Entry) (number : ℕ) (c : Caller) (same : kept ≡ k) (of : number ≡ task_of e)
-    (some : outcome_in (parts k) (caller_of number) ≡ Some c) where
-  pub entry_waiting : (wait : Wait) → wait_of kept.sleepers c.task ≡ wait → (left : Kernel) (r : Result Bool Memory)
-      → Does (outcome_in (parts kept) (row_of (context_of kept) e c wait)) kept left r
-      → Does (outcome_in (parts k) (entry_row (context_of k) e)) k left r
-  entry_waiting wait is left r does =
-      entry_does k kept e number (Some c) same of some left r
-      (subst (λ w. Does (outcome_in (parts kept) (row_of (context_of kept) e c w)) kept left r) (sym is) does)
-
--- ---- a whole step
+use Rattle.plain_steps.specs.Doing.{Does}
 
 entries_put : (p : Part) (content : Holds p) (k : Kernel) → (put p content k).entries ≡ k.entries
 entries_put OfTasks content k = refl

@@ -24,9 +24,9 @@ use Rattle.plain_kernel.specs.declared.walking.Execved.{Execved}
 use Rattle.plain_kernel.specs.declared.walking.Execved.TheVariants as answers
 use Rattle.kernel_model.specs.laws.Beginnings.{fits}
 use Rattle.plain_kernel.specs.Beginnings.{Executes, IsByImage, IsFrom, MayStart}
-use Rattle.plain_kernel.specs.Unused.{AreUnused}
+use Rattle.node_numbers.specs.Unused.{AreUnused}
 use Rattle.kernel_model.proofs.Trees.{outcome-bind}
-use Rattle.plain_kernel.proofs.NodesSoFar.{with_nodes_first, all_numbered_is}
+use Rattle.node_numbers.proofs.NodesSoFar.{with_nodes_first, all_numbered_is}
 
 -- the number of the root of the mount at `/`, and what an execve of a name comes to that walked there
 abbrev slash : Kernel → ℕ

@@ -13,8 +13,6 @@ ghost use Rattle.kernel_model.specs.laws.Beginnings.{HasRoom, MayOpen};
 ghost use Rattle.plain_kernel.specs.Beginnings.{IsRefusedBy};
 
 use crate::OpeningErr;
-use crate::meeting::may_meet;
-use crate::nodes::root_node;
 use crate::walking::{Execved, execve, root_number};
 use elf_image::Image;
 use file_changes::open_files;
@@ -23,6 +21,7 @@ use host_node::Tree;
 use kernel_calls::{Beginning, open_task, opened};
 use kernel_model::{Given, Kernel, Named, Node, OpenFiles, Opened};
 use mount_file::{MOST_TASKS, Mounts, Program, copied_mounts};
+use node_numbers::{may_meet, root_node};
 use sn_base::{List, Map, Memory};
 use std::alloc::Global;
 use task_table::Tasks;

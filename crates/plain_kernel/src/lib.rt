@@ -1,10 +1,9 @@
 //! The plain kernel: a kernel of one thread over one state, which does each entry as the definitions say.
 //!
 //! A caller opens a `Plain` by the record of an opening, over a tree for each mount, and has it do entries one after
-//! another; it answers whether each of them fits. Its state is a `Kernel` of `kernel_model`, for everybody to see. The
-//! work of instructions and calls is done by the functions of `kernel_calls` and `call_fs`, over copies of the caller's
-//! address space and of the shared areas, which take their places once the entry is seen to fit. Nothing of the
-//! program's run stands on this crate: it shows that the definitions can be obeyed, and tests run traces on it. No
+//! another; it answers whether each of them fits. Its state is a `Kernel` of `kernel_model`, for everybody to see. What
+//! an entry does is done by `plain_steps`, and nodes get their numbers by `node_numbers`. Nothing of the program's run
+//! stands on these three crates: they show that the definitions can be obeyed, and tests run traces on this one. No
 //! entry of a task that sleeps on a futex word fits, and of one that was woken only the call that it slept in.
 //!
 //! Proved: `Plain::opening` and `Plain::step` are the definitions (`ok`, `refused`, `fits`), and a refused step or one
@@ -16,19 +15,8 @@
 #![tactic(auto)]
 
 mod beginning;
-mod callers;
-mod calls;
-mod effects;
-mod entries;
-mod faults;
-mod meeting;
-mod moving;
-mod nodes;
-mod numbering;
 mod opened;
 mod plain;
-mod step;
-mod waiting;
 mod walking;
 
 pub use plain::{OpeningErr, Plain};

@@ -6,12 +6,12 @@ ghost use Rattle.plain_kernel.specs.Beginnings.{IsRefusedBy};
 ghost use Rattle.kernel_model.specs.entries.Steps.{step};
 
 use crate::beginning::{bare, begin_tasks};
-use crate::meeting::may_enter;
 use crate::opened::is_of;
-use crate::step::change;
 use host_node::Tree;
 use kernel_model::{Entry, Kernel, Opening};
 use mount_file::{MOST_ENTRIES, MOST_TASKS, Mounts};
+use node_numbers::may_enter;
+use plain_steps::change;
 use sn_base::{List, Memory};
 use sn_errno::Errno;
 use std::alloc::Global;

@@ -11,14 +11,12 @@ ghost use Rattle.kernel_model.specs.entries.Parts.{parts, outcome_in as outcome}
 ghost use Rattle.kernel_model.specs.laws.Beginnings.{fits};
 ghost use Rattle.plain_kernel.specs.Beginnings.{Executes, IsFrom, MayStart};
 
-use crate::faults::{faulted, is_in_order};
-use crate::nodes::number_of;
-use crate::numbering::number_all;
 use elf_image::Image;
 use host_node::{Kind, Tree};
 use kernel_calls::{is_too_long, read_executable, root_of};
 use kernel_model::{Fresh, Given, Kernel, LAST_NUMBER, LONGEST_IMAGE};
 use mount_file::Program;
+use node_numbers::{faulted, is_in_order, number_all, number_of};
 use sn_base::Memory;
 use sn_errno::Errno;
 use sn_text::Text;

@@ -1,7 +1,7 @@
 -- The first buffer's bytes, and then those of the others.
 use Rattle.std.proofs.Common.{◌≡◌, ◌∙◌, Some, ap, rules}
 use Rattle.std.proofs.lemmas.Result.{IfOk-weaker}
-use Rattle.kernel_calls.proofs.Tries.{those_same}
+use Rattle.guest_access.proofs.Tries.{those_same}
 use Rattle.call_fs.proofs.Gathered.{append_goes, append_stops, begins_with}
 use Rattle.call_fs.proofs.gathering.+append_each.Goals as goal
 

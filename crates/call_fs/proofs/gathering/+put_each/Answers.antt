@@ -1,7 +1,7 @@
 -- The first buffer's bytes, and then those of the others.
 use Rattle.std.proofs.Common.{◌-◌, ◌∙◌, ap, min, arith}
 use Rattle.std.proofs.lemmas.Result.{IfOk-weaker}
-use Rattle.kernel_calls.proofs.Tries.{those_same}
+use Rattle.guest_access.proofs.Tries.{those_same}
 use Rattle.std.proofs.Math.Seq.{take-length}
 use Rattle.call_fs.proofs.Gathered.{put_goes, put_stops, sent_begins, sent_ends}
 use Rattle.call_fs.proofs.gathering.+put_each.Goals as goal

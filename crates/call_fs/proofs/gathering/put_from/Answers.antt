@@ -1,7 +1,7 @@
 -- One buffer.
 use Rattle.std.proofs.Common.{sym, subst}
 use Rattle.std.proofs.lemmas.Result.{IfOk-weaker}
-use Rattle.kernel_calls.specs.Sending.{Sent}
+use Rattle.guest_access.specs.Sending.{Sent}
 use Rattle.call_fs.proofs.Gathered.{one_gathered}
 use Rattle.call_fs.proofs.gathering.put_from.Goals as goal
 

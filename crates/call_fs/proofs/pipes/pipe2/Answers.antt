@@ -5,7 +5,7 @@ use Rattle.kernel_model.specs.declared.open_files.OpenFiles.{OpenFiles}
 use Rattle.kernel_model.specs.entries.Parts.{outcome_in, parts}
 use Rattle.mm_space.specs.Accesses.{writable}
 use Rattle.kernel_model.specs.entries.Areas.{access_row}
-use Rattle.kernel_calls.proofs.Answering.{are_those}
+use Rattle.guest_access.proofs.KernelAreas.{are_those}
 use Rattle.call_fs.proofs.MadePipes.{nothing, of_fds, of_table, something, tested}
 use Rattle.call_fs.proofs.pipes.pipe2.Goals as goal
 

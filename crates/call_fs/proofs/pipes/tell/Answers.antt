@@ -3,7 +3,7 @@ use Rattle.std.proofs.Common.{◌≡◌, length, ap, subst, ◌∙◌}
 use Rattle.mm_space.specs.Accesses.{writable}
 use Rattle.kernel_model.specs.entries.Areas.{access_row, written_with}
 use Rattle.kernel_model.specs.entries.Parts.{outcome_in}
-use Rattle.kernel_calls.specs.Lending.{with_hand}
+use Rattle.guest_access.specs.Lending.{with_hand}
 use Rattle.call_fs.proofs.MadePipes.{ints_by}
 use Rattle.call_fs.proofs.pipes.tell.Goals as goal
 

@@ -5,7 +5,7 @@ use Rattle.sn_errno.specs.declared.errno.Errno.TheVariants.{EFAULT}
 use Rattle.kernel_model.specs.calls.Answers.{refuses}
 use Rattle.kernel_model.specs.calls.ReadWrite.{reads_into, reads_of}
 use Rattle.kernel_model.specs.entries.Parts.{done, parts}
-use Rattle.kernel_calls.proofs.Answering.{are_those}
+use Rattle.guest_access.proofs.KernelAreas.{are_those}
 use Rattle.call_fs.proofs.Reading.{into_by, moving_on}
 use Rattle.call_fs.proofs.Transferring.{moves_alike}
 use Rattle.call_fs.proofs.reads.reads_into.Goals as goal

@@ -6,7 +6,7 @@ use Rattle.std.proofs.lemmas.Int.{to_z_pos}
 use Rattle.sn_errno.specs.declared.errno.Errno.TheVariants.{EFAULT}
 use Rattle.kernel_model.specs.calls.Answers.{refuses}
 use Rattle.kernel_model.specs.entries.Parts.{done, parts}
-use Rattle.kernel_calls.proofs.Answering.{are_those}
+use Rattle.guest_access.proofs.KernelAreas.{are_those}
 use Rattle.call_fs.proofs.Reading.{take_answers, take_refused}
 use Rattle.call_fs.proofs.Transferring.{moves_alike}
 use Rattle.call_fs.proofs.reads.take_from.Goals as goal

@@ -2,7 +2,7 @@
 use Rattle.std.proofs.Common.{sym}
 use Rattle.kernel_model.specs.calls.Vectors.{gathered}
 use Rattle.kernel_model.specs.entries.Parts.{outcome_in, parts}
-use Rattle.kernel_calls.proofs.Answering.{are_those}
+use Rattle.guest_access.proofs.KernelAreas.{are_those}
 use Rattle.call_fs.specs.Records.{buffers_in}
 use Rattle.call_fs.proofs.Transferring.{bytes_put, on_err, same_pipe}
 use Rattle.call_fs.proofs.transfers.put_bytes.Goals as goal

@@ -1,7 +1,7 @@
 -- The first buffer, and then the others.
 use Rattle.std.proofs.Common.{true, false, ◌∙◌}
 use Rattle.std.proofs.lemmas.Result.{IfOk-weaker}
-use Rattle.kernel_calls.proofs.Tries.{those_same}
+use Rattle.guest_access.proofs.Tries.{those_same}
 use Rattle.call_fs.proofs.Cuts.{accessible_first}
 use Rattle.call_fs.proofs.vectors.+are_accessible.Goals as goal
 

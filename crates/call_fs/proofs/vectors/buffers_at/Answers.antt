@@ -6,7 +6,7 @@ use Rattle.std.proofs.lemmas.Result.{IfOk-weaker}
 use Rattle.stat_layout.specs.IoVecs.{iovecs_in}
 use Rattle.kernel_model.specs.calls.Vectors.{if_countable, with_buffers}
 use Rattle.kernel_model.specs.entries.Parts.{outcome_in, parts}
-use Rattle.kernel_calls.proofs.Answering.{are_those}
+use Rattle.guest_access.proofs.KernelAreas.{are_those}
 use Rattle.call_fs.proofs.FoundBuffers.{found_by, goes_alike}
 use Rattle.call_fs.proofs.vectors.buffers_at.Goals as goal
 

@@ -4,7 +4,7 @@ use Rattle.sn_errno.specs.declared.errno.Errno.TheVariants.{EFAULT}
 use Rattle.kernel_model.specs.calls.Answers.{refuses}
 use Rattle.kernel_model.specs.calls.ReadWrite.{writes_of}
 use Rattle.kernel_model.specs.entries.Parts.{done, parts}
-use Rattle.kernel_calls.proofs.Answering.{are_those}
+use Rattle.guest_access.proofs.KernelAreas.{are_those}
 use Rattle.call_fs.specs.Records.{buffers_in}
 use Rattle.call_fs.specs.Transfers.{writes_from}
 use Rattle.call_fs.proofs.Transferring.{moves_alike}

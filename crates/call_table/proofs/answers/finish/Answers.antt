@@ -5,7 +5,8 @@ use Rattle.kernel_model.specs.Names.{get_named}
 use Rattle.kernel_calls.proofs.Effects.{kept}
 use Rattle.proc_cells.specs.Beside.{kernel_with, nothing_beside, nothing_held}
 use Rattle.proc_cells.specs.Cells.{kernel_of}
-use Rattle.call_table.specs.Moves.{FilesMove, puts_to_sleep}
+use Rattle.parked_tasks.specs.Untouched.{FilesMove}
+use Rattle.call_table.specs.Moves.{puts_to_sleep}
 use Rattle.call_table.proofs.Homes.{home_committed}
 use Rattle.call_table.proofs.Moves.{lists_of, moves_done, others_go_on}
 use Rattle.call_table.proofs.MovedParts.{Lists, files_by, lists_after, lists_are}

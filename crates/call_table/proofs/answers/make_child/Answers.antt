@@ -12,10 +12,10 @@ use Rattle.kernel_calls.specs.Children.{with_child}
 use Rattle.proc_cells.specs.Beside.{AreAtHome, nothing_beside}
 use Rattle.proc_cells.specs.Cells.{kernel_of}
 use Rattle.proc_cells.proofs.Homes.{at_home}
+use Rattle.parked_tasks.proofs.Results.{both_err, by_result}
 use Rattle.call_table.specs.Moves.{puts_to_sleep}
 use Rattle.call_table.proofs.Moves.{OneMore, more_by_child, moves_child}
 use Rattle.call_table.proofs.Homes.{child_registers, home_made, key_stays}
-use Rattle.call_table.proofs.Results.{both_err, by_result}
 use Rattle.call_table.proofs.answers.make_child.Goals as goal
 
 pub invariant_of-cells : goal.invariant_of-cells

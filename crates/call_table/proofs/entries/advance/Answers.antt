@@ -1,13 +1,14 @@
 -- Where no instruction ran, the entry is that of one that touches a shared area, a call or an end.
 use Rattle.std.proofs.Common.{◌≡◌, arith, true, false, ap, sym, ◌∙◌}
 use Rattle.kernel_model.specs.machine.Instructions.{touches_area}
+use Rattle.parked_tasks.proofs.Results.{err_by, on_err}
 use Rattle.call_table.specs.Entries.{ReadyIs}
 use Rattle.call_table.specs.Moves.{Moves}
 use Rattle.call_table.specs.Parks.{Parks}
 use Rattle.call_table.proofs.Kept.{stands_kept, part_behind, ready_kept}
 use Rattle.call_table.proofs.Moves.{moves_kept}
 use Rattle.call_table.proofs.Parks.{parks_kept, touching_kept}
-use Rattle.call_table.proofs.Results.{enters_behind, err_by, on_err, waits_behind}
+use Rattle.call_table.proofs.Results.{enters_behind, waits_behind}
 use Rattle.call_table.proofs.entries.advance.Goals as goal
 
 pub answer-requires-clause-stands : goal.answer-requires-clause-stands

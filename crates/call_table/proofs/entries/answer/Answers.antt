@@ -24,13 +24,13 @@ use Rattle.call_fs.specs.declared.called.Called.TheVariants.{Of, Moves, MakesPip
 use Rattle.proc_cells.specs.Beside.{Beside, Held, kernel_with, nothing_beside}
 use Rattle.proc_cells.specs.Cells.{held_by, kernel_of, caller_with}
 use Rattle.proc_cells.proofs.Homes.{home_reached}
+use Rattle.parked_tasks.specs.declared.used.Spot.{Spot}
+use Rattle.parked_tasks.proofs.Results.{err_by}
 use Rattle.call_table.specs.Parks.{Parks}
-use Rattle.call_table.specs.declared.used.Spot.{Spot}
 use Rattle.call_table.proofs.Kept.{part_none}
 use Rattle.call_table.proofs.MovedFiles.{only_read}
 use Rattle.call_table.proofs.Moves.{moves_behind, others_stay}
 use Rattle.call_table.proofs.Parks.{parks_of}
-use Rattle.call_table.proofs.Results.{err_by}
 use Rattle.call_table.proofs.Steps.{comes_here, own_same, ready_called, step_call, step_sleep}
 use Rattle.call_table.proofs.entries.answer.Goals as goal
 

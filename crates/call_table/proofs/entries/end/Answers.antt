@@ -9,11 +9,11 @@ use Rattle.kernel_calls.specs.declared.prepared.Effect.TheVariants.{EndsGroup}
 use Rattle.proc_cells.specs.Beside.{AreAtHome, kernel_with, nothing_beside, nothing_held}
 use Rattle.proc_cells.specs.Cells.{held_by, kernel_of, caller_with}
 use Rattle.proc_cells.proofs.Homes.{home_reached}
+use Rattle.parked_tasks.proofs.Results.{err_by}
 use Rattle.call_table.proofs.Homes.{home_committed}
 use Rattle.call_table.proofs.Kept.{part_none}
 use Rattle.call_table.proofs.Moves.{lists_of, moves_done, others_stay}
 use Rattle.call_table.proofs.MovedParts.{Lists, lists_are}
-use Rattle.call_table.proofs.Results.{err_by}
 use Rattle.call_table.proofs.Steps.{calling_here, own_same, ready_next, step_end}
 use Rattle.call_table.proofs.entries.end.Goals as goal
 

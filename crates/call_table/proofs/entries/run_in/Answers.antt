@@ -5,7 +5,7 @@ use Rattle.mm_space.specs.Spaces.{AddressSpace}
 use Rattle.kernel_model.specs.machine.Instructions.{StopsAt, next_of}
 use Rattle.kernel_model.specs.machine.Spaces.{acting_in}
 use Rattle.kernel_model.proofs.NamedMaps.{get-with_same}
-use Rattle.call_table.proofs.Results.{on_ok, on_err}
+use Rattle.parked_tasks.proofs.Results.{on_ok, on_err}
 use Rattle.call_table.proofs.entries.run_in.Goals as goal
 
 pub returns-clause-runs : goal.returns-clause-runs

@@ -7,12 +7,12 @@ use Rattle.mm_space.specs.Spaces.{AddressSpace}
 use Rattle.sn_base.specs.declared.made.Made.{Made}
 use Rattle.kernel_model.specs.Names.{NamedMap, with_named}
 use Rattle.kernel_model.specs.declared.entry.Entry.TheVariants.{Run}
-use Rattle.kernel_calls.specs.declared.instructions.Ran.{Ran}
+use Rattle.guest_access.specs.declared.instructions.Ran.{Ran}
 use Rattle.proc_cells.specs.Cells.{caller_with, held_by, kernel_of}
 use Rattle.proc_cells.proofs.Homes.{home_run}
+use Rattle.parked_tasks.proofs.Results.{with_ok, on_err}
 use Rattle.call_table.specs.Entries.{RunsIn}
 use Rattle.call_table.proofs.Moves.{moves_alone, others_go_on, others_stay}
-use Rattle.call_table.proofs.Results.{with_ok, on_err}
 use Rattle.call_table.proofs.Steps.{step_run, whole_run, registers_left, spaces_left, next_left, left_there}
 use Rattle.call_table.proofs.Steps.{ready_run, stop_not_on, touching_left}
 use Rattle.call_table.proofs.entries.run_standing.Goals as goal

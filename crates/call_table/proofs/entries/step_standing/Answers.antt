@@ -8,8 +8,8 @@ use Rattle.kernel_model.specs.declared.traps.Next.TheVariants.{Goes}
 use Rattle.proc_cells.specs.Beside.{Held}
 use Rattle.proc_cells.specs.Cells.{held_by, kernel_of, caller_with}
 use Rattle.proc_cells.proofs.Homes.{home_reached, home_run}
+use Rattle.parked_tasks.proofs.Results.{err_by}
 use Rattle.call_table.proofs.Moves.{moves_alone, others_go_on, others_stay}
-use Rattle.call_table.proofs.Results.{err_by}
 use Rattle.call_table.proofs.Steps.{own_same, own_space, ready_next, registers_same, next_told, step_touching}
 use Rattle.call_table.proofs.entries.step_standing.Goals as goal
 

@@ -1,13 +1,14 @@
 -- An instruction that touches a shared area is an entry of its own, or the task calls or traps by it.
 use Rattle.std.proofs.Common.{ap, sym, true, false, ◌∙◌}
 use Rattle.kernel_model.specs.machine.Instructions.{goes_on}
+use Rattle.parked_tasks.proofs.Results.{on_err, err_by}
 use Rattle.call_table.specs.Entries.{ReadyIs}
 use Rattle.call_table.specs.Moves.{Moves}
 use Rattle.call_table.specs.Parks.{Parks}
 use Rattle.call_table.proofs.Kept.{stands_kept, part_kept, part_behind, ready_kept}
 use Rattle.call_table.proofs.Moves.{moves_kept}
 use Rattle.call_table.proofs.Parks.{parks_kept, touching_kept}
-use Rattle.call_table.proofs.Results.{enters_behind, waits_behind, on_err, err_by}
+use Rattle.call_table.proofs.Results.{enters_behind, waits_behind}
 use Rattle.call_table.proofs.entries.touch.Goals as goal
 
 pub answer-requires-clause-stands : goal.answer-requires-clause-stands

@@ -6,7 +6,8 @@ use Rattle.kernel_model.specs.declared.kernel.Kernel.{Kernel}
 use Rattle.kernel_model.specs.Names.{get_named}
 use Rattle.call_fs.specs.Transfers.{after_transfer}
 use Rattle.proc_cells.specs.Beside.{kernel_with, nothing_beside, nothing_held}
-use Rattle.call_table.specs.Moves.{FilesMove, puts_to_sleep}
+use Rattle.parked_tasks.specs.Untouched.{FilesMove}
+use Rattle.call_table.specs.Moves.{puts_to_sleep}
 use Rattle.call_table.specs.Moving.{touched_by_transfer}
 use Rattle.call_table.proofs.MovedFiles.{transfer_leaves}
 use Rattle.call_table.proofs.Moves.{moves_alone, others_go_on}

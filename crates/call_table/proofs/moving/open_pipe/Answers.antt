@@ -7,10 +7,11 @@ use Rattle.kernel_model.specs.Names.{get_named, with_named}
 use Rattle.kernel_model.proofs.NamedMaps.{with_same}
 use Rattle.proc_cells.proofs.Homes.{home_reached}
 use Rattle.call_fs.specs.declared.pipes.NewPipe.{NewPipe}
-use Rattle.call_table.specs.Moves.{FilesMove, puts_to_sleep}
+use Rattle.parked_tasks.specs.Untouched.{FilesMove}
+use Rattle.parked_tasks.proofs.Results.{err_by}
+use Rattle.call_table.specs.Moves.{puts_to_sleep}
 use Rattle.call_table.proofs.MovedFiles.{PipeDone, pipe_leaves}
 use Rattle.call_table.proofs.Moves.{moves_alone, others_go_on, others_stay}
-use Rattle.call_table.proofs.Results.{err_by}
 use Rattle.call_table.proofs.moving.open_pipe.Goals as goal
 
 pub invariant_of-cells : goal.invariant_of-cells

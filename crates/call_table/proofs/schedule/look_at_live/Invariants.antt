@@ -3,7 +3,7 @@ use Rattle.std.proofs.Common.{◌≡◌, ℕ, ◌<◌, true}
 use Rattle.std.specs.FinMap as map
 use Rattle.task_table.specs.Kept.{IsKept}
 use Rattle.task_table.specs.Table.{is_live}
-use Rattle.call_table.specs.Parking.{AreAlike}
+use Rattle.parked_tasks.specs.Parking.{AreAlike}
 use Rattle.call_table.specs.Schedules.{is_off}
 use Rattle.call_table.proofs.schedule.look_at_live.Given as goal
 

@@ -1,11 +1,11 @@
 -- Those that an entry wakes by what it told.
 use Rattle.std.proofs.Common.{◌||◌, ◌&&◌, ap, sym, ◌∙◌}
+use Rattle.parked_tasks.specs.Parking.{AreWoken}
+use Rattle.parked_tasks.specs.Touched.{is_touched, is_touched_by}
+use Rattle.parked_tasks.specs.Used.{same_made, uses_areas}
+use Rattle.parked_tasks.proofs.Results.{on_ok}
+use Rattle.parked_tasks.proofs.Woken.{woken_both, woken_by}
 use Rattle.call_table.specs.Moves.{is_woken_by}
-use Rattle.call_table.specs.Parking.{AreWoken}
-use Rattle.call_table.specs.Touched.{is_touched, is_touched_by}
-use Rattle.call_table.specs.Used.{same_made, uses_areas}
-use Rattle.call_table.proofs.Results.{on_ok}
-use Rattle.call_table.proofs.Woken.{woken_both, woken_by}
 use Rattle.call_table.proofs.schedule.wake_by.Goals as goal
 
 pub returns-in-Some : goal.returns-in-Some

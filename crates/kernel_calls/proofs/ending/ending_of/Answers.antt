@@ -3,7 +3,7 @@ use Rattle.std.proofs.Common.{refl, subst}
 use Rattle.kernel_model.specs.calls.ClearWords.{nothing_cleared, words_cleared}
 use Rattle.kernel_model.specs.entries.Parts.{parts, outcome_in}
 use Rattle.kernel_calls.specs.ClearWords.{IsCleared}
-use Rattle.kernel_calls.proofs.Answering.{are_those}
+use Rattle.guest_access.proofs.KernelAreas.{are_those}
 use Rattle.kernel_calls.proofs.Endings.{ends_calling}
 use Rattle.kernel_calls.proofs.ending.ending_of.Goals as goal
 

@@ -7,7 +7,8 @@ use Rattle.kernel_model.specs.machine.FutexWords.{key_at}
 use Rattle.kernel_model.specs.calls.Futex.{futex_row, sleeps_on, wakes_on, is_wait}
 use Rattle.kernel_model.specs.entries.Areas.{bytes_read}
 use Rattle.kernel_model.specs.entries.Parts.{parts, outcome_in}
-use Rattle.kernel_calls.proofs.Answering.{answers_refused, are_those, has_space}
+use Rattle.kernel_calls.proofs.Answering.{answers_refused, has_space}
+use Rattle.guest_access.proofs.KernelAreas.{are_those}
 use Rattle.kernel_calls.proofs.Coming.{comes_alike}
 use Rattle.kernel_calls.proofs.FutexRows.{address_odd, operation_unknown, timeout_there}
 use Rattle.kernel_calls.proofs.FutexRows.{word_looked_at, word_read, word_unread}

@@ -1,7 +1,7 @@
 -- Where memory is wanting for the mapping, the area that was made is taken out again.
 use Rattle.std.proofs.Common.{ap, sym, ◌∙◌}
 use Rattle.kernel_model.specs.Names.{get_named, without_named}
-use Rattle.kernel_calls.proofs.Lendings.{taken_out}
+use Rattle.guest_access.proofs.Lendings.{taken_out}
 use Rattle.kernel_calls.proofs.mapping.map_shared.Goals as goal
 
 pub returns-in-Err-clause-err_areas : goal.returns-in-Err-clause-err_areas

@@ -3,8 +3,8 @@ use Rattle.std.proofs.Common.{ap, subst, ◌∙◌}
 use Rattle.std.specs.Int.{to_le_bytes, w32}
 use Rattle.kernel_model.specs.entries.Areas.{bytes_written}
 use Rattle.kernel_model.specs.entries.Parts.{parts, outcome_in}
-use Rattle.kernel_calls.specs.Trying.{Wrote}
-use Rattle.kernel_calls.proofs.Answering.{are_those}
+use Rattle.guest_access.specs.Trying.{Wrote}
+use Rattle.guest_access.proofs.KernelAreas.{are_those}
 use Rattle.kernel_calls.proofs.ChildRows.{answers_put, answers_reaped, answers_unput}
 use Rattle.kernel_calls.proofs.wait.reap.Goals as goal
 

@@ -6,7 +6,7 @@ use Rattle.kernel_model.specs.opening.Opening.{draws_just, by_walk, root_of}
 use Rattle.kernel_model.specs.entries.Parts.{parts}
 use Rattle.kernel_model.specs.entries.Parts.{outcome_in as outcome}
 use Rattle.kernel_model.specs.laws.InPlace.{numbered}
-use Rattle.plain_kernel.proofs.NumberRuns.{taken_by, refused_by}
+use Rattle.node_numbers.proofs.NumberRuns.{taken_by, refused_by}
 use Rattle.plain_kernel.proofs.WalkLemmas.{numbers_unfit, numbers_fit, executes_by}
 use Rattle.plain_kernel.proofs.walking.execve_unfailed.Goals as goal
 

@@ -4,8 +4,8 @@ use Rattle.std.specs.Prelude.{not}
 use Rattle.kernel_model.specs.entries.Given.{faulted}
 use Rattle.kernel_model.specs.entries.Parts.{parts}
 use Rattle.kernel_model.specs.entries.Parts.{outcome_in as outcome}
-use Rattle.plain_kernel.proofs.FaultLemmas.{ordered_unused}
-use Rattle.plain_kernel.proofs.CallLemmas.{has_any_not, done_all, done_nothing}
+use Rattle.node_numbers.proofs.FaultLemmas.{ordered_unused}
+use Rattle.node_numbers.proofs.FaultLemmas.{has_any_not, done_all, done_nothing}
 use Rattle.plain_kernel.proofs.WalkLemmas.{rises_unfit, rises_fail}
 use Rattle.plain_kernel.proofs.walking.execve_walked.Goals as goal
 

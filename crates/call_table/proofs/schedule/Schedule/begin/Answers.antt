@@ -3,7 +3,7 @@ use Rattle.std.proofs.Common.{◌≡◌, ℕ, ap, ◌∙◌}
 use Rattle.std.specs.Prelude.{None, is_some, ◌||◌}
 use Rattle.std.specs.FinMap as map
 use Rattle.sn_base.proofs.Maps.{get_of_empty}
-use Rattle.call_table.specs.Parking.{parked_at}
+use Rattle.parked_tasks.specs.Parking.{parked_at}
 use Rattle.call_table.proofs.Parkings.{awake_off, off_awake}
 use Rattle.call_table.proofs.schedule.Schedule.begin.Goals as goal
 

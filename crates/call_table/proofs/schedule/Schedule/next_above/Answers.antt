@@ -8,7 +8,7 @@ use Rattle.futex_core.specs.Least as least
 use Rattle.futex_core.proofs.OnList.{woken_once}
 use Rattle.kernel_model.specs.entries.Waiting.{Asleep, Awake, Woken, wait_of}
 use Rattle.proc_cells.specs.declared.cells.Cells.{Cells}
-use Rattle.call_table.specs.declared.parking.Parking.{Parking}
+use Rattle.parked_tasks.specs.declared.parking.Parking.{Parking}
 use Rattle.call_table.specs.Schedules.{MayNotTurn}
 use Rattle.call_table.proofs.schedule.Schedule.next_above.Goals as goal
 

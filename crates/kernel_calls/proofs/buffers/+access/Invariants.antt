@@ -1,5 +1,0 @@
--- One area fewer may be asked for each time.
-use Rattle.kernel_calls.proofs.buffers.+access.Given as goal
-
-abbrev pub decreases-access : goal.decreases-access
-decreases-access l = l.most

@@ -1,7 +1,0 @@
--- One area fewer is in hand each time.
-use Rattle.std.proofs.Common.{length}
-use Rattle.mm_space.specs.Handing.{hand_of}
-use Rattle.kernel_calls.proofs.lending.+take_back.Given as goal
-
-abbrev pub decreases-take_back : goal.decreases-take_back
-decreases-take_back l = length (hand_of l.handed.now)

@@ -1,6 +1,0 @@
--- Each buffer is gone over once.
-use Rattle.std.proofs.Common.{length}
-use Rattle.kernel_calls.proofs.scattering.+own_each.Given as goal
-
-abbrev pub decreases-own_each : goal.decreases-own_each
-decreases-own_each l = length l.buffers.now

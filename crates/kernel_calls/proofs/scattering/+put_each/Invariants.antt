@@ -1,6 +1,0 @@
--- Each buffer is gone over once.
-use Rattle.std.proofs.Common.{length}
-use Rattle.kernel_calls.proofs.scattering.+put_each.Given as goal
-
-abbrev pub decreases-put_each : goal.decreases-put_each
-decreases-put_each l = length l.buffers.now

@@ -1,5 +1,0 @@
--- One area fewer may be asked for each time.
-use Rattle.kernel_calls.proofs.stepping.+step_with.Given as goal
-
-abbrev pub decreases-step_with : goal.decreases-step_with
-decreases-step_with l = l.most

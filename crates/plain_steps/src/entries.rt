@@ -1,0 +1,154 @@
+//! The entries that call nothing: runs, and ends by a signal.
+
+ghost use Rattle.std.specs.Prelude.{◌≡◌, ◌<◌, None, Some, IsTrue};
+ghost use Rattle.std.specs.FinMap as map;
+ghost use Rattle.kernel_model.specs.Names.{get_named, has_named};
+ghost use Rattle.kernel_model.specs.declared.kernel.Part.TheVariants.{OfSpace, OfTask};
+ghost use Rattle.kernel_model.specs.entries.Parts.{outcome_in, parts, put};
+ghost use Rattle.kernel_model.specs.entries.Steps.{end_row, killed, run_alone, run_row, step_row};
+ghost use Rattle.plain_steps.specs.Doing.{Does, IsThere};
+
+use crate::callers::{context, copied_areas};
+use crate::effects::settle;
+use guest_access::{run, step};
+use kernel_calls::{Effect, end_group};
+use kernel_model::{Caller, GuestArea, Kernel, Named, Next};
+use mount_file::MOST_ENTRIES;
+use quantum::QUANTUM;
+use sn_base::Memory;
+use std::alloc::Global;
+use task_table::Status;
+
+/// Runs a task's next instructions, if so many of them neither trap nor call nor touch a shared area, or if it is one
+/// that runs with the shared areas that it touches.
+pub(crate) fn run_task(
+    alloc: Global,
+    kernel: &mut Kernel,
+    mut caller: Caller,
+    n: u32,
+) -> Result<bool, Memory>
+    requires { IsThere caller kernel.old }
+    ensures { Does (outcome_in (parts kernel.old) (run_row n caller)) kernel.old kernel.new result }
+{
+    if n < 1 || QUANTUM < n {
+        return Ok(false);
+    }
+    let ran = run(
+        alloc,
+        caller.task,
+        &mut caller.registers,
+        &mut caller.space,
+        n,
+    )?;
+    if ran.count == n {
+        put_run(kernel, caller);
+        return Ok(true);
+    }
+    if n != 1 {
+        return Ok(false);
+    }
+    step_task(alloc, kernel, caller)
+}
+
+/// Runs a task's next instruction, which does not run alone, if it runs with the shared areas that it touches.
+fn step_task(alloc: Global, kernel: &mut Kernel, mut caller: Caller) -> Result<bool, Memory>
+    requires there { IsThere caller kernel.old }
+    requires alone { run_alone 1 caller ≡ None }
+    ensures { Does (outcome_in (parts kernel.old) (step_row caller)) kernel.old kernel.new result }
+{
+    let mut areas = copied_areas(alloc, kernel)?;
+    match step(
+        alloc,
+        caller.task,
+        &mut caller.registers,
+        &mut caller.space,
+        &mut areas,
+    )? {
+        Next::Goes => {
+            put_run(kernel, caller);
+            kernel.areas = areas;
+            Ok(true)
+        }
+        Next::Calls => Ok(false),
+        Next::Traps(_) => Ok(false),
+        Next::Touches(_) => Ok(false),
+    }
+}
+
+/// Puts what a run has left of a task in the place of its registers and its memory.
+fn put_run(kernel: &mut Kernel, left: Caller)
+    requires task { IsTrue (map.contains_key kernel.old.registers left.task) }
+    requires space { IsTrue (has_named kernel.old.spaces left.memory.place left.memory.index) }
+    ensures { kernel.new ≡
+        put (OfTask left.task) (Some left.registers) (put (OfSpace left.memory) (Some left.space) kernel.old) }
+{
+    let Caller {
+        task,
+        memory,
+        registers,
+        space,
+        ..
+    } = left;
+    kernel.registers.replace(u64::from(task), registers);
+    kernel.spaces.replace(memory.place, memory.index, space);
+}
+
+/// Ends the thread group of a task whose next instruction traps with that signal.
+pub(crate) fn end_task(
+    alloc: Global,
+    kernel: &mut Kernel,
+    mut caller: Caller,
+    signal: u8,
+) -> Result<bool, Memory>
+    requires few { kernel.old.entries < MOST_ENTRIES }
+    requires there { IsThere caller kernel.old }
+    requires space { get_named kernel.old.spaces caller.memory.place caller.memory.index ≡ Some caller.space }
+    ensures { Does (outcome_in (parts kernel.old) (end_row signal caller)) kernel.old kernel.new result }
+{
+    let mut areas = copied_areas(alloc, kernel)?;
+    match step(
+        alloc,
+        caller.task,
+        &mut caller.registers,
+        &mut caller.space,
+        &mut areas,
+    )? {
+        Next::Traps(trap) => {
+            if trap != signal {
+                return Ok(false);
+            }
+            kill(alloc, kernel, caller, areas, signal)
+        }
+        Next::Goes => Ok(false),
+        Next::Calls => Ok(false),
+        Next::Touches(_) => Ok(false),
+    }
+}
+
+/// Ends the thread group of a task by a signal: the clear words of its tasks are cleared in its memory and in these
+/// shared areas.
+fn kill(
+    alloc: Global,
+    kernel: &mut Kernel,
+    mut caller: Caller,
+    mut areas: Named<GuestArea>,
+    signal: u8,
+) -> Result<bool, Memory>
+    requires few { kernel.old.entries < MOST_ENTRIES }
+    requires there { IsThere caller kernel.old }
+    requires space { get_named kernel.old.spaces caller.memory.place caller.memory.index ≡ Some caller.space }
+    requires areas { kernel.old.areas ≡ areas }
+    ensures { Does (outcome_in (parts kernel.old) (killed signal caller)) kernel.old kernel.new result }
+{
+    let context = context(&caller, kernel.entries + 1, kernel.seed.as_slice());
+    let ending = end_group(
+        alloc,
+        &context,
+        Status::Killed(signal),
+        &mut caller.space,
+        &mut areas,
+        &kernel.tasks,
+    )?;
+    settle(kernel, caller, areas, Effect::EndsGroup(ending));
+    Ok(true)
+}

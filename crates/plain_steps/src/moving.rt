@@ -1,0 +1,106 @@
+//! Calls that move bytes, and those that make a pipe, where their reply is that of the entry.
+
+ghost use Rattle.std.specs.Prelude.{◌≡◌, ◌+◌, ◌<◌, Some, List as Items, pos};
+ghost use Rattle.std.specs.Ordering.{int_eq};
+ghost use Rattle.guest_access.specs.Memories.{with_memory};
+ghost use Rattle.kernel_model.specs.Names.{get_named};
+ghost use Rattle.kernel_model.specs.calls.Answers.{Answer, Replies};
+ghost use Rattle.kernel_model.specs.calls.Callers.{context_of};
+ghost use Rattle.kernel_model.specs.calls.Pipes.{pipe_made};
+ghost use Rattle.kernel_model.specs.entries.Parts.{Change, Prog, changed};
+ghost use Rattle.kernel_model.specs.entries.Steps.{replied_by};
+ghost use Rattle.call_fs.specs.NewPipes.{MakesPipe};
+ghost use Rattle.call_fs.specs.Transfers.{HasRoom, after_transfer};
+ghost use Rattle.plain_steps.specs.Doing.{Does, IsThere};
+
+use crate::callers::context;
+use crate::effects::go_on;
+use call_fs::{NewPipe, Transfer, commit_transfer, make_pipe};
+use kernel_model::{Caller, GuestArea, Kernel, Named};
+use mount_file::MOST_ENTRIES;
+use sn_base::{Boxed, Memory};
+use std::alloc::Global;
+
+/// Moves the bytes of a call that replies a value: the task's memory and the shared areas are as the call left them.
+pub(crate) fn move_bytes(
+    alloc: Global,
+    kernel: &mut Kernel,
+    caller: Caller,
+    mut areas: Named<GuestArea>,
+    reply: i64,
+    value: i64,
+    transfer: Transfer,
+) -> Result<bool, Memory>
+    requires there { IsThere caller kernel.old }
+    requires room { HasRoom transfer kernel.old.files }
+    ensures { (changes : Items Change) → changed changes kernel.old
+        ≡ after_transfer transfer caller.space (with_memory caller caller.space areas kernel.old) →
+        Does (replied_by caller reply changes (Replies value)) kernel.old kernel.new result }
+{
+    if reply != value {
+        return Ok(false);
+    }
+    commit_transfer(
+        alloc,
+        transfer,
+        &caller.space,
+        &mut areas,
+        &mut kernel.files,
+        &mut kernel.console,
+    )?;
+    let task = caller.task;
+    let registers = caller.registers;
+    kernel
+        .spaces
+        .replace(caller.memory.place, caller.memory.index, caller.space);
+    kernel.areas = areas;
+    go_on(kernel, task, registers, value);
+    Ok(true)
+}
+
+/// Makes the pipe of a call, which replies 0: so far the task's memory and the shared areas are as they were.
+pub(crate) fn open_pipe(
+    alloc: Global,
+    kernel: &mut Kernel,
+    mut caller: Caller,
+    mut areas: Named<GuestArea>,
+    reply: i64,
+    new: Boxed<NewPipe>,
+) -> Result<bool, Memory>
+    requires few { kernel.old.entries < MOST_ENTRIES }
+    requires there { IsThere caller kernel.old }
+    requires space { get_named kernel.old.spaces caller.memory.place caller.memory.index ≡ Some caller.space }
+    requires areas { kernel.old.areas ≡ areas }
+    ensures { (row : Prog Answer) (makes : MakesPipe row new (context_of kernel.old) caller kernel.old) →
+        Does (replied_by caller reply (pipe_made (context_of kernel.old) caller new.ends.buffer new.ends.flags
+        makes.hand makes.table (new.ends.first, new.ends.second)).changes (Replies (pos 0)))
+        kernel.old kernel.new result }
+{
+    if !is_zero(reply) {
+        return Ok(false);
+    }
+    let context = context(&caller, kernel.entries + 1, kernel.seed.as_slice());
+    make_pipe(
+        alloc,
+        &context,
+        new.into_inner(),
+        &mut caller.space,
+        &mut areas,
+        &mut kernel.files,
+    )?;
+    let task = caller.task;
+    let registers = caller.registers;
+    kernel
+        .spaces
+        .replace(caller.memory.place, caller.memory.index, caller.space);
+    kernel.areas = areas;
+    go_on(kernel, task, registers, 0);
+    Ok(true)
+}
+
+/// Whether a reply is 0.
+fn is_zero(reply: i64) -> bool
+    ensures { result ≡ int_eq reply (pos 0) }
+{
+    reply == 0
+}

@@ -1,0 +1,138 @@
+//! The entries of tasks on the futex list: one whose call puts it there, and one that was woken.
+
+ghost use Rattle.std.specs.Prelude.{◌≡◌, ◌<◌, Some, Ok};
+ghost use Rattle.kernel_model.specs.Names.{get_named};
+ghost use Rattle.kernel_model.specs.declared.traps.Next.TheVariants.{Calls};
+ghost use Rattle.kernel_model.specs.calls.Callers.{context_of};
+ghost use Rattle.kernel_model.specs.entries.Given.{is_quiet};
+ghost use Rattle.kernel_model.specs.entries.Parts.{outcome_in, parts};
+ghost use Rattle.kernel_model.specs.entries.Steps.{row_of, sleep_at, sleep_row, woken_at, woken_entry};
+ghost use Rattle.kernel_model.specs.entries.Waiting.{Awake, Woken, wait_of};
+ghost use Rattle.plain_steps.specs.Doing.{Does, IsThere};
+
+use crate::callers::copied_areas;
+use crate::calls::{is_call, prepare};
+use crate::effects::go_on;
+use call_fs::Called;
+use guest_access::step;
+use kernel_calls::{args_of, call_of, sleep};
+use kernel_model::{Args, Caller, Entry, Given, GuestArea, Kernel, Named, Next};
+use mount_file::MOST_ENTRIES;
+use sn_base::Memory;
+use std::alloc::Global;
+
+/// Puts a task to sleep whose next instruction makes a call that does so.
+pub(crate) fn sleep_task(
+    alloc: Global,
+    kernel: &mut Kernel,
+    mut caller: Caller,
+) -> Result<bool, Memory>
+    requires few { kernel.old.entries < MOST_ENTRIES }
+    requires there { IsThere caller kernel.old }
+    requires space { get_named kernel.old.spaces caller.memory.place caller.memory.index ≡ Some caller.space }
+    requires waits { wait_of kernel.old.sleepers caller.task ≡ Awake }
+    ensures { Does (outcome_in (parts kernel.old) (sleep_row (context_of kernel.old) caller))
+        kernel.old kernel.new result }
+{
+    let mut areas = copied_areas(alloc, kernel)?;
+    match step(
+        alloc,
+        caller.task,
+        &mut caller.registers,
+        &mut caller.space,
+        &mut areas,
+    )? {
+        Next::Calls => sleep_in(alloc, kernel, caller, areas),
+        Next::Goes => Ok(false),
+        Next::Traps(_) => Ok(false),
+        Next::Touches(_) => Ok(false),
+    }
+}
+
+/// Puts a task to sleep that stands at a call, where the call does so. Memory stays as it is.
+fn sleep_in(
+    alloc: Global,
+    kernel: &mut Kernel,
+    mut caller: Caller,
+    mut areas: Named<GuestArea>,
+) -> Result<bool, Memory>
+    requires few { kernel.old.entries < MOST_ENTRIES }
+    requires there { IsThere caller kernel.old }
+    requires space { get_named kernel.old.spaces caller.memory.place caller.memory.index ≡ Some caller.space }
+    requires areas { kernel.old.areas ≡ areas }
+    requires waits { wait_of kernel.old.sleepers caller.task ≡ Awake }
+    ensures { Does (outcome_in (parts kernel.old) (sleep_at (context_of kernel.old) caller Calls))
+        kernel.old kernel.new result }
+{
+    let no = call_of(&caller.registers);
+    let args = args_of(&caller.registers);
+    let called = prepare(alloc, kernel, &mut caller, &mut areas, no, &args)?;
+    match called {
+        Called::Of(kept) => match kept {
+            kernel_calls::Called::Sleeps(key) => {
+                sleep(&mut kernel.sleepers, caller.task, key)?;
+                Ok(true)
+            }
+            kernel_calls::Called::Replies(_) => Ok(false),
+            kernel_calls::Called::Makes(_) => Ok(false),
+            kernel_calls::Called::Waits(_) => Ok(false),
+        },
+        Called::Moves { .. } => Ok(false),
+        Called::MakesPipe(_) => Ok(false),
+    }
+}
+
+/// Does an entry of a task that was woken, which only the call that it slept in fits.
+pub(crate) fn woken(kernel: &mut Kernel, caller: &Caller, entry: &Entry) -> bool
+    requires { IsThere caller.now kernel.old }
+    ensures { Does (outcome_in (parts kernel.old) (row_of (context_of kernel.old) entry.now caller.now Woken))
+        kernel.old kernel.new (Ok result) }
+{
+    match entry {
+        Entry::Call {
+            no,
+            args,
+            given,
+            reply,
+            ..
+        } => wake_from(kernel, caller, *no, args, *reply, given),
+        Entry::Run { .. } => false,
+        Entry::Sleep { .. } => false,
+        Entry::End { .. } => false,
+    }
+}
+
+/// Takes a task that was woken out of the futex list, and lets it go on behind the call that it slept in, where that is
+/// the call of the entry.
+fn wake_from(
+    kernel: &mut Kernel,
+    caller: &Caller,
+    no: u64,
+    args: &Args,
+    reply: i64,
+    given: &Given,
+) -> bool
+    requires { IsThere caller.now kernel.old }
+    ensures { Does (outcome_in (parts kernel.old) (woken_entry caller.now no args.now reply given.now))
+        kernel.old kernel.new (Ok result) }
+{
+    if !is_woken_at(caller, no, args, reply, given) {
+        return false;
+    }
+    kernel.sleepers.leave(caller.task);
+    go_on(kernel, caller.task, caller.registers, 0);
+    true
+}
+
+/// Whether a call is the one that a task that was woken slept in. It draws and meets nothing, and replies 0.
+fn is_woken_at(caller: &Caller, no: u64, args: &Args, reply: i64, given: &Given) -> bool
+    ensures { result ≡ woken_at caller.now no args.now reply given.now }
+{
+    is_call(&caller.registers, no, args) && is_quiet(given) && reply == 0
+}
+
+fn is_quiet(given: &Given) -> bool
+    ensures { result ≡ is_quiet given.now }
+{
+    given.rises.is_empty() && given.fresh.is_empty()
+}
