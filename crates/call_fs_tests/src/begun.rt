@@ -33,7 +33,7 @@ pub(crate) const P32: u64 = 1 << 32;
 pub(crate) const NUMBERS: u64 = TOP - 5_096;
 
 #[rattlefmt::skip]
-const BEGINS: [Act; 12] = [
+const BEGINS: &[Act] = &[
     Act::Brk(END, END),
     Act::Calls(PIPE2, [NUMBERS, 0, 0, 0, 0, 0], 0),
     Act::Stores(BYTES, 0x0807_0605_0403_0201), Act::Stores(BYTES + 8, 0x100f_0e0d_0c0b_0a09),
@@ -63,7 +63,7 @@ pub(crate) fn expect_with(alloc: Global, bytes: u32, acts: &[Act]) -> Result<(),
 
 /// Has a new guest begin so, and then do these.
 fn begin(guest: &mut Guest, first: &[Act], acts: &[Act]) -> Result<(), Fail> {
-    guest.expect(&BEGINS)?;
+    guest.expect(BEGINS)?;
     guest.expect(first)?;
     guest.expect(acts)
 }

@@ -4,10 +4,11 @@ ghost use Rattle.std.specs.Prelude.{IfOk};
 ghost use Rattle.call_fs.specs.Transfers.{IsSure};
 
 use crate::begun::{BYTES, END, RECORDS};
-use crate::helpers::{TABLE, done, five_open, open_at};
+use crate::helpers::{TABLE, five_open};
+use crate::rows::{Row, hold};
 use call_fs::{
-    PipeCall, Transferred, Vectors, buffers_at, close, commit_transfer, make_pipe, pipe2, read,
-    readv, write, writev,
+    PipeCall, Transferred, Vectors, buffers_at, commit_transfer, make_pipe, pipe2, read, readv,
+    write, writev,
 };
 use fd_table::Descriptor;
 use guest_access::read as read_bytes;
@@ -21,7 +22,7 @@ use std::alloc::Global;
 use std::test::Fail;
 
 #[rattlefmt::skip]
-const BEGINS: [Act; 7] = [
+const BEGINS: &[Act] = &[
     Act::Brk(END, END),
     Act::Stores(BYTES, 0x0807_0605_0403_0201),
     Act::Stores(RECORDS, HEAP), Act::Stores(RECORDS + 8, 3),
@@ -33,7 +34,7 @@ const BEGINS: [Act; 7] = [
 /// console, and 3 and 4 of a pipe, to read and to write.
 fn begin(guest: &mut Guest) -> Result<(), Fail> {
     guest.files = five_open(guest.alloc)?;
-    guest.expect(&BEGINS)
+    guest.expect(BEGINS)
 }
 
 /// A call that moves bytes.
@@ -104,7 +105,7 @@ fn moved(guest: &mut Guest, moving: Moving, args: [u64; 3]) -> Result<Option<i64
 
 /// Calls that move bytes, one after another, and their replies.
 #[rattlefmt::skip]
-const CALLS: [(Moving, [u64; 3], Option<i64>); 12] = [
+const CALLS: &[(Moving, [u64; 3], Option<i64>)] = &[
     (Moving::Read, [3, HEAP, 8], None),
     (Moving::Write, [4, BYTES, 8], Some(8)),
     (Moving::Readv, [3, RECORDS, 2], Some(8)),
@@ -119,7 +120,10 @@ const CALLS: [(Moving, [u64; 3], Option<i64>); 12] = [
     (Moving::Writev, [4, RECORDS, 1_025], Some(-22)),
 ];
 
-/// That a guest's calls reply so, and what the console has then.
+/// What the console has then.
+const PRINTED: &[Act] = &[Act::Printed(&[1, 2, 3, 4, 5, 6, 7, 8, 1, 1, 2, 3, 4, 5, 6, 7, 8])];
+
+/// That a guest's calls reply so, and print this.
 fn passes(guest: &mut Guest) -> Result<(), Fail> {
     begin(guest)?;
     for (row, (moving, args, reply)) in CALLS.iter().enumerate() {
@@ -127,7 +131,7 @@ fn passes(guest: &mut Guest) -> Result<(), Fail> {
             return Err(Fail::new(format_args!("row {row}")));
         }
     }
-    guest.expect(&[Act::Printed(&[1, 2, 3, 4, 5, 6, 7, 8, 1, 1, 2, 3, 4, 5, 6, 7, 8])])
+    guest.expect(PRINTED)
 }
 
 #[test]
@@ -146,39 +150,46 @@ fn found(guest: &mut Guest, at: u64, count: u64) -> Result<Result<List<IoVec>, i
 
 /// Records and how many, and the error for which a call with these is refused.
 #[rattlefmt::skip]
-const REFUSED: [(u64, u64, i64); 4] = [
+const REFUSED: &[(u64, u64, i64)] = &[
     (RECORDS, 1_025, -22),
     (END - 8, 1, -14),
     (END - 16, 2, -14),
     (RECORDS + 32, 1, -22),
 ];
 
-/// That two buffers are found, none of no records, and none where these are refused.
-fn finds(guest: &mut Guest) -> Result<(), Fail> {
-    begin(guest)?;
-    for (at, count, reply) in REFUSED {
+/// That these are refused so.
+fn expect_refused(guest: &mut Guest) -> Result<(), Fail> {
+    for &(at, count, reply) in REFUSED {
         if found(guest, at, count)?.err() != Some(reply) {
             return Err(Fail::new(format_args!("{count} records at {at} aren't refused so")));
         }
     }
-    let none = found(guest, 0, 0)?.ok().ok_or("no records are refused")?;
-    let two = found(guest, RECORDS, 2)?
-        .ok()
-        .ok_or("two records are refused")?;
-    let wanted = [
-        IoVec {
-            base: HEAP,
-            length: 3,
-        },
-        IoVec {
-            base: HEAP + 8,
-            length: 5,
-        },
-    ];
-    if !none.is_empty() || two.as_slice() != wanted.as_slice() {
-        return Err(Fail::new("other buffers are found"));
+    Ok(())
+}
+
+/// Records and how many, and the buffers that are found.
+#[rattlefmt::skip]
+const FOUND: &[(u64, u64, &[IoVec])] = &[
+    (0, 0, &[]),
+    (RECORDS, 2, &[IoVec { base: HEAP, length: 3 }, IoVec { base: HEAP + 8, length: 5 }]),
+];
+
+/// That these are found.
+fn expect_found(guest: &mut Guest) -> Result<(), Fail> {
+    for &(at, count, buffers) in FOUND {
+        let told = found(guest, at, count)?.ok().ok_or("records are refused")?;
+        if told.as_slice() != buffers {
+            return Err(Fail::new(format_args!("other buffers are found at {at}")));
+        }
     }
     Ok(())
+}
+
+/// That a guest is refused so, and finds so.
+fn finds(guest: &mut Guest) -> Result<(), Fail> {
+    begin(guest)?;
+    expect_refused(guest)?;
+    expect_found(guest)
 }
 
 #[test]
@@ -234,25 +245,34 @@ fn has(guest: &mut Guest, at: u64, bytes: &[u8]) -> Result<bool, Fail> {
     Ok(told.is_some_and(|told| told.as_slice() == bytes))
 }
 
+/// What the number of its read end stands for, and that of its write end.
+const READ_END: Descriptor = Descriptor {
+    description: Made { place: 7, index: 0 },
+    cloexec: true,
+};
+
+const WRITE_END: Descriptor = Descriptor {
+    description: Made { place: 7, index: 1 },
+    cloexec: true,
+};
+
+#[rattlefmt::skip]
+const MADE: &[Row] = &[
+    Row::Stands(2, Some(READ_END)), Row::Stands(5, Some(WRITE_END)),
+];
+
 /// That a pipe is made whose ends have the numbers 2 and 5, each closed by execve(2).
 fn makes(guest: &mut Guest) -> Result<(), Fail> {
     begin(guest)?;
-    let call = close(TABLE, 2, &guest.files);
-    if done(&mut guest.files, call) != 0 || piped(guest, 7, HEAP, 1)? != -22 {
-        return Err(Fail::new("2 isn't closed, or another flag is taken"));
+    hold(&mut guest.files, &[Row::Close(2, 0)])?;
+    let replies = [
+        piped(guest, 7, HEAP, 1)?,
+        piped(guest, 7, HEAP + 4_093, 0o2004000)?,
+    ];
+    if replies != [-22, 0] {
+        return Err(Fail::new("another flag is taken, or the pipe is refused"));
     }
-    if piped(guest, 7, HEAP + 4_093, 0o2004000)? != 0 {
-        return Err(Fail::new("the pipe is refused"));
-    }
-    for (fd, index) in [(2, 0), (5, 1)] {
-        let end = Descriptor {
-            description: Made { place: 7, index },
-            cloexec: true,
-        };
-        if open_at(&guest.files, fd) != Some(end) {
-            return Err(Fail::new(format_args!("{fd} is no end")));
-        }
-    }
+    hold(&mut guest.files, MADE)?;
     if !has(guest, HEAP + 4_093, &[2, 0, 0, 0, 5, 0, 0, 0])? {
         return Err(Fail::new("other numbers are told"));
     }

@@ -2,7 +2,7 @@
 
 use call_fs::FilePrepared;
 use fd_table::{Access, Description, Descriptor, Object, PipeSide};
-use file_changes::{change_files, open_files};
+use file_changes::{FileChange, change_files, open_files};
 use kernel_model::{OpenFile, OpenFiles};
 use pipe_core::Pipe;
 use sn_base::Made;
@@ -45,10 +45,8 @@ pub(crate) fn open(
     Ok(())
 }
 
-/// Five numbers are open: 0 is of an empty input, 1 and 2 of the console, 3 and 4 of a pipe, to read and to write.
-pub(crate) fn five_open(alloc: Global) -> Result<OpenFiles, Fail> {
-    let mut files = OpenFiles::new(alloc);
-    open_files(alloc, 1, &mut files)?;
+/// Opens a pipe, to read and to write.
+fn open_pipe(alloc: Global, files: &mut OpenFiles) -> Result<(), Fail> {
     let pipe = Pipe::new(alloc)?;
     files.pipes.insert(alloc, PIPE.place, PIPE.index, pipe)?;
     let read = Object::PipeEnd {
@@ -59,8 +57,15 @@ pub(crate) fn five_open(alloc: Global) -> Result<OpenFiles, Fail> {
         pipe: PIPE,
         end: PipeSide::Write,
     };
-    open(alloc, &mut files, 0, read, Access::Read)?;
-    open(alloc, &mut files, 1, write, Access::Write)?;
+    open(alloc, files, 0, read, Access::Read)?;
+    open(alloc, files, 1, write, Access::Write)
+}
+
+/// Five numbers are open: 0 is of an empty input, 1 and 2 of the console, 3 and 4 of a pipe, to read and to write.
+pub(crate) fn five_open(alloc: Global) -> Result<OpenFiles, Fail> {
+    let mut files = OpenFiles::new(alloc);
+    open_files(alloc, 1, &mut files)?;
+    open_pipe(alloc, &mut files)?;
     Ok(files)
 }
 
@@ -68,6 +73,11 @@ pub(crate) fn five_open(alloc: Global) -> Result<OpenFiles, Fail> {
 pub(crate) fn done(files: &mut OpenFiles, call: FilePrepared) -> i64 {
     change_files(call.change, TABLE, files);
     call.reply
+}
+
+/// Whether a call replies this, and changes nothing.
+pub(crate) fn changes_nothing(call: &FilePrepared, reply: i64) -> bool {
+    call.reply == reply && call.change == FileChange::Nothing
 }
 
 /// What a number stands for.

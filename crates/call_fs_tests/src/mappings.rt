@@ -16,7 +16,7 @@ const TOO_LONG: u64 = 16_385 * 4096;
 
 /// Numbers come and go, and mmap goes by them: mmap(2), EBADF and ENODEV, with the order of docs/GUESTS.md.
 #[rattlefmt::skip]
-const BY_NUMBER: [Act; 33] = [
+const BY_NUMBER: &[Act] = &[
     Act::Calls(MMAP, [0, 4096, 3, OF_FILE, 0, 0], -19),
     Act::Calls(MMAP, [0, 4096, 1, SHARED_OF_FILE, 1, 0], -19),
     Act::Calls(MMAP, [0, 4096, 3, OF_FILE, 3, 0], -9),
@@ -56,5 +56,5 @@ const BY_NUMBER: [Act; 33] = [
 
 #[test]
 fn mmap_of_a_file_is_enodev_where_the_number_is_open(rt: HostRuntime) -> Result<(), Fail> {
-    expect_acts(rt.alloc(), &BY_NUMBER)
+    expect_acts(rt.alloc(), BY_NUMBER)
 }

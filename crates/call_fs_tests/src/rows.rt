@@ -1,9 +1,8 @@
 //! Calls on descriptors in a row, and what is open then, as rows of a table.
 
-use crate::helpers::{TABLE, counted, done, ends, five_open, open_at};
-use call_fs::{close, dup, dup3};
+use crate::helpers::{TABLE, changes_nothing, counted, done, ends, five_open, open_at};
+use call_fs::{close, dup, dup3, fcntl, ioctl};
 use fd_table::Descriptor;
-use file_changes::FileChange;
 use kernel_model::OpenFiles;
 use std::alloc::Global;
 use std::test::Fail;
@@ -14,6 +13,11 @@ pub(crate) enum Row {
     Dup(u64, i64),
     Dup3([u64; 3], i64),
     Close(u64, i64),
+    Fcntl([u64; 3], i64),
+    /// One that is refused changes nothing.
+    RefusesFcntl([u64; 3], i64),
+    /// ioctl is refused, and changes nothing.
+    RefusesIoctl(u64, i64),
     /// A close that is refused with EBADF changes nothing.
     ClosesNothing(u64),
     /// What a number stands for.
@@ -27,7 +31,7 @@ pub(crate) enum Row {
 }
 
 /// Whether a row holds, where its call is done.
-fn holds(files: &mut OpenFiles, row: Row) -> bool {
+pub(crate) fn holds(files: &mut OpenFiles, row: Row) -> bool {
     match row {
         Row::Dup(fd, reply) => {
             let call = dup(TABLE, fd, files);
@@ -42,7 +46,14 @@ fn holds(files: &mut OpenFiles, row: Row) -> bool {
             let call = close(TABLE, fd, files);
             done(files, call) == reply
         }
-        Row::ClosesNothing(fd) => closes_nothing(files, fd),
+        Row::Fcntl(args, reply) => {
+            let [fd, command, argument] = args;
+            let call = fcntl(TABLE, fd, command, argument, files);
+            done(files, call) == reply
+        }
+        Row::RefusesFcntl(args, reply) => refuses_fcntl(files, args, reply),
+        Row::RefusesIoctl(fd, reply) => changes_nothing(&ioctl(TABLE, fd, files), reply),
+        Row::ClosesNothing(fd) => changes_nothing(&close(TABLE, fd, files), -9),
         Row::Stands(fd, there) => stands(files, fd, there),
         Row::Counts(fd, count) => counted(files, fd) == Some(count),
         Row::Ends(open) => has_ends(files, open),
@@ -50,9 +61,8 @@ fn holds(files: &mut OpenFiles, row: Row) -> bool {
     }
 }
 
-fn closes_nothing(files: &OpenFiles, fd: u64) -> bool {
-    let call = close(TABLE, fd, files);
-    call.reply == -9 && call.change == FileChange::Nothing
+fn refuses_fcntl(files: &OpenFiles, [fd, command, argument]: [u64; 3], reply: i64) -> bool {
+    changes_nothing(&fcntl(TABLE, fd, command, argument, files), reply)
 }
 
 fn stands(files: &OpenFiles, fd: u32, there: Option<Descriptor>) -> bool {

@@ -19,7 +19,7 @@ const OUTPUT: Made = Made { place: 0, index: 4 };
 
 /// A process closes its own numbers, and its parent's stay; the description is both's, with its status flags: fork(2).
 #[rattlefmt::skip]
-const OF_PROCESS: [Act; 24] = [
+const OF_PROCESS: &[Act] = &[
     Act::At(9), Act::Makes(PROCESS), Act::Turns(2),
     Act::Calls(CLOSE, [1, 0, 0, 0, 0, 0], 0),
     Act::Calls(WRITE, [1, 65_536, 4, 0, 0, 0], -9),
@@ -44,7 +44,7 @@ const OF_PROCESS: [Act; 24] = [
 
 /// A thread opens and closes the numbers of its group: clone(2), CLONE_FILES.
 #[rattlefmt::skip]
-const OF_THREAD: [Act; 13] = [
+const OF_THREAD: &[Act] = &[
     Act::At(9), Act::Makes(THREAD), Act::Turns(2),
     Act::Calls(CLOSE, [1, 0, 0, 0, 0, 0], 0),
     Act::Calls(DUP, [2, 0, 0, 0, 0, 0], 1),
@@ -59,10 +59,10 @@ const OF_THREAD: [Act; 13] = [
 
 #[test]
 fn a_process_closes_its_own_numbers_alone(rt: HostRuntime) -> Result<(), Fail> {
-    expect_acts(rt.alloc(), &OF_PROCESS)
+    expect_acts(rt.alloc(), OF_PROCESS)
 }
 
 #[test]
 fn a_number_that_a_thread_closes_is_closed_for_its_siblings(rt: HostRuntime) -> Result<(), Fail> {
-    expect_acts(rt.alloc(), &OF_THREAD)
+    expect_acts(rt.alloc(), OF_THREAD)
 }

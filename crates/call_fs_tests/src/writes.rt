@@ -7,10 +7,9 @@ use kernel_calls_acts::{
     Act, CLOSE, DUP, DUP3, FCNTL, Guest, HEAP, READ, TOP, WRITE, WRITEV, ask, expect_acts,
     new_guest,
 };
-use std::alloc::Global;
 use std::test::Fail;
 
-const LETTERS: [u8; 4] = [0x7f, 0x45, 0x4c, 0x46];
+const LETTERS: &[u8] = &[0x7f, 0x45, 0x4c, 0x46];
 
 /// How many bytes the console may have.
 const ROOM: usize = 1_048_576;
@@ -19,7 +18,7 @@ const ROOM: usize = 1_048_576;
 /// docs/GUESTS.md. 0 is open for reading, 1 and 2 for writing, 3 is the end of a pipe to read from, and 4 the end to
 /// write to. Nothing is mapped behind the guest's image.
 #[rattlefmt::skip]
-const WRITES: [([u64; 3], usize, i64); 42] = [
+const WRITES: &[([u64; 3], usize, i64)] = &[
     // open for writing, also by other upper bits
     ([1, IMAGE, 4], 0, 4),
     ([2, IMAGE, 4], 0, 4),
@@ -90,12 +89,11 @@ fn is_as_told(
     Ok(told == reply && guest.has_printed(console, letters))
 }
 
-/// That each of the writes of a guest that has opened a pipe is so.
-fn expect_writes(alloc: Global) -> Result<(), Fail> {
-    let mut guest = new_guest(alloc)?;
+/// That each of the writes of a guest that opens a pipe is so.
+fn expect_writes(guest: &mut Guest) -> Result<(), Fail> {
     let _ = guest.opens_pipe()?;
     for (row, (args, console, reply)) in WRITES.iter().enumerate() {
-        if !is_as_told(&mut guest, *args, *console, *reply)? {
+        if !is_as_told(guest, *args, *console, *reply)? {
             return Err(Fail::new(format_args!("row {row}")));
         }
     }
@@ -104,12 +102,13 @@ fn expect_writes(alloc: Global) -> Result<(), Fail> {
 
 #[test]
 fn write_goes_to_what_is_open_for_writing(rt: HostRuntime) -> Result<(), Fail> {
-    expect_writes(rt.alloc())
+    let mut guest = new_guest(rt.alloc())?;
+    expect_writes(&mut guest)
 }
 
 /// Numbers come and go, and write goes by them: dup(2), close(2).
 #[rattlefmt::skip]
-const BY_NUMBER: [Act; 24] = [
+const BY_NUMBER: &[Act] = &[
     Act::Calls(WRITE, [3, IMAGE, 4, 0, 0, 0], -9),
     Act::Calls(DUP, [1, 0, 0, 0, 0, 0], 3),
     Act::Calls(WRITE, [3, IMAGE, 4, 0, 0, 0], 4),
@@ -138,7 +137,7 @@ const BY_NUMBER: [Act; 24] = [
 
 #[test]
 fn a_duplicate_is_written_to_after_the_number_is_closed(rt: HostRuntime) -> Result<(), Fail> {
-    expect_acts(rt.alloc(), &BY_NUMBER)
+    expect_acts(rt.alloc(), BY_NUMBER)
 }
 
 /// Writes to a pipe that is empty, full, and without a read end: write(2) and pipe(7), PIPE_BUF. Of up to 4,096 bytes

@@ -1,7 +1,7 @@
 //! The descriptors of tasks in turns: a process has a copy of its parent's, a thread shares its group's, and a group
 //! that ends closes its own.
 
-use crate::turns::{Line, call, expect_end, expect_lines, expect_live, left, run, turns};
+use crate::turns::{Expected, Line, expect_live, expect_turns, left};
 use fd_table::{Descriptor, FdTable};
 use kernel_model::OpenFiles;
 use sn_base::{List, Made};
@@ -48,11 +48,6 @@ fn with_child(alloc: Global, makes: &[u32]) -> Result<List<u32>, Fail> {
     Ok(words)
 }
 
-/// The entries of such a guest, up to the child's exit, where so many instructions lead to the first call.
-fn lines(first: u64) -> [Line; 5] {
-    [run(first), call(220, 2), run(3), run(10_000), call(93, 0)]
-}
-
 /// What is open after so many entries: whether task 1's table is there, and one that the second entry made, and how
 /// many descriptors each open file description has that task 1 began with, or `None` where it is closed.
 #[derive(Clone, Copy)]
@@ -63,22 +58,20 @@ struct Open {
     descriptors: Option<u64>,
 }
 
-/// That a table, where it is to be there, has the descriptors that task 1 began with.
-fn expect_table(rt: &impl Abort, table: Option<&FdTable>, there: bool) {
-    assert_eq!(rt; table.is_some(), there);
-    let Some(table) = table else { return };
-    assert_eq!(rt; table.len(), 3);
-    for fd in 0..3 {
-        let description = Made {
-            place: 0,
-            index: 3 + fd,
-        };
-        let descriptor = Descriptor {
-            description,
-            cloexec: false,
-        };
-        assert_eq!(rt; table.get(fd), Some(descriptor));
-    }
+/// Whether a number stands for the description of task 1 of that index.
+fn stands(table: &FdTable, fd: u32, index: u32) -> bool {
+    let description = Made { place: 0, index };
+    let descriptor = Descriptor {
+        description,
+        cloexec: false,
+    };
+    table.get(fd) == Some(descriptor)
+}
+
+/// Whether a table, where it is to be there, has the descriptors that task 1 began with.
+fn is_table(table: Option<&FdTable>, there: bool) -> bool {
+    let Some(table) = table else { return !there };
+    there && table.len() == 3 && stands(table, 0, 3) && stands(table, 1, 4) && stands(table, 2, 5)
 }
 
 /// How many descriptors have a description of task 1, by its index.
@@ -86,16 +79,23 @@ fn count(files: &OpenFiles, index: u32) -> Option<u64> {
     Some(files.descriptions.get(0, index)?.descriptors)
 }
 
+/// Whether all of that is open.
+fn is_open(files: &OpenFiles, open: &Open) -> bool {
+    let counts = [count(files, 3), count(files, 4), count(files, 5)];
+    is_table(files.tables.get(0, 1), open.own)
+        && is_table(files.tables.get(2, 0), open.made)
+        && counts == [open.descriptors; 3]
+}
+
 /// That after so many entries each of these is open of a guest.
 fn expect_open(rt: &impl Abort, alloc: Global, words: &[u32], opens: &[Open]) -> Result<(), Fail> {
     for open in opens {
         let processes = left(alloc, words, open.entries)?;
-        let files = &processes.cells.files;
-        expect_table(rt, files.tables.get(0, 1), open.own);
-        expect_table(rt, files.tables.get(2, 0), open.made);
-        for index in 3..6 {
-            assert_eq!(rt; count(files, index), open.descriptors);
-        }
+        assert!(rt;
+            is_open(&processes.cells.files, open),
+            "after {}",
+            open.entries
+        );
     }
     Ok(())
 }
@@ -107,60 +107,100 @@ fn childs_table(rt: &impl Abort, alloc: Global, words: &[u32]) -> Result<Made, F
     Ok(processes.cells.standing(2).table)
 }
 
+/// That a guest that makes a child makes these entries, up to the child's exit; which table the child has; and what is
+/// open.
+fn expect_child(
+    rt: &impl Abort,
+    alloc: Global,
+    words: &[u32],
+    lines: &[Line],
+    table: Made,
+    opens: &[Open],
+) -> Result<(), Fail> {
+    let expected = Expected {
+        lines,
+        lives: true,
+        console: b"",
+    };
+    expect_turns(alloc, words, 5, &expected)?;
+    assert_eq!(rt; childs_table(rt, alloc, words)?, table);
+    expect_open(rt, alloc, words, opens)
+}
+
+#[rattlefmt::skip]
+const OF_A_PROCESS: &[Line] = &[
+    Line::Run(1, 3), Line::Call(1, 220, 2), Line::Run(2, 3), Line::Run(1, 10_000), Line::Call(2, 93, 0),
+];
+
+#[rattlefmt::skip]
+const WITH_A_PROCESS: &[Open] = &[
+    Open { entries: 1, own: true, made: false, descriptors: Some(1) },
+    Open { entries: 2, own: true, made: true, descriptors: Some(2) },
+    Open { entries: 4, own: true, made: true, descriptors: Some(2) },
+    Open { entries: 5, own: true, made: false, descriptors: Some(1) },
+];
+
 #[test]
 fn a_process_has_a_copy_of_its_parents_descriptors_until_it_ends(
     rt: HostRuntime,
 ) -> Result<(), Fail> {
     let words = with_child(rt.alloc(), FORKS)?;
-    let told = turns(rt.alloc(), words.as_slice(), 5)?;
-    expect_lines(&rt, &told, &lines(3));
-    expect_end(&rt, &told, true, b"");
     let made = Made { place: 2, index: 0 };
-    assert_eq!(rt; childs_table(&rt, rt.alloc(), words.as_slice())?, made);
-    #[rattlefmt::skip]
-    let opens = [
-        Open { entries: 1, own: true, made: false, descriptors: Some(1) },
-        Open { entries: 2, own: true, made: true, descriptors: Some(2) },
-        Open { entries: 4, own: true, made: true, descriptors: Some(2) },
-        Open { entries: 5, own: true, made: false, descriptors: Some(1) },
-    ];
-    expect_open(&rt, rt.alloc(), words.as_slice(), &opens)
+    expect_child(
+        &rt,
+        rt.alloc(),
+        words.as_slice(),
+        OF_A_PROCESS,
+        made,
+        WITH_A_PROCESS,
+    )
 }
+
+#[rattlefmt::skip]
+const OF_A_THREAD: &[Line] = &[
+    Line::Run(1, 4), Line::Call(1, 220, 2), Line::Run(2, 3), Line::Run(1, 10_000), Line::Call(2, 93, 0),
+];
+
+#[rattlefmt::skip]
+const WITH_A_THREAD: &[Open] = &[
+    Open { entries: 2, own: true, made: false, descriptors: Some(1) },
+    Open { entries: 5, own: true, made: false, descriptors: Some(1) },
+];
 
 #[test]
 fn a_thread_shares_its_groups_descriptors_and_its_exit_closes_none(
     rt: HostRuntime,
 ) -> Result<(), Fail> {
     let words = with_child(rt.alloc(), MAKES_A_THREAD)?;
-    let told = turns(rt.alloc(), words.as_slice(), 5)?;
-    expect_lines(&rt, &told, &lines(4));
-    expect_end(&rt, &told, true, b"");
     let own = Made { place: 0, index: 1 };
-    assert_eq!(rt; childs_table(&rt, rt.alloc(), words.as_slice())?, own);
-    #[rattlefmt::skip]
-    let opens = [
-        Open { entries: 2, own: true, made: false, descriptors: Some(1) },
-        Open { entries: 5, own: true, made: false, descriptors: Some(1) },
-    ];
-    expect_open(&rt, rt.alloc(), words.as_slice(), &opens)
+    expect_child(
+        &rt,
+        rt.alloc(),
+        words.as_slice(),
+        OF_A_THREAD,
+        own,
+        WITH_A_THREAD,
+    )
 }
+
+#[rattlefmt::skip]
+const WITH_AN_EXIT: &[Open] = &[
+    Open { entries: 3, own: true, made: false, descriptors: Some(1) },
+    Open { entries: 4, own: false, made: false, descriptors: None },
+];
 
 #[test]
 fn a_group_that_exits_closes_its_descriptors(rt: HostRuntime) -> Result<(), Fail> {
-    #[rattlefmt::skip]
-    let opens = [
-        Open { entries: 3, own: true, made: false, descriptors: Some(1) },
-        Open { entries: 4, own: false, made: false, descriptors: None },
-    ];
-    expect_open(&rt, rt.alloc(), WRITES_NOTHING.words, &opens)
+    expect_open(&rt, rt.alloc(), WRITES_NOTHING.words, WITH_AN_EXIT)
 }
+
+#[rattlefmt::skip]
+const WITH_A_TRAP: &[Open] = &[
+    Open { entries: 0, own: true, made: false, descriptors: Some(1) },
+    Open { entries: 1, own: false, made: false, descriptors: None },
+];
 
 #[test]
 fn a_group_that_a_signal_ends_closes_its_descriptors(rt: HostRuntime) -> Result<(), Fail> {
-    #[rattlefmt::skip]
-    let opens = [
-        Open { entries: 0, own: true, made: false, descriptors: Some(1) },
-        Open { entries: 1, own: false, made: false, descriptors: None },
-    ];
-    expect_open(&rt, rt.alloc(), &[EBREAK], &opens)
+    expect_open(&rt, rt.alloc(), &[EBREAK], WITH_A_TRAP)
 }

@@ -1,8 +1,10 @@
 //! Processes that the tests begin, of opening tasks with one argument.
 
-ghost use Rattle.std.specs.Prelude.{◌≡◌, ◌≤◌, false, length, IfOk};
+ghost use Rattle.std.specs.Prelude.{◌≡◌, ◌≤◌, ◌+◌, false, length, IfOk};
 ghost use Rattle.kernel_model.specs.opening.Arguments.{is_too_long};
-ghost use Rattle.kernel_model.specs.laws.Beginnings.{HasRoom};
+ghost use Rattle.kernel_model.specs.opening.Opening.{made_by};
+ghost use Rattle.kernel_model.specs.laws.Beginnings.{HasRoom, MayOpen};
+ghost use Rattle.task_table.specs.Clones.{opened as opened_task};
 
 use call_table::Processes;
 use elf_image::Image;
@@ -52,15 +54,39 @@ fn program(alloc: Global) -> Result<Program, Fail>
     Ok(program)
 }
 
-/// The processes of guests of these words, each an opening task, in order.
+/// Processes with one opening task more, of a guest of these words.
+fn with_guest(
+    alloc: Global,
+    processes: Processes,
+    program: &Program,
+    words: &[u32],
+) -> Result<Processes, Fail>
+    requires short { is_too_long program.now.args program.now.env ≡ false }
+    requires room { MayOpen processes.cells.tasks }
+    ensures tasks { IfOk result (λ p. p.cells.tasks ≡
+        opened_task processes.cells.tasks (made_by (processes.cells.tasks.last + 1))
+        (made_by (processes.cells.tasks.last + 1)) 1) }
+{
+    let image = image_with(alloc, words)?;
+    Ok(processes.open(alloc, &SEED, 1, program, &image)?)
+}
+
+/// The processes of guests of these words, each an opening task of that program, in order.
+fn opened(alloc: Global, program: &Program, guests: &[&[u32]]) -> Result<Processes, Fail>
+    requires short { is_too_long program.now.args program.now.env ≡ false }
+    requires few { length guests.now ≤ 64 }
+{
+    let mut processes = Processes::new(alloc);
+    for index in 0..guests.len() {
+        processes = with_guest(alloc, processes, program, guests[index])?;
+    }
+    Ok(processes)
+}
+
+/// The processes of guests of these words, each an opening task with one argument, in order.
 pub fn processes_of(alloc: Global, guests: &[&[u32]]) -> Result<Processes, Fail>
     requires { length guests.now ≤ 64 }
 {
     let program = program(alloc)?;
-    let mut processes = Processes::new(alloc);
-    for index in 0..guests.len() {
-        let image = image_with(alloc, guests[index])?;
-        processes = processes.open(alloc, &SEED, 1, &program, &image)?;
-    }
-    Ok(processes)
+    opened(alloc, &program, guests)
 }

@@ -1,14 +1,13 @@
 //! Guests with random bytes and shared memory, in turns.
 
-use crate::guests::SEED;
-use crate::turns::{Line, call, end, expect_end, expect_lines, left, run, turns, turns_by};
+use crate::guests::{SEED, processes_of};
+use crate::turns::{Expected, Line, expect_turns, expect_turns_of, left};
 use call_table::Processes;
 use sn_vectors::programs::{
     JUMPS_INTO_A_SHARED_PAGE, STORES_IN_A_SHARED_PAGE, STORES_WITHOUT_THE_RIGHT,
     WRITES_RANDOM_BYTES,
 };
 use std::alloc::Global;
-use std::process::Abort;
 use std::test::Fail;
 
 /// The key of the bytes 0 to 31.
@@ -19,51 +18,51 @@ const COUNTED: [u8; 32] = [
 ];
 
 /// The entries of the guest that writes random bytes.
-fn random_lines() -> [Line; 6] {
-    [
-        run(4),
-        call(278, 5),
-        run(4),
-        call(64, 5),
-        run(2),
-        call(94, 0),
-    ]
-}
+#[rattlefmt::skip]
+const RANDOM_LINES: &[Line] = &[
+    Line::Run(1, 4), Line::Call(1, 278, 5), Line::Run(1, 4), Line::Call(1, 64, 5), Line::Run(1, 2), Line::Call(1, 94, 0),
+];
 
-/// That by a seed it has these entries, and leaves these bytes on the console.
-fn expect_random(rt: &impl Abort, alloc: Global, seed: &[u8], console: &[u8]) -> Result<(), Fail> {
-    let told = turns_by(alloc, seed, WRITES_RANDOM_BYTES, 4096)?;
-    expect_lines(rt, &told, &random_lines());
-    expect_end(rt, &told, false, console);
-    Ok(())
+/// Seeds, and the bytes that it then leaves on the console: the first of the stream 2, since the call is the second
+/// entry, by another ChaCha20.
+#[rattlefmt::skip]
+const SEEDS: &[([u8; 32], &[u8])] = &[
+    (SEED, b"\xd0\xc5\xb9\xb7\x44"), (COUNTED, b"\x54\xb2\x75\xd1\x4c"), (SEED, b"\xd0\xc5\xb9\xb7\x44"),
+];
+
+/// That by a seed it has these entries, and leaves these bytes.
+fn expect_random(alloc: Global, seed: &[u8], console: &[u8]) -> Result<(), Fail> {
+    let processes = processes_of(alloc, &[WRITES_RANDOM_BYTES])?;
+    let expected = Expected {
+        lines: RANDOM_LINES,
+        lives: false,
+        console,
+    };
+    expect_turns_of(alloc, processes, seed, 4096, &expected)
 }
 
 #[test]
 fn random_bytes_are_those_of_the_seed_and_the_calls_place(rt: HostRuntime) -> Result<(), Fail> {
-    // The first bytes of the stream 2, since the call is the second entry, by another ChaCha20.
-    expect_random(&rt, rt.alloc(), &SEED, b"\xd0\xc5\xb9\xb7\x44")?;
-    expect_random(&rt, rt.alloc(), &COUNTED, b"\x54\xb2\x75\xd1\x4c")?;
-    expect_random(&rt, rt.alloc(), &SEED, b"\xd0\xc5\xb9\xb7\x44")
+    for (seed, console) in SEEDS {
+        expect_random(rt.alloc(), seed, console)?;
+    }
+    Ok(())
 }
+
+/// What stores and loads in a shared page come to.
+#[rattlefmt::skip]
+const STORES: Expected<'static> = Expected {
+    lines: &[
+        Line::Run(1, 5), Line::Call(1, 222, 0x3f_ffef_f000), Line::Run(1, 1), Line::Run(1, 1), Line::Run(1, 1),
+        Line::Run(1, 2), Line::Call(1, 94, 0),
+    ],
+    lives: false,
+    console: b"",
+};
 
 #[test]
 fn an_instruction_on_a_shared_page_is_an_entry_of_its_own(rt: HostRuntime) -> Result<(), Fail> {
-    let told = turns(rt.alloc(), STORES_IN_A_SHARED_PAGE, 4096)?;
-    expect_lines(
-        &rt,
-        &told,
-        &[
-            run(5),
-            call(222, 0x3f_ffef_f000),
-            run(1),
-            run(1),
-            run(1),
-            run(2),
-            call(94, 0),
-        ],
-    );
-    expect_end(&rt, &told, false, b"");
-    Ok(())
+    expect_turns(rt.alloc(), STORES_IN_A_SHARED_PAGE, 4096, &STORES)
 }
 
 /// The byte at the begin of the shared area that the call of the second entry made, or `None`.
@@ -72,54 +71,58 @@ fn shared_byte(processes: &Processes) -> Option<u8> {
     made.area.frames.byte(0, 0)
 }
 
-/// That it is that after so many entries.
-fn expect_byte(rt: &impl Abort, alloc: Global, entries: u64, byte: Option<u8>) -> Result<(), Fail> {
+/// The same after so many entries.
+fn byte_after(alloc: Global, entries: u64) -> Result<Option<u8>, Fail> {
     let processes = left(alloc, STORES_IN_A_SHARED_PAGE, entries)?;
-    assert_eq!(rt; shared_byte(&processes), byte, "after {entries}");
-    Ok(())
+    Ok(shared_byte(&processes))
 }
+
+/// The byte that is there after so many entries.
+const BYTES: &[(u64, Option<u8>)] = &[
+    (1, None),
+    (2, Some(0)),
+    (3, Some(0)),
+    (4, Some(3)),
+    (4096, Some(3)),
+];
 
 #[test]
 fn a_shared_area_has_the_name_of_its_entry_and_what_was_stored(
     rt: HostRuntime,
 ) -> Result<(), Fail> {
-    expect_byte(&rt, rt.alloc(), 1, None)?;
-    expect_byte(&rt, rt.alloc(), 2, Some(0))?;
-    expect_byte(&rt, rt.alloc(), 3, Some(0))?;
-    expect_byte(&rt, rt.alloc(), 4, Some(3))?;
-    expect_byte(&rt, rt.alloc(), 4096, Some(3))
+    for &(entries, byte) in BYTES {
+        assert_eq!(rt; byte_after(rt.alloc(), entries)?, byte, "after {entries}");
+    }
+    Ok(())
 }
+
+/// What a store without the right comes to.
+#[rattlefmt::skip]
+const IS_STOPPED: Expected<'static> = Expected {
+    lines: &[
+        Line::Run(1, 5), Line::Call(1, 222, 0x3f_ffef_f000), Line::Run(1, 1), Line::Run(1, 1), Line::End(1, 11),
+    ],
+    lives: false,
+    console: b"",
+};
 
 #[test]
 fn a_store_without_the_right_is_the_groups_end(rt: HostRuntime) -> Result<(), Fail> {
-    let told = turns(rt.alloc(), STORES_WITHOUT_THE_RIGHT, 4096)?;
-    expect_lines(
-        &rt,
-        &told,
-        &[run(5), call(222, 0x3f_ffef_f000), run(1), run(1), end(11)],
-    );
-    expect_end(&rt, &told, false, b"");
-    Ok(())
+    expect_turns(rt.alloc(), STORES_WITHOUT_THE_RIGHT, 4096, &IS_STOPPED)
 }
+
+/// What a jump into a shared page comes to.
+#[rattlefmt::skip]
+const JUMPS: Expected<'static> = Expected {
+    lines: &[
+        Line::Run(1, 5), Line::Call(1, 222, 0x3f_ffef_f000), Line::Run(1, 4), Line::Run(1, 1), Line::Run(1, 1),
+        Line::Run(1, 1), Line::Run(1, 1), Line::Run(1, 1), Line::Call(1, 94, 0),
+    ],
+    lives: false,
+    console: b"",
+};
 
 #[test]
 fn a_call_may_stand_in_a_shared_page(rt: HostRuntime) -> Result<(), Fail> {
-    let told = turns(rt.alloc(), JUMPS_INTO_A_SHARED_PAGE, 4096)?;
-    expect_lines(
-        &rt,
-        &told,
-        &[
-            run(5),
-            call(222, 0x3f_ffef_f000),
-            run(4),
-            run(1),
-            run(1),
-            run(1),
-            run(1),
-            run(1),
-            call(94, 0),
-        ],
-    );
-    expect_end(&rt, &told, false, b"");
-    Ok(())
+    expect_turns(rt.alloc(), JUMPS_INTO_A_SHARED_PAGE, 4096, &JUMPS)
 }

@@ -1,6 +1,6 @@
 //! Pipes of tasks in turns: what is on its way in one, and who has its ends.
 
-use crate::turns::{Line, call, expect_end, expect_lines, left, run, turns};
+use crate::turns::{Expected, Line, expect_turns, left};
 use kernel_model::OpenFiles;
 use std::alloc::Global;
 use std::process::Abort;
@@ -39,15 +39,18 @@ const SHARES_A_PIPE: &[u32] = &[
     0x0000_0073, // ecall
 ];
 
-/// Its entries, up to the process's exit.
+/// What it comes to, up to the process's exit.
 #[rattlefmt::skip]
-fn lines() -> [Line; 17] {
-    [
-        run(4), call(59, 0), run(4), call(64, 3), run(3), call(220, 2),
-        run(3), run(10_000), call(57, 0), run(10_000), run(4), run(10_000), call(63, 2), run(10_000), run(2),
-        run(10_000), call(93, 0),
-    ]
-}
+const SHARES: Expected<'static> = Expected {
+    lines: &[
+        Line::Run(1, 4), Line::Call(1, 59, 0), Line::Run(1, 4), Line::Call(1, 64, 3), Line::Run(1, 3),
+        Line::Call(1, 220, 2), Line::Run(2, 3), Line::Run(1, 10_000), Line::Call(2, 57, 0), Line::Run(1, 10_000),
+        Line::Run(2, 4), Line::Run(1, 10_000), Line::Call(2, 63, 2), Line::Run(1, 10_000), Line::Run(2, 2),
+        Line::Run(1, 10_000), Line::Call(2, 93, 0),
+    ],
+    lives: true,
+    console: b"",
+};
 
 /// Makes a pipe, and traps.
 #[rattlefmt::skip]
@@ -61,41 +64,24 @@ const TRAPS_WITH_A_PIPE: &[u32] = &[
 ];
 
 /// What there is of the pipe that the second entry made: how many bytes are on their way, how many descriptions its
-/// read end and its write end have, and how many descriptors each of these, or `None` where it is closed.
-#[derive(Clone, Copy, Debug, PartialEq, Eq)]
-struct Ends {
-    bytes: usize,
-    readers: u64,
-    writers: u64,
-    to_read: Option<u64>,
-    to_write: Option<u64>,
-}
-
-/// The same, where both ends are open, each by one description.
-fn both(bytes: usize, to_read: u64, to_write: u64) -> Option<Ends> {
-    Some(Ends {
-        bytes,
-        readers: 1,
-        writers: 1,
-        to_read: Some(to_read),
-        to_write: Some(to_write),
-    })
-}
+/// read end and its write end have, and how many descriptors each of these, which is 0 where it is closed.
+type Ends = (usize, [u64; 2], [u64; 2]);
 
 /// How many descriptors have a description that the second entry made.
-fn count(files: &OpenFiles, index: u32) -> Option<u64> {
-    Some(files.descriptions.get(2, index)?.descriptors)
+fn count(files: &OpenFiles, index: u32) -> u64 {
+    match files.descriptions.get(2, index) {
+        Some(file) => file.descriptors,
+        None => 0,
+    }
 }
 
 fn ends_of(files: &OpenFiles) -> Option<Ends> {
     let pipe = files.pipes.get(2, 0)?;
-    Some(Ends {
-        bytes: pipe.len(),
-        readers: pipe.readers(),
-        writers: pipe.writers(),
-        to_read: count(files, 0),
-        to_write: count(files, 1),
-    })
+    Some((
+        pipe.len(),
+        [pipe.readers(), pipe.writers()],
+        [count(files, 0), count(files, 1)],
+    ))
 }
 
 /// That after so many entries of a guest there is that of the pipe.
@@ -112,21 +98,18 @@ fn expect_ends(
     Ok(())
 }
 
+/// Entries of a guest, and what there then is of its pipe.
+#[rattlefmt::skip]
+const SHARED: &[(u64, Option<Ends>)] = &[
+    (1, None), (2, Some((0, [1, 1], [1, 1]))), (4, Some((3, [1, 1], [1, 1]))), (6, Some((3, [1, 1], [2, 2]))),
+    (9, Some((3, [1, 1], [2, 1]))), (13, Some((1, [1, 1], [2, 1]))), (17, Some((1, [1, 1], [1, 1]))),
+];
+
+const TRAPPED: &[(u64, Option<Ends>)] = &[(2, Some((0, [1, 1], [1, 1]))), (3, None)];
+
 #[test]
 fn a_pipe_is_of_all_who_have_a_number_of_its_ends(rt: HostRuntime) -> Result<(), Fail> {
-    let told = turns(rt.alloc(), SHARES_A_PIPE, 17)?;
-    expect_lines(&rt, &told, &lines());
-    expect_end(&rt, &told, true, b"");
-    #[rattlefmt::skip]
-    let rows = [
-        (1, None), (2, both(0, 1, 1)), (4, both(3, 1, 1)), (6, both(3, 2, 2)), (9, both(3, 2, 1)),
-        (13, both(1, 2, 1)), (17, both(1, 1, 1)),
-    ];
-    expect_ends(&rt, rt.alloc(), SHARES_A_PIPE, &rows)?;
-    expect_ends(
-        &rt,
-        rt.alloc(),
-        TRAPS_WITH_A_PIPE,
-        &[(2, both(0, 1, 1)), (3, None)],
-    )
+    expect_turns(rt.alloc(), SHARES_A_PIPE, 17, &SHARES)?;
+    expect_ends(&rt, rt.alloc(), SHARES_A_PIPE, SHARED)?;
+    expect_ends(&rt, rt.alloc(), TRAPS_WITH_A_PIPE, TRAPPED)
 }

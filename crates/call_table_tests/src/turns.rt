@@ -6,192 +6,207 @@ ghost use Rattle.task_table.specs.Table.{is_live};
 use crate::guests::{SEED, processes_of};
 use call_table::{Processes, Ran, run_turns};
 use kernel_model::{Entry, Kernel};
-use sn_base::List;
 use sn_vectors::programs::{STORES, WRITES_NOTHING};
 use sn_vectors::words::{EBREAK, JUMP_TO_ITSELF};
 use std::alloc::Global;
 use std::process::Abort;
 use std::test::Fail;
 
-/// An entry: its kind, and of a run how many instructions, of a call its number, of an end the signal; and the reply.
-#[derive(Clone, Copy, Debug, PartialEq, Eq)]
-pub struct Line {
-    pub kind: &'static str,
-    pub number: u64,
-    pub reply: i64,
+/// An entry in short: its task, and of a run how many instructions, of a call its number and its reply, of the end of a
+/// group the signal.
+#[derive(Clone, Copy)]
+pub enum Line {
+    Run(u32, u32),
+    Call(u32, u64, i64),
+    End(u32, u8),
 }
 
-/// A run of so many instructions.
-pub fn run(number: u64) -> Line {
-    Line {
-        kind: "run",
-        number,
-        reply: 0,
-    }
-}
-
-/// A call by its number, with its reply.
-pub fn call(number: u64, reply: i64) -> Line {
-    Line {
-        kind: "call",
-        number,
-        reply,
-    }
-}
-
-/// The end of a group by a signal.
-pub fn end(signal: u64) -> Line {
-    Line {
-        kind: "end",
-        number: signal,
-        reply: 0,
-    }
-}
-
-/// What came of a run of turns: its entries, the task of each, whether a task lives, the console, and how many entries
-/// there were.
-#[derive(Drop)]
-pub struct Told {
-    pub lines: List<Line>,
-    pub tasks: List<u32>,
+/// What is to come of a run of turns: its entries, whether a task lives then, and the console.
+#[derive(Clone, Copy)]
+pub struct Expected<'a> {
+    pub lines: &'a [Line],
     pub lives: bool,
-    pub console: List<u8>,
-    pub entries: u64,
+    pub console: &'a [u8],
 }
 
-fn line_of(entry: &Entry) -> Line {
-    match entry {
-        Entry::Run { n, .. } => run(u64::from(*n)),
-        Entry::Call { no, reply, .. } => call(*no, *reply),
-        Entry::End { signal, .. } => end(u64::from(*signal)),
-        Entry::Sleep { .. } => Line {
-            kind: "sleep",
-            number: 0,
-            reply: 0,
-        },
+/// Whether an entry is as that line says.
+fn is_made(entry: &Entry, line: Line) -> bool {
+    match (entry, line) {
+        (Entry::Run { task, n }, Line::Run(by, instructions)) => *task == by && *n == instructions,
+        (
+            Entry::Call {
+                task,
+                no,
+                reply,
+                ..
+            },
+            Line::Call(by, number, replied),
+        ) => *task == by && *no == number && *reply == replied,
+        (Entry::End { task, signal }, Line::End(by, wanted)) => *task == by && *signal == wanted,
+        _ => false,
     }
 }
 
-fn lines_of(alloc: Global, trace: &[Entry]) -> Result<List<Line>, Fail> {
-    let mut lines = List::new(alloc);
-    for entry in trace {
-        lines.push(line_of(entry))?;
+/// Whether the entry of that index is there, and as that line says.
+fn has_line(trace: &[Entry], index: usize, line: Line) -> bool {
+    match trace.get(index) {
+        Some(entry) => is_made(entry, line),
+        None => false,
     }
-    Ok(lines)
 }
 
-fn tasks_of(alloc: Global, trace: &[Entry]) -> Result<List<u32>, Fail> {
-    let mut tasks = List::new(alloc);
-    for entry in trace {
-        tasks.push(entry.task())?;
+/// That a trace has these entries, and no others.
+fn expect_lines(trace: &[Entry], lines: &[Line]) -> Result<(), Fail> {
+    if trace.len() != lines.len() {
+        return Err(Fail::new(format_args!("{} entries", trace.len())));
     }
-    Ok(tasks)
+    for (index, line) in lines.iter().enumerate() {
+        if !has_line(trace, index, *line) {
+            return Err(Fail::new(format_args!("entry {index}")));
+        }
+    }
+    Ok(())
 }
 
-/// Has a guest of these words make at most so many entries, by the seed of zeros.
-pub fn turns(alloc: Global, words: &[u32], entries: u64) -> Result<Told, Fail> {
-    turns_by(alloc, &SEED, words, entries)
+/// That a run of turns has made these entries, and left that.
+fn expect_kernel(
+    trace: &[Entry],
+    lives: bool,
+    kernel: &Kernel,
+    expected: &Expected,
+) -> Result<(), Fail> {
+    if kernel.entries != expected.lines.len() as u64 {
+        return Err(Fail::new(format_args!("{} entries", kernel.entries)));
+    }
+    if lives != expected.lives || kernel.console.as_slice() != expected.console {
+        return Err(Fail::new("other tasks live, or the console is another"));
+    }
+    expect_lines(trace, expected.lines)
 }
 
-/// The same by a seed.
-pub fn turns_by(alloc: Global, seed: &[u8], words: &[u32], entries: u64) -> Result<Told, Fail> {
-    turns_of(alloc, processes_of(alloc, &[words])?, seed, entries)
+/// The same of the processes that it left.
+fn expect_left(
+    alloc: Global,
+    processes: Processes,
+    trace: &[Entry],
+    expected: &Expected,
+) -> Result<(), Fail> {
+    let lives = processes.cells.any_live();
+    let kernel = processes.cells.into_kernel(alloc, trace.len() as u64);
+    expect_kernel(trace, lives, &kernel, expected)
 }
 
-/// Has processes make at most so many entries, by a seed.
-pub fn turns_of(
+/// Has processes make at most so many entries, by a seed. What comes out says nothing of how it came to be, so that no
+/// test's proof has the contract of turns before it.
+fn run(alloc: Global, processes: Processes, seed: &[u8], entries: u64) -> Ran {
+    run_turns(alloc, processes, seed, entries)
+}
+
+/// That processes that make at most so many entries, by a seed, come to that.
+pub fn expect_turns_of(
     alloc: Global,
     processes: Processes,
     seed: &[u8],
     entries: u64,
-) -> Result<Told, Fail> {
-    let Ran { processes, trace } = run_turns(alloc, processes, seed, entries);
-    let Some(processes) = processes else {
-        return Err(Fail::new("memory"));
-    };
-    let lives = processes.cells.any_live();
-    let Kernel {
-        console,
-        entries,
-        ..
-    } = processes.cells.into_kernel(alloc, trace.len() as u64);
-    told_of(alloc, trace.as_slice(), lives, console, entries)
+    expected: &Expected,
+) -> Result<(), Fail> {
+    let Ran { processes, trace } = run(alloc, processes, seed, entries);
+    match processes {
+        Some(processes) => expect_left(alloc, processes, trace.as_slice(), expected),
+        None => Err(Fail::new("memory")),
+    }
 }
 
-/// What is told of a run that has made these entries.
-fn told_of(
+/// The same of a guest of these words, by the seed of zeros.
+pub fn expect_turns(
     alloc: Global,
-    trace: &[Entry],
-    lives: bool,
-    console: List<u8>,
+    words: &[u32],
     entries: u64,
-) -> Result<Told, Fail> {
-    Ok(Told {
-        lines: lines_of(alloc, trace)?,
-        tasks: tasks_of(alloc, trace)?,
-        lives,
-        console,
-        entries,
-    })
+    expected: &Expected,
+) -> Result<(), Fail> {
+    let processes = processes_of(alloc, &[words])?;
+    expect_turns_of(alloc, processes, &SEED, entries, expected)
 }
 
 /// The processes that a guest leaves that makes so many entries.
 pub fn left(alloc: Global, words: &[u32], entries: u64) -> Result<Processes, Fail> {
     let processes = processes_of(alloc, &[words])?;
-    let Ran { processes, .. } = run_turns(alloc, processes, &SEED, entries);
+    let Ran { processes, .. } = run(alloc, processes, &SEED, entries);
     match processes {
         Some(processes) => Ok(processes),
         None => Err(Fail::new("memory")),
     }
 }
 
-pub fn expect_lines(rt: &impl Abort, told: &Told, lines: &[Line]) {
-    assert!(rt; told.lines.as_slice() == lines);
-    assert!(rt; told.entries == lines.len() as u64);
-}
-
-pub fn expect_end(rt: &impl Abort, told: &Told, lives: bool, console: &[u8]) {
-    assert!(rt; told.lives == lives);
-    assert!(rt; told.console.as_slice() == console);
-}
+/// A write and an exit.
+const WRITES: Expected<'static> = Expected {
+    lines: &[
+        Line::Run(1, 4),
+        Line::Call(1, 64, 0),
+        Line::Run(1, 2),
+        Line::Call(1, 94, 0),
+    ],
+    lives: false,
+    console: b"",
+};
 
 #[test]
 fn a_write_and_an_exit_make_four_entries(rt: HostRuntime) -> Result<(), Fail> {
-    let told = turns(rt.alloc(), WRITES_NOTHING.words, 4096)?;
-    expect_lines(&rt, &told, &[run(4), call(64, 0), run(2), call(94, 0)]);
-    expect_end(&rt, &told, false, b"");
-    Ok(())
+    expect_turns(rt.alloc(), WRITES_NOTHING.words, 4096, &WRITES)
 }
+
+/// The first of its entries.
+const BEGINS: Expected<'static> = Expected {
+    lines: &[Line::Run(1, 4)],
+    lives: true,
+    console: b"",
+};
 
 #[test]
 fn a_full_trace_leaves_the_task_alive(rt: HostRuntime) -> Result<(), Fail> {
-    let told = turns(rt.alloc(), WRITES_NOTHING.words, 1)?;
-    expect_lines(&rt, &told, &[run(4)]);
-    expect_end(&rt, &told, true, b"");
-    Ok(())
+    expect_turns(rt.alloc(), WRITES_NOTHING.words, 1, &BEGINS)
 }
+
+/// A loop.
+const LOOPS: Expected<'static> = Expected {
+    lines: &[Line::Run(1, 10_000), Line::Run(1, 10_000)],
+    lives: true,
+    console: b"",
+};
 
 #[test]
 fn a_loop_runs_ten_thousand_instructions_a_turn(rt: HostRuntime) -> Result<(), Fail> {
-    let told = turns(rt.alloc(), &[JUMP_TO_ITSELF], 2)?;
-    expect_lines(&rt, &told, &[run(10_000), run(10_000)]);
-    expect_end(&rt, &told, true, b"");
-    Ok(())
+    expect_turns(rt.alloc(), &[JUMP_TO_ITSELF], 2, &LOOPS)
 }
+
+/// A breakpoint.
+const TRAPS: Expected<'static> = Expected {
+    lines: &[Line::End(1, 5)],
+    lives: false,
+    console: b"",
+};
 
 #[test]
 fn a_breakpoint_ends_the_group_by_signal_5(rt: HostRuntime) -> Result<(), Fail> {
-    let told = turns(rt.alloc(), &[EBREAK], 4096)?;
-    expect_lines(&rt, &told, &[end(5)]);
-    expect_end(&rt, &told, false, b"");
-    Ok(())
+    expect_turns(rt.alloc(), &[EBREAK], 4096, &TRAPS)
 }
+
+/// A guest that stores eight bytes and writes them.
+const STORED: &[Line] = &[
+    Line::Run(1, 23),
+    Line::Call(1, 64, 8),
+    Line::Run(1, 2),
+    Line::Call(1, 94, 0),
+];
 
 #[test]
 fn what_is_written_comes_to_the_console(rt: HostRuntime) -> Result<(), Fail> {
-    let told = turns(rt.alloc(), STORES.words, 4096)?;
-    expect_end(&rt, &told, false, STORES.writes);
-    Ok(())
+    let expected = Expected {
+        lines: STORED,
+        lives: false,
+        console: STORES.writes,
+    };
+    expect_turns(rt.alloc(), STORES.words, 4096, &expected)
 }
 
 /// Aborts unless a task lives.
@@ -208,8 +223,6 @@ pub fn expect_live(rt: &impl Abort, processes: &Processes, number: u32)
 #[test]
 fn as_many_entries_are_made_as_were_asked_for(rt: HostRuntime) -> Result<(), Fail> {
     let processes = processes_of(rt.alloc(), &[WRITES_NOTHING.words])?;
-    let ran = run_turns(rt.alloc(), processes, &SEED, 1);
-    assert_eq!(rt; ran.trace.len(), 1);
-    assert!(rt; line_of(ran.trace.at(0)) == run(4));
-    Ok(())
+    let ran = run(rt.alloc(), processes, &SEED, 1);
+    expect_lines(ran.trace.as_slice(), BEGINS.lines)
 }

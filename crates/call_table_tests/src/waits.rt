@@ -1,9 +1,8 @@
 //! Guests that wait by a call in a shared page: who changes the page, or ends the child, has them looked at again.
 
-use crate::turns::{Line, Told, call, end, expect_end, expect_lines, run, turns};
+use crate::turns::{Expected, Line, expect_turns};
 use sn_base::List;
 use std::alloc::Global;
-use std::process::Abort;
 use std::test::Fail;
 
 /// Maps a shared page, stores an ECALL there, and makes a process, which goes on behind these words. It jumps into the
@@ -61,84 +60,69 @@ const HAS_THE_TIME_PUT_OVER_IT: &[u32] = &[
     0x0000_0073, // ecall
 ];
 
-/// The entries up to where the process has yielded and its parent waits, and the task of each.
+/// The entries up to where the process has yielded and its parent waits.
 #[rattlefmt::skip]
-fn so_far() -> [(u32, Line); 9] {
-    [
-        (1, run(5)), (1, call(222, 0x3f_ffef_f000)), (1, run(2)), (1, run(1)), (1, run(3)), (1, call(220, 2)),
-        (2, run(2)), (1, run(6)), (2, call(124, 0)),
-    ]
+const SO_FAR: &[Line] = &[
+    Line::Run(1, 5), Line::Call(1, 222, 0x3f_ffef_f000), Line::Run(1, 2), Line::Run(1, 1), Line::Run(1, 3),
+    Line::Call(1, 220, 2), Line::Run(2, 2), Line::Run(1, 6), Line::Call(2, 124, 0),
+];
+
+/// Two lists as one.
+fn joined<T: Copy>(alloc: Global, first: &[T], then: &[T]) -> Result<List<T>, Fail> {
+    let mut joined = List::from_slice(alloc, first)?;
+    joined.extend_from_slice(then)?;
+    Ok(joined)
 }
 
-/// What a guest does whose process goes on by these words.
-fn told_of(alloc: Global, child: &[u32]) -> Result<Told, Fail> {
-    let mut words = List::new(alloc);
-    words.extend_from_slice(WAITS_IN_A_SHARED_PAGE)?;
-    words.extend_from_slice(child)?;
-    turns(alloc, words.as_slice(), 4096)
+/// That a guest whose process goes on by these words then makes these entries.
+fn expect_then(alloc: Global, child: &[u32], then: &[Line]) -> Result<(), Fail> {
+    let words = joined(alloc, WAITS_IN_A_SHARED_PAGE, child)?;
+    let lines = joined(alloc, SO_FAR, then)?;
+    let expected = Expected {
+        lines: lines.as_slice(),
+        lives: false,
+        console: b"",
+    };
+    expect_turns(alloc, words.as_slice(), 4096, &expected)
 }
 
-/// That it then makes these entries, each of its task.
-fn expect_then(
-    rt: &impl Abort,
-    alloc: Global,
-    child: &[u32],
-    then: &[(u32, Line)],
-) -> Result<(), Fail> {
-    let told = told_of(alloc, child)?;
-    let mut lines = List::new(alloc);
-    let mut tasks = List::new(alloc);
-    for (task, line) in so_far().iter().chain(then) {
-        tasks.push(*task)?;
-        lines.push(*line)?;
-    }
-    expect_lines(rt, &told, lines.as_slice());
-    assert!(rt; told.tasks.as_slice() == tasks.as_slice());
-    expect_end(rt, &told, false, b"");
-    Ok(())
-}
+const TILL_IT_ENDS: &[Line] = &[
+    Line::Run(2, 2),
+    Line::Call(2, 93, 0),
+    Line::Call(1, 260, 2),
+    Line::End(1, 4),
+];
 
 #[test]
 fn a_call_in_a_shared_page_waits_for_the_child(rt: HostRuntime) -> Result<(), Fail> {
-    expect_then(
-        &rt,
-        rt.alloc(),
-        EXITS,
-        &[
-            (2, run(2)),
-            (2, call(93, 0)),
-            (1, call(260, 2)),
-            (1, end(4)),
-        ],
-    )
+    expect_then(rt.alloc(), EXITS, TILL_IT_ENDS)
 }
+
+const TILL_IT_STORES: &[Line] = &[
+    Line::Run(2, 1),
+    Line::End(1, 4),
+    Line::Run(2, 2),
+    Line::Call(2, 93, 0),
+];
 
 #[test]
 fn a_waiting_call_in_a_shared_page_is_looked_at_again_behind_a_store_there(
     rt: HostRuntime,
 ) -> Result<(), Fail> {
-    expect_then(
-        &rt,
-        rt.alloc(),
-        STORES_OVER_IT,
-        &[(2, run(1)), (1, end(4)), (2, run(2)), (2, call(93, 0))],
-    )
+    expect_then(rt.alloc(), STORES_OVER_IT, TILL_IT_STORES)
 }
+
+const TILL_ITS_CALL_STORES: &[Line] = &[
+    Line::Run(2, 2),
+    Line::Call(2, 113, 0),
+    Line::End(1, 4),
+    Line::Run(2, 2),
+    Line::Call(2, 93, 0),
+];
 
 #[test]
 fn a_waiting_call_in_a_shared_page_is_looked_at_again_behind_a_call_that_stores_there(
     rt: HostRuntime,
 ) -> Result<(), Fail> {
-    expect_then(
-        &rt,
-        rt.alloc(),
-        HAS_THE_TIME_PUT_OVER_IT,
-        &[
-            (2, run(2)),
-            (2, call(113, 0)),
-            (1, end(4)),
-            (2, run(2)),
-            (2, call(93, 0)),
-        ],
-    )
+    expect_then(rt.alloc(), HAS_THE_TIME_PUT_OVER_IT, TILL_ITS_CALL_STORES)
 }

@@ -43,7 +43,7 @@ const LINK: Attr = Attr {
 
 /// Each is looked at when it is lent, and at its stat.
 #[rattlefmt::skip]
-const LOOKS: [Line; 6] = [
+const LOOKS: &[Line] = &[
     (Call::Directory, "./a"),
     (Call::Directory, "./a"),
     (Call::File, "./a/f"),
@@ -53,7 +53,7 @@ const LOOKS: [Line; 6] = [
 ];
 
 #[rattlefmt::skip]
-const TOLD: [Row; 3] = [
+const TOLD: &[Row] = &[
     (None, &[Ask::Stats(Ok(DIRECTORY))]),
     (Some("f"), &[Ask::Stats(Ok(FILE))]),
     (Some("l"), &[Ask::Stats(Ok(LINK))]),
@@ -61,12 +61,12 @@ const TOLD: [Row; 3] = [
 
 #[test]
 fn a_stat_tells_what_a_look_at_the_own_path_tells(rt: HostRuntime) -> Result<(), Fail> {
-    expect_script(rt, "a", &LOOKS, &TOLD)
+    expect_script(rt, "a", LOOKS, TOLD)
 }
 
 /// A file that is a link then, nothing, and a directory.
 #[rattlefmt::skip]
-const OTHERS: [Line; 5] = [
+const OTHERS: &[Line] = &[
     (Call::Directory, "./a"),
     (Call::File, "./a/f"),
     (Call::Link, "./a/f"),
@@ -75,7 +75,7 @@ const OTHERS: [Line; 5] = [
 ];
 
 #[rattlefmt::skip]
-const FAILING: [Row; 1] = [
+const FAILING: &[Row] = &[
     (Some("f"), &[
         Ask::Stats(Err(HostErr::Failed)), Ask::Stats(Err(HostErr::Failed)), Ask::Opens(false, Err(HostErr::Failed)),
     ]),
@@ -83,7 +83,7 @@ const FAILING: [Row; 1] = [
 
 #[test]
 fn a_node_that_became_another_fails(rt: HostRuntime) -> Result<(), Fail> {
-    expect_script(rt, "a", &OTHERS, &FAILING)
+    expect_script(rt, "a", OTHERS, FAILING)
 }
 
 /// That a directory of `b`, which a look finds so, `c` and `a` is listed with these entries.
@@ -102,30 +102,30 @@ fn expect_listing(rt: HostRuntime, b: Call, listed: &[Row]) -> Result<(), Fail> 
 
 /// The entries where `b` is a device, a directory, or a file.
 #[rattlefmt::skip]
-const OF_DEVICE: [Row; 1] = [
+const OF_DEVICE: &[Row] = &[
     (Some("d"), &[Ask::Lists(Ok(()), &[("a", Kind::Link), ("c", Kind::File)])]),
 ];
 
 #[rattlefmt::skip]
-const OF_DIRECTORY: [Row; 1] = [
+const OF_DIRECTORY: &[Row] = &[
     (Some("d"), &[Ask::Lists(Ok(()), &[("a", Kind::Link), ("b", Kind::Dir), ("c", Kind::File)])]),
 ];
 
 #[rattlefmt::skip]
-const OF_FILE: [Row; 1] = [
+const OF_FILE: &[Row] = &[
     (Some("d"), &[Ask::Lists(Ok(()), &[("a", Kind::Link), ("b", Kind::File), ("c", Kind::File)])]),
 ];
 
 #[test]
 fn a_listing_has_each_entry_that_is_not_hidden(rt: HostRuntime) -> Result<(), Fail> {
-    expect_listing(rt, Call::Device, &OF_DEVICE)?;
-    expect_listing(rt, Call::Directory, &OF_DIRECTORY)?;
-    expect_listing(rt, Call::File, &OF_FILE)
+    expect_listing(rt, Call::Device, OF_DEVICE)?;
+    expect_listing(rt, Call::Directory, OF_DIRECTORY)?;
+    expect_listing(rt, Call::File, OF_FILE)
 }
 
 /// A directory, and what stands in it: a link, nothing, and a device.
 #[rattlefmt::skip]
-const BELOW: [Line; 5] = [
+const BELOW: &[Line] = &[
     (Call::Directory, "./a"),
     (Call::Directory, "./a/d"),
     (Call::Link, "./a/d/l"),
@@ -134,18 +134,18 @@ const BELOW: [Line; 5] = [
 ];
 
 #[rattlefmt::skip]
-const CHILDREN: [Row; 1] = [
+const CHILDREN: &[Row] = &[
     (Some("d"), &[Ask::Is(Kind::Dir), Ask::Lends("l", Kind::Link), Ask::Nothing("n"), Ask::Nothing("m")]),
 ];
 
 #[test]
 fn a_child_is_looked_at_below_the_route(rt: HostRuntime) -> Result<(), Fail> {
-    expect_script(rt, "a", &BELOW, &CHILDREN)
+    expect_script(rt, "a", BELOW, CHILDREN)
 }
 
 /// Each is looked at when it is lent, and when it is opened.
 #[rattlefmt::skip]
-const OPENINGS: [Line; 9] = [
+const OPENINGS: &[Line] = &[
     (Call::Directory, "./a"),
     (Call::File, "./a/f"),
     (Call::File, "./a/f"),
@@ -158,7 +158,7 @@ const OPENINGS: [Line; 9] = [
 ];
 
 #[rattlefmt::skip]
-const OPENED: [Row; 3] = [
+const OPENED: &[Row] = &[
     (Some("f"), &[Ask::Opens(false, Ok(())), Ask::Opens(true, Ok(())), Ask::Reads(0, 1, Ok(b"x"))]),
     (None, &[Ask::Opens(false, Ok(()))]),
     (Some("l"), &[Ask::Opens(false, Err(HostErr::Failed))]),
@@ -166,7 +166,7 @@ const OPENED: [Row; 3] = [
 
 #[test]
 fn a_file_is_opened_as_it_is_and_a_directory_or_a_link_is_not(rt: HostRuntime) -> Result<(), Fail> {
-    expect_script(rt, "a", &OPENINGS, &OPENED)
+    expect_script(rt, "a", OPENINGS, OPENED)
 }
 
 #[test]

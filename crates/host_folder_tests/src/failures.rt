@@ -6,7 +6,7 @@ use std::test::Fail;
 
 /// A listing that fails, and is counted.
 #[rattlefmt::skip]
-const FAILING: [Row; 1] = [
+const FAILING: &[Row] = &[
     (None, &[Ask::Lists(Err(HostErr::Failed), &[]), Ask::Faults(1)]),
 ];
 
@@ -17,7 +17,7 @@ fn a_name_that_is_not_utf8_fails_the_listing(rt: HostRuntime) -> Result<(), Fail
         (Call::Directory, "./odd"),
         (Call::List(b"\xff\0"), "./odd/"),
     ];
-    expect_script(rt, "odd", &script, &FAILING)
+    expect_script(rt, "odd", &script, FAILING)
 }
 
 #[test]
@@ -28,7 +28,7 @@ fn an_entry_that_cannot_be_looked_at_fails_the_listing(rt: HostRuntime) -> Resul
         (Call::List(b"hidden\0"), "./lost/"),
         (Call::Hidden, "./lost/hidden"),
     ];
-    expect_script(rt, "lost", &script, &FAILING)
+    expect_script(rt, "lost", &script, FAILING)
 }
 
 #[test]
@@ -38,7 +38,7 @@ fn a_directory_that_cannot_be_read_fails_the_listing(rt: HostRuntime) -> Result<
         (Call::Directory, "./locked"),
         (Call::Locked, "./locked/"),
     ];
-    expect_script(rt, "locked", &script, &FAILING)
+    expect_script(rt, "locked", &script, FAILING)
 }
 
 #[test]
@@ -50,12 +50,12 @@ fn two_entries_of_one_name_fail_the_listing(rt: HostRuntime) -> Result<(), Fail>
         (Call::File, "./twice/file"),
         (Call::File, "./twice/file"),
     ];
-    expect_script(rt, "twice", &script, &FAILING)
+    expect_script(rt, "twice", &script, FAILING)
 }
 
 /// A device, which is neither listed nor lent.
 #[rattlefmt::skip]
-const LISTED: [Line; 4] = [
+const LISTED: &[Line] = &[
     (Call::Directory, "./devices"),
     (Call::Directory, "./devices"),
     (Call::List(b"device\0"), "./devices/"),
@@ -63,41 +63,41 @@ const LISTED: [Line; 4] = [
 ];
 
 #[rattlefmt::skip]
-const NO_ENTRIES: [Row; 1] = [
+const NO_ENTRIES: &[Row] = &[
     (None, &[Ask::Lists(Ok(()), &[]), Ask::Faults(0)]),
 ];
 
 #[rattlefmt::skip]
-const LOOKED_AT: [Line; 2] = [
+const LOOKED_AT: &[Line] = &[
     (Call::Directory, "./devices"),
     (Call::Device, "./devices/device"),
 ];
 
 #[rattlefmt::skip]
-const NOTHING: [Row; 1] = [
+const NOTHING: &[Row] = &[
     (None, &[Ask::Nothing("device"), Ask::Faults(0)]),
 ];
 
 #[test]
 fn a_device_is_hidden(rt: HostRuntime) -> Result<(), Fail> {
-    expect_script(rt, "devices", &LISTED, &NO_ENTRIES)?;
-    expect_script(rt, "devices", &LOOKED_AT, &NOTHING)
+    expect_script(rt, "devices", LISTED, NO_ENTRIES)?;
+    expect_script(rt, "devices", LOOKED_AT, NOTHING)
 }
 
 /// A name that isn't UTF-8.
 #[rattlefmt::skip]
-const ODD_NAME: [Row; 1] = [
+const ODD_NAME: &[Row] = &[
     (None, &[Ask::Refuses(b"\xff"), Ask::Faults(1)]),
 ];
 
 #[test]
 fn a_name_that_is_not_utf8_is_not_lent(rt: HostRuntime) -> Result<(), Fail> {
-    expect_script(rt, "any", &[(Call::Directory, "./any")], &ODD_NAME)
+    expect_script(rt, "any", &[(Call::Directory, "./any")], ODD_NAME)
 }
 
 /// A file of which one byte is read, and no more.
 #[rattlefmt::skip]
-const OPENED: [Line; 4] = [
+const OPENED: &[Line] = &[
     (Call::Directory, "./any"),
     (Call::File, "./any/file"),
     (Call::File, "./any/file"),
@@ -105,30 +105,30 @@ const OPENED: [Line; 4] = [
 ];
 
 #[rattlefmt::skip]
-const SHORT: [Row; 2] = [
+const SHORT: &[Row] = &[
     (Some("file"), &[Ask::Opens(false, Ok(())), Ask::Reads(0, 2, Err(HostErr::Failed)), Ask::Faults(1)]),
     (None, &[Ask::Faults(0)]),
 ];
 
 #[test]
 fn a_read_that_fails_in_the_middle_fails(rt: HostRuntime) -> Result<(), Fail> {
-    expect_script(rt, "any", &OPENED, &SHORT)
+    expect_script(rt, "any", OPENED, SHORT)
 }
 
 #[rattlefmt::skip]
-const SHUT: [Line; 2] = [
+const SHUT: &[Line] = &[
     (Call::Directory, "./any"),
     (Call::File, "./any/file"),
 ];
 
 #[rattlefmt::skip]
-const NOT_READ: [Row; 1] = [
+const NOT_READ: &[Row] = &[
     (Some("file"), &[Ask::Reads(0, 1, Err(HostErr::Failed)), Ask::Faults(1)]),
 ];
 
 #[test]
 fn a_node_that_is_not_open_has_nothing_to_be_read(rt: HostRuntime) -> Result<(), Fail> {
-    expect_script(rt, "any", &SHUT, &NOT_READ)
+    expect_script(rt, "any", SHUT, NOT_READ)
 }
 
 #[test]

@@ -10,7 +10,7 @@ use std::fs;
 use std::test::Fail;
 
 #[rattlefmt::skip]
-const LISTED: [Row; 1] = [
+const LISTED: &[Row] = &[
     (None, &[
         Ask::Lists(Ok(()), &[
             ("again", Kind::Link), ("below", Kind::Dir), ("hello", Kind::File), ("out", Kind::Link),
@@ -21,12 +21,12 @@ const LISTED: [Row; 1] = [
 
 #[test]
 fn a_folder_lists_its_entries_by_name(rt: HostRuntime) -> Result<(), Fail> {
-    expect_folder(rt, "folder_lists", &LISTED)
+    expect_folder(rt, "folder_lists", LISTED)
 }
 
 /// A file of `twelve bytes` is read from its middle, and not past its end.
 #[rattlefmt::skip]
-const READ: [Ask; 4] = [
+const READ: &[Ask] = &[
     Ask::Opens(true, Ok(())),
     Ask::Reads(7, 8, Ok(b"bytes")),
     Ask::Reads(13, 8, Ok(b"")),
@@ -38,7 +38,7 @@ fn a_file_is_read_from_its_middle_to_its_end(rt: HostRuntime) -> Result<(), Fail
     make_folder(rt, "folder_reads")?;
     let mut root = granted_by(rt, "folder_reads")?;
     let mut file = root.lent("hello")?;
-    file.expect(&READ)?;
+    file.expect(READ)?;
     fs::remove_dir_all(&rt, "folder_reads")?;
     root.take_back("hello", file)
 }
@@ -70,13 +70,13 @@ const LINK: Attr = Attr {
 
 /// A file that is there, and one that is gone.
 #[rattlefmt::skip]
-const THERE: [Ask; 2] = [
+const THERE: &[Ask] = &[
     Ask::Stats(Ok(FILE)),
     Ask::Faults(0),
 ];
 
 #[rattlefmt::skip]
-const GONE: [Ask; 2] = [
+const GONE: &[Ask] = &[
     Ask::Stats(Err(HostErr::Failed)),
     Ask::Faults(1),
 ];
@@ -85,13 +85,13 @@ const GONE: [Ask; 2] = [
 fn a_file_is_for_all_to_read_and_run(rt: HostRuntime) -> Result<(), Fail> {
     make_folder(rt, "folder_file")?;
     let mut file = granted_by(rt, "folder_file")?.lent("hello")?;
-    file.expect(&THERE)?;
+    file.expect(THERE)?;
     fs::remove_dir_all(&rt, "folder_file")?;
-    file.expect(&GONE)
+    file.expect(GONE)
 }
 
 #[rattlefmt::skip]
-const BELOW: [Row; 1] = [
+const BELOW: &[Row] = &[
     (Some("below"), &[
         Ask::Stats(Ok(DIRECTORY)),
         Ask::Opens(false, Ok(())),
@@ -103,11 +103,11 @@ const BELOW: [Row; 1] = [
 
 #[test]
 fn a_directory_is_opened_for_reading_alone(rt: HostRuntime) -> Result<(), Fail> {
-    expect_folder(rt, "folder_below", &BELOW)
+    expect_folder(rt, "folder_below", BELOW)
 }
 
 #[rattlefmt::skip]
-const OUT: [Ask; 4] = [
+const OUT: &[Ask] = &[
     Ask::Is(Kind::Link),
     Ask::Stats(Ok(LINK)),
     Ask::Opens(false, Err(HostErr::Failed)),
@@ -119,14 +119,14 @@ fn a_link_is_not_followed(rt: HostRuntime) -> Result<(), Fail> {
     make_folder(rt, "folder_links")?;
     let mut world = Folders::new(rt);
     let mut link = granted(&mut world, rt.alloc(), "folder_links")?.lent("out")?;
-    link.expect(&OUT)?;
+    link.expect(OUT)?;
     expect_no_grant(rt.alloc(), &mut world, "folder_links/again")?;
     fs::remove_dir_all(&rt, "folder_links")?;
     Ok(())
 }
 
 #[rattlefmt::skip]
-const NONE: [Ask; 2] = [
+const NONE: &[Ask] = &[
     Ask::Nothing("none"),
     Ask::Faults(0),
 ];
@@ -136,7 +136,7 @@ fn what_is_not_there_is_none(rt: HostRuntime) -> Result<(), Fail> {
     make_folder(rt, "folder_none")?;
     let mut world = Folders::new(rt);
     let mut root = granted(&mut world, rt.alloc(), "folder_none")?;
-    root.expect(&NONE)?;
+    root.expect(NONE)?;
     for path in [
         "folder_none/none",
         "folder_none/hello",
@@ -169,7 +169,7 @@ fn make_spaces(rt: HostRuntime) -> Result<(), Fail> {
 }
 
 #[rattlefmt::skip]
-const SPACES: [Row; 3] = [
+const SPACES: &[Row] = &[
     (None, &[Ask::Lists(Ok(()), &[(" f", Kind::File), ("f ", Kind::File)])]),
     (Some("f "), &[Ask::Stats(Ok(FILE_OF_FIVE))]),
     (None, &[Ask::Nothing("f")]),
@@ -178,5 +178,5 @@ const SPACES: [Row; 3] = [
 #[test]
 fn names_keep_the_spaces_at_their_ends(rt: HostRuntime) -> Result<(), Fail> {
     make_spaces(rt)?;
-    expect_made(rt, " folder spaces ", &SPACES)
+    expect_made(rt, " folder spaces ", SPACES)
 }

@@ -29,43 +29,78 @@ pub const CODE: Part = Part {
     in_memory: 256,
 };
 
-/// A file of these parts that is entered at an address. The table of headers stands behind the file's own header, and
-/// behind it up to 1,024 bytes, each of which is its offset modulo 251.
+/// A field of a header, by the bytes that it takes: two, four or eight.
+#[derive(Clone, Copy)]
+enum Field {
+    Half(u16),
+    Word(u32),
+    Double(u64),
+}
+
+/// Adds fields.
+fn put_fields(file: &mut List<u8>, fields: &[Field]) -> Result<(), Fail> {
+    for field in fields {
+        match *field {
+            Field::Half(value) => put_u16(file, value)?,
+            Field::Word(value) => put_u32(file, value)?,
+            Field::Double(value) => put_u64(file, value)?,
+        }
+    }
+    Ok(())
+}
+
+/// A file of these parts that is entered at an address.
 pub fn file_of(alloc: Global, entry: u64, parts: &[Part]) -> Result<List<u8>, Fail> {
     let mut file = List::from_slice(alloc, &[0x7f, 0x45, 0x4c, 0x46, 2, 1, 1, 0])?;
-    put_u64(&mut file, 0)?;
-    put_u16(&mut file, 2)?;
-    put_u16(&mut file, 243)?;
-    put_u32(&mut file, 1)?;
-    put_u64(&mut file, entry)?;
-    put_u64(&mut file, 64)?;
-    put_u64(&mut file, 0)?;
-    put_u32(&mut file, 0)?;
-    put_u16(&mut file, 64)?;
-    put_u16(&mut file, 56)?;
-    put_u16(&mut file, (parts.len() % 65_536) as u16)?;
-    put_u16(&mut file, 0)?;
-    put_u32(&mut file, 0)?;
-    for part in parts {
-        put_header(&mut file, part)?;
-    }
-    for _ in file.len()..1_024 {
-        let byte = (file.len() % 251) as u8;
-        file.push(byte)?;
-    }
+    put_file(&mut file, entry, parts)?;
     Ok(file)
+}
+
+/// Adds what a file has behind its first eight bytes. The table of headers stands behind the file's own header, and
+/// behind it up to 1,024 bytes, each of which is its offset modulo 251.
+fn put_file(file: &mut List<u8>, entry: u64, parts: &[Part]) -> Result<(), Fail> {
+    let header = [
+        Field::Double(0),
+        Field::Half(2),
+        Field::Half(243),
+        Field::Word(1),
+        Field::Double(entry),
+        Field::Double(64),
+        Field::Double(0),
+        Field::Word(0),
+        Field::Half(64),
+        Field::Half(56),
+        Field::Half((parts.len() % 65_536) as u16),
+        Field::Half(0),
+        Field::Word(0),
+    ];
+    put_fields(file, &header)?;
+    for part in parts {
+        put_header(file, part)?;
+    }
+    put_rest(file)
 }
 
 /// Adds the program header of a part.
 fn put_header(file: &mut List<u8>, part: &Part) -> Result<(), Fail> {
-    put_u32(file, 1)?;
-    put_u32(file, part.flags)?;
-    put_u64(file, part.offset)?;
-    put_u64(file, part.address)?;
-    put_u64(file, part.address)?;
-    put_u64(file, part.in_file)?;
-    put_u64(file, part.in_memory)?;
-    put_u64(file, 4_096)?;
+    let header = [
+        Field::Word(1),
+        Field::Word(part.flags),
+        Field::Double(part.offset),
+        Field::Double(part.address),
+        Field::Double(part.address),
+        Field::Double(part.in_file),
+        Field::Double(part.in_memory),
+        Field::Double(4_096),
+    ];
+    put_fields(file, &header)
+}
+
+fn put_rest(file: &mut List<u8>) -> Result<(), Fail> {
+    for _ in file.len()..1_024 {
+        let byte = (file.len() % 251) as u8;
+        file.push(byte)?;
+    }
     Ok(())
 }
 
@@ -93,5 +128,11 @@ pub fn load_with(
 /// A program of these parts with no strings.
 pub fn load_parts(alloc: Global, parts: &[Part]) -> Result<Loaded, Fail> {
     let image = image_of(alloc, parts)?;
-    Ok(load_with(alloc, &image, &[], &[]).ok().ok_or("not loaded")?)
+    Ok(load_with(alloc, &image, &[], &[])?)
+}
+
+/// The image of `CODE`, loaded with these arguments.
+pub fn load_code(alloc: Global, args: &[Text]) -> Result<Loaded, Fail> {
+    let image = image_of(alloc, &[CODE])?;
+    Ok(load_with(alloc, &image, args, &[])?)
 }

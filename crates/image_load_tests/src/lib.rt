@@ -16,6 +16,8 @@ mod images;
 #[cfg(test)]
 mod limits;
 #[cfg(test)]
+mod memory;
+#[cfg(test)]
 mod openings;
 #[cfg(test)]
 mod refusals;

@@ -1,14 +1,18 @@
 //! Programs that begin: their stacks as they read them, and their registers.
 
-use crate::images::{CODE, Part, image_of, load_parts, load_with};
+use crate::images::{CODE, Part, load_code, load_parts};
+use crate::memory::{expect_faults, expect_numbers, has_rights};
 use crate::strings::{RANDOM, letters, texts};
-use mm_areas::Rights;
+use image_load::Loaded;
+use mm_areas::{Areas, Rights};
 use mm_space::Handed;
 use rv_table::MemErr;
+use std::alloc::Global;
+use std::process::Abort;
 use std::test::Fail;
 
 /// The words that a program of one argument and the image of `CODE` finds, by their addresses.
-const WORDS: [(u64, u64); 18] = [
+const WORDS: &[(u64, u64)] = &[
     (0x3f_ffff_ff50, 1),
     (0x3f_ffff_ff58, 0x3f_ffff_ffee),
     (0x3f_ffff_ff60, 0),
@@ -29,95 +33,104 @@ const WORDS: [(u64, u64); 18] = [
     (0x3f_ffff_ffd8, 0),
 ];
 
+/// Aborts unless a program finds `RANDOM` at an address.
+fn expect_random(rt: &impl Abort, alloc: Global, loaded: &Loaded, address: u64) {
+    let none = Handed::none(alloc);
+    let mut random = [0; 16];
+    let read = loaded.space.read(&none, address, &mut random);
+    assert_eq!(rt; (read, random), (Ok(()), RANDOM));
+}
+
 #[test]
 fn a_program_of_one_argument_finds_it(rt: HostRuntime) -> Result<(), Fail> {
-    let image = image_of(rt.alloc(), &[CODE])?;
     let args = texts(rt.alloc(), &[b"a"])?;
-    let Ok(loaded) = load_with(rt.alloc(), &image, args.as_slice(), &[]) else {
-        panic!(rt; "not loaded");
-    };
-    let none = Handed::none(rt.alloc());
-    for (address, word) in WORDS {
-        assert_eq!(rt;
-            loaded.space.load(&none, address, 8),
-            Ok(word),
-            "at {address:x}"
-        );
-    }
-    assert_eq!(rt; loaded.space.load(&none, 0x3f_ffff_ffee, 2), Ok(0x61));
-    let mut random = [0; 16];
-    assert_eq!(rt;
-        loaded.space.read(&none, 0x3f_ffff_fff0, &mut random),
-        Ok(())
-    );
-    assert_eq!(rt; random, RANDOM);
+    let loaded = load_code(rt.alloc(), args.as_slice())?;
+    expect_numbers(&rt, rt.alloc(), &loaded, 8, WORDS);
+    expect_numbers(&rt, rt.alloc(), &loaded, 2, &[(0x3f_ffff_ffee, 0x61)]);
+    expect_random(&rt, rt.alloc(), &loaded, 0x3f_ffff_fff0);
     Ok(())
 }
 
 #[test]
 fn a_program_begins_at_its_entry_with_its_stack_pointer(rt: HostRuntime) -> Result<(), Fail> {
     let loaded = load_parts(rt.alloc(), &[CODE])?;
+    let mut registers = [0; 32];
+    registers[2] = 0x3f_ffff_ff60;
     assert_eq!(rt; loaded.registers.pc, 0x1_0080);
-    for (number, value) in loaded.registers.x.iter().enumerate() {
-        let sp = if number == 2 { 0x3f_ffff_ff60 } else { 0 };
-        assert_eq!(rt; *value, sp, "x{number}");
-    }
+    assert_eq!(rt; loaded.registers.x, registers);
     Ok(())
+}
+
+/// Addresses of a stack, and their bytes.
+const STACK: &[(u64, u64)] = &[
+    (0x3f_fffc_0000, 0),
+    (0x3f_ffff_ff5f, 0),
+    (0x3f_ffff_ffff, 16),
+];
+
+/// Aborts unless these bytes can be read, and not run.
+fn expect_data(rt: &impl Abort, alloc: Global, loaded: &Loaded, bytes: &[(u64, u64)]) {
+    let none = Handed::none(alloc);
+    for &(addr, byte) in bytes {
+        let found = (
+            loaded.space.load(&none, addr, 1),
+            loaded.space.fetch(&none, addr),
+        );
+        assert_eq!(rt;
+            found,
+            (Ok(byte), Err(MemErr::Fault { addr })),
+            "at {addr:x}"
+        );
+    }
+}
+
+/// Whether there are 64 pages with one of code, the first and the last of them to be read and written, and of the last
+/// two the last one alone takes memory.
+fn has_stack(areas: &Areas) -> bool {
+    let data = Rights::READ | Rights::WRITE;
+    areas.len() == 65
+        && has_rights(areas, 0x3ff_ffc0, data)
+        && has_rights(areas, 0x3ff_ffff, data)
+        && areas.is_own(0x3ff_ffff)
+        && !areas.is_own(0x3ff_fffe)
 }
 
 #[test]
 fn a_stack_is_64_pages_to_read_and_write(rt: HostRuntime) -> Result<(), Fail> {
     let loaded = load_parts(rt.alloc(), &[CODE])?;
-    let none = Handed::none(rt.alloc());
-    for (address, byte) in [
-        (0x3f_fffc_0000, 0),
-        (0x3f_ffff_ff5f, 0),
-        (0x3f_ffff_ffff, 16),
-    ] {
-        assert_eq!(rt;
-            loaded.space.load(&none, address, 1),
-            Ok(byte),
-            "at {address:x}"
-        );
-        let fault = Err(MemErr::Fault { addr: address });
-        assert_eq!(rt; loaded.space.fetch(&none, address), fault);
-    }
-    for addr in [0x3f_fffb_ffff, 0x40_0000_0000] {
-        let fault = Err(MemErr::Fault { addr });
-        assert_eq!(rt; loaded.space.load(&none, addr, 1), fault, "at {addr:x}");
-    }
-    let areas = loaded.space.areas();
-    assert_eq!(rt; areas.len(), 65);
-    for number in [0x3ff_ffc0, 0x3ff_ffff] {
-        assert!(rt;
-            areas
-                .page(number)
-                .is_some_and(|page| page.rights == Rights::READ | Rights::WRITE)
-        );
-    }
-    assert!(rt; areas.is_own(0x3ff_ffff) && !areas.is_own(0x3ff_fffe));
+    expect_data(&rt, rt.alloc(), &loaded, STACK);
+    expect_faults(&rt, rt.alloc(), &loaded, &[0x3f_fffb_ffff, 0x40_0000_0000]);
+    assert!(rt; has_stack(loaded.space.areas()));
     Ok(())
 }
 
 #[test]
 fn a_long_argument_lies_in_many_pages(rt: HostRuntime) -> Result<(), Fail> {
-    let image = image_of(rt.alloc(), &[CODE])?;
     let args = [letters(rt.alloc(), 65_527)?];
-    let Ok(loaded) = load_with(rt.alloc(), &image, &args, &[]) else {
-        panic!(rt; "not loaded");
-    };
-    let none = Handed::none(rt.alloc());
+    let loaded = load_code(rt.alloc(), &args)?;
     assert_eq!(rt; loaded.registers.x[2], 0x3f_fffe_ff60);
-    assert_eq!(rt;
-        loaded.space.load(&none, 0x3f_fffe_ff68, 8),
-        Ok(0x3f_fffe_fff8)
-    );
-    assert_eq!(rt; loaded.space.load(&none, 0x3f_fffe_fff7, 2), Ok(0x7800));
-    assert_eq!(rt;
-        loaded.space.load(&none, 0x3f_ffff_0ffe, 4),
-        Ok(0x7878_7878)
-    );
-    assert_eq!(rt; loaded.space.load(&none, 0x3f_ffff_ffee, 2), Ok(0x78));
+    let pointers = [(0x3f_fffe_ff68, 0x3f_fffe_fff8)];
+    let begin = [(0x3f_fffe_fff7, 0x7800)];
+    let letters = [(0x3f_ffff_0ffe, 0x7878_7878)];
+    let end = [(0x3f_ffff_ffee, 0x78)];
+    expect_numbers(&rt, rt.alloc(), &loaded, 8, &pointers);
+    expect_numbers(&rt, rt.alloc(), &loaded, 2, &begin);
+    expect_numbers(&rt, rt.alloc(), &loaded, 4, &letters);
+    expect_numbers(&rt, rt.alloc(), &loaded, 2, &end);
+    Ok(())
+}
+
+/// Aborts unless a program of these parts is told that its table of headers is there, and has so many.
+fn expect_headers(
+    rt: &impl Abort,
+    alloc: Global,
+    parts: &[Part],
+    table: u64,
+    count: u64,
+) -> Result<(), Fail> {
+    let loaded = load_parts(alloc, parts)?;
+    let told = [(0x3f_ffff_ff80, table), (0x3f_ffff_ffa0, count)];
+    expect_numbers(rt, alloc, &loaded, 8, &told);
     Ok(())
 }
 
@@ -131,18 +144,6 @@ fn the_table_of_headers_may_be_in_a_later_segment_or_in_none(rt: HostRuntime) ->
         address: 0x2_0000,
         ..CODE
     };
-    let loaded = load_parts(rt.alloc(), &[outside, holding])?;
-    let none = Handed::none(rt.alloc());
-    assert_eq!(rt; loaded.space.load(&none, 0x3f_ffff_ff80, 8), Ok(0x2_0040));
-    assert_eq!(rt; loaded.space.load(&none, 0x3f_ffff_ffa0, 8), Ok(2));
-    let alone = load_parts(
-        rt.alloc(),
-        &[Part {
-            offset: 256,
-            ..CODE
-        }],
-    )?;
-    assert_eq!(rt; alone.space.load(&none, 0x3f_ffff_ff80, 8), Ok(0));
-    assert_eq!(rt; alone.space.load(&none, 0x3f_ffff_ffa0, 8), Ok(1));
-    Ok(())
+    expect_headers(&rt, rt.alloc(), &[outside, holding], 0x2_0040, 2)?;
+    expect_headers(&rt, rt.alloc(), &[outside], 0, 1)
 }

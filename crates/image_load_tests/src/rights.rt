@@ -11,22 +11,28 @@ fn of_image(read: bool, write: bool, execute: bool) -> elf_image::Rights {
     }
 }
 
+/// Whether an image's page may be read, written and run.
+const CASES: &[[bool; 3]] = &[
+    [false, false, false],
+    [true, false, false],
+    [false, true, false],
+    [false, false, true],
+    [true, true, false],
+    [true, false, true],
+    [true, true, true],
+];
+
 #[test]
 fn a_page_has_the_rights_that_its_image_has(rt: HostRuntime) {
-    let cases = [
-        (of_image(false, false, false), [false, false, false]),
-        (of_image(true, false, false), [true, false, false]),
-        (of_image(false, true, false), [false, true, false]),
-        (of_image(false, false, true), [false, false, true]),
-        (of_image(true, true, false), [true, true, false]),
-        (of_image(true, false, true), [true, false, true]),
-        (of_image(true, true, true), [true, true, true]),
-    ];
-    for (rights, [read, write, execute]) in cases {
-        let page = page_rights(rights);
-        assert_eq!(rt; page.allows(Rights::READ), read);
-        assert_eq!(rt; page.allows(Rights::WRITE), write);
-        assert_eq!(rt; page.allows(Rights::EXECUTE), execute);
+    for rights in CASES {
+        let [read, write, execute] = *rights;
+        let page = page_rights(of_image(read, write, execute));
+        let allowed = [
+            page.allows(Rights::READ),
+            page.allows(Rights::WRITE),
+            page.allows(Rights::EXECUTE),
+        ];
+        assert_eq!(rt; allowed, *rights);
     }
 }
 
@@ -34,7 +40,7 @@ fn a_page_has_the_rights_that_its_image_has(rt: HostRuntime) {
 fn a_page_of_two_segments_has_the_rights_of_both(rt: HostRuntime) {
     let code = of_image(true, false, true);
     let heap = of_image(false, true, false);
-    assert_eq!(rt; joined(code, heap), of_image(true, true, true));
-    assert_eq!(rt; joined(heap, heap), heap);
-    assert_eq!(rt; joined(code, code), code);
+    let all = of_image(true, true, true);
+    let pages = [joined(code, heap), joined(heap, heap), joined(code, code)];
+    assert_eq!(rt; pages, [all, heap, code]);
 }

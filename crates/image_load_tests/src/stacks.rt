@@ -1,8 +1,10 @@
 //! Stacks written out, word by word from the stack pointer up, and the bytes behind the words.
 
-use crate::strings::{RANDOM, stack_of, texts};
+use crate::strings::{RANDOM, expect_words, stack_of, texts};
+use image_load::OpeningStack;
 use sn_base::List;
-use sn_bytes::u64_at;
+use std::alloc::Global;
+use std::process::Abort;
 use std::test::Fail;
 
 /// Strings, the stack pointer, the words from there, and the bytes behind them up to the random ones.
@@ -15,7 +17,7 @@ struct Case<'a> {
 }
 
 #[rattlefmt::skip]
-const CASES: [Case<'static>; 4] = [
+const CASES: &[Case<'static>] = &[
     Case {
         args: &[], env: &[], sp: 0x3f_ffff_ff60,
         words: &[
@@ -50,30 +52,41 @@ const CASES: [Case<'static>; 4] = [
     },
 ];
 
+/// These bytes, and the random ones behind them.
+fn with_random(alloc: Global, bytes: &[u8]) -> Result<List<u8>, Fail> {
+    let mut all = List::from_slice(alloc, bytes)?;
+    all.extend_from_slice(&RANDOM)?;
+    Ok(all)
+}
+
+/// Aborts unless a stack is as the case has it.
+fn expect_stack(
+    rt: &impl Abort,
+    alloc: Global,
+    case: &Case,
+    stack: &OpeningStack,
+) -> Result<(), Fail> {
+    assert_eq!(rt; stack.sp, case.sp);
+    expect_words(rt, stack, 0, case.words);
+    let behind = with_random(alloc, case.behind)?;
+    match stack.bytes.as_slice().get(8 * case.words.len()..) {
+        Some(rest) => assert_eq!(rt; rest, behind.as_slice(), "at {:x}", case.sp),
+        None => panic!(rt; "no strings at {:x}", case.sp),
+    }
+    Ok(())
+}
+
+fn expect_case(rt: &impl Abort, alloc: Global, case: &Case) -> Result<(), Fail> {
+    let args = texts(alloc, case.args)?;
+    let env = texts(alloc, case.env)?;
+    let stack = stack_of(alloc, args.as_slice(), env.as_slice())?;
+    expect_stack(rt, alloc, case, &stack)
+}
+
 #[test]
 fn each_pointer_leads_to_its_string(rt: HostRuntime) -> Result<(), Fail> {
-    for case in &CASES {
-        let args = texts(rt.alloc(), case.args)?;
-        let env = texts(rt.alloc(), case.env)?;
-        let Ok(stack) = stack_of(rt.alloc(), args.as_slice(), env.as_slice()) else {
-            panic!(rt; "no stack at {:x}", case.sp);
-        };
-        assert_eq!(rt; stack.sp, case.sp);
-        let bytes = stack.bytes.as_slice();
-        for (index, word) in case.words.iter().enumerate() {
-            assert_eq!(rt;
-                u64_at(bytes, 8 * index),
-                Some(*word),
-                "word {index} at {:x}",
-                case.sp
-            );
-        }
-        let mut behind = List::from_slice(rt.alloc(), case.behind)?;
-        behind.extend_from_slice(&RANDOM)?;
-        match bytes.get(8 * case.words.len()..) {
-            Some(rest) => assert_eq!(rt; rest, behind.as_slice(), "at {:x}", case.sp),
-            None => panic!(rt; "no strings at {:x}", case.sp),
-        }
+    for case in CASES {
+        expect_case(&rt, rt.alloc(), case)?;
     }
     Ok(())
 }

@@ -19,11 +19,14 @@ const PLACE: u64 = MIDDLE + 4088;
 /// MAP_PRIVATE with MAP_FIXED.
 const OVER: u64 = PRIVATE | FIXED;
 
+/// Both kinds of mappings.
+const KINDS: &[u64] = &[PRIVATE, SHARED];
+
 /// Calls between a load-reserved and its store-conditional: the number and the arguments; and what that gives, 0 where
 /// it stores, 1 where the reservation is lost: docs/GUESTS.md, Mappings. A refused call keeps it, and so does one whose
 /// range has another page, or none.
 #[rattlefmt::skip]
-const CALLS: [(u64, [u64; 6], u64); 28] = [
+const CALLS: &[(u64, [u64; 6], u64)] = &[
     (226, [MIDDLE, 4096, 3, 0, 0, 0], 1),
     (226, [MIDDLE, 1, 3, 0, 0, 0], 1),
     (226, [BEFORE, 4097, 3, 0, 0, 0], 1),
@@ -56,7 +59,7 @@ const CALLS: [(u64, [u64; 6], u64); 28] = [
 
 /// Three new pages of the guest's kind, and the reservation.
 #[rattlefmt::skip]
-const RESERVED: [Act; 2] = [
+const RESERVED: &[Act] = &[
     Act::Lay(BEFORE, 12_288, 3),
     Act::Gives(RESERVE, PLACE, 0, 0),
 ];
@@ -67,7 +70,7 @@ fn expect_after(
     row: usize,
     (number, args, gives): (u64, [u64; 6], u64),
 ) -> Result<(), Fail> {
-    guest.expect_row(row, &RESERVED)?;
+    guest.expect_row(row, RESERVED)?;
     let _ = guest.reply(ask(number, args))?;
     let acts = [
         Act::Gives(STORE_RESERVED, PLACE, 5, gives),
@@ -76,26 +79,31 @@ fn expect_after(
     guest.expect_row(row, &acts)
 }
 
-/// That it is so after each call, over pages of a kind.
-fn expect_calls(alloc: Global, kind: u64) -> Result<(), Fail> {
-    let mut guest = new_guest(alloc)?;
-    guest.kind = kind;
+/// That it is so after each call.
+fn expect_calls(guest: &mut Guest) -> Result<(), Fail> {
     for (row, call) in CALLS.iter().enumerate() {
-        expect_after(&mut guest, row, *call)?;
+        expect_after(guest, row, *call)?;
     }
     Ok(())
 }
 
+/// The same of a new guest, over pages of a kind.
+fn expect_calls_over(alloc: Global, kind: u64) -> Result<(), Fail> {
+    let mut guest = new_guest(alloc)?;
+    guest.kind = kind;
+    expect_calls(&mut guest)
+}
+
 #[test]
 fn a_reservation_is_lost_with_a_change_of_its_page_alone(rt: HostRuntime) -> Result<(), Fail> {
-    expect_calls(rt.alloc(), PRIVATE)?;
-    expect_calls(rt.alloc(), SHARED)
+    expect_calls_over(rt.alloc(), PRIVATE)?;
+    expect_calls_over(rt.alloc(), SHARED)
 }
 
 /// A page of the heap goes and comes back by the break, which keeps a reservation there; so that it is lost where the
 /// page is unmapped before.
 #[rattlefmt::skip]
-const UNMAPPED: [Act; 12] = [
+const UNMAPPED: &[Act] = &[
     Act::Brk(HEAP + 4096, HEAP + 4096),
     Act::Gives(RESERVE, HEAP, 0, 0),
     Act::Brk(HEAP, HEAP),
@@ -112,12 +120,12 @@ const UNMAPPED: [Act; 12] = [
 
 #[test]
 fn munmap_ends_a_reservation_and_the_break_keeps_it(rt: HostRuntime) -> Result<(), Fail> {
-    expect_acts(rt.alloc(), &UNMAPPED)
+    expect_acts(rt.alloc(), UNMAPPED)
 }
 
 /// Calls on other pages, a write of its bytes, and a load and a store of its own.
 #[rattlefmt::skip]
-const ELSEWHERE: [Act; 10] = [
+const ELSEWHERE: &[Act] = &[
     Act::Lay(BEFORE, 12_288, 3),
     Act::Gives(RESERVE, PLACE, 0, 0),
     Act::Protect(HEAP - 4096, 4096, 5),
@@ -132,7 +140,7 @@ const ELSEWHERE: [Act; 10] = [
 
 /// A reservation of eight bytes isn't one of four, and is gone then; that of another task stays.
 #[rattlefmt::skip]
-const WIDTHS: [Act; 7] = [
+const WIDTHS: &[Act] = &[
     Act::Lay(BEFORE, 12_288, 3),
     Act::Gives(RESERVE, PLACE, 0, 0),
     Act::Does(2, RESERVE, PLACE),
@@ -144,10 +152,10 @@ const WIDTHS: [Act; 7] = [
 
 #[test]
 fn calls_elsewhere_and_its_own_stores_keep_a_reservation(rt: HostRuntime) -> Result<(), Fail> {
-    expect_acts_of(rt.alloc(), &[PRIVATE, SHARED], &ELSEWHERE)
+    expect_acts_of(rt.alloc(), KINDS, ELSEWHERE)
 }
 
 #[test]
 fn a_store_conditional_of_another_width_stores_nothing(rt: HostRuntime) -> Result<(), Fail> {
-    expect_acts_of(rt.alloc(), &[PRIVATE, SHARED], &WIDTHS)
+    expect_acts_of(rt.alloc(), KINDS, WIDTHS)
 }

@@ -21,7 +21,7 @@ const SECOND: Area = Area { place: 2, index: 0 };
 
 /// Counts a number of the shared page up, between instructions on registers alone.
 #[rattlefmt::skip]
-const COUNTS_UP: [u32; 7] = [
+const COUNTS_UP: &[u32] = &[
     0x0000_0013, // nop
     0x0000_0013, // nop
     0x0005_3603, // ld a2, 0(a0)
@@ -34,7 +34,7 @@ const COUNTS_UP: [u32; 7] = [
 /// Two instructions, the load alone, one instruction, the store alone, and one up to the call. A run that stands at the
 /// shared page has none, however often it is tried; one of none goes nowhere.
 #[rattlefmt::skip]
-const COUNTED: [Act; 14] = [
+const COUNTED: &[Act] = &[
     Act::Map(0, 4096, 3, SHARED, UPPER),
     Act::Stands(65_656, UPPER, 0),
     Act::Runs(1, 1, Next::Goes),
@@ -51,23 +51,22 @@ const COUNTED: [Act; 14] = [
     Act::Bytes(UPPER, &[0, 0, 0, 0, 0, 0, 0, 0, 1, 0, 0, 0]),
 ];
 
-/// That the guest stands at its call, with what it stored in a2.
-fn expect_at_call(rt: &impl Abort, guest: &Guest) {
-    assert_eq!(rt; guest.registers.pc, 65_680);
-    assert_eq!(rt; guest.given(), 1);
+/// That a guest with these words does so, and then stands at its call, with what it stored in a2.
+fn expect_counted(rt: &impl Abort, guest: &mut Guest) -> Result<(), Fail> {
+    guest.expect(COUNTED)?;
+    assert_eq!(rt; (guest.registers.pc, guest.given()), (65_680, 1));
+    Ok(())
 }
 
 #[test]
 fn a_run_ends_before_a_shared_page_and_a_step_goes_over_it(rt: HostRuntime) -> Result<(), Fail> {
-    let mut guest = guest_of(rt.alloc(), &COUNTS_UP)?;
-    guest.expect(&COUNTED)?;
-    expect_at_call(&rt, &guest);
-    Ok(())
+    let mut guest = guest_of(rt.alloc(), COUNTS_UP)?;
+    expect_counted(&rt, &mut guest)
 }
 
 /// Both mappings, with the rights to read and write.
 #[rattlefmt::skip]
-const BOTH: [Act; 2] = [
+const BOTH: &[Act] = &[
     Act::Map(0, 4096, 3, SHARED, UPPER),
     Act::Map(0, 4096, 3, SHARED, LOWER),
 ];
@@ -75,7 +74,7 @@ const BOTH: [Act; 2] = [
 /// Instructions with an address and a value; the area that a run of them asks for first, with none in hand; and what a2
 /// then has. The values go on from one row to the next: RISC-V Unprivileged ISA, 8.2 and 8.4. A store leaves a2.
 #[rattlefmt::skip]
-const TOUCHES: [(u64, u64, u64, Area, u64); 18] = [
+const TOUCHES: &[(u64, u64, u64, Area, u64)] = &[
     (STORE, UPPER, 5, FIRST, 0),
     (LOAD, UPPER, 0, FIRST, 5),
     (ADD, UPPER, 30, FIRST, 5),
@@ -96,8 +95,10 @@ const TOUCHES: [(u64, u64, u64, Area, u64); 18] = [
     (LOAD, UPPER - 1, 0, SECOND, 0x0011_1111_1122),
 ];
 
-/// That a run at each instruction touches its area, and that the instruction alone goes on, and leaves that in a2.
+/// That both are mapped, and that a run at each instruction touches its area, and the instruction alone goes on, and
+/// leaves that in a2.
 fn expect_touches(guest: &mut Guest) -> Result<(), Fail> {
+    guest.expect(BOTH)?;
     for (row, (instruction, at, value, area, gives)) in TOUCHES.iter().enumerate() {
         let acts = [
             Act::Stands(*instruction, *at, *value),
@@ -114,7 +115,6 @@ fn loads_stores_and_atomic_instructions_are_done_in_shared_areas(
     rt: HostRuntime,
 ) -> Result<(), Fail> {
     let mut guest = new_guest(rt.alloc())?;
-    guest.expect(&BOTH)?;
     expect_touches(&mut guest)
 }
 
@@ -122,7 +122,7 @@ fn loads_stores_and_atomic_instructions_are_done_in_shared_areas(
 /// may be written, and over both ends, where nothing is mapped. Alignment goes before rights. The pages still have
 /// zeros then.
 #[rattlefmt::skip]
-const TRAPS: [Act; 24] = [
+const TRAPS: &[Act] = &[
     Act::Map(0, 4096, 1, SHARED, UPPER),
     Act::Map(0, 4096, 3, SHARED, LOWER),
     Act::Protect(LOWER, 4096, 2),
@@ -151,13 +151,13 @@ const TRAPS: [Act; 24] = [
 
 #[test]
 fn an_access_without_the_right_or_off_its_width_traps(rt: HostRuntime) -> Result<(), Fail> {
-    expect_acts(rt.alloc(), &TRAPS)
+    expect_acts(rt.alloc(), TRAPS)
 }
 
 /// Pairs of words in the upper page, with what the first of each comes to alone: a load from the page of the other
 /// area, an addition, a call, and words that trap with the signals 5, 4 and 7. A run ends behind the jump there.
 #[rattlefmt::skip]
-const WORDS: [Act; 20] = [
+const WORDS: &[Act] = &[
     Act::Map(0, 4096, 7, SHARED, UPPER),
     Act::Map(0, 4096, 3, SHARED, LOWER),
     Act::Stores(LOWER, 1234),
@@ -180,23 +180,23 @@ const WORDS: [Act; 20] = [
     Act::Steps(Next::Traps(7)),
 ];
 
-/// That the load loaded, and the addition added.
-fn expect_added(rt: &impl Abort, guest: &Guest) {
+/// That each comes to that, and that the load loaded, and the addition added.
+fn expect_words(rt: &impl Abort, guest: &mut Guest) -> Result<(), Fail> {
+    guest.expect(WORDS)?;
     assert_eq!(rt; guest.given(), 1235);
+    Ok(())
 }
 
 #[test]
 fn instructions_are_fetched_from_a_shared_page(rt: HostRuntime) -> Result<(), Fail> {
     let mut guest = new_guest(rt.alloc())?;
-    guest.expect(&WORDS)?;
-    expect_added(&rt, &guest);
-    Ok(())
+    expect_words(&rt, &mut guest)
 }
 
 /// Without the right to be executed a word traps, in a run too; with that right alone it is done, but for a load where
 /// nothing is mapped, which is told once the word's area is in hand.
 #[rattlefmt::skip]
-const NO_FETCH: [Act; 11] = [
+const NO_FETCH: &[Act] = &[
     Act::Map(0, 4096, 3, SHARED, UPPER),
     Act::Map(0, 4096, 3, SHARED, LOWER),
     Act::Stores(UPPER, 0x0000_0013_0005_3603), // ld a2, 0(a0); nop
@@ -212,5 +212,5 @@ const NO_FETCH: [Act; 11] = [
 
 #[test]
 fn a_shared_page_may_be_fetched_from_by_its_right_alone(rt: HostRuntime) -> Result<(), Fail> {
-    expect_acts(rt.alloc(), &NO_FETCH)
+    expect_acts(rt.alloc(), NO_FETCH)
 }

@@ -29,7 +29,7 @@ const OVER: &[u8] = &[
 
 /// Bytes over each border, and writes over all four pages, over each end of them, and over a hole among them.
 #[rattlefmt::skip]
-const BUFFERS: [Act; 28] = [
+const BUFFERS: &[Act] = &[
     Act::Map(0, 4096, 3, PRIVATE, HIGH),
     Act::Map(0, 4096, 3, SHARED, OTHER),
     Act::Map(0, 4096, 3, SHARED, ONE),
@@ -58,16 +58,16 @@ const BUFFERS: [Act; 28] = [
 fn a_buffer_over_private_and_shared_pages_is_taken_whole_or_not_at_all(
     rt: HostRuntime,
 ) -> Result<(), Fail> {
-    expect_acts(rt.alloc(), &BUFFERS)
+    expect_acts(rt.alloc(), BUFFERS)
 }
 
-/// 17 shared pages, one behind another, each of a call of its own.
-fn lay_seventeen(guest: &mut Guest) -> Result<(), Fail> {
+/// Lays 17 shared pages, one behind another, each by a call of its own, and then does these.
+fn lay_seventeen(guest: &mut Guest, acts: &[Act]) -> Result<(), Fail> {
     for number in 0..17u64 {
         let at = number.wrapping_mul(4096).wrapping_add(1 << 37);
         guest.expect(&[Act::Map(at, 4096, 3, SHARED | FIXED, at)])?;
     }
-    Ok(())
+    guest.expect(acts)
 }
 
 /// Where they begin.
@@ -75,7 +75,7 @@ const BEGIN: u64 = 1 << 37;
 
 /// A write takes 65,536 bytes from the midst of the first on, or as many up to the end of the last.
 #[rattlefmt::skip]
-const SEVENTEEN: [Act; 5] = [
+const SEVENTEEN: &[Act] = &[
     Act::Writes(BEGIN + 2048, 65_536, 65_536),
     Act::Writes(BEGIN + 2048, u64::MAX, 65_536),
     Act::Writes(BEGIN + 4096, 65_536, 65_536),
@@ -86,8 +86,7 @@ const SEVENTEEN: [Act; 5] = [
 #[test]
 fn a_buffer_may_lie_in_seventeen_areas(rt: HostRuntime) -> Result<(), Fail> {
     let mut guest = new_guest(rt.alloc())?;
-    lay_seventeen(&mut guest)?;
-    guest.expect(&SEVENTEEN)
+    lay_seventeen(&mut guest, SEVENTEEN)
 }
 
 /// An area of two pages at two addresses: where the first call puts it, and where its first page is mapped again.
@@ -97,7 +96,7 @@ const THERE: u64 = 1 << 37;
 
 /// What is stored by one address is loaded and written by the other; the second page is here alone.
 #[rattlefmt::skip]
-const TWICE: [Act; 14] = [
+const TWICE: &[Act] = &[
     Act::Map(0, 8192, 3, SHARED, HERE),
     Act::Again(1, THERE, 4096),
     Act::Stores(HERE + 8, 5),
@@ -118,13 +117,13 @@ const TWICE: [Act; 14] = [
 fn what_is_stored_in_an_area_by_one_address_is_read_by_the_other(
     rt: HostRuntime,
 ) -> Result<(), Fail> {
-    expect_acts(rt.alloc(), &TWICE)
+    expect_acts(rt.alloc(), TWICE)
 }
 
 /// The area stays while nobody maps it, and is mapped again with its bytes; each mapping with MAP_SHARED has an area of
 /// its own, of its own length.
 #[rattlefmt::skip]
-const STAYS: [Act; 14] = [
+const STAYS: &[Act] = &[
     Act::Map(0, 8192, 3, SHARED, HERE),
     Act::Again(1, THERE, 4096),
     Act::Stores(THERE, 9),
@@ -143,14 +142,14 @@ const STAYS: [Act; 14] = [
 
 #[test]
 fn an_area_stays_while_nobody_maps_it(rt: HostRuntime) -> Result<(), Fail> {
-    expect_acts(rt.alloc(), &STAYS)
+    expect_acts(rt.alloc(), STAYS)
 }
 
 /// What a task does to eight bytes that task 1 has reserved by the address here, and whether the reservation is still
 /// there: RISC-V Unprivileged ISA, 8.2, with the granule of eight bytes of docs/GUESTS.md. Its own stores keep it, by
 /// either address; another's end it, where they meet the eight bytes.
 #[rattlefmt::skip]
-const MEETINGS: [(u32, u64, u64, bool); 12] = [
+const MEETINGS: &[(u32, u64, u64, bool)] = &[
     (1, LOAD, THERE + 16, true),
     (2, LOAD, THERE + 16, true),
     (1, STORE, HERE + 16, true),
@@ -165,8 +164,9 @@ const MEETINGS: [(u32, u64, u64, bool); 12] = [
     (2, STORE, THERE + 24, true),
 ];
 
-/// That each of them is so.
+/// That each of them is so where the area is at both addresses.
 fn expect_meetings(guest: &mut Guest) -> Result<(), Fail> {
+    guest.expect(TWICE)?;
     for (row, (task, instruction, at, is_held)) in MEETINGS.iter().enumerate() {
         let acts = [
             Act::Does(1, RESERVE, HERE + 16),
@@ -181,14 +181,13 @@ fn expect_meetings(guest: &mut Guest) -> Result<(), Fail> {
 #[test]
 fn another_tasks_store_by_either_address_ends_a_reservation(rt: HostRuntime) -> Result<(), Fail> {
     let mut guest = new_guest(rt.alloc())?;
-    guest.expect(&TWICE)?;
     expect_meetings(&mut guest)
 }
 
 /// A reservation is of one address: by the other nothing is stored. It goes with the page that it was made by, and
 /// stays where the other is unmapped.
 #[rattlefmt::skip]
-const ONE_ADDRESS: [Act; 13] = [
+const ONE_ADDRESS: &[Act] = &[
     Act::Map(0, 8192, 3, SHARED, HERE),
     Act::Again(1, THERE, 4096),
     Act::Does(1, RESERVE, HERE),
@@ -206,12 +205,12 @@ const ONE_ADDRESS: [Act; 13] = [
 
 #[test]
 fn a_reservation_in_an_area_is_of_one_address(rt: HostRuntime) -> Result<(), Fail> {
-    expect_acts(rt.alloc(), &ONE_ADDRESS)
+    expect_acts(rt.alloc(), ONE_ADDRESS)
 }
 
 /// Both tasks reserve the same eight bytes; the first that stores ends the other's reservation.
 #[rattlefmt::skip]
-const BOTH: [Act; 8] = [
+const BOTH: &[Act] = &[
     Act::Map(0, 8192, 3, SHARED, HERE),
     Act::Again(1, THERE, 4096),
     Act::Does(1, RESERVE, HERE),
@@ -224,12 +223,12 @@ const BOTH: [Act; 8] = [
 
 #[test]
 fn of_two_tasks_that_reserve_one_stores(rt: HostRuntime) -> Result<(), Fail> {
-    expect_acts(rt.alloc(), &BOTH)
+    expect_acts(rt.alloc(), BOTH)
 }
 
 /// The heap's first page is shared memory, once that is mapped over it.
 #[rattlefmt::skip]
-const IN_THE_HEAP: [Act; 5] = [
+const IN_THE_HEAP: &[Act] = &[
     Act::Brk(HEAP + 1, HEAP + 1),
     Act::Map(HEAP, 4096, 3, SHARED | FIXED, HEAP),
     Act::Stores(HEAP, 3),
@@ -239,12 +238,12 @@ const IN_THE_HEAP: [Act; 5] = [
 
 #[test]
 fn shared_memory_may_lie_in_the_heap(rt: HostRuntime) -> Result<(), Fail> {
-    expect_acts(rt.alloc(), &IN_THE_HEAP)
+    expect_acts(rt.alloc(), IN_THE_HEAP)
 }
 
 /// A page of an area that no call has made: neither a call nor an instruction reaches it.
 #[rattlefmt::skip]
-const LACKING: [Act; 9] = [
+const LACKING: &[Act] = &[
     Act::Again(99, THERE, 4096),
     Act::Writes(THERE, 1, -14),
     Act::Random(THERE, 1, -14),
@@ -258,5 +257,5 @@ const LACKING: [Act; 9] = [
 
 #[test]
 fn an_area_that_is_not_there_is_reached_by_nothing(rt: HostRuntime) -> Result<(), Fail> {
-    expect_acts(rt.alloc(), &LACKING)
+    expect_acts(rt.alloc(), LACKING)
 }

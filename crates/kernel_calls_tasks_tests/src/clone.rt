@@ -7,7 +7,6 @@ use kernel_calls_acts::{
 };
 use rv_table::Regs;
 use std::alloc::Global;
-use std::process::Abort;
 use std::test::Fail;
 
 /// SIGCHLD, the flags of a process; and those of a thread: CLONE_VM, CLONE_FS, CLONE_FILES, CLONE_SIGHAND and
@@ -51,7 +50,7 @@ const READ_ONLY: u64 = MAPPINGS_END - 4096;
 /// that a thread lacks; both shapes at once; and others, as CLONE_PIDFD, CLONE_PTRACE, CLONE_VFORK, CLONE_NEWNS,
 /// CLONE_UNTRACED, CLONE_NEWUTS and CLONE_IO. The high 32 bits are not looked at.
 #[rattlefmt::skip]
-const SHAPES: [u64; 33] = [
+const SHAPES: &[u64] = &[
     0, 1, 9, 16, 18, 255, SIGHAND, VM, PROCESS + VM, PROCESS + FS, PROCESS + FILES, PROCESS + SIGHAND, PROCESS + GROUP,
     THREAD - VM, THREAD - FS, THREAD - FILES, THREAD - SIGHAND, THREAD - GROUP, THREAD + PROCESS, THREAD + 1,
     PROCESS + 0x1000, PROCESS + 0x2000, PROCESS + 0x4000, PROCESS + 0x2_0000, PROCESS + 0x80_0000,
@@ -79,7 +78,7 @@ fn flags_of_neither_shape_are_einval(rt: HostRuntime) -> Result<(), Fail> {
 
 /// A byte of the parent's word, of the child's, or of either that may not be written: the other word stays as it was.
 #[rattlefmt::skip]
-const FAULTS: [Act; 26] = [
+const FAULTS: &[Act] = &[
     Act::Map(0, 4096, 1, PRIVATE, READ_ONLY),
     Act::Stores(AT, u64::MAX),
     Act::Stores(TOP - 8, u64::MAX),
@@ -110,12 +109,12 @@ const FAULTS: [Act; 26] = [
 
 #[test]
 fn a_word_that_may_not_be_written_is_efault(rt: HostRuntime) -> Result<(), Fail> {
-    expect_acts(rt.alloc(), &FAULTS)
+    expect_acts(rt.alloc(), FAULTS)
 }
 
 /// As many tasks live as may: EINVAL goes before that, and EFAULT behind it. Once one has ended, another may be made.
 #[rattlefmt::skip]
-const CROWDED: [Act; 11] = [
+const CROWDED: &[Act] = &[
     Act::Calls(CLONE, [PROCESS, 0, 0, 0, 0, 0], EAGAIN),
     Act::Calls(CLONE, [THREAD, 0, 0, 0, 0, 0], EAGAIN),
     Act::Calls(CLONE, [VM, 0, 0, 0, 0, 0], EINVAL),
@@ -129,12 +128,15 @@ const CROWDED: [Act; 11] = [
     Act::As(1, 1),
 ];
 
+/// The number of the one that is made then.
+const NUMBERED: &[Act] = &[Act::Bytes(AT, &[1, 1, 0, 0])];
+
 /// That these come of one another, and that one may be made then.
 fn expect_crowded(guest: &mut Guest) -> Result<(), Fail> {
-    guest.expect(&CROWDED)?;
+    guest.expect(CROWDED)?;
     let child = guest.child([PROCESS + PARENT, 0, AT, 0, 0])?;
     guest.go_on(child.words);
-    guest.expect(&[Act::Bytes(AT, &[1, 1, 0, 0])])
+    guest.expect(NUMBERED)
 }
 
 #[test]
@@ -171,7 +173,7 @@ const PLAIN: Begins = Begins {
 /// The stack and the thread pointer are what was asked for, whatever that is; the clear word is wherever it was asked
 /// for. What isn't asked for isn't looked at.
 #[rattlefmt::skip]
-const BEGINNINGS: [Begins; 14] = [
+const BEGINNINGS: &[Begins] = &[
     PLAIN,
     Begins { args: [PROCESS, AT, HEAP, AT, HEAP], stack: AT, ..PLAIN },
     Begins { args: [PROCESS, u64::MAX, HEAP, 0, HEAP], stack: u64::MAX, ..PLAIN },
@@ -206,23 +208,27 @@ fn registers_of(registers: &Regs, begins: &Begins) -> Regs {
     wanted
 }
 
-/// That a child begins so, and the caller's registers stay.
-fn expect_begins(rt: &impl Abort, guest: &mut Guest, begins: &Begins) -> Result<(), Fail> {
+/// Whether a child begins so.
+fn is_as_told(child: &Child, registers: &Regs, begins: &Begins) -> bool {
+    child.registers == registers_of(registers, begins)
+        && child.clear == begins.clear
+        && child.memory.is_some() == begins.own
+}
+
+/// Whether a clone's child begins so, and the caller's registers stay.
+fn begins_so(guest: &mut Guest, begins: &Begins) -> Result<bool, Fail> {
     let registers = guest.registers;
-    let wanted = registers_of(&registers, begins);
     let child = guest.child(begins.args)?;
-    assert!(rt; child.registers == wanted, "{:?}", begins.args);
-    assert_eq!(rt; child.clear, begins.clear, "{:?}", begins.args);
-    assert_eq!(rt; child.memory.is_some(), begins.own, "{:?}", begins.args);
-    assert!(rt; guest.registers == registers, "{:?}", begins.args);
-    Ok(())
+    Ok(is_as_told(&child, &registers, begins) && guest.registers == registers)
 }
 
 /// That each of these begins so.
-fn expect_beginnings(rt: &impl Abort, guest: &mut Guest) -> Result<(), Fail> {
+fn expect_beginnings(guest: &mut Guest) -> Result<(), Fail> {
     call(guest);
-    for begins in &BEGINNINGS {
-        expect_begins(rt, guest, begins)?;
+    for (row, begins) in BEGINNINGS.iter().enumerate() {
+        if !begins_so(guest, begins)? {
+            return Err(Fail::new(format_args!("row {row}")));
+        }
     }
     Ok(())
 }
@@ -232,7 +238,7 @@ fn a_child_begins_with_the_registers_of_its_caller_behind_the_call(
     rt: HostRuntime,
 ) -> Result<(), Fail> {
     let mut guest = new_guest(rt.alloc())?;
-    expect_beginnings(&rt, &mut guest)
+    expect_beginnings(&mut guest)
 }
 
 /// A clone by its arguments, what its caller does then, what the child does, and what the caller does at last.
@@ -251,7 +257,7 @@ const PRIVATE_PAGE: u64 = MAPPINGS_END - 8192;
 
 /// What all of them begin with.
 #[rattlefmt::skip]
-const BEFORE: [Act; 6] = [
+const BEFORE: &[Act] = &[
     Act::Map(0, 4096, 3, SHARED, SHARED_PAGE),
     Act::Map(0, 4096, 3, PRIVATE, PRIVATE_PAGE),
     Act::Stores(AT, u64::MAX),
@@ -266,7 +272,7 @@ const TWO: u64 = 0xffff_ffff_0000_0002;
 const ONES: u64 = u64::MAX;
 
 #[rattlefmt::skip]
-const CLONES: [Cloned; 11] = [
+const CLONES: &[Cloned] = &[
     // A process has a copy of private pages, in which nothing is reserved, and the shared ones with its caller.
     Cloned {
         args: [PROCESS, 0, AT, 0, AT],
@@ -351,7 +357,7 @@ const CLONES: [Cloned; 11] = [
 
 /// That one of these comes to what is expected.
 fn expect_cloned(guest: &mut Guest, cloned: &Cloned) -> Result<(), Fail> {
-    guest.expect(&BEFORE)?;
+    guest.expect(BEFORE)?;
     let Child { memory, words, .. } = guest.child(cloned.args)?;
     guest.go_on(words);
     guest.expect(cloned.caller)?;
@@ -367,7 +373,7 @@ fn expect_clone(alloc: Global, cloned: &Cloned) -> Result<(), Fail> {
 
 #[test]
 fn a_process_has_a_copy_of_memory_and_a_thread_the_same(rt: HostRuntime) -> Result<(), Fail> {
-    for cloned in &CLONES {
+    for cloned in CLONES {
         expect_clone(rt.alloc(), cloned)?;
     }
     Ok(())

@@ -29,7 +29,7 @@ const EXITS: Ends = Ends {
 /// A process has a copy of its maker's table, whose descriptors have the same descriptions: fork(2). With its exit, as
 /// the last of its group, they are closed, and the maker's stay: _exit(2).
 #[rattlefmt::skip]
-const OF_PROCESS: [Act; 17] = [
+const OF_PROCESS: &[Act] = &[
     Act::Open(MEMORY, Some(3)), Act::Descriptors(INPUT, Some(1)), Act::Descriptors(ERRORS, Some(1)),
     Act::At(9), Act::Makes(PROCESS),
     Act::Open(MEMORY, Some(3)), Act::Open(NINE, Some(3)),
@@ -43,7 +43,7 @@ const OF_PROCESS: [Act; 17] = [
 /// A thread shares its group's: clone(2), CLONE_FILES. Its exit closes nothing, and with the last of the group the
 /// table is closed.
 #[rattlefmt::skip]
-const OF_THREAD: [Act; 13] = [
+const OF_THREAD: &[Act] = &[
     Act::At(9), Act::Makes(THREAD),
     Act::Open(NINE, None), Act::Open(MEMORY, Some(3)), Act::Descriptors(INPUT, Some(1)),
     Act::Turns(2), Act::Exits(Ends { tasks: &[2], ..EXITS }),
@@ -54,7 +54,7 @@ const OF_THREAD: [Act; 13] = [
 
 /// A pipe's ends are open as long as a process has descriptors of them, and the pipe is gone with both: pipe(7).
 #[rattlefmt::skip]
-const OF_PIPE: [Act; 17] = [
+const OF_PIPE: &[Act] = &[
     Act::OpensPipe, Act::PipeEnds(Some((1, 1))), Act::Open(MEMORY, Some(5)),
     Act::At(9), Act::Makes(PROCESS),
     Act::Descriptors(READ_END, Some(2)), Act::Descriptors(WRITE_END, Some(2)), Act::PipeEnds(Some((1, 1))),
@@ -69,15 +69,15 @@ const OF_PIPE: [Act; 17] = [
 fn a_process_has_a_copy_of_its_makers_descriptors_and_closes_its_own(
     rt: HostRuntime,
 ) -> Result<(), Fail> {
-    expect_acts(rt.alloc(), &OF_PROCESS)
+    expect_acts(rt.alloc(), OF_PROCESS)
 }
 
 #[test]
 fn threads_share_a_table_that_is_closed_with_the_last_of_them(rt: HostRuntime) -> Result<(), Fail> {
-    expect_acts(rt.alloc(), &OF_THREAD)
+    expect_acts(rt.alloc(), OF_THREAD)
 }
 
 #[test]
 fn a_pipe_is_gone_with_the_last_descriptors_of_both_ends(rt: HostRuntime) -> Result<(), Fail> {
-    expect_acts(rt.alloc(), &OF_PIPE)
+    expect_acts(rt.alloc(), OF_PIPE)
 }

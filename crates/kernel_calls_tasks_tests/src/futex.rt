@@ -34,7 +34,7 @@ const P32: u64 = 1 << 32;
 /// Each error alone: futex(2), ERRORS, with the order of docs/GUESTS.md. ENOSYS is that of other operations, as
 /// FUTEX_FD 2, FUTEX_REQUEUE 3, FUTEX_WAIT_BITSET 9 and FUTEX_CLOCK_REALTIME 256, and of a FUTEX_WAIT with a timeout.
 #[rattlefmt::skip]
-const ERRORS: [Act; 45] = [
+const ERRORS: &[Act] = &[
     Act::Stores(AT, WORDS),
     Act::Map(0, 4096, 0, PRIVATE, NONE),
     Act::Map(0, 4096, 2, PRIVATE, WRITE_ONLY),
@@ -84,14 +84,14 @@ const ERRORS: [Act; 45] = [
 
 #[test]
 fn futex_is_refused_by_what_is_wrong(rt: HostRuntime) -> Result<(), Fail> {
-    expect_acts(rt.alloc(), &ERRORS)
+    expect_acts(rt.alloc(), ERRORS)
 }
 
 /// Two causes at once, of which the earlier is told: an operation that there isn't before each other cause; an address
 /// that is no multiple of 4 before a timeout, a byte that may not be read and another word; a timeout before a byte and
 /// another word; and a byte that may not be read, whatever is expected there. A FUTEX_WAKE has no timeout.
 #[rattlefmt::skip]
-const PAIRS: [Act; 23] = [
+const PAIRS: &[Act] = &[
     Act::Stores(AT, WORDS),
     Act::Calls(FUTEX, [AT + 1, 2, 5, 0, 0, 0], ENOSYS),
     Act::Calls(FUTEX, [AT, 2, 5, 1, 0, 0], ENOSYS),
@@ -119,13 +119,13 @@ const PAIRS: [Act; 23] = [
 
 #[test]
 fn of_two_causes_futex_tells_the_first(rt: HostRuntime) -> Result<(), Fail> {
-    expect_acts(rt.alloc(), &PAIRS)
+    expect_acts(rt.alloc(), PAIRS)
 }
 
 /// A word that is what the task expects, by the low 32 bits of the operation and of the value; it may lie in a page
 /// that may only be read. FUTEX_PRIVATE_FLAG makes no difference.
 #[rattlefmt::skip]
-const ASLEEP: [Act; 21] = [
+const ASLEEP: &[Act] = &[
     Act::Map(0, 4096, 0, PRIVATE, NONE),
     Act::Map(0, 4096, 2, PRIVATE, WRITE_ONLY),
     Act::Map(0, 4096, 1, PRIVATE, READ_ONLY),
@@ -151,24 +151,24 @@ const ASLEEP: [Act; 21] = [
 
 #[test]
 fn a_task_sleeps_on_a_word_that_is_what_it_expects(rt: HostRuntime) -> Result<(), Fail> {
-    expect_acts_among(rt.alloc(), family(rt.alloc())?, &ASLEEP)
+    expect_acts_among(rt.alloc(), family(rt.alloc())?, ASLEEP)
 }
 
 /// The word at the beginning of the code's page, which begins an ELF file.
 #[rattlefmt::skip]
-const CODE: [Act; 2] = [
+const CODE: &[Act] = &[
     Act::Sleeps([65_536, WAIT, 0x464c_457f, 0]),
     Act::Wakes([65_536, WAKE, 1, 0], 1),
 ];
 
 #[test]
 fn a_word_may_lie_in_the_code(rt: HostRuntime) -> Result<(), Fail> {
-    expect_acts(rt.alloc(), &CODE)
+    expect_acts(rt.alloc(), CODE)
 }
 
 /// Three tasks sleep on one word, and one on the next.
 #[rattlefmt::skip]
-const SLEEPERS: [Act; 9] = [
+const SLEEPERS: &[Act] = &[
     Act::Stores(AT, WORDS),
     Act::As(3, 3),
     Act::Sleeps([AT, WAIT, 5, 0]),
@@ -183,7 +183,7 @@ const SLEEPERS: [Act; 9] = [
 /// What wakes at most so many of them replies, and which of the tasks 1 to 4 sleep on: those wake first who sleep
 /// longest, on that word alone.
 #[rattlefmt::skip]
-const WAKINGS: [Act; 18] = [
+const WAKINGS: &[Act] = &[
     Act::Wakes([AT, WAKE, 0, 0], 0), Act::Asleep([true, true, true, true]),
     Act::Wakes([AT, WAKE, P32, 0], 0), Act::Asleep([true, true, true, true]),
     Act::Wakes([AT + 8, WAKE, 5, 0], 0), Act::Asleep([true, true, true, true]),
@@ -202,18 +202,18 @@ fn expect_of_sleepers(alloc: Global, acts: &[Act]) -> Result<(), Fail> {
 }
 
 fn sleep_and_do(guest: &mut Guest, acts: &[Act]) -> Result<(), Fail> {
-    guest.expect(&SLEEPERS)?;
+    guest.expect(SLEEPERS)?;
     guest.expect(acts)
 }
 
 #[test]
 fn a_wake_replies_how_many_of_those_on_its_word_it_wakes(rt: HostRuntime) -> Result<(), Fail> {
-    expect_of_sleepers(rt.alloc(), &WAKINGS)
+    expect_of_sleepers(rt.alloc(), WAKINGS)
 }
 
 /// All who sleep on a word are woken at once, and what lies there then is no matter.
 #[rattlefmt::skip]
-const AT_ONCE: [Act; 4] = [
+const AT_ONCE: &[Act] = &[
     Act::Stores(AT, 0),
     Act::Wakes([AT, WAKE, 2, 0], 2),
     Act::Wakes([AT, WAKE, 2, 0], 1),
@@ -222,7 +222,7 @@ const AT_ONCE: [Act; 4] = [
 
 #[test]
 fn a_wake_does_not_look_at_what_the_word_is(rt: HostRuntime) -> Result<(), Fail> {
-    expect_of_sleepers(rt.alloc(), &AT_ONCE)
+    expect_of_sleepers(rt.alloc(), AT_ONCE)
 }
 
 /// The name of another memory, by its index and by its place.
@@ -232,7 +232,7 @@ const OTHER_PLACE: Made = Made { place: 1, index: 1 };
 
 /// The same address of another memory is another word.
 #[rattlefmt::skip]
-const APART: [Act; 10] = [
+const APART: &[Act] = &[
     Act::Stores(AT, WORDS),
     Act::Sleeps([AT, WAIT, 5, 0]),
     Act::In(OTHER_INDEX),
@@ -247,7 +247,7 @@ const APART: [Act; 10] = [
 
 #[test]
 fn a_private_word_is_of_its_memory_alone(rt: HostRuntime) -> Result<(), Fail> {
-    expect_acts(rt.alloc(), &APART)
+    expect_acts(rt.alloc(), APART)
 }
 
 /// An area of two pages at two addresses: where the first call puts it, and where its first page is mapped again; and
@@ -261,7 +261,7 @@ const OTHER: u64 = (1 << 37) + 4096;
 /// A word in the area is one by either address, with or without FUTEX_PRIVATE_FLAG; that of another offset, of another
 /// area and of a private page in its place is another. A task may sleep on it by the one, and be woken by the other.
 #[rattlefmt::skip]
-const TWICE: [Act; 26] = [
+const TWICE: &[Act] = &[
     Act::At(1),
     Act::Map(0, 8192, 3, SHARED, HERE),
     Act::Map(OTHER, 4096, 3, SHARED | FIXED, OTHER),
@@ -292,12 +292,12 @@ const TWICE: [Act; 26] = [
 
 #[test]
 fn a_word_in_an_area_is_one_by_both_its_addresses(rt: HostRuntime) -> Result<(), Fail> {
-    expect_acts_among(rt.alloc(), family(rt.alloc())?, &TWICE)
+    expect_acts_among(rt.alloc(), family(rt.alloc())?, TWICE)
 }
 
 /// An area seen by another memory: the word is the same there.
 #[rattlefmt::skip]
-const SEEN: [Act; 4] = [
+const SEEN: &[Act] = &[
     Act::Map(0, 8192, 3, SHARED, HERE),
     Act::SleepsIn([HERE + 8, WAIT, 0, 0], 1, 8),
     Act::In(OTHER_INDEX),
@@ -306,12 +306,12 @@ const SEEN: [Act; 4] = [
 
 #[test]
 fn a_word_in_an_area_is_that_of_every_memory(rt: HostRuntime) -> Result<(), Fail> {
-    expect_acts(rt.alloc(), &SEEN)
+    expect_acts(rt.alloc(), SEEN)
 }
 
 /// A word in an area that is not there, or that may not be read.
 #[rattlefmt::skip]
-const LACKING: [Act; 6] = [
+const LACKING: &[Act] = &[
     Act::Again(99, THERE, 4096),
     Act::Calls(FUTEX, [THERE, WAIT, 0, 0, 0, 0], EFAULT),
     Act::Calls(FUTEX, [THERE, WAKE, 1, 0, 0, 0], EFAULT),
@@ -322,5 +322,5 @@ const LACKING: [Act; 6] = [
 
 #[test]
 fn a_word_that_no_area_has_is_efault(rt: HostRuntime) -> Result<(), Fail> {
-    expect_acts(rt.alloc(), &LACKING)
+    expect_acts(rt.alloc(), LACKING)
 }

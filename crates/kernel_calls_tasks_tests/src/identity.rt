@@ -10,7 +10,7 @@ use task_table::Status;
 
 /// What each of them is told: its group, its parent's and its own number.
 #[rattlefmt::skip]
-const FAMILY: [Act; 16] = [
+const FAMILY: &[Act] = &[
     Act::As(1, 1),
     Act::Calls(GETPID, [0, 0, 0, 0, 0, 0], 1),
     Act::Calls(GETPPID, [0, 0, 0, 0, 0, 0], 0),
@@ -31,12 +31,12 @@ const FAMILY: [Act; 16] = [
 
 #[test]
 fn a_thread_has_the_number_and_the_parent_of_its_group(rt: HostRuntime) -> Result<(), Fail> {
-    expect_acts_among(rt.alloc(), family(rt.alloc())?, &FAMILY)
+    expect_acts_among(rt.alloc(), family(rt.alloc())?, FAMILY)
 }
 
 /// Once the parent has ended.
 #[rattlefmt::skip]
-const ORPHAN: [Act; 5] = [
+const ORPHAN: &[Act] = &[
     Act::Ends(2, Status::Exited(0)),
     Act::As(3, 3),
     Act::Calls(GETPID, [0, 0, 0, 0, 0, 0], 3),
@@ -46,12 +46,12 @@ const ORPHAN: [Act; 5] = [
 
 #[test]
 fn a_group_whose_parent_has_ended_has_none(rt: HostRuntime) -> Result<(), Fail> {
-    expect_acts_among(rt.alloc(), family(rt.alloc())?, &ORPHAN)
+    expect_acts_among(rt.alloc(), family(rt.alloc())?, ORPHAN)
 }
 
 /// The user and the group, the effective ones too; and a list of robust futexes, which may lie anywhere.
 #[rattlefmt::skip]
-const OWNERS: [Act; 8] = [
+const OWNERS: &[Act] = &[
     Act::Calls(GETUID, [0, 0, 0, 0, 0, 0], 1000),
     Act::Calls(GETEUID, [0, 0, 0, 0, 0, 0], 1000),
     Act::Calls(GETGID, [0, 0, 0, 0, 0, 0], 1000),
@@ -64,7 +64,7 @@ const OWNERS: [Act; 8] = [
 
 #[test]
 fn each_task_is_the_user_and_group_1000(rt: HostRuntime) -> Result<(), Fail> {
-    expect_acts(rt.alloc(), &OWNERS)
+    expect_acts(rt.alloc(), OWNERS)
 }
 
 /// Where the system's name is put: 1,000 bytes below the end of the stack's last page but one.
@@ -72,7 +72,7 @@ const AT: u64 = TOP - 5096;
 
 /// Six fields of 65 bytes, by hand from uname(2) and the names of docs/GUESTS.md, between two words that stay.
 #[rattlefmt::skip]
-const NAMES: [Act; 17] = [
+const NAMES: &[Act] = &[
     Act::Stores(AT - 8, u64::MAX),
     Act::Stores(AT + 390, u64::MAX),
     Act::Calls(UNAME, [AT, 0, 0, 0, 0, 0], 0),
@@ -98,7 +98,7 @@ fn expect_names(guest: &mut Guest) -> Result<(), Fail> {
         let at = word.wrapping_mul(8).wrapping_add(AT);
         guest.expect(&[Act::Stores(at, u64::MAX)])?;
     }
-    guest.expect(&NAMES)
+    guest.expect(NAMES)
 }
 
 #[test]
@@ -116,7 +116,7 @@ const PRIVATE_PAGE: u64 = MAPPINGS_END - 12_288;
 
 /// Buffers of uname of which a byte may not be written, where nothing is put; and over a border.
 #[rattlefmt::skip]
-const BUFFERS: [Act; 20] = [
+const BUFFERS: &[Act] = &[
     Act::Map(0, 4096, 1, PRIVATE, READ_ONLY),
     Act::Map(0, 4096, 3, SHARED, SHARED_PAGE),
     Act::Map(0, 4096, 3, PRIVATE, PRIVATE_PAGE),
@@ -141,5 +141,5 @@ const BUFFERS: [Act; 20] = [
 
 #[test]
 fn uname_puts_nothing_where_a_byte_may_not_be_written(rt: HostRuntime) -> Result<(), Fail> {
-    expect_acts(rt.alloc(), &BUFFERS)
+    expect_acts(rt.alloc(), BUFFERS)
 }

@@ -40,7 +40,7 @@ const NINE: Made = Made { place: 9, index: 0 };
 /// A process takes the next number, which is that of a group of its own, whose parent is the caller's: fork(2). It
 /// stands behind the call with 0 in a0, and its memory is named by the call's place. Each stores in its own memory.
 #[rattlefmt::skip]
-const OF_PROCESS: [Act; 23] = [
+const OF_PROCESS: &[Act] = &[
     Act::At(9),
     Act::Stores(AT, 5),
     Act::Stands(STORE, AT, 7),
@@ -68,12 +68,12 @@ const OF_PROCESS: [Act; 23] = [
 
 #[test]
 fn a_process_is_a_group_of_its_own_with_its_own_memory(rt: HostRuntime) -> Result<(), Fail> {
-    expect_acts(rt.alloc(), &OF_PROCESS)
+    expect_acts(rt.alloc(), OF_PROCESS)
 }
 
 /// A thread takes the next number in its caller's group, and has its caller's memory: clone(2), CLONE_THREAD.
 #[rattlefmt::skip]
-const OF_THREAD: [Act; 17] = [
+const OF_THREAD: &[Act] = &[
     Act::Stores(AT, 5),
     Act::Stands(STORE, AT, 7),
     Act::Makes([THREAD + CLEARS, AT - 64, 0, 0, AT]),
@@ -95,13 +95,13 @@ const OF_THREAD: [Act; 17] = [
 
 #[test]
 fn a_thread_is_of_its_callers_group_and_memory(rt: HostRuntime) -> Result<(), Fail> {
-    expect_acts(rt.alloc(), &OF_THREAD)
+    expect_acts(rt.alloc(), OF_THREAD)
 }
 
 /// The parent's word has the number in the caller's memory, and the child's in the child's, which a thread shares; one
 /// in a shared page has it for both.
 #[rattlefmt::skip]
-const OF_WORDS: [Act; 22] = [
+const OF_WORDS: &[Act] = &[
     Act::Map(0, 4096, 3, SHARED, SHARED_PAGE),
     Act::Stores(AT, ONES),
     Act::Stores(AT + 8, ONES),
@@ -128,12 +128,12 @@ const OF_WORDS: [Act; 22] = [
 
 #[test]
 fn words_get_the_number_in_the_memory_that_they_are_of(rt: HostRuntime) -> Result<(), Fail> {
-    expect_acts(rt.alloc(), &OF_WORDS)
+    expect_acts(rt.alloc(), OF_WORDS)
 }
 
 /// A thread of the group 2 makes a process, whose parent is that group, and a thread: the next numbers are 5 and 6.
 #[rattlefmt::skip]
-const OF_FAMILY: [Act; 13] = [
+const OF_FAMILY: &[Act] = &[
     Act::At(9),
     Act::As(4, 2),
     Act::Makes([PROCESS, 0, 0, 0, 0]),
@@ -151,12 +151,12 @@ const OF_FAMILY: [Act; 13] = [
 
 #[test]
 fn a_threads_process_is_a_child_of_its_group(rt: HostRuntime) -> Result<(), Fail> {
-    expect_acts_among(rt.alloc(), family(rt.alloc())?, &OF_FAMILY)
+    expect_acts_among(rt.alloc(), family(rt.alloc())?, OF_FAMILY)
 }
 
 /// A child ends, and its parent waits for it: wait4(2). The next one has the next number.
 #[rattlefmt::skip]
-const OF_LIFE: [Act; 12] = [
+const OF_LIFE: &[Act] = &[
     Act::Makes([PROCESS, 0, 0, 0, 0]),
     Act::Waits([2, AT, 0, 0]),
     Act::Turns(2),
@@ -173,13 +173,13 @@ const OF_LIFE: [Act; 12] = [
 
 #[test]
 fn a_child_ends_and_is_waited_for(rt: HostRuntime) -> Result<(), Fail> {
-    expect_acts(rt.alloc(), &OF_LIFE)
+    expect_acts(rt.alloc(), OF_LIFE)
 }
 
 /// A child whose memory has the name of its caller's goes in the place of that: the word that got the number is gone
 /// with it, but one in a shared page stays.
 #[rattlefmt::skip]
-const OF_ONE_NAME: [Act; 11] = [
+const OF_ONE_NAME: &[Act] = &[
     Act::Map(0, 4096, 3, SHARED, SHARED_PAGE),
     Act::Stores(AT, ONES),
     Act::Stores(SHARED_PAGE, ONES),
@@ -191,5 +191,5 @@ const OF_ONE_NAME: [Act; 11] = [
 
 #[test]
 fn a_memory_goes_in_the_place_of_one_of_its_name(rt: HostRuntime) -> Result<(), Fail> {
-    expect_acts(rt.alloc(), &OF_ONE_NAME)
+    expect_acts(rt.alloc(), OF_ONE_NAME)
 }

@@ -14,7 +14,7 @@ const LAST_PLACE: u64 = 1_048_576;
 
 /// The time of places, between two words that stay: by CLOCK_REALTIME 0 and CLOCK_MONOTONIC 1 alike.
 #[rattlefmt::skip]
-const TIMES: [Act; 31] = [
+const TIMES: &[Act] = &[
     Act::Stores(AT - 8, u64::MAX), Act::Stores(AT + 16, u64::MAX),
     Act::At(2), Act::Calls(CLOCK_GETTIME, [0, AT, 0, 0, 0, 0], 0),
     Act::Loads(AT, 0), Act::Loads(AT + 8, 2_000),
@@ -37,7 +37,7 @@ const TIMES: [Act; 31] = [
 
 #[test]
 fn the_time_is_a_microsecond_for_each_place(rt: HostRuntime) -> Result<(), Fail> {
-    expect_acts(rt.alloc(), &TIMES)
+    expect_acts(rt.alloc(), TIMES)
 }
 
 /// A private page under a shared one, and both under one that may only be read.
@@ -50,7 +50,7 @@ const PRIVATE_PAGE: u64 = MAPPINGS_END - 12_288;
 /// Clocks that there aren't, buffers of which a byte may not be written, both at once, and neither; and what is put
 /// over a border, or not.
 #[rattlefmt::skip]
-const REFUSALS: [Act; 29] = [
+const REFUSALS: &[Act] = &[
     Act::Map(0, 4096, 1, PRIVATE, READ_ONLY),
     Act::Map(0, 4096, 3, SHARED, SHARED_PAGE),
     Act::Map(0, 4096, 3, PRIVATE, PRIVATE_PAGE),
@@ -84,5 +84,5 @@ const REFUSALS: [Act; 29] = [
 
 #[test]
 fn clock_gettime_is_refused_by_its_first_error(rt: HostRuntime) -> Result<(), Fail> {
-    expect_acts(rt.alloc(), &REFUSALS)
+    expect_acts(rt.alloc(), REFUSALS)
 }

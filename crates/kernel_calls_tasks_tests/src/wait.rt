@@ -23,7 +23,7 @@ const AT: u64 = TOP - 64;
 /// groups, which are 0 and below -1, of options as WUNTRACED 2, WCONTINUED 8 and __WCLONE 2^31, and of a place for the
 /// usage; ECHILD that of the caller's own group, of its thread, of a grandchild, and of numbers that nobody has.
 #[rattlefmt::skip]
-const ERRORS: [Act; 25] = [
+const ERRORS: &[Act] = &[
     Act::Calls(WAIT4, [0, AT, 0, 0, 0, 0], EINVAL),
     Act::Calls(WAIT4, [P31, AT, 0, 0, 0, 0], EINVAL),
     Act::Calls(WAIT4, [P31 + 2, AT, 0, 0, 0, 0], EINVAL),
@@ -53,12 +53,12 @@ const ERRORS: [Act; 25] = [
 
 #[test]
 fn wait4_is_refused_by_what_is_wrong(rt: HostRuntime) -> Result<(), Fail> {
-    expect_acts_among(rt.alloc(), brood(rt.alloc())?, &ERRORS)
+    expect_acts_among(rt.alloc(), brood(rt.alloc())?, ERRORS)
 }
 
 /// Without children there is nobody to wait for.
 #[rattlefmt::skip]
-const CHILDLESS: [Act; 4] = [
+const CHILDLESS: &[Act] = &[
     Act::Calls(WAIT4, [ANY, 0, 0, 0, 0, 0], ECHILD),
     Act::Calls(WAIT4, [P32 - 1, 0, WNOHANG, 0, 0, 0], ECHILD),
     Act::Calls(WAIT4, [1, 0, 0, 0, 0, 0], ECHILD),
@@ -67,13 +67,13 @@ const CHILDLESS: [Act; 4] = [
 
 #[test]
 fn a_task_without_children_is_told_so(rt: HostRuntime) -> Result<(), Fail> {
-    expect_acts(rt.alloc(), &CHILDLESS)
+    expect_acts(rt.alloc(), CHILDLESS)
 }
 
 /// Two causes at once, of which the earlier is told: EINVAL before ECHILD and EFAULT, and ECHILD before EFAULT. The
 /// child 3 has ended.
 #[rattlefmt::skip]
-const PAIRS: [Act; 19] = [
+const PAIRS: &[Act] = &[
     Act::Ends(3, Status::Exited(0)),
     Act::Calls(WAIT4, [0, HEAP, 0, 0, 0, 0], EINVAL),
     Act::Calls(WAIT4, [P31 + 3, HEAP, 0, 0, 0, 0], EINVAL),
@@ -97,13 +97,13 @@ const PAIRS: [Act; 19] = [
 
 #[test]
 fn of_two_causes_wait4_tells_the_first(rt: HostRuntime) -> Result<(), Fail> {
-    expect_acts_among(rt.alloc(), brood(rt.alloc())?, &PAIRS)
+    expect_acts_among(rt.alloc(), brood(rt.alloc())?, PAIRS)
 }
 
 /// No child has ended: the caller waits, or with WNOHANG is told 0. Nothing is put, so the address is no matter. A
 /// thread waits for the children of its group.
 #[rattlefmt::skip]
-const ALIVE: [Act; 17] = [
+const ALIVE: &[Act] = &[
     Act::Stores(AT, u64::MAX),
     Act::Waits([ANY, AT, 0, 0]),
     Act::Waits([P32 - 1, AT, P32, 0]),
@@ -125,14 +125,14 @@ const ALIVE: [Act; 17] = [
 
 #[test]
 fn a_parent_of_living_children_waits_or_is_told_none(rt: HostRuntime) -> Result<(), Fail> {
-    expect_acts_among(rt.alloc(), brood(rt.alloc())?, &ALIVE)
+    expect_acts_among(rt.alloc(), brood(rt.alloc())?, ALIVE)
 }
 
 /// The children 4 and then 3 have ended, by exit with 7 and by signal 9: the one of lower number is told first, with
 /// the signal in the low byte; then the other, with its code in the second. Four bytes are put, and none beside them.
 /// Then the child 2 ends, by exit with 255: its own child is nobody's then. No status is put at 0.
 #[rattlefmt::skip]
-const ENDED: [Act; 23] = [
+const ENDED: &[Act] = &[
     Act::Ends(4, Status::Exited(7)),
     Act::Ends(3, Status::Killed(9)),
     Act::Stores(AT - 8, u64::MAX), Act::Stores(AT, u64::MAX), Act::Stores(AT + 8, u64::MAX),
@@ -158,13 +158,13 @@ const ENDED: [Act; 23] = [
 
 #[test]
 fn a_child_that_ended_is_told_once_and_the_lowest_first(rt: HostRuntime) -> Result<(), Fail> {
-    expect_acts_among(rt.alloc(), brood(rt.alloc())?, &ENDED)
+    expect_acts_among(rt.alloc(), brood(rt.alloc())?, ENDED)
 }
 
 /// The child of a number is told before those of lower numbers; codes and signals as wait4(2) has them: 255 in the
 /// second byte, and 127 in the first.
 #[rattlefmt::skip]
-const BY_NUMBER: [Act; 9] = [
+const BY_NUMBER: &[Act] = &[
     Act::Ends(2, Status::Exited(0)),
     Act::Ends(3, Status::Killed(127)),
     Act::Ends(4, Status::Exited(255)),
@@ -178,7 +178,7 @@ const BY_NUMBER: [Act; 9] = [
 
 #[test]
 fn a_child_is_told_by_its_number(rt: HostRuntime) -> Result<(), Fail> {
-    expect_acts_among(rt.alloc(), brood(rt.alloc())?, &BY_NUMBER)
+    expect_acts_among(rt.alloc(), brood(rt.alloc())?, BY_NUMBER)
 }
 
 /// A private page under a shared one, and both under one that may only be read; and the shared one once more.
@@ -193,7 +193,7 @@ const THERE: u64 = 1 << 37;
 /// Addresses of which a byte may not be written: nothing is put, and the child 3 is still told to the next. It is put
 /// over a border then, and read by the shared page's other address.
 #[rattlefmt::skip]
-const ADDRESSES: [Act; 26] = [
+const ADDRESSES: &[Act] = &[
     Act::Ends(3, Status::Exited(7)),
     Act::At(1),
     Act::Map(0, 4096, 1, PRIVATE, READ_ONLY),
@@ -224,5 +224,5 @@ const ADDRESSES: [Act; 26] = [
 
 #[test]
 fn a_status_that_cannot_be_put_leaves_the_child(rt: HostRuntime) -> Result<(), Fail> {
-    expect_acts_among(rt.alloc(), brood(rt.alloc())?, &ADDRESSES)
+    expect_acts_among(rt.alloc(), brood(rt.alloc())?, ADDRESSES)
 }

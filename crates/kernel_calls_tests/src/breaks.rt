@@ -7,7 +7,7 @@ use std::test::Fail;
 /// Addresses that the break is asked to be at, and where it is then: brk(2), and docs/GUESTS.md. Below 2^37 there isn't
 /// room for the pages.
 #[rattlefmt::skip]
-const BREAKS: [Act; 16] = [
+const BREAKS: &[Act] = &[
     Act::Brk(0, HEAP),
     Act::Brk(HEAP + 1, HEAP + 1),
     Act::Brk(0, HEAP + 1),
@@ -28,13 +28,13 @@ const BREAKS: [Act; 16] = [
 
 #[test]
 fn the_break_moves_between_its_start_and_2_to_the_37(rt: HostRuntime) -> Result<(), Fail> {
-    expect_acts(rt.alloc(), &BREAKS)
+    expect_acts(rt.alloc(), BREAKS)
 }
 
 /// The break in the first page of the heap: the whole page may be read and written, not executed, and no byte behind it
 /// is there.
 #[rattlefmt::skip]
-const WHOLE_PAGES: [Act; 15] = [
+const WHOLE_PAGES: &[Act] = &[
     Act::Writes(HEAP, 1, -14),
     Act::Brk(HEAP + 1, HEAP + 1),
     Act::Pages(66),
@@ -54,12 +54,12 @@ const WHOLE_PAGES: [Act; 15] = [
 
 #[test]
 fn the_heap_has_whole_pages_to_be_read_and_written(rt: HostRuntime) -> Result<(), Fail> {
-    expect_acts(rt.alloc(), &WHOLE_PAGES)
+    expect_acts(rt.alloc(), WHOLE_PAGES)
 }
 
 /// Stores in three pages, gives two of them back and takes them again.
 #[rattlefmt::skip]
-const FRESH: [Act; 12] = [
+const FRESH: &[Act] = &[
     Act::Brk(HEAP + 12_288, HEAP + 12_288),
     Act::Stores(HEAP, u64::MAX),
     Act::Stores(HEAP + 4096, u64::MAX),
@@ -76,7 +76,7 @@ const FRESH: [Act; 12] = [
 
 #[test]
 fn a_page_of_the_heap_that_comes_back_has_zeros(rt: HostRuntime) -> Result<(), Fail> {
-    expect_acts(rt.alloc(), &FRESH)
+    expect_acts(rt.alloc(), FRESH)
 }
 
 /// A page behind three free ones.
@@ -84,7 +84,7 @@ const AHEAD: u64 = HEAP + 12_288;
 
 /// It is mapped, without rights: the break comes up to it, and not into it nor over it.
 #[rattlefmt::skip]
-const STOPPED: [Act; 9] = [
+const STOPPED: &[Act] = &[
     Act::Map(AHEAD, 1, 0, PRIVATE | FIXED, AHEAD),
     Act::Brk(AHEAD + 1, HEAP),
     Act::Brk(AHEAD + 4097, HEAP),
@@ -98,13 +98,13 @@ const STOPPED: [Act; 9] = [
 
 #[test]
 fn the_break_goes_over_no_mapped_page(rt: HostRuntime) -> Result<(), Fail> {
-    expect_acts(rt.alloc(), &STOPPED)
+    expect_acts(rt.alloc(), STOPPED)
 }
 
 /// Pages of the heap that were mapped over, unmapped and protected: the break is where it was, takes all of them out on
 /// its way down, and has new ones on its way up.
 #[rattlefmt::skip]
-const TAKEN_OUT: [Act; 12] = [
+const TAKEN_OUT: &[Act] = &[
     Act::Brk(HEAP + 16_384, HEAP + 16_384),
     Act::Map(HEAP + 8192, 4096, 3, PRIVATE | FIXED, HEAP + 8192),
     Act::Unmap(HEAP + 4096, 4096),
@@ -121,5 +121,5 @@ const TAKEN_OUT: [Act; 12] = [
 
 #[test]
 fn the_break_takes_out_what_was_mapped_in_the_heap(rt: HostRuntime) -> Result<(), Fail> {
-    expect_acts(rt.alloc(), &TAKEN_OUT)
+    expect_acts(rt.alloc(), TAKEN_OUT)
 }

@@ -9,12 +9,15 @@ use std::test::Fail;
 /// Three pages, which are laid with the kind of the test.
 const AT: u64 = MAPPINGS_END - 12_288;
 
+/// Both kinds of mappings.
+const KINDS: &[u64] = &[PRIVATE, SHARED];
+
 /// A value that has eight different bytes.
 const MARK: u64 = 0x8877_6655_4433_2211;
 
 /// Three pages are marked over both borders and at both ends, unmapped, and laid again at the same place.
 #[rattlefmt::skip]
-const AGAIN: [Act; 17] = [
+const AGAIN: &[Act] = &[
     Act::Lay(AT, 12_288, 3),
     Act::Stores(AT, MARK),
     Act::Stores(AT + 4092, MARK),
@@ -36,12 +39,12 @@ const AGAIN: [Act; 17] = [
 
 #[test]
 fn what_was_unmapped_comes_back_with_zeros(rt: HostRuntime) -> Result<(), Fail> {
-    expect_acts_of(rt.alloc(), &[PRIVATE, SHARED], &AGAIN)
+    expect_acts_of(rt.alloc(), KINDS, AGAIN)
 }
 
 /// The middle of three pages is replaced by a private one, and then by a shared one.
 #[rattlefmt::skip]
-const MIDDLE: [Act; 16] = [
+const MIDDLE: &[Act] = &[
     Act::Lay(AT, 12_288, 3),
     Act::Stores(AT + 4088, MARK),
     Act::Stores(AT + 4096, MARK),
@@ -62,12 +65,12 @@ const MIDDLE: [Act; 16] = [
 
 #[test]
 fn a_fixed_mapping_replaces_its_pages_alone(rt: HostRuntime) -> Result<(), Fail> {
-    expect_acts_of(rt.alloc(), &[PRIVATE, SHARED], &MIDDLE)
+    expect_acts_of(rt.alloc(), KINDS, MIDDLE)
 }
 
 /// The image's page and the stack's last are replaced: the ELF letters and the random bytes are gone.
 #[rattlefmt::skip]
-const IMAGE: [Act; 8] = [
+const IMAGE: &[Act] = &[
     Act::Bytes(65_536, &[0x7f, 0x45, 0x4c, 0x46]),
     Act::Map(65_536, 1, 1, PRIVATE | FIXED, 65_536),
     Act::Bytes(65_536, &[0; 64]),
@@ -80,12 +83,12 @@ const IMAGE: [Act; 8] = [
 
 #[test]
 fn a_fixed_mapping_goes_over_image_and_stack(rt: HostRuntime) -> Result<(), Fail> {
-    expect_acts(rt.alloc(), &IMAGE)
+    expect_acts(rt.alloc(), IMAGE)
 }
 
 /// The middle of three pages is unmapped by a byte of it, and then the rest with what isn't mapped about it.
 #[rattlefmt::skip]
-const HOLE: [Act; 11] = [
+const HOLE: &[Act] = &[
     Act::Lay(AT, 12_288, 3),
     Act::Stores(AT + 4088, MARK),
     Act::Stores(AT + 8192, MARK),
@@ -101,13 +104,13 @@ const HOLE: [Act; 11] = [
 
 #[test]
 fn munmap_takes_whole_pages_out_and_holes_among_them(rt: HostRuntime) -> Result<(), Fail> {
-    expect_acts_of(rt.alloc(), &[PRIVATE, SHARED], &HOLE)
+    expect_acts_of(rt.alloc(), KINDS, HOLE)
 }
 
 /// A page that was mapped with rights, and one that got them, each with the replies of a write of a byte of it and of a
 /// getrandom into it: write(2) and getrandom(2), EFAULT. To be written alone doesn't give the right to be read.
 #[rattlefmt::skip]
-const RIGHTS: [Act; 49] = [
+const RIGHTS: &[Act] = &[
     Act::Lay(AT, 4096, 0), Act::Writes(AT, 1, -14), Act::Random(AT, 1, -14),
     Act::Lay(AT, 4096, 1), Act::Writes(AT, 1, 1), Act::Random(AT, 1, -14),
     Act::Lay(AT, 4096, 2), Act::Writes(AT, 1, -14), Act::Random(AT, 1, 1),
@@ -129,13 +132,13 @@ const RIGHTS: [Act; 49] = [
 
 #[test]
 fn a_page_has_just_the_rights_that_it_was_given(rt: HostRuntime) -> Result<(), Fail> {
-    expect_acts_of(rt.alloc(), &[PRIVATE, SHARED], &RIGHTS)
+    expect_acts_of(rt.alloc(), KINDS, RIGHTS)
 }
 
 /// Three pages lose all rights, and get them again, one before the others: they keep their bytes. Where a page of the
 /// range is not mapped, no page changes.
 #[rattlefmt::skip]
-const PROTECTED: [Act; 20] = [
+const PROTECTED: &[Act] = &[
     Act::Lay(AT, 12_288, 3),
     Act::Stores(AT + 8, MARK),
     Act::Stores(AT + 4096, MARK),
@@ -160,12 +163,12 @@ const PROTECTED: [Act; 20] = [
 
 #[test]
 fn pages_keep_their_bytes_under_other_rights(rt: HostRuntime) -> Result<(), Fail> {
-    expect_acts_of(rt.alloc(), &[PRIVATE, SHARED], &PROTECTED)
+    expect_acts_of(rt.alloc(), KINDS, PROTECTED)
 }
 
 /// A hole amid a range, and one behind the image, leave all rights as they are.
 #[rattlefmt::skip]
-const UNCHANGED: [Act; 8] = [
+const UNCHANGED: &[Act] = &[
     Act::Lay(AT, 12_288, 3),
     Act::Unmap(AT + 4096, 4096),
     Act::Calls(MPROTECT, [AT, 12_288, 0, 0, 0, 0], ENOMEM),
@@ -178,5 +181,5 @@ const UNCHANGED: [Act; 8] = [
 
 #[test]
 fn a_hole_in_its_range_has_mprotect_change_no_page(rt: HostRuntime) -> Result<(), Fail> {
-    expect_acts_of(rt.alloc(), &[PRIVATE], &UNCHANGED)
+    expect_acts_of(rt.alloc(), &[PRIVATE], UNCHANGED)
 }

@@ -4,7 +4,7 @@ use fd_table::{Access, Description, Descriptor, Object};
 use file_changes::open_files;
 use kernel_model::{OpenFile, OpenFiles};
 use sn_base::Made;
-use std::process::Abort;
+use std::alloc::Global;
 use std::test::Fail;
 
 /// A descriptor of a task, and the open file description that it has: its index, what is open, and for what.
@@ -18,7 +18,7 @@ struct Stream {
 
 /// Those of the tasks 1 and 2, each with a description of its own: stdin(3).
 #[rattlefmt::skip]
-const STREAMS: [Stream; 6] = [
+const STREAMS: &[Stream] = &[
     Stream { task: 1, fd: 0, index: 3, object: Object::EmptyInput, access: Access::Read },
     Stream { task: 1, fd: 1, index: 4, object: Object::Console, access: Access::Write },
     Stream { task: 1, fd: 2, index: 5, object: Object::Console, access: Access::Write },
@@ -27,8 +27,8 @@ const STREAMS: [Stream; 6] = [
     Stream { task: 2, fd: 2, index: 8, object: Object::Console, access: Access::Write },
 ];
 
-/// That the task's number has that description, which no other descriptor has, at its beginning.
-fn expect_stream(rt: &impl Abort, files: &OpenFiles, stream: &Stream) {
+/// Whether the task's number has the description.
+fn is_open(files: &OpenFiles, stream: &Stream) -> bool {
     let descriptor = Descriptor {
         description: Made {
             place: 0,
@@ -37,8 +37,11 @@ fn expect_stream(rt: &impl Abort, files: &OpenFiles, stream: &Stream) {
         cloexec: false,
     };
     let table = files.tables.get(0, stream.task);
-    let found = table.and_then(|table| table.get(stream.fd));
-    assert_eq!(rt; found, Some(descriptor));
+    table.and_then(|table| table.get(stream.fd)) == Some(descriptor)
+}
+
+/// Whether no other descriptor has it, and it is at its beginning.
+fn is_described(files: &OpenFiles, stream: &Stream) -> bool {
     let file = OpenFile {
         description: Description {
             object: stream.object,
@@ -49,10 +52,7 @@ fn expect_stream(rt: &impl Abort, files: &OpenFiles, stream: &Stream) {
         },
         descriptors: 1,
     };
-    assert_eq!(rt;
-        files.descriptions.get(0, stream.index).copied(),
-        Some(file)
-    );
+    files.descriptions.get(0, stream.index).copied() == Some(file)
 }
 
 /// How many numbers are open in a task's table.
@@ -60,18 +60,25 @@ fn count(files: &OpenFiles, task: u32) -> Option<usize> {
     Some(files.tables.get(0, task)?.len())
 }
 
+/// That two tasks open these, and no other.
+fn expect_streams(alloc: Global, files: &mut OpenFiles) -> Result<(), Fail> {
+    open_files(alloc, 1, files)?;
+    open_files(alloc, 2, files)?;
+    for (row, stream) in STREAMS.iter().enumerate() {
+        if !is_open(files, stream) || !is_described(files, stream) {
+            return Err(Fail::new(format_args!("row {row}")));
+        }
+    }
+    if count(files, 1) != Some(3) || count(files, 2) != Some(3) {
+        return Err(Fail::new("another number is open"));
+    }
+    Ok(())
+}
+
 #[test]
 fn opening_tasks_have_an_empty_input_and_twice_the_console_apart_from_each_other(
     rt: HostRuntime,
 ) -> Result<(), Fail> {
-    let alloc = rt.alloc();
-    let mut files = OpenFiles::new(alloc);
-    open_files(alloc, 1, &mut files)?;
-    open_files(alloc, 2, &mut files)?;
-    for stream in &STREAMS {
-        expect_stream(&rt, &files, stream);
-    }
-    assert_eq!(rt; count(&files, 1), Some(3));
-    assert_eq!(rt; count(&files, 2), Some(3));
-    Ok(())
+    let mut files = OpenFiles::new(rt.alloc());
+    expect_streams(rt.alloc(), &mut files)
 }

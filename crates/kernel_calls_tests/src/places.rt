@@ -19,7 +19,7 @@ const FOURTH: u64 = MAPPINGS_END - 16_384;
 /// is asked for, the flags that aren't looked at, the descriptor and the offset are. Such flags are MAP_GROWSDOWN
 /// 0x100, MAP_NORESERVE 0x4000, MAP_POPULATE 0x8000, MAP_FIXED_NOREPLACE 0x100000, and bits above the low 32.
 #[rattlefmt::skip]
-const PLACES: [Act; 13] = [
+const PLACES: &[Act] = &[
     Act::Calls(MMAP, [0, 4096, 3, PRIVATE, u64::MAX, 0], 0x3f_ffef_f000),
     Act::Calls(MMAP, [0, 1, 3, SHARED, u64::MAX, 0], 0x3f_ffef_e000),
     Act::Calls(MMAP, [0, 4097, 0, PRIVATE, u64::MAX, 0], 0x3f_ffef_c000),
@@ -37,12 +37,12 @@ const PLACES: [Act; 13] = [
 
 #[test]
 fn each_mapping_lies_under_the_last(rt: HostRuntime) -> Result<(), Fail> {
-    expect_acts(rt.alloc(), &PLACES)
+    expect_acts(rt.alloc(), PLACES)
 }
 
 /// Four pages one under the other, of which some are unmapped and mapped again.
 #[rattlefmt::skip]
-const FILLED: [Act; 15] = [
+const FILLED: &[Act] = &[
     Act::Map(0, 16_384, 3, PRIVATE, FOURTH),
     Act::Unmap(THIRD, 4096),
     Act::Map(0, 4096, 3, SHARED, THIRD),
@@ -62,7 +62,7 @@ const FILLED: [Act; 15] = [
 
 #[test]
 fn a_hole_is_filled_from_above(rt: HostRuntime) -> Result<(), Fail> {
-    expect_acts(rt.alloc(), &FILLED)
+    expect_acts(rt.alloc(), FILLED)
 }
 
 /// MAP_PRIVATE with MAP_FIXED.
@@ -71,7 +71,7 @@ const AT: u64 = PRIVATE | FIXED;
 /// Pages at the lowest and the highest places that there are, below the stack, and at both ends of the range that
 /// mappings find.
 #[rattlefmt::skip]
-const EDGES: [Act; 9] = [
+const EDGES: &[Act] = &[
     Act::Map(4096, 4096, 3, AT, 4096),
     Act::Map((1 << 37) - 4096, 4096, 3, AT, (1 << 37) - 4096),
     Act::Map(1 << 37, 4096, 3, AT, 1 << 37),
@@ -85,7 +85,7 @@ const EDGES: [Act; 9] = [
 
 #[test]
 fn fixed_mappings_lie_between_4096_and_2_to_the_38(rt: HostRuntime) -> Result<(), Fail> {
-    expect_acts(rt.alloc(), &EDGES)
+    expect_acts(rt.alloc(), EDGES)
 }
 
 /// The end of 1,000 pages of heap.
@@ -95,7 +95,7 @@ const FULL_HEAP: u64 = HEAP + 1000 * 4096;
 /// MAP_FIXED are 16,384; there is no room for one more, of any sort. With MAP_FIXED a page goes in the place of
 /// another, and two over one don't; a page that is given back makes room.
 #[rattlefmt::skip]
-const FULL: [Act; 18] = [
+const FULL: &[Act] = &[
     Act::Brk(FULL_HEAP, FULL_HEAP),
     Act::Map(0, 5000 * 4096, 3, PRIVATE, MAPPINGS_END - 5000 * 4096),
     Act::Map(0, 5000 * 4096, 3, SHARED, MAPPINGS_END - 10_000 * 4096),
@@ -118,7 +118,7 @@ const FULL: [Act; 18] = [
 
 #[test]
 fn there_are_16384_pages_of_image_stack_heap_and_mappings(rt: HostRuntime) -> Result<(), Fail> {
-    expect_acts(rt.alloc(), &FULL)
+    expect_acts(rt.alloc(), FULL)
 }
 
 /// All pages beside the 65.
@@ -126,7 +126,7 @@ const MOST: u64 = 16_319 * 4096;
 
 /// One call takes them, and none takes one more.
 #[rattlefmt::skip]
-const ALL_LEFT: [Act; 6] = [
+const ALL_LEFT: &[Act] = &[
     Act::Calls(MMAP, [0, MOST + 1, 3, PRIVATE, 0, 0], ENOMEM),
     Act::Map(0, MOST, 3, PRIVATE, MAPPINGS_END - MOST),
     Act::Unmap(MAPPINGS_END - MOST, MOST),
@@ -137,22 +137,23 @@ const ALL_LEFT: [Act; 6] = [
 
 #[test]
 fn one_call_takes_all_that_are_left_and_no_more(rt: HostRuntime) -> Result<(), Fail> {
-    expect_acts(rt.alloc(), &ALL_LEFT)
+    expect_acts(rt.alloc(), ALL_LEFT)
 }
 
-/// Puts a page at the end of each 4,096 pages of the range, so that 4,095 are free before it: 8,191 pages.
-fn scatter(guest: &mut Guest) -> Result<(), Fail> {
+/// Puts a page at the end of each 4,096 pages of the range, so that 4,095 are free before it: 8,191 pages. Then it does
+/// these.
+fn scatter(guest: &mut Guest, acts: &[Act]) -> Result<(), Fail> {
     for number in 1..8192u64 {
         let end = number.wrapping_mul(1 << 24).wrapping_add(1 << 37);
         let at = end.wrapping_sub(4096);
         guest.expect(&[Act::Map(at, 4096, 3, AT, at)])?;
     }
-    Ok(())
+    guest.expect(acts)
 }
 
 /// 4,096 pages find no place then, and 4,095 do, before the last of the scattered pages.
 #[rattlefmt::skip]
-const LONG: [Act; 2] = [
+const LONG: &[Act] = &[
     Act::Calls(MMAP, [0, 4096 * 4096, 3, PRIVATE, 0, 0], ENOMEM),
     Act::Map(0, 4095 * 4096, 3, PRIVATE, 0x3f_fe00_0000),
 ];
@@ -160,6 +161,5 @@ const LONG: [Act; 2] = [
 #[test]
 fn a_range_longer_than_each_free_one_is_enomem(rt: HostRuntime) -> Result<(), Fail> {
     let mut guest = new_guest(rt.alloc())?;
-    scatter(&mut guest)?;
-    guest.expect(&LONG)
+    scatter(&mut guest, LONG)
 }

@@ -30,7 +30,7 @@ const SHARED_OF_FILE: u64 = 1;
 /// Calls of mmap, each with its error: mmap(2), ERRORS, with the order of docs/GUESTS.md. First those of EINVAL, each
 /// alone; then those of descriptors; then those of memory; and then two causes at once.
 #[rattlefmt::skip]
-const MMAPS: [Act; 60] = [
+const MMAPS: &[Act] = &[
     Act::Calls(MMAP, [0, 0, 3, PRIVATE, u64::MAX, 0], EINVAL),
     Act::Calls(MMAP, [0, 0, 3, SHARED, u64::MAX, 0], EINVAL),
     Act::Calls(MMAP, [0, P63 + 1, 3, PRIVATE, u64::MAX, 0], EINVAL),
@@ -95,12 +95,12 @@ const MMAPS: [Act; 60] = [
 
 #[test]
 fn mmap_is_refused_by_its_first_error(rt: HostRuntime) -> Result<(), Fail> {
-    expect_acts(rt.alloc(), &MMAPS)
+    expect_acts(rt.alloc(), MMAPS)
 }
 
 /// Ranges that munmap refuses, or in which nothing is mapped: munmap(2), EINVAL.
 #[rattlefmt::skip]
-const MUNMAPS: [Act; 28] = [
+const MUNMAPS: &[Act] = &[
     Act::Calls(MUNMAP, [65_536, 0, 0, 0, 0, 0], EINVAL),
     Act::Calls(MUNMAP, [0, 0, 0, 0, 0, 0], EINVAL),
     Act::Calls(MUNMAP, [TOP, 0, 0, 0, 0, 0], EINVAL),
@@ -133,13 +133,13 @@ const MUNMAPS: [Act; 28] = [
 
 #[test]
 fn munmap_refuses_what_is_no_range_and_takes_a_hole(rt: HostRuntime) -> Result<(), Fail> {
-    expect_acts(rt.alloc(), &MUNMAPS)
+    expect_acts(rt.alloc(), MUNMAPS)
 }
 
 /// Ranges and rights that mprotect refuses or takes: mprotect(2), ERRORS, with the order of docs/GUESTS.md. First each
 /// error alone, then two at once, and then none.
 #[rattlefmt::skip]
-const MPROTECTS: [Act; 38] = [
+const MPROTECTS: &[Act] = &[
     Act::Calls(MPROTECT, [65_536, 4096, 8, 0, 0, 0], EINVAL),
     Act::Calls(MPROTECT, [65_536, 4096, P32, 0, 0, 0], EINVAL),
     Act::Calls(MPROTECT, [65_536, 4096, P32 + 1, 0, 0, 0], EINVAL),
@@ -182,13 +182,13 @@ const MPROTECTS: [Act; 38] = [
 
 #[test]
 fn mprotect_is_refused_by_its_first_error(rt: HostRuntime) -> Result<(), Fail> {
-    expect_acts(rt.alloc(), &MPROTECTS)
+    expect_acts(rt.alloc(), MPROTECTS)
 }
 
 /// Buffers, counts and flags of getrandom: getrandom(2), ERRORS, with the order of docs/GUESTS.md. The image's page may
 /// not be written.
 #[rattlefmt::skip]
-const GETRANDOMS: [Act; 33] = [
+const GETRANDOMS: &[Act] = &[
     Act::Calls(GETRANDOM, [LAST, 16, 8, 0, 0, 0], EINVAL),
     Act::Calls(GETRANDOM, [LAST, 16, P31, 0, 0, 0], EINVAL),
     Act::Calls(GETRANDOM, [LAST, 16, P32 + 8, 0, 0, 0], EINVAL),
@@ -228,12 +228,12 @@ const GETRANDOMS: [Act; 33] = [
 fn getrandom_is_refused_by_its_first_error_and_puts_256_bytes_at_most(
     rt: HostRuntime,
 ) -> Result<(), Fail> {
-    expect_acts(rt.alloc(), &GETRANDOMS)
+    expect_acts(rt.alloc(), GETRANDOMS)
 }
 
 /// All of a guest's memory is taken out at once, its code too.
 #[rattlefmt::skip]
-const ALL: [Act; 4] = [
+const ALL: &[Act] = &[
     Act::Unmap(0, TOP),
     Act::Pages(0),
     Act::Writes(65_536, 1, EFAULT),
@@ -242,5 +242,5 @@ const ALL: [Act; 4] = [
 
 #[test]
 fn munmap_of_all_addresses_takes_every_page_out(rt: HostRuntime) -> Result<(), Fail> {
-    expect_acts(rt.alloc(), &ALL)
+    expect_acts(rt.alloc(), ALL)
 }

@@ -1,18 +1,19 @@
 //! Acts on areas as data, each with what it answers.
 
-use mm_areas::{Areas, Backing, Rights};
+use crate::looks::{content, rights, rights_from};
+use mm_areas::{AreaErr, Areas, Backing, Rights, SharedPage};
 use rv_table::{Area, Instr};
 use std::alloc::Global;
-use std::process::Abort;
 use std::test::Fail;
 
-/// The rights that acts give or ask for: one, or to read and to write.
+/// The rights that acts give or ask for: one, to read and to write, or to read and to execute.
 #[derive(Clone, Copy)]
 pub(crate) enum May {
     Read,
     Write,
     Execute,
     Both,
+    Run,
 }
 
 /// The decoded words that acts meet. `Nothing` is a word without a row.
@@ -26,18 +27,28 @@ pub(crate) enum Word {
 
 /// An act, and last what it answers, where it isn't that it is done.
 ///
-/// - `Map`, `Unmap`, `Protect`: an address and a length. `Share` maps a page of a shared area at an address.
+/// - `Map`, `Share`, `Unmap`, `Protect`: an address and a length. `Share` maps the first pages of a shared area.
+/// - `Ask`, `PlaceOf`: a length, and an address where one is asked for.
+/// - `Break`: where the break is asked for. It answers where it is then.
 /// - `Put`, `PutBytes`, `Write`, `WriteBytes`, `Number`, `Byte`: a page, an offset, and of a number how many bytes. A
 ///   write makes the bytes the page's own.
-/// - `PutNear`, `NumberNear`, `HintFrom`, `Decode`: a hint goes first.
-/// - `Row`: how many decoded words a page has. `Decoded`: one of them, by its index.
+/// - `PutNear`, `NumberNear`, `HintFrom`, `RightsFrom`, `Decode`, `TakeNone`: a hint goes first.
+/// - `Row`: how many decoded words a page has. `Decoded`: one of them, by its index. `TakeNone`: none can be taken out.
+/// - `Rights`: by their bits. `Content`: the page of a shared area that a page is.
 #[derive(Clone, Copy)]
 pub(crate) enum Act {
     Map(u64, u64, May),
-    Share(u64),
-    Unmap(u64, u64),
-    Protect(u64, u64, May),
-    Break(u64),
+    Ask(Option<u64>, u64, May, Result<u64, AreaErr>),
+    Share(u64, u64, May, Area),
+    Unmap(u64, u64, Result<(), AreaErr>),
+    Protect(u64, u64, May, Result<(), AreaErr>),
+    Break(u64, u64),
+    PlaceOf(Option<u64>, u64, Result<u64, AreaErr>),
+    Len(u64),
+    Start(u64),
+    Rights(u64, Option<u8>),
+    RightsFrom(usize, u64, Option<u8>),
+    Content(u64, Option<SharedPage>),
     Own(u64),
     IsOwn(u64, bool),
     Put(u64, usize, u8, u64, bool),
@@ -53,6 +64,7 @@ pub(crate) enum Act {
     Decode(usize, u64, May, bool),
     Row(u64, Option<usize>),
     Decoded(u64, usize, Word),
+    TakeNone(usize, u64),
     DropRow(u64),
 }
 
@@ -62,6 +74,7 @@ fn rights_of(may: May) -> Rights {
         May::Write => Rights::WRITE,
         May::Execute => Rights::EXECUTE,
         May::Both => Rights::READ | Rights::WRITE,
+        May::Run => Rights::READ | Rights::EXECUTE,
     }
 }
 
@@ -78,18 +91,25 @@ fn word_at(areas: &Areas, page: u64, index: usize) -> Option<Instr> {
     areas.row(page)?.get(index).copied()
 }
 
-/// Does a change, and answers whether it answers what is expected.
+/// Does an act, and answers whether it answers what is expected.
 #[rattlefmt::skip]
-fn is_changed(alloc: Global, areas: &mut Areas, act: Act) -> Result<bool, Fail> {
-    Ok(match act {
-        Act::Map(at, length, may) => areas.map(alloc, Some(at), length, rights_of(may), Backing::Zeros)? == at,
-        Act::Share(at) => {
-            let backing = Backing::Of(Area { place: 1, index: 0 });
-            areas.map(alloc, Some(at), 4096, rights_of(May::Both), backing)? == at
-        }
-        Act::Unmap(at, length) => areas.unmap(at, length).is_ok(),
-        Act::Protect(at, length, may) => areas.protect(at, length, rights_of(may)).is_ok(),
-        Act::Break(to) => areas.brk(alloc, to)? == to,
+fn is_done(alloc: Global, areas: &mut Areas, act: Act) -> bool {
+    match act {
+        Act::Map(at, length, may) => areas.map(alloc, Some(at), length, rights_of(may), Backing::Zeros) == Ok(at),
+        Act::Ask(at, length, may, answer) => areas.map(alloc, at, length, rights_of(may), Backing::Zeros) == answer,
+        Act::Share(at, length, may, area) =>
+            areas.map(alloc, Some(at), length, rights_of(may), Backing::Of(area)) == Ok(at),
+        Act::Unmap(at, length, answer) => areas.unmap(at, length) == answer,
+        Act::Protect(at, length, may, answer) => areas.protect(at, length, rights_of(may)) == answer,
+        Act::Break(to, at) => areas.brk(alloc, to) == Ok(at),
+        store => is_stored(alloc, areas, store),
+    }
+}
+
+/// The same of a change of what pages have.
+#[rattlefmt::skip]
+fn is_stored(alloc: Global, areas: &mut Areas, act: Act) -> bool {
+    match act {
         Act::Own(page) => areas.own(alloc, page).is_ok(),
         Act::Put(page, offset, width, value, done) => areas.put_number(page, offset, width, value) == done,
         Act::PutBytes(page, offset, run, done) => areas.put_bytes(page, offset, run) == done,
@@ -101,12 +121,13 @@ fn is_changed(alloc: Global, areas: &mut Areas, act: Act) -> Result<bool, Fail> 
             && run.len() <= 4096 - offset
             && areas.write_bytes(alloc, page, offset, run).is_ok(),
         Act::Decode(hint, page, may, done) => areas.decode(alloc, hint, page, rights_of(may)) == done,
+        Act::TakeNone(hint, page) => areas.take_row(hint, page).is_none(),
         Act::DropRow(page) => { areas.drop_row(page); true }
         look => is_seen(areas, look),
-    })
+    }
 }
 
-/// Whether a look sees what is expected.
+/// Whether a look at bytes sees what is expected.
 #[rattlefmt::skip]
 fn is_seen(areas: &Areas, act: Act) -> bool {
     match act {
@@ -119,28 +140,47 @@ fn is_seen(areas: &Areas, act: Act) -> bool {
         Act::HintFrom(guess, page, hint) => areas.hint_from(guess, page) == hint,
         Act::Row(page, count) => areas.row(page).map(|row| row.len()) == count,
         Act::Decoded(page, index, word) => is_word(word_at(areas, page, index), word),
+        look => is_there(areas, look),
+    }
+}
+
+/// Whether a look at what is mapped sees what is expected.
+fn is_there(areas: &Areas, act: Act) -> bool {
+    match act {
+        Act::PlaceOf(at, length, answer) => areas.place_of(at, length) == answer,
+        Act::Len(count) => areas.len() == count,
+        Act::Start(start) => areas.start() == start,
+        Act::Rights(page, bits) => rights(areas, page) == bits,
+        Act::RightsFrom(guess, page, bits) => rights_from(areas, guess, page) == bits,
+        Act::Content(page, shared) => content(areas, page) == shared,
         _ => false,
     }
 }
 
-/// Does an act, and aborts where it answers something else.
+/// Does an act, and fails where it answers something else.
 pub(crate) fn expect_act(
-    rt: &impl Abort,
     alloc: Global,
     areas: &mut Areas,
     index: usize,
     act: Act,
 ) -> Result<(), Fail> {
-    let expected = is_changed(alloc, areas, act)?;
-    assert!(rt; expected, "act {index}");
+    if is_done(alloc, areas, act) {
+        Ok(())
+    } else {
+        Err(Fail::new(format_args!("act {index}")))
+    }
+}
+
+/// Does acts in turn, and fails at the first that answers something else.
+pub(crate) fn expect_acts(alloc: Global, areas: &mut Areas, acts: &[Act]) -> Result<(), Fail> {
+    for (index, act) in acts.iter().enumerate() {
+        expect_act(alloc, areas, index, *act)?;
+    }
     Ok(())
 }
 
-/// New areas after acts, which are done in turn.
-pub(crate) fn areas_after(rt: &impl Abort, alloc: Global, acts: &[Act]) -> Result<Areas, Fail> {
+/// The same of new areas whose break begins at 4096.
+pub(crate) fn expect(alloc: Global, acts: &[Act]) -> Result<(), Fail> {
     let mut areas = Areas::new(alloc, 4096);
-    for (index, act) in acts.iter().enumerate() {
-        expect_act(rt, alloc, &mut areas, index, *act)?;
-    }
-    Ok(areas)
+    expect_acts(alloc, &mut areas, acts)
 }

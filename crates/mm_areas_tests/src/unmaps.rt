@@ -1,115 +1,67 @@
 //! What is unmapped, and what gets other rights.
 
-use crate::looks::rights;
+use crate::acts::{Act, May, expect};
 use bitflags::Flags;
-use mm_areas::{AreaErr, Areas, Backing, Rights};
-use std::alloc::Global;
+use mm_areas::{AreaErr, Rights};
 use std::test::Fail;
 
 /// The end of the address space, 2^38.
 const END: u64 = 0x40_0000_0000;
 
-/// Areas with the pages from 10 on and below 20.
-fn ten_pages(alloc: Global) -> Result<Areas, AreaErr> {
-    let mut areas = Areas::new(alloc, 4096);
-    areas.map(
-        alloc,
-        Some(40_960),
-        40_960,
-        Rights::READ | Rights::WRITE,
-        Backing::Zeros,
-    )?;
-    Ok(areas)
-}
+/// Maps the pages from 10 on and below 20.
+const TEN_PAGES: Act = Act::Map(40_960, 40_960, May::Both);
+
+#[rattlefmt::skip]
+const IN_THE_MIDDLE: &[Act] = &[
+    TEN_PAGES, Act::Unmap(13 * 4096, 2 * 4096 + 1, Ok(())), Act::Len(7),
+    Act::Rights(9, None), Act::Rights(10, Some(3)), Act::Rights(12, Some(3)), Act::Rights(13, None),
+    Act::Rights(15, None), Act::Rights(16, Some(3)), Act::Rights(19, Some(3)), Act::Rights(20, None),
+    Act::Unmap(13 * 4096, 4096, Ok(())), Act::Len(7),
+    Act::Unmap(0, END, Ok(())), Act::Len(0),
+];
 
 #[test]
 fn an_unmapped_range_leaves_the_head_and_the_tail(rt: HostRuntime) -> Result<(), Fail> {
-    let mut areas = ten_pages(rt.alloc())?;
-    areas.unmap(13 * 4096, 2 * 4096 + 1)?;
-    assert_eq!(rt; areas.len(), 7);
-    for (page, bits) in [
-        (9, None),
-        (10, Some(3)),
-        (12, Some(3)),
-        (13, None),
-        (15, None),
-        (16, Some(3)),
-        (19, Some(3)),
-        (20, None),
-    ] {
-        assert_eq!(rt; rights(&areas, page), bits, "page {page}");
-    }
-    areas.unmap(13 * 4096, 4096)?;
-    assert_eq!(rt; areas.len(), 7);
-    areas.unmap(0, END)?;
-    assert_eq!(rt; areas.len(), 0);
-    Ok(())
+    expect(rt.alloc(), IN_THE_MIDDLE)
 }
+
+#[rattlefmt::skip]
+const REFUSED: &[Act] = &[
+    TEN_PAGES,
+    Act::Unmap(40_960, 0, Err(AreaErr::Invalid)),
+    Act::Unmap(40_961, 4096, Err(AreaErr::Invalid)),
+    Act::Unmap(40_961, 0, Err(AreaErr::Invalid)),
+    Act::Unmap(0, END + 1, Err(AreaErr::Invalid)),
+    Act::Unmap(END, 1, Err(AreaErr::Invalid)),
+    Act::Unmap(END - 4096, 4097, Err(AreaErr::Invalid)),
+    Act::Unmap(40_960, u64::MAX, Err(AreaErr::Invalid)),
+    Act::Unmap(u64::MAX - 4095, 4096, Err(AreaErr::Invalid)),
+    Act::Len(10),
+];
 
 #[test]
 fn munmap_of_no_length_or_of_an_odd_or_far_address_is_invalid(rt: HostRuntime) -> Result<(), Fail> {
-    let mut areas = ten_pages(rt.alloc())?;
-    for (address, length) in [
-        (40_960, 0),
-        (40_961, 4096),
-        (40_961, 0),
-        (0, END + 1),
-        (END, 1),
-        (END - 4096, 4097),
-        (40_960, u64::MAX),
-        (u64::MAX - 4095, 4096),
-    ] {
-        assert_eq!(rt;
-            areas.unmap(address, length),
-            Err(AreaErr::Invalid),
-            "{address} {length}"
-        );
-    }
-    assert_eq!(rt; areas.len(), 10);
-    Ok(())
+    expect(rt.alloc(), REFUSED)
 }
+
+#[rattlefmt::skip]
+const OTHER_RIGHTS: &[Act] = &[
+    TEN_PAGES, Act::Unmap(15 * 4096, 4096, Ok(())),
+    Act::Protect(12 * 4096, 4 * 4096, May::Read, Err(AreaErr::Hole)),
+    Act::Protect(9 * 4096, 2 * 4096, May::Read, Err(AreaErr::Hole)),
+    Act::Protect(12 * 4096 + 1, 4096, May::Read, Err(AreaErr::Invalid)),
+    Act::Protect(12 * 4096 + 1, 4 * 4096, May::Read, Err(AreaErr::Invalid)),
+    Act::Protect(END - 4096, 4097, May::Read, Err(AreaErr::Invalid)),
+    Act::Protect(9 * 4096, 0, May::Read, Ok(())),
+    Act::Rights(12, Some(3)),
+    Act::Protect(12 * 4096, 4097, May::Run, Ok(())),
+    Act::Rights(11, Some(3)), Act::Rights(12, Some(5)), Act::Rights(13, Some(5)), Act::Rights(14, Some(3)),
+    Act::Rights(15, None), Act::Rights(16, Some(3)),
+];
 
 #[test]
 fn other_rights_are_given_to_whole_ranges_alone(rt: HostRuntime) -> Result<(), Fail> {
-    let mut areas = ten_pages(rt.alloc())?;
-    areas.unmap(15 * 4096, 4096)?;
-    assert_eq!(rt;
-        areas.protect(12 * 4096, 4 * 4096, Rights::READ),
-        Err(AreaErr::Hole)
-    );
-    assert_eq!(rt;
-        areas.protect(9 * 4096, 2 * 4096, Rights::READ),
-        Err(AreaErr::Hole)
-    );
-    assert_eq!(rt;
-        areas.protect(12 * 4096 + 1, 4096, Rights::READ),
-        Err(AreaErr::Invalid)
-    );
-    assert_eq!(rt;
-        areas.protect(12 * 4096 + 1, 4 * 4096, Rights::READ),
-        Err(AreaErr::Invalid)
-    );
-    assert_eq!(rt;
-        areas.protect(END - 4096, 4097, Rights::READ),
-        Err(AreaErr::Invalid)
-    );
-    assert_eq!(rt; areas.protect(9 * 4096, 0, Rights::READ), Ok(()));
-    assert_eq!(rt; rights(&areas, 12), Some(3));
-    assert_eq!(rt;
-        areas.protect(12 * 4096, 4097, Rights::READ | Rights::EXECUTE),
-        Ok(())
-    );
-    for (page, bits) in [
-        (11, Some(3)),
-        (12, Some(5)),
-        (13, Some(5)),
-        (14, Some(3)),
-        (15, None),
-        (16, Some(3)),
-    ] {
-        assert_eq!(rt; rights(&areas, page), bits, "page {page}");
-    }
-    Ok(())
+    expect(rt.alloc(), OTHER_RIGHTS)
 }
 
 #[test]
@@ -133,9 +85,11 @@ fn rights_are_made_of_each_that_is_there(rt: HostRuntime) {
         (true, true, true, 7),
     ] {
         let rights = Rights::of(read, write, execute);
-        assert_eq!(rt; rights.bits(), bits);
-        assert_eq!(rt; rights.allows(Rights::READ), read);
-        assert_eq!(rt; rights.allows(Rights::WRITE), write);
-        assert_eq!(rt; rights.allows(Rights::EXECUTE), execute);
+        let allowed = [
+            rights.allows(Rights::READ),
+            rights.allows(Rights::WRITE),
+            rights.allows(Rights::EXECUTE),
+        ];
+        assert_eq!(rt; (rights.bits(), allowed), (bits, [read, write, execute]));
     }
 }

@@ -1,9 +1,8 @@
-//! The parts of a good mount file, and the fault of one that is put together of parts.
+//! The parts of a good mount file, and what becomes of one in which a part is another.
 
-use mount_file::{MountFault, read_mounts};
-use sn_base::List;
-use sn_text::Text;
+use mount_file::{MountFault, Mounts, read_mounts};
 use std::alloc::Global;
+use std::process::Abort;
 use std::test::Fail;
 
 pub(crate) const ENTRIES: &str = "entries = 4096\n";
@@ -15,29 +14,136 @@ pub(crate) const MOUNT: &str = "[[mount]]\nat = \"/\"\nfolder = \"root\"\n";
 
 pub(crate) const TASK: &str = "[[task]]\npath = \"/init\"\n";
 
+/// A part of a file.
+#[derive(Clone, Copy)]
+pub(crate) enum Part {
+    Entries,
+    Seed,
+    Mounts,
+    Tasks,
+}
+
+/// A gap in a good file: the part that has it, and what that part has before and behind it.
+pub(crate) struct Gap {
+    pub(crate) part: Part,
+    pub(crate) before: &'static str,
+    pub(crate) after: &'static str,
+}
+
+/// The folder of the mount at `/`.
+pub(crate) const FOLDER: Gap = Gap {
+    part: Part::Mounts,
+    before: "[[mount]]\nat = \"/\"\nfolder = \"",
+    after: "\"\n",
+};
+
+/// The parts of a good file, but for one, which is this text.
+fn parts_with(part: Part, text: &str) -> [&str; 4] {
+    match part {
+        Part::Entries => [text, SEED, MOUNT, TASK],
+        Part::Seed => [ENTRIES, text, MOUNT, TASK],
+        Part::Mounts => [ENTRIES, SEED, text, TASK],
+        Part::Tasks => [ENTRIES, SEED, MOUNT, text],
+    }
+}
+
+/// A file of these parts.
+fn file_of(alloc: Global, parts: [&str; 4]) -> Result<String, Fail> {
+    let [entries, seed, mounts, tasks] = parts;
+    Ok(format!(in alloc; "{entries}{seed}{mounts}{tasks}")?)
+}
+
+/// A file with a text in its gap.
+fn filled(alloc: Global, gap: &Gap, text: &str) -> Result<String, Fail> {
+    let part = format!(in alloc; "{}{text}{}", gap.before, gap.after)?;
+    file_of(alloc, parts_with(gap.part, part.as_str()))
+}
+
+/// How a file of bytes is refused, or `None` where it is read.
+pub(crate) fn refused(alloc: Global, bytes: &[u8]) -> Option<MountFault> {
+    read_mounts(alloc, bytes).err()
+}
+
+/// Aborts unless the first bytes of a file that has a name here are refused so, or read for `None`.
+pub(crate) fn expect_answer(
+    rt: &impl Abort,
+    alloc: Global,
+    name: &str,
+    bytes: &[u8],
+    answer: Option<MountFault>,
+) {
+    assert_eq!(rt;
+        refused(alloc, bytes),
+        answer,
+        "{name} cut to {} bytes",
+        bytes.len()
+    );
+}
+
 /// The fault of a file of these parts, or `None` where it is read.
 pub(crate) fn fault_of(alloc: Global, parts: [&str; 4]) -> Result<Option<MountFault>, Fail> {
+    let file = file_of(alloc, parts)?;
+    Ok(refused(alloc, file.as_bytes()))
+}
+
+/// The fault of a file with a text in its gap, or `None` where it is read.
+pub(crate) fn fault_with(alloc: Global, gap: &Gap, text: &str) -> Result<Option<MountFault>, Fail> {
+    let file = filled(alloc, gap, text)?;
+    Ok(refused(alloc, file.as_bytes()))
+}
+
+/// Aborts unless a file of these parts has this fault.
+pub(crate) fn expect_fault(
+    rt: &impl Abort,
+    alloc: Global,
+    parts: [&str; 4],
+    fault: MountFault,
+) -> Result<(), Fail> {
     let [entries, seed, mounts, tasks] = parts;
-    let text = format!(in alloc; "{entries}{seed}{mounts}{tasks}")?;
-    Ok(read_mounts(alloc, text.as_bytes()).err())
+    assert_eq!(rt;
+        fault_of(alloc, parts)?,
+        Some(fault),
+        "{entries}{seed}{mounts}{tasks}"
+    );
+    Ok(())
+}
+
+/// Aborts unless a file has this fault with each of these texts in its gap.
+pub(crate) fn expect_each(
+    rt: &impl Abort,
+    alloc: Global,
+    gap: &Gap,
+    texts: &[&str],
+    fault: MountFault,
+) -> Result<(), Fail> {
+    for text in texts {
+        assert_eq!(rt; fault_with(alloc, gap, text)?, Some(fault), "{text}");
+    }
+    Ok(())
+}
+
+/// What is read of a file of these parts.
+pub(crate) fn read(alloc: Global, parts: [&str; 4]) -> Result<Mounts, Fail> {
+    let file = file_of(alloc, parts)?;
+    Ok(read_mounts(alloc, file.as_bytes())?)
+}
+
+/// What is read of a file with a text in its gap.
+pub(crate) fn read_with(alloc: Global, gap: &Gap, text: &str) -> Result<Mounts, Fail> {
+    let file = filled(alloc, gap, text)?;
+    Ok(read_mounts(alloc, file.as_bytes())?)
 }
 
 /// So many tasks, `/task0` and so on.
 pub(crate) fn tasks_of(alloc: Global, count: usize) -> Result<String, Fail> {
     let mut tasks = String::new(alloc);
-    for number in 0..count {
-        let task = format!(in alloc; "[[task]]\npath = \"/task{number}\"\n")?;
-        tasks.push_str(task.as_str())?;
-    }
+    add_tasks(&mut tasks, count)?;
     Ok(tasks)
 }
 
-/// Whether texts are these.
-pub(crate) fn are(texts: &List<Text>, expected: &[&str]) -> bool {
-    texts.len() == expected.len()
-        && texts
-            .as_slice()
-            .iter()
-            .zip(expected.iter())
-            .all(|(text, bytes)| text.as_bytes() == bytes.as_bytes())
+fn add_tasks(tasks: &mut String, count: usize) -> Result<(), Fail> {
+    for number in 0..count {
+        write!(tasks, "[[task]]\npath = \"/task{number}\"\n")?;
+    }
+    Ok(())
 }

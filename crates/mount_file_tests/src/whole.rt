@@ -1,8 +1,11 @@
 //! Whole mount files, and what is read of them.
 
-use crate::parts::{ENTRIES, MOUNT, SEED, TASK, are, tasks_of};
-use mount_file::{copied_mounts, read_mounts};
-use sn_text::Folder;
+use crate::parts::{ENTRIES, FOLDER, Gap, MOUNT, Part, SEED, TASK, read, read_with, tasks_of};
+use mount_file::{Mounts, Program, copied_mounts};
+use sn_base::List;
+use sn_text::{Folder, Text};
+use std::alloc::Global;
+use std::process::Abort;
 use std::test::Fail;
 
 /// Whether a folder is of these names.
@@ -17,141 +20,193 @@ fn is_folder(folder: &Folder, rooted: bool, names: &[&str]) -> bool {
             .all(|(name, bytes)| name.is(bytes.as_bytes()))
 }
 
+/// Whether texts are these.
+fn are(texts: &List<Text>, expected: &[&str]) -> bool {
+    texts.len() == expected.len()
+        && texts
+            .as_slice()
+            .iter()
+            .zip(expected.iter())
+            .all(|(text, bytes)| text.as_bytes() == bytes.as_bytes())
+}
+
+/// Whether a task has this path, these arguments and this environment.
+fn is_task(task: &Program, path: &str, args: &[&str], env: &[&str]) -> bool {
+    task.path.as_bytes() == path.as_bytes() && are(&task.args, args) && are(&task.env, env)
+}
+
+/// A seed, and its bytes.
+const DIGITS: &str =
+    "seed = \"000102030405060708090a0b0c0d0e0fF0F1F2F3F4F5F6F7F8F9FAFBFCFDFEFF\"\n";
+
+const BYTES: [u8; 32] = [
+    0, 1, 2, 3, 4, 5, 6, 7, 8, 9, 10, 11, 12, 13, 14, 15, 240, 241, 242, 243, 244, 245, 246, 247,
+    248, 249, 250, 251, 252, 253, 254, 255,
+];
+
 #[test]
 fn the_numbers_of_a_file_are_read(rt: HostRuntime) -> Result<(), Fail> {
-    let alloc = rt.alloc();
-    let seed = "seed = \"000102030405060708090a0b0c0d0e0fF0F1F2F3F4F5F6F7F8F9FAFBFCFDFEFF\"\n";
-    let text = format!(in alloc; "entries = 1048576\n{seed}{MOUNT}{TASK}")?;
-    let Ok(mounts) = read_mounts(alloc, text.as_bytes()) else {
-        return Err(Fail::from("refused"));
-    };
+    let mounts = read(rt.alloc(), ["entries = 1048576\n", DIGITS, MOUNT, TASK])?;
     assert_eq!(rt; mounts.entries, 1_048_576);
-    let expected = [
-        0, 1, 2, 3, 4, 5, 6, 7, 8, 9, 10, 11, 12, 13, 14, 15, 240, 241, 242, 243, 244, 245, 246,
-        247, 248, 249, 250, 251, 252, 253, 254, 255,
-    ];
-    assert!(rt; mounts.seed.as_slice() == expected.as_slice());
+    assert!(rt; mounts.seed.as_slice() == BYTES.as_slice());
     Ok(())
+}
+
+/// Folders, whether each begins at the host's root, and its names.
+const FOLDERS: &[(&str, bool, &[&str])] = &[
+    ("root", false, &["root"]),
+    ("/root", true, &["root"]),
+    ("a/.b/c..", false, &["a", ".b", "c.."]),
+    ("/srv/guest root", true, &["srv", "guest root"]),
+];
+
+/// Whether the only mount of a file is at `/`, and its folder of these names.
+fn is_mounted(mounts: &Mounts, rooted: bool, names: &[&str]) -> bool {
+    match mounts.mounts.as_slice() {
+        [mount] => mount.at.is_none() && is_folder(&mount.folder, rooted, names),
+        _ => false,
+    }
+}
+
+/// Whether a folder is read as these names.
+fn is_read(alloc: Global, folder: &str, rooted: bool, names: &[&str]) -> Result<bool, Fail> {
+    let mounts = read_with(alloc, &FOLDER, folder)?;
+    Ok(is_mounted(&mounts, rooted, names))
 }
 
 #[test]
 fn a_folder_is_read_name_by_name(rt: HostRuntime) -> Result<(), Fail> {
-    let alloc = rt.alloc();
-    let folders: [(&str, bool, &[&str]); 4] = [
-        ("root", false, &["root"]),
-        ("/root", true, &["root"]),
-        ("a/.b/c..", false, &["a", ".b", "c.."]),
-        ("/srv/guest root", true, &["srv", "guest root"]),
-    ];
-    for (folder, rooted, names) in folders {
-        let text = format!(in alloc;
-            "{ENTRIES}{SEED}[[mount]]\nat = \"/\"\nfolder = \"{folder}\"\n{TASK}"
-        )?;
-        let Ok(mounts) = read_mounts(alloc, text.as_bytes()) else {
-            return Err(Fail::from(folder));
-        };
-        let [mount] = mounts.mounts.as_slice() else {
-            return Err(Fail::from(folder));
-        };
-        assert!(rt;
-            mount.at.is_none() && is_folder(&mount.folder, rooted, names),
-            "{folder}"
-        );
+    for (folder, rooted, names) in FOLDERS {
+        assert!(rt; is_read(rt.alloc(), folder, *rooted, names)?, "{folder}");
     }
     Ok(())
 }
 
+/// Behind the other keys of a mount.
+const MOUNT_END: Gap = Gap {
+    part: Part::Mounts,
+    before: MOUNT,
+    after: "",
+};
+
+/// Whether the only mount of a file with this line may be written. `None`: the file has not one mount.
+fn is_written(alloc: Global, line: &str) -> Result<Option<bool>, Fail> {
+    let mounts = read_with(alloc, &MOUNT_END, line)?;
+    match mounts.mounts.as_slice() {
+        [mount] => Ok(Some(mount.write)),
+        _ => Ok(None),
+    }
+}
+
+/// Lines of a mount, and whether it may be written.
+const WRITES: &[(&str, bool)] = &[
+    ("", false),
+    ("write = false\n", false),
+    ("write = true\n", true),
+];
+
 #[test]
 fn a_mount_may_be_written_only_where_it_says_so(rt: HostRuntime) -> Result<(), Fail> {
-    let alloc = rt.alloc();
-    for (line, write) in [
-        ("", false),
-        ("write = false\n", false),
-        ("write = true\n", true),
-    ] {
-        let text = format!(in alloc; "{ENTRIES}{SEED}{MOUNT}{line}{TASK}")?;
-        let Ok(mounts) = read_mounts(alloc, text.as_bytes()) else {
-            return Err(Fail::from(line));
-        };
-        let [mount] = mounts.mounts.as_slice() else {
-            return Err(Fail::from(line));
-        };
-        assert_eq!(rt; mount.write, write, "{line}");
+    for (line, write) in WRITES {
+        assert_eq!(rt; is_written(rt.alloc(), line)?, Some(*write), "{line}");
     }
     Ok(())
+}
+
+/// Behind the path of a task.
+const TASK_END: Gap = Gap {
+    part: Part::Tasks,
+    before: TASK,
+    after: "",
+};
+
+/// Lines of a task, its arguments and its environment.
+const GIVEN: &[(&str, &[&str], &[&str])] = &[
+    ("", &["/init"], &[]),
+    ("args = []\n", &[], &[]),
+    ("args = [\"sh\", \"-c\", \"\"]\n", &["sh", "-c", ""], &[]),
+    ("env = [\"A=1\", \"B=\"]\n", &["/init"], &["A=1", "B="]),
+    ("env = [\"A\"]\nargs = [\"a\"]\n", &["a"], &["A"]),
+];
+
+/// Whether a file whose task has these lines has that task alone, `/init`, with these arguments and this environment.
+fn is_given(alloc: Global, lines: &str, args: &[&str], env: &[&str]) -> Result<bool, Fail> {
+    let mounts = read_with(alloc, &TASK_END, lines)?;
+    match mounts.tasks.as_slice() {
+        [task] => Ok(is_task(task, "/init", args, env)),
+        _ => Ok(false),
+    }
 }
 
 #[test]
 fn a_task_is_given_its_arguments_and_its_environment(rt: HostRuntime) -> Result<(), Fail> {
-    let alloc = rt.alloc();
-    let tasks: [(&str, &[&str], &[&str]); 5] = [
-        ("", &["/init"], &[]),
-        ("args = []\n", &[], &[]),
-        ("args = [\"sh\", \"-c\", \"\"]\n", &["sh", "-c", ""], &[]),
-        ("env = [\"A=1\", \"B=\"]\n", &["/init"], &["A=1", "B="]),
-        ("env = [\"A\"]\nargs = [\"a\"]\n", &["a"], &["A"]),
-    ];
-    for (lines, args, env) in tasks {
-        let text = format!(in alloc; "{ENTRIES}{SEED}{MOUNT}{TASK}{lines}")?;
-        let Ok(mounts) = read_mounts(alloc, text.as_bytes()) else {
-            return Err(Fail::from(lines));
-        };
-        let [task] = mounts.tasks.as_slice() else {
-            return Err(Fail::from(lines));
-        };
-        assert!(rt; task.path.as_bytes() == b"/init".as_slice(), "{lines}");
-        assert!(rt; are(&task.args, args) && are(&task.env, env), "{lines}");
+    for (lines, args, env) in GIVEN {
+        assert!(rt; is_given(rt.alloc(), lines, args, env)?, "{lines}");
     }
     Ok(())
 }
 
+/// Whether a file has two tasks: `/init`, and `/second` with an argument and an environment.
+fn are_two(mounts: &Mounts) -> bool {
+    match mounts.tasks.as_slice() {
+        [task, other] => {
+            is_task(task, "/init", &["/init"], &[]) && is_task(other, "/second", &["b"], &["B=2"])
+        }
+        _ => false,
+    }
+}
+
 #[test]
 fn two_tasks_are_read_in_the_order_of_the_file(rt: HostRuntime) -> Result<(), Fail> {
-    let alloc = rt.alloc();
     let second = "[[task]]\npath = \"/second\"\nargs = [\"b\"]\nenv = [\"B=2\"]\n";
-    let text = format!(in alloc; "{ENTRIES}{SEED}{MOUNT}{TASK}{second}")?;
-    let Ok(mounts) = read_mounts(alloc, text.as_bytes()) else {
-        return Err(Fail::from("refused"));
-    };
-    let [task, other] = mounts.tasks.as_slice() else {
-        return Err(Fail::from("tasks"));
-    };
-    assert!(rt; task.path.as_bytes() == b"/init".as_slice());
-    assert!(rt; are(&task.args, &["/init"]) && are(&task.env, &[]));
-    assert!(rt; other.path.as_bytes() == b"/second".as_slice());
-    assert!(rt; are(&other.args, &["b"]) && are(&other.env, &["B=2"]));
+    let mounts = read_with(rt.alloc(), &TASK_END, second)?;
+    assert!(rt; are_two(&mounts));
+    Ok(())
+}
+
+/// What is read of a file of so many tasks.
+fn read_tasks(alloc: Global, count: usize) -> Result<Mounts, Fail> {
+    let tasks = tasks_of(alloc, count)?;
+    read(alloc, [ENTRIES, SEED, MOUNT, tasks.as_str()])
+}
+
+/// Whether a task has the path `/task` with this number.
+fn is_numbered(alloc: Global, task: &Program, number: usize) -> Result<bool, Fail> {
+    let path = format!(in alloc; "/task{number}")?;
+    Ok(task.path.as_bytes() == path.as_bytes())
+}
+
+fn expect_numbered(rt: &impl Abort, alloc: Global, tasks: &[Program]) -> Result<(), Fail> {
+    for (number, task) in tasks.iter().enumerate() {
+        assert!(rt; is_numbered(alloc, task, number)?, "{number}");
+    }
     Ok(())
 }
 
 #[test]
 fn sixty_four_tasks_are_read_each_with_its_path(rt: HostRuntime) -> Result<(), Fail> {
-    let alloc = rt.alloc();
-    let tasks = tasks_of(alloc, 64)?;
-    let text = format!(in alloc; "{ENTRIES}{SEED}{MOUNT}{tasks}")?;
-    let Ok(mounts) = read_mounts(alloc, text.as_bytes()) else {
-        return Err(Fail::from("refused"));
-    };
+    let mounts = read_tasks(rt.alloc(), 64)?;
     assert_eq!(rt; mounts.tasks.len(), 64);
-    for (number, task) in mounts.tasks.as_slice().iter().enumerate() {
-        let path = format!(in alloc; "/task{number}")?;
-        assert!(rt; task.path.as_bytes() == path.as_bytes(), "{number}");
+    expect_numbered(&rt, rt.alloc(), mounts.tasks.as_slice())
+}
+
+/// Whether a copy of these mounts is one at `/` of the folder `root`, which may be written.
+fn is_copied(alloc: Global, mounts: &Mounts) -> Result<bool, Fail> {
+    let copies = copied_mounts(alloc, mounts.mounts.as_slice())?;
+    match copies.as_slice() {
+        [copy] => Ok(copy.at.is_none() && is_folder(&copy.folder, false, &["root"]) && copy.write),
+        _ => Ok(false),
     }
-    Ok(())
+}
+
+/// Whether the mount of a file with this line is copied so.
+fn is_copied_with(alloc: Global, line: &str) -> Result<bool, Fail> {
+    let mounts = read_with(alloc, &MOUNT_END, line)?;
+    is_copied(alloc, &mounts)
 }
 
 #[test]
 fn mounts_are_copied_whole(rt: HostRuntime) -> Result<(), Fail> {
-    let alloc = rt.alloc();
-    let text = format!(in alloc; "{ENTRIES}{SEED}{MOUNT}write = true\n{TASK}")?;
-    let Ok(mounts) = read_mounts(alloc, text.as_bytes()) else {
-        return Err(Fail::from("refused"));
-    };
-    let Ok(copies) = copied_mounts(alloc, mounts.mounts.as_slice()) else {
-        return Err(Fail::from("memory"));
-    };
-    let [copy] = copies.as_slice() else {
-        return Err(Fail::from("copies"));
-    };
-    assert!(rt; copy.at.is_none() && is_folder(&copy.folder, false, &["root"]) && copy.write);
+    assert!(rt; is_copied_with(rt.alloc(), "write = true\n")?);
     Ok(())
 }

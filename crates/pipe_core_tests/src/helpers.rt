@@ -36,31 +36,3 @@ pub fn filled(alloc: Global, passed: usize, count: usize) -> Result<Pipe, Fail> 
     pipe.write(&bytes);
     Ok(pipe)
 }
-
-/// Closes a read end.
-pub fn close_reader(pipe: &mut Pipe) -> Result<(), Fail> {
-    if pipe.readers() == 0 {
-        return Err(Fail::from("no read end is open"));
-    }
-    pipe.close_reader();
-    Ok(())
-}
-
-/// Closes a write end.
-pub fn close_writer(pipe: &mut Pipe) -> Result<(), Fail> {
-    if pipe.writers() == 0 {
-        return Err(Fail::from("no write end is open"));
-    }
-    pipe.close_writer();
-    Ok(())
-}
-
-/// Opens one more end of each kind.
-pub fn open_both(pipe: &mut Pipe) -> Result<(), Fail> {
-    if pipe.readers() == u64::MAX || pipe.writers() == u64::MAX {
-        return Err(Fail::from("no more ends can be counted"));
-    }
-    pipe.open_reader();
-    pipe.open_writer();
-    Ok(())
-}

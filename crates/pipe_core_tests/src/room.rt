@@ -2,11 +2,13 @@
 
 use crate::helpers::{FULL, filled, front, numbered};
 use pipe_core::{Pipe, PipeRead, PipeWrite};
+use std::alloc::Global;
+use std::process::Abort;
 use std::test::Fail;
 
 /// How many bytes are there, how many are written, the answer, and how many are there then.
 #[rattlefmt::skip]
-const WRITES: [(usize, usize, PipeWrite, usize); 17] = [
+const WRITES: &[(usize, usize, PipeWrite, usize)] = &[
     (0, 0, PipeWrite::Put(0), 0),
     (0, 1, PipeWrite::Put(1), 1),
     (0, 4_096, PipeWrite::Put(4_096), 4_096),
@@ -26,33 +28,50 @@ const WRITES: [(usize, usize, PipeWrite, usize); 17] = [
     (65_536, 65_537, PipeWrite::Wait, 65_536),
 ];
 
-#[test]
-fn a_write_waits_for_room_for_4096_bytes_and_a_longer_one_for_one_byte(
-    rt: HostRuntime,
-) -> Result<(), Fail> {
-    let bytes = numbered(rt.alloc(), FULL + 1)?;
+/// Writes so many of these bytes, and aborts where that isn't answered as is expected.
+fn expect_writes(rt: &impl Abort, alloc: Global, bytes: &[u8]) -> Result<(), Fail> {
     for (there, count, answer, then) in WRITES.iter() {
-        let mut pipe = filled(rt.alloc(), 0, *there)?;
-        assert_eq!(rt; pipe.len(), *there);
+        let mut pipe = filled(alloc, 0, *there)?;
+        let before = pipe.len();
+        let put = pipe.write(front(bytes, *count));
         assert_eq!(rt;
-            pipe.write(front(&bytes, *count)),
-            *answer,
+            (before, put, pipe.len()),
+            (*there, *answer, *then),
             "{count} behind {there}"
         );
-        assert_eq!(rt; pipe.len(), *then, "{count} behind {there}");
     }
     Ok(())
 }
 
 #[test]
+fn a_write_waits_for_room_for_4096_bytes_and_a_longer_one_for_one_byte(
+    rt: HostRuntime,
+) -> Result<(), Fail> {
+    let bytes = numbered(rt.alloc(), FULL + 1)?;
+    expect_writes(&rt, rt.alloc(), &bytes)
+}
+
+/// Fills a pipe, reads some of the bytes, and fills it again, and aborts where that isn't answered so.
+fn expect_full_again(rt: &impl Abort, pipe: &mut Pipe, bytes: &[u8]) {
+    let mut buf = [0; 4_096];
+    let full = [pipe.write(bytes), pipe.write(&[1])];
+    let got = pipe.read(&mut buf);
+    let again = pipe.write(front(bytes, 4_097));
+    assert_eq!(rt;
+        (full, got, again, pipe.len()),
+        (
+            [PipeWrite::Put(65_536), PipeWrite::Wait],
+            PipeRead::Got(4_096),
+            PipeWrite::Put(4_096),
+            65_536
+        )
+    );
+}
+
+#[test]
 fn a_full_pipe_takes_again_what_was_read(rt: HostRuntime) -> Result<(), Fail> {
     let bytes = numbered(rt.alloc(), FULL)?;
-    let mut buf = [0; 4_096];
     let mut pipe = Pipe::new(rt.alloc())?;
-    assert_eq!(rt; pipe.write(&bytes), PipeWrite::Put(65_536));
-    assert_eq!(rt; pipe.write(&[1]), PipeWrite::Wait);
-    assert_eq!(rt; pipe.read(&mut buf), PipeRead::Got(4_096));
-    assert_eq!(rt; pipe.write(front(&bytes, 4_097)), PipeWrite::Put(4_096));
-    assert_eq!(rt; pipe.len(), 65_536);
+    expect_full_again(&rt, &mut pipe, &bytes);
     Ok(())
 }

@@ -1,7 +1,8 @@
 //! The bytes of a pipe as the runs that they lie in, taken and put one run after another.
 
+use crate::acts::{Act, expect, expect_of_five};
 use crate::helpers::{FULL, filled};
-use pipe_core::Pipe;
+use pipe_core::PipeRead;
 use std::test::Fail;
 
 #[test]
@@ -15,53 +16,44 @@ fn the_bytes_of_a_pipe_lie_in_two_runs(rt: HostRuntime) -> Result<(), Fail> {
     ] {
         let pipe = filled(rt.alloc(), passed, count)?;
         let (front, back) = pipe.oldest();
-        assert_eq!(rt; front.len(), first);
-        assert_eq!(rt; back.len(), second);
+        assert_eq!(rt; (front.len(), back.len()), (first, second));
     }
     Ok(())
 }
 
 #[test]
 fn the_second_run_is_behind_the_first(rt: HostRuntime) -> Result<(), Fail> {
-    let pipe = filled(rt.alloc(), FULL - 2, 5)?;
-    let (front, back) = pipe.oldest();
-    assert_eq!(rt; front, [0, 1].as_slice());
-    assert_eq!(rt; back, [2, 3, 4].as_slice());
-    Ok(())
+    expect_of_five(rt.alloc(), &[Act::Oldest(&[0, 1], &[2, 3, 4])])
 }
+
+#[rattlefmt::skip]
+const SKIPPED: &[Act] = &[
+    Act::Skip(3), Act::Oldest(&[3, 4], &[]), Act::Skip(7), Act::Len(0),
+];
 
 #[test]
 fn what_is_skipped_is_gone(rt: HostRuntime) -> Result<(), Fail> {
-    let mut pipe = filled(rt.alloc(), FULL - 2, 5)?;
-    pipe.skip(3);
-    let (front, back) = pipe.oldest();
-    assert_eq!(rt; front, [3, 4].as_slice());
-    assert!(rt; back.is_empty());
-    pipe.skip(7);
-    assert_eq!(rt; pipe.len(), 0);
-    Ok(())
+    expect_of_five(rt.alloc(), SKIPPED)
 }
 
 /// Of five bytes that go round, three are kept, and then all of those where more are asked for.
 #[test]
 fn a_truncated_pipe_keeps_its_oldest_bytes(rt: HostRuntime) -> Result<(), Fail> {
-    let mut pipe = filled(rt.alloc(), FULL - 2, 5)?;
-    pipe.truncate(3);
-    pipe.truncate(4);
-    let (front, back) = pipe.oldest();
-    assert_eq!(rt; front, [0, 1].as_slice());
-    assert_eq!(rt; back, [2].as_slice());
-    Ok(())
+    let acts = [
+        Act::Truncate(3),
+        Act::Truncate(4),
+        Act::Oldest(&[0, 1], &[2]),
+    ];
+    expect_of_five(rt.alloc(), &acts)
 }
+
+#[rattlefmt::skip]
+const PUT: &[Act] = &[
+    Act::Put(&[1, 2]), Act::Put(&[]), Act::Put(&[3, 4, 5]),
+    Act::Read(&[0, 0, 0, 0, 0], PipeRead::Got(5), &[1, 2, 3, 4, 5]),
+];
 
 #[test]
 fn runs_that_are_put_stand_behind_one_another(rt: HostRuntime) -> Result<(), Fail> {
-    let mut pipe = Pipe::new(rt.alloc())?;
-    let mut buf = [0; 5];
-    pipe.put(&[1, 2]);
-    pipe.put(&[]);
-    pipe.put(&[3, 4, 5]);
-    pipe.read(&mut buf);
-    assert_eq!(rt; buf, [1, 2, 3, 4, 5]);
-    Ok(())
+    expect(rt.alloc(), PUT)
 }

@@ -34,6 +34,11 @@ pub(crate) const LOAD_DOUBLE: u32 = 0x0003_3383; // ld x7, 0(x6)
 
 pub(crate) const STORE_WORD: u32 = 0x0074_3023; // sd x7, 0(x8)
 
+/// The end of a run by a trap, behind so many instructions.
+pub(crate) fn trap(count: u32, signal: u8) -> QuantumEnd {
+    QuantumEnd::Trap { count, signal }
+}
+
 /// A task: its registers and its address space.
 #[derive(Drop)]
 pub(crate) struct Task {
@@ -45,16 +50,8 @@ pub(crate) struct Task {
 impl Task {
     /// A task that stands at the first of some words, which lie from an address on, with x6 at the data.
     pub(crate) fn at(alloc: Global, from: u64, words: &[u32]) -> Result<Task, Fail> {
-        let all = Rights::READ | Rights::WRITE | Rights::EXECUTE;
         let mut areas = Areas::new(alloc, 4096);
-        areas.map(alloc, Some(CODE), 8192, all, Backing::Zeros)?;
-        let data = Rights::READ | Rights::WRITE;
-        areas.map(alloc, Some(DATA), 4096, data, Backing::Zeros)?;
-        let mut at = from;
-        for word in words {
-            put_word(alloc, &mut areas, at, *word)?;
-            at = at.wrapping_add(4);
-        }
+        fill(alloc, &mut areas, from, words)?;
         let mut regs = Regs {
             pc: from,
             x: [0; 32],
@@ -99,6 +96,20 @@ impl Task {
             most,
         )
     }
+}
+
+/// Maps the pages of a task, and puts its words from an address on.
+fn fill(alloc: Global, areas: &mut Areas, from: u64, words: &[u32]) -> Result<(), Fail> {
+    let all = Rights::READ | Rights::WRITE | Rights::EXECUTE;
+    areas.map(alloc, Some(CODE), 8192, all, Backing::Zeros)?;
+    let data = Rights::READ | Rights::WRITE;
+    areas.map(alloc, Some(DATA), 4096, data, Backing::Zeros)?;
+    let mut at = from;
+    for word in words {
+        put_word(alloc, areas, at, *word)?;
+        at = at.wrapping_add(4);
+    }
+    Ok(())
 }
 
 fn put_word(alloc: Global, areas: &mut Areas, at: u64, word: u32) -> Result<(), Fail> {

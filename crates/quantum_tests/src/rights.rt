@@ -1,84 +1,87 @@
 //! A page whose rights change between two runs, and accesses without the right in a run.
 
-use crate::fixture::{ADDI_X5, CODE, DATA, ECALL, LOAD_DOUBLE, NOP, STORE_WORD, Task};
+use crate::fixture::{ADDI_X5, CODE, DATA, ECALL, LOAD_DOUBLE, NOP, STORE_WORD, Task, trap};
 use mm_areas::Rights;
 use quantum::QuantumEnd;
+use std::alloc::Global;
+use std::process::Abort;
 use std::test::Fail;
+
+/// Aborts unless a task's code traps while it may not be executed.
+fn expect_trap_between(rt: &impl Abort, alloc: Global, task: &mut Task) -> Result<(), Fail> {
+    assert_eq!(rt; task.run(alloc), QuantumEnd::Call(1));
+    let data = Rights::READ | Rights::WRITE;
+    task.space.protect(CODE, 4096, data)?;
+    task.regs.pc = CODE;
+    let trapped = task.run(alloc);
+    assert_eq!(rt; (trapped, task.regs.pc), (trap(0, 11), CODE));
+    let code = Rights::READ | Rights::EXECUTE;
+    task.space.protect(CODE, 4096, code)?;
+    let ended = task.run(alloc);
+    assert_eq!(rt; (ended, task.regs.x[5]), (QuantumEnd::Call(1), 2));
+    Ok(())
+}
 
 #[test]
 fn a_page_that_loses_the_right_to_be_executed_traps_until_it_has_it_again(
     rt: HostRuntime,
 ) -> Result<(), Fail> {
-    let alloc = rt.alloc();
-    let mut task = Task::of(alloc, &[ADDI_X5, ECALL])?;
+    let mut task = Task::of(rt.alloc(), &[ADDI_X5, ECALL])?;
+    expect_trap_between(&rt, rt.alloc(), &mut task)
+}
+
+/// Aborts unless a task stores only where it may write.
+fn expect_no_store(rt: &impl Abort, alloc: Global, task: &mut Task) -> Result<(), Fail> {
+    task.put(alloc, 5)?;
+    task.regs.x[7] = 9;
+    task.regs.x[8] = DATA;
+    task.space.protect(DATA, 4096, Rights::READ)?;
+    let trapped = task.run(alloc);
+    let data = task.space.load(&task.handed, DATA, 8);
+    assert_eq!(rt; (trapped, data), (trap(1, 11), Ok(5)));
+    task.space.protect(DATA, 4096, Rights::WRITE)?;
     assert_eq!(rt; task.run(alloc), QuantumEnd::Call(1));
-    task.space
-        .protect(CODE, 4096, Rights::READ | Rights::WRITE)?;
-    task.regs.pc = CODE;
-    assert_eq!(rt;
-        task.run(alloc),
-        QuantumEnd::Trap {
-            count: 0,
-            signal: 11
-        }
-    );
-    assert_eq!(rt; task.regs.pc, CODE);
-    task.space
-        .protect(CODE, 4096, Rights::READ | Rights::EXECUTE)?;
-    assert_eq!(rt; task.run(alloc), QuantumEnd::Call(1));
-    assert_eq!(rt; task.regs.x[5], 2);
+    Ok(())
+}
+
+/// Aborts unless a task doesn't load where it may not read.
+fn expect_no_load(rt: &impl Abort, alloc: Global, task: &mut Task) -> Result<(), Fail> {
+    task.space.protect(DATA, 4096, Rights::WRITE)?;
+    let trapped = task.run(alloc);
+    assert_eq!(rt; (trapped, task.regs.x[7]), (trap(1, 11), 0));
     Ok(())
 }
 
 #[test]
 fn an_access_without_the_right_traps_and_changes_nothing(rt: HostRuntime) -> Result<(), Fail> {
-    let alloc = rt.alloc();
-    let mut task = Task::of(alloc, &[NOP, STORE_WORD, ECALL])?;
-    task.put(alloc, 5)?;
-    task.regs.x[7] = 9;
-    task.regs.x[8] = DATA;
-    task.space.protect(DATA, 4096, Rights::READ)?;
-    assert_eq!(rt;
-        task.run(alloc),
-        QuantumEnd::Trap {
-            count: 1,
-            signal: 11
-        }
-    );
-    assert_eq!(rt; task.space.load(&task.handed, DATA, 8), Ok(5));
-    task.space.protect(DATA, 4096, Rights::WRITE)?;
-    assert_eq!(rt; task.run(alloc), QuantumEnd::Call(1));
-    let mut other = Task::of(alloc, &[NOP, LOAD_DOUBLE, ECALL])?;
-    other.space.protect(DATA, 4096, Rights::WRITE)?;
-    assert_eq!(rt;
-        other.run(alloc),
-        QuantumEnd::Trap {
-            count: 1,
-            signal: 11
-        }
-    );
-    assert_eq!(rt; other.regs.x[7], 0);
+    let mut task = Task::of(rt.alloc(), &[NOP, STORE_WORD, ECALL])?;
+    expect_no_store(&rt, rt.alloc(), &mut task)?;
+    let mut other = Task::of(rt.alloc(), &[NOP, LOAD_DOUBLE, ECALL])?;
+    expect_no_load(&rt, rt.alloc(), &mut other)
+}
+
+#[rattlefmt::skip]
+const ATOMIC: [u32; 5] = [
+    0x0053_33af, // amoadd.d x7, x5, (x6)
+    0x1003_33af, // lr.d x7, (x6)
+    0x1853_34af, // sc.d x9, x5, (x6)
+    0x1853_352f, // sc.d x10, x5, (x6)
+    ECALL,
+];
+
+/// Aborts unless the first of two conditional stores finds the reservation, and the other doesn't.
+fn expect_one_store(rt: &impl Abort, alloc: Global, task: &mut Task) -> Result<(), Fail> {
+    task.put(alloc, 40)?;
+    task.regs.x[5] = 2;
+    let end = task.run(alloc);
+    let numbers = [task.regs.x[7], task.regs.x[9], task.regs.x[10]];
+    assert_eq!(rt; (end, numbers), (QuantumEnd::Call(4), [42, 0, 1]));
+    assert_eq!(rt; task.space.load(&task.handed, DATA, 8), Ok(2));
     Ok(())
 }
 
 #[test]
 fn atomic_instructions_of_a_run_keep_and_lose_the_reservation(rt: HostRuntime) -> Result<(), Fail> {
-    let alloc = rt.alloc();
-    #[rattlefmt::skip]
-    let words = [
-        0x0053_33af, // amoadd.d x7, x5, (x6)
-        0x1003_33af, // lr.d x7, (x6)
-        0x1853_34af, // sc.d x9, x5, (x6)
-        0x1853_352f, // sc.d x10, x5, (x6)
-        ECALL,
-    ];
-    let mut task = Task::of(alloc, &words)?;
-    task.put(alloc, 40)?;
-    task.regs.x[5] = 2;
-    assert_eq!(rt; task.run(alloc), QuantumEnd::Call(4));
-    assert_eq!(rt; task.regs.x[7], 42);
-    assert_eq!(rt; task.regs.x[9], 0);
-    assert_eq!(rt; task.regs.x[10], 1);
-    assert_eq!(rt; task.space.load(&task.handed, DATA, 8), Ok(2));
-    Ok(())
+    let mut task = Task::of(rt.alloc(), &ATOMIC)?;
+    expect_one_store(&rt, rt.alloc(), &mut task)
 }

@@ -1,8 +1,11 @@
 //! Opening execves over a folder: what each draws, meets and answers.
 
-use crate::folders::{Failing, faults_of, world_of};
+ghost use Rattle.std.specs.Prelude.{◌≡◌, true};
+ghost use Rattle.host_node.specs.Tree.{none_lent};
+
+use crate::folders::{Failing, expect_faults, world_of};
 use crate::visits::execute_in;
-use host_memory::Op;
+use host_memory::{Op, World};
 use image_walk::{Answer, Executed, Numbering};
 use kernel_model::{Fresh, Given, Rise};
 use mount_file::Program;
@@ -13,17 +16,9 @@ use std::alloc::Global;
 use std::process::Abort;
 use std::test::Fail;
 
-/// What an execve answers: an image that is entered at that address, or an error.
-#[derive(Clone, Copy, Debug, PartialEq, Eq)]
-enum Told {
-    Starts(u64),
-    Refuses(Errno),
-    Memory,
-}
-
 /// An execve of a name, by a sentence that says what is so of it: the numbers of the folder, how many bytes the one
 /// string of its environment has, if any, and what is to fail; the number that it draws for the name, the node of which
-/// a call failed, and its answer.
+/// a call failed, and its answer, an image that is entered at that address or an error.
 #[derive(Clone, Copy)]
 struct Execution {
     says: &'static str,
@@ -33,7 +28,7 @@ struct Execution {
     failing: Failing,
     draws: Option<u64>,
     fails: Option<u64>,
-    answer: Told,
+    answer: Result<u64, Errno>,
 }
 
 /// That of the guest that writes nothing, which is entered at 0x10078.
@@ -45,11 +40,11 @@ const FIRST: Execution = Execution {
     failing: Failing::Nothing,
     draws: Some(2),
     fails: None,
-    answer: Told::Starts(0x1_0078),
+    answer: Ok(0x1_0078),
 };
 
 #[rattlefmt::skip]
-const EXECUTIONS: [Execution; 14] = [
+const EXECUTIONS: &[Execution] = &[
     FIRST,
     Execution {
         says: "a child of a root behind which others are draws the number behind those",
@@ -63,32 +58,32 @@ const EXECUTIONS: [Execution; 14] = [
         failing: Failing::Call(&["root"], Op::Lend),
         draws: None,
         fails: Some(2),
-        answer: Told::Refuses(Errno::EIO),
+        answer: Err(Errno::EIO),
         ..FIRST
     },
     Execution {
         says: "a link is not followed",
         name: b"link",
-        answer: Told::Refuses(Errno::ELOOP),
+        answer: Err(Errno::ELOOP),
         ..FIRST
     },
     Execution {
         says: "a name that is not there draws no number",
         name: b"third",
         draws: None,
-        answer: Told::Refuses(Errno::ENOENT),
+        answer: Err(Errno::ENOENT),
         ..FIRST
     },
     Execution {
         says: "a file that its owner may not execute is refused",
         name: b"shut",
-        answer: Told::Refuses(Errno::EACCES),
+        answer: Err(Errno::EACCES),
         ..FIRST
     },
     Execution {
         says: "bytes that are no image are refused",
         name: b"script",
-        answer: Told::Refuses(Errno::ENOEXEC),
+        answer: Err(Errno::ENOEXEC),
         ..FIRST
     },
     // The string takes nine bytes more than it has, and there is no other.
@@ -103,7 +98,7 @@ const EXECUTIONS: [Execution; 14] = [
         name: b"link",
         environment: 65_528,
         draws: None,
-        answer: Told::Refuses(Errno::E2BIG),
+        answer: Err(Errno::E2BIG),
         ..FIRST
     },
     Execution {
@@ -111,7 +106,7 @@ const EXECUTIONS: [Execution; 14] = [
         failing: Failing::Call(&["root"], Op::Stat),
         draws: None,
         fails: Some(1),
-        answer: Told::Refuses(Errno::EIO),
+        answer: Err(Errno::EIO),
         ..FIRST
     },
     Execution {
@@ -119,50 +114,55 @@ const EXECUTIONS: [Execution; 14] = [
         failing: Failing::Call(&["root"], Op::Lend),
         draws: None,
         fails: Some(1),
-        answer: Told::Refuses(Errno::EIO),
+        answer: Err(Errno::EIO),
         ..FIRST
     },
     Execution {
         says: "a stat of the program that fails is told of its number",
         failing: Failing::Call(&["root", "first"], Op::Stat),
         fails: Some(2),
-        answer: Told::Refuses(Errno::EIO),
+        answer: Err(Errno::EIO),
         ..FIRST
     },
     Execution {
         says: "an open of the program that fails is told of its number",
         failing: Failing::Call(&["root", "first"], Op::Open),
         fails: Some(2),
-        answer: Told::Refuses(Errno::EIO),
+        answer: Err(Errno::EIO),
         ..FIRST
     },
     Execution {
         says: "a read of the program that fails is told of its number",
         failing: Failing::Call(&["root", "first"], Op::ReadAt),
         fails: Some(2),
-        answer: Told::Refuses(Errno::EIO),
+        answer: Err(Errno::EIO),
         ..FIRST
     },
 ];
 
-/// A string of so many letters, if there are any.
-fn letters(alloc: Global, count: usize) -> Result<List<Text>, Fail> {
+/// A string of so many letters.
+fn letters(alloc: Global, count: usize) -> Result<Text, Fail> {
+    let letters = vec![in alloc; b'a'; count]?;
+    Ok(Text::from_slice(alloc, letters.as_slice())?)
+}
+
+/// An environment of one such string, if it has any letters.
+fn environment(alloc: Global, count: usize) -> Result<List<Text>, Fail> {
     let mut strings = List::new(alloc);
-    if count == 0 {
-        return Ok(strings);
+    if count > 0 {
+        strings.push(letters(alloc, count)?)?;
     }
-    let mut letters = Vec::new(alloc);
-    letters.resize(count, b'a')?;
-    strings.push(Text::from_slice(alloc, letters.as_slice())?)?;
     Ok(strings)
 }
 
 /// A program without arguments, with that in its environment. Its path is not looked at.
-fn program(alloc: Global, environment: usize) -> Result<Program, Fail> {
+fn program(alloc: Global, count: usize) -> Result<Program, Fail> {
+    let path = Text::from_slice(alloc, b"/program")?;
+    let env = environment(alloc, count)?;
     Ok(Program {
-        path: Text::from_slice(alloc, b"/program")?,
+        path,
         args: List::new(alloc),
-        env: letters(alloc, environment)?,
+        env,
     })
 }
 
@@ -194,13 +194,18 @@ fn has_given(given: &Given, execution: &Execution) -> bool {
         && has_failed(given.rises.as_slice(), execution.fails)
 }
 
-/// What it says in short.
-fn answered(answer: &Answer) -> Told {
+/// What it says in short, or `None` where memory ran out.
+fn answered(answer: &Answer) -> Option<Result<u64, Errno>> {
     match answer {
-        Answer::Starts(image) => Told::Starts(image.entry),
-        Answer::Refuses(errno) => Told::Refuses(*errno),
-        Answer::Memory => Told::Memory,
+        Answer::Starts(image) => Some(Ok(image.entry)),
+        Answer::Refuses(errno) => Some(Err(*errno)),
+        Answer::Memory => None,
     }
+}
+
+/// Whether an execve came to that.
+fn has_come(executed: &Executed, execution: &Execution) -> bool {
+    answered(&executed.answer) == Some(execution.answer) && has_given(&executed.given, execution)
 }
 
 /// How many calls failed.
@@ -211,34 +216,40 @@ fn failed(execution: &Execution) -> u64 {
     }
 }
 
-/// What an execve came to, and how many calls of the folder's nodes failed; `None` where it isn't as it was.
-fn executed(alloc: Global, execution: &Execution) -> Result<(Executed, Option<u64>), Fail> {
+/// The execve over a host.
+fn executed(alloc: Global, world: &mut World, execution: &Execution) -> Result<Executed, Fail>
+    requires { none_lent world.old.tree ≡ true }
+{
     let program = program(alloc, execution.environment)?;
     let name = name_of(alloc, execution.name)?;
-    let mut world = world_of(alloc, execution.failing)?;
-    let executed = execute_in(alloc, &mut world, execution.numbers, &program, &name)?;
-    Ok((executed, faults_of(alloc, &world)?))
+    execute_in(alloc, world, execution.numbers, &program, &name)
 }
 
-/// That an execve comes to that, and leaves the folder as it was.
+/// That it comes to that over a host, and leaves the folder as it was.
+fn expect_over(
+    rt: &impl Abort,
+    alloc: Global,
+    world: &mut World,
+    execution: &Execution,
+) -> Result<(), Fail>
+    requires { none_lent world.old.tree ≡ true }
+{
+    let executed = executed(alloc, world, execution)?;
+    assert!(rt; has_come(&executed, execution), "{}", execution.says);
+    expect_faults(rt, alloc, world, failed(execution), execution.says)
+}
+
+/// That it does so where that is to fail.
 fn expect_execution(rt: &impl Abort, alloc: Global, execution: &Execution) -> Result<(), Fail> {
-    let (executed, faults) = executed(alloc, execution)?;
-    assert_eq!(rt;
-        answered(&executed.answer),
-        execution.answer,
-        "{}",
-        execution.says
-    );
-    assert!(rt; has_given(&executed.given, execution), "{}", execution.says);
-    assert_eq!(rt; faults, Some(failed(execution)), "{}", execution.says);
-    Ok(())
+    let mut world = world_of(alloc, execution.failing)?;
+    expect_over(rt, alloc, &mut world, execution)
 }
 
 #[test]
 fn an_opening_execve_tells_what_it_drew_and_met_and_leaves_the_folder_as_it_was(
     rt: HostRuntime,
 ) -> Result<(), Fail> {
-    for execution in &EXECUTIONS {
+    for execution in EXECUTIONS {
         expect_execution(&rt, rt.alloc(), execution)?;
     }
     Ok(())

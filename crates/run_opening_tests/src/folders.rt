@@ -1,6 +1,6 @@
 //! A host in memory with a folder of programs: what stands in it, what is to fail, and whether it is as it was.
 
-ghost use Rattle.std.specs.Prelude.{◌≡◌, true, Some, IfOk};
+ghost use Rattle.std.specs.Prelude.{◌≡◌, true, Some, IfOk, OnOk};
 ghost use Rattle.host_node.specs.declared.kind.Kind.TheVariants.{Dir as Directory};
 ghost use Rattle.host_node.specs.Routes.{subtree};
 ghost use Rattle.host_node.specs.Tree.{lent as away, is_directory, none_lent};
@@ -11,6 +11,7 @@ use sn_base::List;
 use sn_text::{Folder, Route, Text, name_of};
 use sn_vectors::images::GUEST;
 use std::alloc::Global;
+use std::process::Abort;
 use std::test::Fail;
 
 /// The names of the granted folder.
@@ -19,6 +20,7 @@ const ROOT: &[&str] = &["root"];
 /// What stands under a name.
 #[derive(Clone, Copy)]
 enum Node {
+    Folder,
     /// The file of the guest that writes nothing.
     Guest,
     /// The same, which may not be executed.
@@ -28,9 +30,10 @@ enum Node {
     Link,
 }
 
-/// What the folder has: each node's names from the host on.
+/// The folder and what it has: each node's names from the host on.
 #[rattlefmt::skip]
-const NODES: [(&[&str], Node); 5] = [
+const NODES: &[(&[&str], Node)] = &[
+    (&["root"], Node::Folder),
     (&["root", "first"], Node::Guest),
     (&["root", "second"], Node::Guest),
     (&["root", "shut"], Node::Shut),
@@ -45,12 +48,19 @@ pub enum Failing {
     Call(&'static [&'static str], Op),
 }
 
+/// Goes on to these names.
+fn extend(alloc: Global, route: &mut Route, names: &[&str]) -> Result<(), Fail> {
+    for name in names {
+        let name = name_of(alloc, name.as_bytes())?;
+        route.push(name)?;
+    }
+    Ok(())
+}
+
 /// The folder of these names.
 fn folder_of(alloc: Global, names: &[&str]) -> Result<Folder, Fail> {
     let mut route = Route::new(alloc);
-    for name in names {
-        route.push(name_of(alloc, name.as_bytes())?)?;
-    }
+    extend(alloc, &mut route, names)?;
     if route.is_empty() {
         return Err(Fail::from("a folder has a name"));
     }
@@ -67,6 +77,7 @@ fn tree_of(alloc: Global, node: Node) -> Result<Tree, Fail>
     ensures { IfOk result (λ tree. none_lent tree ≡ true) }
 {
     match node {
+        Node::Folder => Ok(Tree::directory(alloc, 0o755)),
         Node::Guest => Ok(Tree::file(0o755, List::from_slice(alloc, &GUEST)?)),
         Node::Shut => Ok(Tree::file(0o644, List::from_slice(alloc, &GUEST)?)),
         Node::NoImage => Ok(Tree::file(0o755, List::from_slice(alloc, b"#!/bin/sh\n")?)),
@@ -74,45 +85,51 @@ fn tree_of(alloc: Global, node: Node) -> Result<Tree, Fail>
     }
 }
 
-/// A node put where names lead.
+/// Puts a node where names lead.
 #[tactic(auto, using(host_memory::proofs::Worlds::none_lent_put))]
-fn put(alloc: Global, world: World, names: &[&str], tree: Tree) -> Result<World, Fail>
-    requires world { none_lent world.tree ≡ true }
-    requires tree { none_lent tree ≡ true }
-    ensures { IfOk result (λ world. none_lent world.tree ≡ true) }
+fn put(alloc: Global, world: &mut World, names: &[&str], node: Node) -> Result<(), Fail>
+    requires { none_lent world.old.tree ≡ true }
+    ensures { OnOk result (none_lent world.new.tree ≡ true) }
 {
-    let mut world = world;
-    world.put(alloc, &folder_of(alloc, names)?, tree)?;
-    Ok(world)
+    let folder = folder_of(alloc, names)?;
+    let tree = tree_of(alloc, node)?;
+    world.put(alloc, &folder, tree)?;
+    Ok(())
 }
 
-/// The host, with that to fail.
-fn planned(alloc: Global, world: World, failing: Failing) -> Result<World, Fail>
-    requires { none_lent world.tree ≡ true }
-    ensures { IfOk result (λ world. none_lent world.tree ≡ true) }
+/// Has that fail.
+fn plan(alloc: Global, world: &mut World, failing: Failing) -> Result<(), Fail>
+    requires { none_lent world.old.tree ≡ true }
+    ensures { OnOk result (none_lent world.new.tree ≡ true) }
 {
-    let mut world = world;
-    if let Failing::Call(names, op) = failing {
-        world.plan(&folder_of(alloc, names)?, op, 1)?;
+    match failing {
+        Failing::Nothing => Ok(()),
+        Failing::Call(names, op) => {
+            let folder = folder_of(alloc, names)?;
+            world.plan(&folder, op, 1)?;
+            Ok(())
+        }
     }
-    Ok(world)
+}
+
+/// Puts the folder and all its nodes into a host, and has that fail.
+fn prepare(alloc: Global, world: &mut World, failing: Failing) -> Result<(), Fail>
+    requires { none_lent world.old.tree ≡ true }
+    ensures { OnOk result (none_lent world.new.tree ≡ true) }
+{
+    for &(names, node) in NODES {
+        put(alloc, world, names, node)?;
+    }
+    plan(alloc, world, failing)
 }
 
 /// A host with the folder and all its nodes, and that to fail.
 pub fn world_of(alloc: Global, failing: Failing) -> Result<World, Fail>
     ensures { IfOk result (λ world. none_lent world.tree ≡ true) }
 {
-    let mut world = put(
-        alloc,
-        World::new(alloc),
-        ROOT,
-        Tree::directory(alloc, 0o755),
-    )?;
-    for (names, node) in NODES {
-        let more = put(alloc, world, names, tree_of(alloc, node)?)?;
-        world = more;
-    }
-    planned(alloc, world, failing)
+    let mut world = World::new(alloc);
+    prepare(alloc, &mut world, failing)?;
+    Ok(world)
 }
 
 /// The folder, granted.
@@ -134,30 +151,46 @@ fn is_same(node: &Tree, put: &Tree) -> bool {
     node.attr() == put.attr() && node.bytes() == put.bytes()
 }
 
-/// Whether that node stands where names lead, and how many of its calls failed.
+/// How many calls failed of the node that was put where a folder's names lead, or `None` where it isn't there.
+fn faults_at(world: &World, folder: &Folder, put: &Tree) -> Option<u64> {
+    match world.look(folder) {
+        Some(node) if is_same(node, put) => Some(node.faults()),
+        _ => None,
+    }
+}
+
+/// The same where names lead.
 fn node_faults(
     alloc: Global,
     world: &World,
     names: &[&str],
-    put: &Tree,
+    node: Node,
 ) -> Result<Option<u64>, Fail> {
     let folder = folder_of(alloc, names)?;
-    match world.look(&folder) {
-        Some(node) if is_same(node, put) => Ok(Some(node.faults())),
-        _ => Ok(None),
-    }
+    let put = tree_of(alloc, node)?;
+    Ok(faults_at(world, &folder, &put))
 }
 
 /// How many calls failed of the folder and of all nodes that were put into it, or `None` where one isn't there.
-pub fn faults_of(alloc: Global, world: &World) -> Result<Option<u64>, Fail> {
-    let Some(mut sum) = node_faults(alloc, world, ROOT, &Tree::directory(alloc, 0o755))? else {
-        return Ok(None);
-    };
-    for (names, node) in NODES {
-        let Some(faults) = node_faults(alloc, world, names, &tree_of(alloc, node)?)? else {
+fn faults_of(alloc: Global, world: &World) -> Result<Option<u64>, Fail> {
+    let mut sum = 0;
+    for &(names, node) in NODES {
+        let Some(faults) = node_faults(alloc, world, names, node)? else {
             return Ok(None);
         };
         sum = sn_base::capped_add(sum, faults);
     }
     Ok(Some(sum))
+}
+
+/// That the folder is as it was, but that so many calls failed of it and its nodes.
+pub fn expect_faults(
+    rt: &impl Abort,
+    alloc: Global,
+    world: &World,
+    faults: u64,
+    says: &str,
+) -> Result<(), Fail> {
+    assert_eq!(rt; faults_of(alloc, world)?, Some(faults), "{says}");
+    Ok(())
 }

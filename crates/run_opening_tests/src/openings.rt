@@ -1,11 +1,12 @@
 //! Openings of the tasks of a mount file: what each task draws and meets, and which execve ends one.
 
-ghost use Rattle.std.specs.Prelude.{IfOk};
+ghost use Rattle.std.specs.Prelude.{◌≡◌, true, IfOk};
+ghost use Rattle.host_node.specs.Tree.{none_lent};
 ghost use Rattle.mount_file.specs.Form.{HasForm};
 
-use crate::folders::{Failing, faults_of, world_of};
+use crate::folders::{Failing, expect_faults, world_of};
 use crate::visits::{Begun, open_in};
-use host_memory::Op;
+use host_memory::{Op, World};
 use kernel_model::Opened;
 use mount_file::{Mounts, read_mounts};
 use run_opening::OpenErr;
@@ -37,7 +38,7 @@ const TWO: Opens = Opens {
 };
 
 #[rattlefmt::skip]
-const OPENINGS: [Opens; 6] = [
+const OPENINGS: &[Opens] = &[
     TWO,
     Opens {
         says: "a program that has a number is loaded again and draws none",
@@ -83,13 +84,20 @@ at = \"/\"
 folder = \"root\"
 ";
 
+/// Adds a task of each of these names.
+fn add_tasks(text: &mut String, names: &[&str]) -> Result<(), Fail> {
+    for name in names {
+        text.push_str("[[task]]\npath = \"/")?;
+        text.push_str(name)?;
+        text.push_str("\"\n")?;
+    }
+    Ok(())
+}
+
 /// The text of a mount file with tasks of these names.
 fn text_of(alloc: Global, names: &[&str]) -> Result<String, Fail> {
     let mut text = String::from_str(alloc, HEAD)?;
-    for name in names {
-        let task = format!(in alloc; "[[task]]\npath = \"/{name}\"\n")?;
-        text.push_str(task.as_str())?;
-    }
+    add_tasks(&mut text, names)?;
     Ok(text)
 }
 
@@ -145,36 +153,38 @@ fn failed(opens: &Opens) -> u64 {
     }
 }
 
-/// What an opening came to, and how many calls of the folder's nodes failed; `None` where it isn't as it was.
-fn begun(alloc: Global, opens: &Opens) -> Result<(Begun, Option<u64>), Fail> {
-    let mounts = mounts_of(alloc, opens.names)?;
-    let mut world = world_of(alloc, opens.failing)?;
-    let begun = open_in(alloc, &mut world, &mounts)?;
-    Ok((begun, faults_of(alloc, &world)?))
+/// Whether an opening came to that.
+fn has_come(begun: &Begun, opens: &Opens) -> bool {
+    let tasks = begun.tasks.as_slice();
+    begun.answer == opens.answer && have_drawn(tasks, opens.drawn) && fails(tasks) == opens.fails
 }
 
-/// That an opening comes to that, and leaves the folder as it was.
+/// The opening over a host.
+fn begun(alloc: Global, world: &mut World, opens: &Opens) -> Result<Begun, Fail>
+    requires { none_lent world.old.tree ≡ true }
+{
+    let mounts = mounts_of(alloc, opens.names)?;
+    open_in(alloc, world, &mounts)
+}
+
+/// That it comes to that over a host, and leaves the folder as it was.
+fn expect_over(rt: &impl Abort, alloc: Global, world: &mut World, opens: &Opens) -> Result<(), Fail>
+    requires { none_lent world.old.tree ≡ true }
+{
+    let begun = begun(alloc, world, opens)?;
+    assert!(rt; has_come(&begun, opens), "{}", opens.says);
+    expect_faults(rt, alloc, world, failed(opens), opens.says)
+}
+
+/// That it does so where that is to fail.
 fn expect_opening(rt: &impl Abort, alloc: Global, opens: &Opens) -> Result<(), Fail> {
-    let (begun, faults) = begun(alloc, opens)?;
-    assert!(rt; begun.answer == opens.answer, "{}", opens.says);
-    assert!(rt;
-        have_drawn(begun.tasks.as_slice(), opens.drawn),
-        "{}",
-        opens.says
-    );
-    assert_eq!(rt;
-        fails(begun.tasks.as_slice()),
-        opens.fails,
-        "{}",
-        opens.says
-    );
-    assert_eq!(rt; faults, Some(failed(opens)), "{}", opens.says);
-    Ok(())
+    let mut world = world_of(alloc, opens.failing)?;
+    expect_over(rt, alloc, &mut world, opens)
 }
 
 #[test]
 fn tasks_are_opened_in_order_until_one_is_refused(rt: HostRuntime) -> Result<(), Fail> {
-    for opens in &OPENINGS {
+    for opens in OPENINGS {
         expect_opening(&rt, rt.alloc(), opens)?;
     }
     Ok(())

@@ -10,8 +10,11 @@ mod double_words;
 mod reservations;
 mod words;
 
+/// What memory held, what rs2 holds, and the value.
+type Row = (u64, u64, u64);
+
 /// That an instruction has the values of its rows.
-fn expect(rt: &impl Abort, instr: Instr, rows: &[(u64, u64, u64)]) {
+fn expect(rt: &impl Abort, instr: Instr, rows: &[Row]) {
     for &(old, b, value) in rows {
         assert_eq!(rt; amo(&instr, old, b), value, "of {old:x} and {b:x}");
     }

@@ -7,7 +7,6 @@ use memory::{Memory, Reserved, Small};
 use operations::OPERATIONS;
 use rv_exec::{Step, step};
 use rv_table::{Area, Regs};
-use std::fmt::Debug;
 use std::process::Abort;
 
 mod branches;
@@ -76,6 +75,13 @@ fn regs_with(a: u64, b: u64) -> Regs {
     regs
 }
 
+/// Registers with a number in one of them.
+fn with(rt: &impl Abort, mut regs: Regs, register: usize, number: u64) -> Regs {
+    assert!(rt; register < 32);
+    regs.x[register] = number;
+    regs
+}
+
 /// Registers at the next instruction.
 fn gone_on(mut regs: Regs) -> Regs {
     regs.pc = PC + 4;
@@ -105,35 +111,29 @@ fn once<const C: usize>(regs: &mut Regs, memory: &mut Small<C>) -> Step {
     step(regs, memory)
 }
 
-/// That what is told of a word's instruction is what it should be.
-fn expect_same<T: Copy + Debug + PartialEq>(rt: &impl Abort, told: T, wanted: T, word: u32) {
-    assert_eq!(rt; told, wanted, "{word:08x}");
-}
-
-/// That the step of a word comes to what it should.
-fn expect_step(rt: &impl Abort, told: Step, wanted: Step, word: u32) {
-    expect_same(rt, told, wanted, word);
-}
-
-/// That it leaves the registers that it should.
-fn expect_regs(rt: &impl Abort, told: &Regs, wanted: &Regs, word: u32) {
-    expect_same(rt, *told, *wanted, word);
-}
-
-/// That it leaves the memory that it should, but for how many calls that has answered.
-fn expect_memory(rt: &impl Abort, told: &Memory, wanted: &Memory, word: u32) {
-    let mut left = *told;
-    left.accesses = wanted.accesses;
-    left.ready = wanted.ready;
-    expect_same(rt, left, *wanted, word);
-}
-
 /// The word at which a task stands.
 fn word_of(memory: &Memory) -> u32 {
     u32::from_le_bytes(memory.code.bytes)
 }
 
-/// That a step comes to what it should, and leaves the registers and the memory that it should.
+/// Whether a step comes to what it should, and leaves the registers and the memory that it should, but for how many
+/// calls that has answered.
+fn leaves(
+    before: &Regs,
+    memory: &Memory,
+    step_wanted: Step,
+    after: &Regs,
+    written: &Memory,
+) -> bool {
+    let mut regs = *before;
+    let mut left = *memory;
+    let told = once(&mut regs, &mut left);
+    left.accesses = written.accesses;
+    left.ready = written.ready;
+    told == step_wanted && regs == *after && left == *written
+}
+
+/// That a step does so.
 fn expect_written(
     rt: &impl Abort,
     before: Regs,
@@ -142,12 +142,8 @@ fn expect_written(
     after: Regs,
     written: Memory,
 ) {
-    let mut regs = before;
-    let mut left = memory;
-    let word = word_of(&memory);
-    expect_step(rt, once(&mut regs, &mut left), step_wanted, word);
-    expect_regs(rt, &regs, &after, word);
-    expect_memory(rt, &left, &written, word);
+    let does_so = leaves(&before, &memory, step_wanted, &after, &written);
+    assert!(rt; does_so, "{:08x} at {:x}", word_of(&memory), before.pc);
 }
 
 /// That a step comes to what it should, leaves the registers that it should, and changes nothing in memory.
@@ -160,6 +156,35 @@ fn expect_unmoved(rt: &impl Abort, regs: Regs, memory: Memory, step_wanted: Step
     expect(rt, regs, memory, step_wanted, regs);
 }
 
+/// That a step moves on and leaves the registers that it should, and changes nothing in a memory of zeros.
+fn expect_moved(rt: &impl Abort, word: u32, before: Regs, after: Regs) {
+    let memory = memory_of(before.pc, word, ZEROS);
+    expect(rt, before, memory, Step::Next, after);
+}
+
+/// That the instruction of a word changes nothing of each of these registers and memories, in which the word stands,
+/// and comes to what it should.
+fn expect_still(rt: &impl Abort, word: u32, tasks: &[(Regs, Memory, Step)]) {
+    for &(regs, mut memory, step_wanted) in tasks {
+        memory.code.bytes = word.to_le_bytes();
+        expect_unmoved(rt, regs, memory, step_wanted);
+    }
+}
+
+/// The same of each of these words.
+fn expect_words_still(rt: &impl Abort, words: &[u32], tasks: &[(Regs, Memory, Step)]) {
+    for &word in words {
+        expect_still(rt, word, tasks);
+    }
+}
+
+/// The same of the words of accesses, each of which stands with how many bytes it takes.
+fn expect_accesses_still(rt: &impl Abort, words: &[(u32, u64)], tasks: &[(Regs, Memory, Step)]) {
+    for &(word, _) in words {
+        expect_still(rt, word, tasks);
+    }
+}
+
 /// An instruction's word; the register that it reads and what that holds; the one that it writes and what that holds
 /// then.
 type Row = (u32, usize, u64, usize, u64);
@@ -167,12 +192,8 @@ type Row = (u32, usize, u64, usize, u64);
 /// That the instructions of rows write that one register, and move on to the next instruction.
 fn expect_values(rt: &impl Abort, data: Run<16>, rows: &[Row]) {
     for &(word, rs1, before, rd, value) in rows {
-        assert!(rt; rs1 < 32 && rd < 32);
-        let mut regs = regs_at(PC);
-        regs.x[rs1] = before;
-        let mut after = regs;
-        after.x[rd] = value;
-        after.pc = PC + 4;
+        let regs = with(rt, regs_at(PC), rs1, before);
+        let after = with(rt, gone_on(regs), rd, value);
         expect(rt, regs, memory_of(PC, word, data), Step::Next, after);
     }
 }

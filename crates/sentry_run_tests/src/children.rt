@@ -45,7 +45,7 @@ group 2 exit 16
 ";
 
 #[rattlefmt::skip]
-const PROCESSES: [Case; 4] = [
+const PROCESSES: &[Case] = &[
     // Calls of tasks are refused.
     Case {
         host: Host::Guest(IS_REFUSED),
@@ -110,7 +110,7 @@ group 2 live
 ";
 
 #[rattlefmt::skip]
-const THREADS: [Case; 7] = [
+const THREADS: &[Case] = &[
     // Nobody wakes a task that sleeps alone.
     Case {
         host: Host::Guest(SLEEPS),
@@ -197,7 +197,7 @@ const THREADS: [Case; 7] = [
 ];
 
 #[rattlefmt::skip]
-const STUCK: [Case; 2] = [
+const STUCK: &[Case] = &[
     // A trace that is full is told before a task that sleeps for ever.
     Case {
         mounts: MountFile::Room(2),
@@ -220,27 +220,27 @@ const STUCK: [Case; 2] = [
 
 /// The two of these runs whose trace isn't in their text: a plain kernel does it too, entry by entry.
 #[rattlefmt::skip]
-const REPLAYS: [Case; 2] = [
+const REPLAYS: &[Case] = &[
     Case { host: Host::Guest(WAKES), expected: &[Expected::Replays], ..QUIET },
     Case { host: Host::Guest(MAKES_THREADS), expected: &[Expected::Replays], ..QUIET },
 ];
 
 #[test]
 fn processes_have_memory_of_their_own_and_are_waited_for(rt: HostRuntime) -> Result<(), Fail> {
-    expect_cases(rt.alloc(), &PROCESSES)
+    expect_cases(rt.alloc(), PROCESSES)
 }
 
 #[test]
 fn threads_share_memory_sleep_on_its_words_and_end_with_their_group(
     rt: HostRuntime,
 ) -> Result<(), Fail> {
-    expect_cases(rt.alloc(), &THREADS)?;
-    expect_cases(rt.alloc(), &REPLAYS)
+    expect_cases(rt.alloc(), THREADS)?;
+    expect_cases(rt.alloc(), REPLAYS)
 }
 
 #[test]
 fn a_run_that_nobody_goes_on_with_is_told_behind_a_full_trace_and_a_failing_sink(
     rt: HostRuntime,
 ) -> Result<(), Fail> {
-    expect_cases(rt.alloc(), &STUCK)
+    expect_cases(rt.alloc(), STUCK)
 }

@@ -174,7 +174,7 @@ group 2 exit 0
 ";
 
 #[rattlefmt::skip]
-const RUNS: [Case; 3] = [
+const RUNS: &[Case] = &[
     // A duplicate is written to after its number is closed.
     Case {
         host: Host::Guest(USES_DESCRIPTORS),
@@ -208,5 +208,5 @@ const RUNS: [Case; 3] = [
 fn guests_write_by_the_descriptors_that_they_opened_and_closed(
     rt: HostRuntime,
 ) -> Result<(), Fail> {
-    expect_cases(rt.alloc(), &RUNS)
+    expect_cases(rt.alloc(), RUNS)
 }

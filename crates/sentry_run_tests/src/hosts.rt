@@ -7,7 +7,7 @@ use sn_errno::Errno;
 use std::test::Fail;
 
 #[rattlefmt::skip]
-const GRANTS: [Case; 4] = [
+const GRANTS: &[Case] = &[
     // A grant that fails is a host fault.
     Case {
         failing: Failing::Grant(1),
@@ -58,7 +58,7 @@ const OF_INIT: Case = Case {
 
 /// The calls on nodes that a run without faults makes, each once: the first of each fails.
 #[rattlefmt::skip]
-const CALLS: [Case; 5] = [
+const CALLS: &[Case] = &[
     Case { failing: Failing::Root(Op::Stat, 1), ..OF_ROOT },
     Case { failing: Failing::Root(Op::Lend, 1), ..OF_ROOT },
     Case { failing: Failing::Init(Op::Stat, 1), ..OF_INIT },
@@ -75,7 +75,7 @@ const UNMADE: Case = Case {
 
 /// The second of each of these calls would fail.
 #[rattlefmt::skip]
-const SECOND_CALLS: [Case; 5] = [
+const SECOND_CALLS: &[Case] = &[
     Case { failing: Failing::Root(Op::Stat, 2), ..UNMADE },
     Case { failing: Failing::Root(Op::Lend, 2), ..UNMADE },
     Case { failing: Failing::Init(Op::Stat, 2), ..UNMADE },
@@ -87,7 +87,7 @@ const SECOND_CALLS: [Case; 5] = [
 fn a_call_of_the_host_that_fails_is_told_and_each_is_made_once(
     rt: HostRuntime,
 ) -> Result<(), Fail> {
-    expect_cases(rt.alloc(), &GRANTS)?;
-    expect_cases(rt.alloc(), &CALLS)?;
-    expect_cases(rt.alloc(), &SECOND_CALLS)
+    expect_cases(rt.alloc(), GRANTS)?;
+    expect_cases(rt.alloc(), CALLS)?;
+    expect_cases(rt.alloc(), SECOND_CALLS)
 }

@@ -34,7 +34,7 @@ const EXPECTED: &[Expected] = &[
 ];
 
 #[rattlefmt::skip]
-const GUESTS: [Case; 4] = [
+const GUESTS: &[Case] = &[
     // A guest uses heap mappings shared memory and random bytes.
     Case {
         host: Host::UsesMemory,
@@ -82,7 +82,7 @@ const REPLAYED: Case = Case {
 };
 
 #[rattlefmt::skip]
-const REPLAYS: [Case; 8] = [
+const REPLAYS: &[Case] = &[
     Case { host: Host::UsesMemory, ..REPLAYED },
     Case { mounts: MountFile::Counted, host: Host::UsesMemory, ..REPLAYED },
     Case { mounts: MountFile::Room(8), host: Host::UsesMemory, ..REPLAYED },
@@ -97,6 +97,6 @@ const REPLAYS: [Case; 8] = [
 fn guests_use_memory_and_a_plain_kernel_does_each_entry_of_their_traces_too(
     rt: HostRuntime,
 ) -> Result<(), Fail> {
-    expect_cases(rt.alloc(), &GUESTS)?;
-    expect_cases(rt.alloc(), &REPLAYS)
+    expect_cases(rt.alloc(), GUESTS)?;
+    expect_cases(rt.alloc(), REPLAYS)
 }

@@ -42,7 +42,7 @@ const TOO_MANY: &[Expected] =
 
 /// Faults of its text.
 #[rattlefmt::skip]
-const TEXTS: [Case; 4] = [
+const TEXTS: &[Case] = &[
     Case { mounts: MountFile::Spaces(65_537), expected: LONG, ..QUIET },
     Case { mounts: MountFile::Bytes(b"\xff"), expected: UTF8, ..QUIET },
     Case { mounts: MountFile::Bytes(b"entries ="), expected: TOML, ..QUIET },
@@ -51,7 +51,7 @@ const TEXTS: [Case; 4] = [
 
 /// Faults of what it says.
 #[rattlefmt::skip]
-const SAID: [Case; 5] = [
+const SAID: &[Case] = &[
     Case { mounts: MountFile::Says("entries = 9\nx = 1", &[Table::AtRoot, Table::Task]), expected: FIELD, ..QUIET },
     Case { mounts: MountFile::Says("entries = 0", &[Table::AtRoot, Table::Task]), expected: RANGE, ..QUIET },
     Case { mounts: MountFile::Says("entries = 9", &[Table::Elsewhere, Table::Task]), expected: NO_ROOT, ..QUIET },
@@ -68,7 +68,7 @@ const SAID: [Case; 5] = [
 ];
 
 #[rattlefmt::skip]
-const TASKS: [Case; 3] = [
+const TASKS: &[Case] = &[
     // The words of a task are in the record of its opening.
     Case {
         mounts: MountFile::Says("entries = 9", &[Table::AtRoot, Table::WithWords]),
@@ -95,7 +95,7 @@ const TASKS: [Case; 3] = [
 fn a_mount_file_with_a_fault_is_refused_with_it_and_a_task_has_its_strings(
     rt: HostRuntime,
 ) -> Result<(), Fail> {
-    expect_cases(rt.alloc(), &TEXTS)?;
-    expect_cases(rt.alloc(), &SAID)?;
-    expect_cases(rt.alloc(), &TASKS)
+    expect_cases(rt.alloc(), TEXTS)?;
+    expect_cases(rt.alloc(), SAID)?;
+    expect_cases(rt.alloc(), TASKS)
 }

@@ -106,7 +106,7 @@ const STUCK_TEXT: &[u8] = b"group 1 live
 ";
 
 #[rattlefmt::skip]
-const RUNS: [Case; 2] = [
+const RUNS: &[Case] = &[
     Case {
         host: Host::Guest(USES_PIPES),
         expected: &[
@@ -128,5 +128,5 @@ const RUNS: [Case; 2] = [
 
 #[test]
 fn guests_move_bytes_through_pipes(rt: HostRuntime) -> Result<(), Fail> {
-    expect_cases(rt.alloc(), &RUNS)
+    expect_cases(rt.alloc(), RUNS)
 }

@@ -101,7 +101,7 @@ group 2 live
 ";
 
 #[rattlefmt::skip]
-const RUNS: [Case; 7] = [
+const RUNS: &[Case] = &[
     // Who waits is refused once another has set O_NONBLOCK of the same description.
     Case {
         host: Host::Guest(STOPS_WAITING),
@@ -176,5 +176,5 @@ const RUNS: [Case; 7] = [
 
 #[test]
 fn who_waits_at_a_pipe_goes_on_once_the_call_replies(rt: HostRuntime) -> Result<(), Fail> {
-    expect_cases(rt.alloc(), &RUNS)
+    expect_cases(rt.alloc(), RUNS)
 }

@@ -12,6 +12,7 @@ use sn_base::Memory;
 use sn_edge::{MemSink, MemSource};
 use sn_text::{Folder, Name, Route, name_of};
 use std::alloc::Global;
+use std::process::Abort;
 use std::test::Fail;
 
 /// Whether a route leads to a place.
@@ -191,21 +192,37 @@ fn each_call_of_a_run_names_the_place_of_its_node(rt: HostRuntime) -> Result<(),
     Ok(())
 }
 
-#[test]
-fn a_route_that_leads_elsewhere_is_met(rt: HostRuntime) -> Result<(), Fail> {
-    let alloc = rt.alloc();
-    let mut place = Route::new(alloc);
-    place.push(name_of(alloc, b"f")?)?;
-    let mut other = Route::new(alloc);
-    other.push(name_of(alloc, b"g")?)?;
+/// The route of one name.
+fn route_to(alloc: Global, name: &[u8]) -> Result<Route, Fail> {
+    let name = name_of(alloc, name)?;
+    let mut route = Route::new(alloc);
+    route.push(name)?;
+    Ok(route)
+}
+
+/// A directory at a place.
+fn directory_at(alloc: Global, place: &Route) -> Result<PlacedNode, Memory> {
+    let place = place.copy(alloc)?;
     let tree = Tree::directory(alloc, 0o755);
-    let mut node = PlacedNode {
+    Ok(PlacedNode {
         alloc,
         inner: MemoryNode::new(alloc, tree, Route::new(alloc), Plan::new()),
-        place: place.copy(alloc)?,
-    };
-    assert!(rt; node.stat(&place).is_ok());
-    assert_eq!(rt; node.stat(&other), Err(HostErr::Memory));
+        place,
+    })
+}
+
+/// That a directory at a place answers to the route of it, and not to another.
+fn expect_met(rt: &impl Abort, alloc: Global, place: &Route, other: &Route) -> Result<(), Fail> {
+    let mut node = directory_at(alloc, place)?;
+    assert!(rt; node.stat(place).is_ok());
+    assert_eq!(rt; node.stat(other), Err(HostErr::Memory));
     assert_eq!(rt; node.stat(&Route::new(alloc)), Err(HostErr::Memory));
     Ok(())
+}
+
+#[test]
+fn a_route_that_leads_elsewhere_is_met(rt: HostRuntime) -> Result<(), Fail> {
+    let place = route_to(rt.alloc(), b"f")?;
+    let other = route_to(rt.alloc(), b"g")?;
+    expect_met(&rt, rt.alloc(), &place, &other)
 }

@@ -6,7 +6,7 @@ use sn_vectors::words::*;
 use std::test::Fail;
 
 #[rattlefmt::skip]
-const LINES: [Case; 3] = [
+const LINES: &[Case] = &[
     // A guest prints a line.
     Case {
         words: Words::Untraced,
@@ -72,7 +72,7 @@ const LONG_WRITES: &[u32] = &[
 ];
 
 #[rattlefmt::skip]
-const WRITES: [Case; 4] = [
+const WRITES: &[Case] = &[
     // The sixteen bytes do not end with a newline.
     // Descriptors 1 and 2 alone are open for writing.
     Case {
@@ -109,6 +109,6 @@ const WRITES: [Case; 4] = [
 
 #[test]
 fn a_guest_prints_what_it_finds_while_there_is_room(rt: HostRuntime) -> Result<(), Fail> {
-    expect_cases(rt.alloc(), &LINES)?;
-    expect_cases(rt.alloc(), &WRITES)
+    expect_cases(rt.alloc(), LINES)?;
+    expect_cases(rt.alloc(), WRITES)
 }

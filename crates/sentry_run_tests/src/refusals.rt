@@ -8,7 +8,7 @@ use std::test::Fail;
 
 /// What is no executable file.
 #[rattlefmt::skip]
-const NODES: [Case; 6] = [
+const NODES: &[Case] = &[
     // A file that may not be executed is refused.
     Case {
         host: Host::Shut,
@@ -59,7 +59,7 @@ const NO_IMAGE: Case = Case {
 /// The guest that writes nothing, with other bytes at places of its headers: the first byte of its magic number, its
 /// machine, how many program headers it has, and its flags.
 #[rattlefmt::skip]
-const IMAGES: [Case; 7] = [
+const IMAGES: &[Case] = &[
     Case { host: Host::Bytes(b""), ..NO_IMAGE },
     Case { host: Host::Changed(&[(0, 2)]), ..NO_IMAGE },
     Case { host: Host::Changed(&[(18, 2)]), ..NO_IMAGE },
@@ -88,6 +88,6 @@ const IMAGES: [Case; 7] = [
 fn a_program_that_is_no_executable_file_or_no_image_is_refused(
     rt: HostRuntime,
 ) -> Result<(), Fail> {
-    expect_cases(rt.alloc(), &NODES)?;
-    expect_cases(rt.alloc(), &IMAGES)
+    expect_cases(rt.alloc(), NODES)?;
+    expect_cases(rt.alloc(), IMAGES)
 }

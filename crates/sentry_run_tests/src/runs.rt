@@ -10,7 +10,7 @@ use std::test::Fail;
 const LIVE: &[u8] = b"group 1 live\n";
 
 #[rattlefmt::skip]
-const RUNS: [Case; 3] = [
+const RUNS: &[Case] = &[
     // A guest that writes nothing and exits has its two calls in the trace.
     Case {
         expected: &[
@@ -44,7 +44,7 @@ const NO_COMMAND: Case = Case {
 };
 
 #[rattlefmt::skip]
-const NO_COMMANDS: [Case; 5] = [
+const NO_COMMANDS: &[Case] = &[
     Case { words: Words::Are(&[]), ..NO_COMMAND },
     Case { words: Words::Are(&["run"]), ..NO_COMMAND },
     Case { words: Words::Are(&["run", "m", "--workers", "0"]), ..NO_COMMAND },
@@ -60,7 +60,7 @@ const NO_SOURCE: Case = Case {
 };
 
 #[rattlefmt::skip]
-const SOURCES: [Case; 6] = [
+const SOURCES: &[Case] = &[
     Case { failing: Failing::Source(1), ..NO_SOURCE },
     Case { failing: Failing::Source(2), ..NO_SOURCE },
     Case { failing: Failing::Source(3), ..NO_SOURCE },
@@ -86,7 +86,7 @@ const SOURCES: [Case; 6] = [
 
 /// The text has 72 bytes: five writes of at most 16.
 #[rattlefmt::skip]
-const SINKS: [Case; 7] = [
+const SINKS: &[Case] = &[
     // A sink that fails at its first write has nothing.
     Case {
         failing: Failing::Sink(1),
@@ -137,8 +137,8 @@ const SINKS: [Case; 7] = [
 fn a_run_comes_to_its_text_and_trace_and_what_fails_around_it_is_told(
     rt: HostRuntime,
 ) -> Result<(), Fail> {
-    expect_cases(rt.alloc(), &RUNS)?;
-    expect_cases(rt.alloc(), &NO_COMMANDS)?;
-    expect_cases(rt.alloc(), &SOURCES)?;
-    expect_cases(rt.alloc(), &SINKS)
+    expect_cases(rt.alloc(), RUNS)?;
+    expect_cases(rt.alloc(), NO_COMMANDS)?;
+    expect_cases(rt.alloc(), SOURCES)?;
+    expect_cases(rt.alloc(), SINKS)
 }

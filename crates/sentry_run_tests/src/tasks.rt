@@ -85,7 +85,7 @@ group 2 exit 3
 ";
 
 #[rattlefmt::skip]
-const TURNS: [Case; 4] = [
+const TURNS: &[Case] = &[
     // Two tasks of two programs take turns.
     Case {
         expected: &[
@@ -141,7 +141,7 @@ const TURNS: [Case; 4] = [
 ];
 
 #[rattlefmt::skip]
-const NUMBERS: [Case; 4] = [
+const NUMBERS: &[Case] = &[
     // A task of a program that has a number draws none.
     Case {
         mounts: MountFile::Tasks(2),
@@ -182,7 +182,7 @@ const NUMBERS: [Case; 4] = [
 ];
 
 #[rattlefmt::skip]
-const REFUSED: [Case; 3] = [
+const REFUSED: &[Case] = &[
     // A second task whose program isn't there ends the run before the first has its turn.
     Case {
         mounts: BOTH,
@@ -223,7 +223,7 @@ const REPLAYED: Case = Case {
 };
 
 #[rattlefmt::skip]
-const REPLAYS: [Case; 4] = [
+const REPLAYS: &[Case] = &[
     REPLAYED,
     Case { host: Host::Pair(WRITES_A_LATER, WRITES_B), ..REPLAYED },
     Case { mounts: MountFile::Tasks(4), ..REPLAYED },
@@ -234,14 +234,14 @@ const REPLAYS: [Case; 4] = [
 fn tasks_take_turns_under_numbers_of_their_own_and_a_plain_kernel_does_their_traces_too(
     rt: HostRuntime,
 ) -> Result<(), Fail> {
-    expect_cases(rt.alloc(), &TURNS)?;
-    expect_cases(rt.alloc(), &NUMBERS)?;
-    expect_cases(rt.alloc(), &REPLAYS)
+    expect_cases(rt.alloc(), TURNS)?;
+    expect_cases(rt.alloc(), NUMBERS)?;
+    expect_cases(rt.alloc(), REPLAYS)
 }
 
 #[test]
 fn the_first_task_that_cannot_begin_ends_the_run_and_leaves_the_folder_as_it_was(
     rt: HostRuntime,
 ) -> Result<(), Fail> {
-    expect_cases(rt.alloc(), &REFUSED)
+    expect_cases(rt.alloc(), REFUSED)
 }

@@ -6,7 +6,7 @@ use sn_vectors::words::*;
 use std::test::Fail;
 
 #[rattlefmt::skip]
-const TRAPS: [Case; 3] = [
+const TRAPS: &[Case] = &[
     // A word without a row ends the guest by signal 4.
     Case {
         host: Host::Guest(&[NO_INSTRUCTION; 8]),
@@ -37,7 +37,7 @@ const FIRST: Case = Case {
 };
 
 #[rattlefmt::skip]
-const FIRST_WORDS: [Case; 4] = [
+const FIRST_WORDS: &[Case] = &[
     Case {
         host: Host::Guest(&[NO_INSTRUCTION, 0, 0, 0, 0, 0, 0, 0]),
         expected: &[
@@ -72,6 +72,6 @@ const FIRST_WORDS: [Case; 4] = [
 fn a_trap_ends_the_guest_by_its_signal_and_a_loop_fills_its_trace(
     rt: HostRuntime,
 ) -> Result<(), Fail> {
-    expect_cases(rt.alloc(), &TRAPS)?;
-    expect_cases(rt.alloc(), &FIRST_WORDS)
+    expect_cases(rt.alloc(), TRAPS)?;
+    expect_cases(rt.alloc(), FIRST_WORDS)
 }

@@ -9,7 +9,7 @@ use std::test::Fail;
 
 /// Each cause, its status and its line.
 #[rattlefmt::skip]
-const LINES: [(Fault, u8, &str); 11] = [
+const LINES: &[(Fault, u8, &str)] = &[
     (Fault::Done, 0, ""),
     (Fault::Usage, 2, "sentry: usage\n"),
     (Fault::Mounts(MountFault::Toml), 3, "sentry: mounts Toml\n"),
@@ -25,7 +25,7 @@ const LINES: [(Fault, u8, &str); 11] = [
 
 /// The faults of a mount file that a run answers, and their words.
 #[rattlefmt::skip]
-const WORDS: [(MountFault, &str); 8] = [
+const WORDS: &[(MountFault, &str)] = &[
     (MountFault::Long, "sentry: mounts Long\n"),
     (MountFault::Utf8, "sentry: mounts Utf8\n"),
     (MountFault::Toml, "sentry: mounts Toml\n"),
@@ -63,8 +63,8 @@ fn expect_words(rt: &impl Abort, alloc: Global, rows: &[(MountFault, &str)]) -> 
 
 #[test]
 fn each_cause_has_its_status_and_its_line(rt: HostRuntime) -> Result<(), Fail> {
-    expect_lines(&rt, rt.alloc(), &LINES)?;
-    expect_words(&rt, rt.alloc(), &WORDS)
+    expect_lines(&rt, rt.alloc(), LINES)?;
+    expect_words(&rt, rt.alloc(), WORDS)
 }
 
 #[test]

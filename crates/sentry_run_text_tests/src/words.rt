@@ -15,7 +15,7 @@ fn words_of(alloc: Global, line: &str) -> Result<Vec<String>, AllocError> {
 
 /// Words that are a command, with its number of workers, and whether it prints its trace.
 #[rattlefmt::skip]
-const COMMANDS: [(&str, u32, bool); 4] = [
+const COMMANDS: &[(&str, u32, bool)] = &[
     ("run m", 4, false),
     ("run m --workers 1", 1, false),
     ("run m --workers 16 --trace", 16, true),
@@ -24,7 +24,7 @@ const COMMANDS: [(&str, u32, bool); 4] = [
 
 /// Words that are none.
 #[rattlefmt::skip]
-const OTHERS: [&str; 10] = [
+const OTHERS: &[&str] = &[
     "",
     "run",
     "gen 0",
@@ -60,10 +60,10 @@ fn expect_none(rt: &impl Abort, alloc: Global, lines: &[&str]) -> Result<(), Fai
 
 #[test]
 fn a_run_has_four_workers_unless_it_names_their_number(rt: HostRuntime) -> Result<(), Fail> {
-    expect_commands(&rt, rt.alloc(), &COMMANDS)
+    expect_commands(&rt, rt.alloc(), COMMANDS)
 }
 
 #[test]
 fn other_words_are_no_command(rt: HostRuntime) -> Result<(), Fail> {
-    expect_none(&rt, rt.alloc(), &OTHERS)
+    expect_none(&rt, rt.alloc(), OTHERS)
 }

@@ -1,6 +1,7 @@
 //! What calls answer, and what is set.
 use crate::calls::{Making, expect_group, expect_live, expect_next, make, table};
 use sn_base::Made;
+use std::process::Abort;
 use std::test::Fail;
 use task_table::{Status, Tasks};
 
@@ -23,27 +24,40 @@ fn named_by(tasks: &Tasks, group: u32) -> Option<(u64, Made, Made)> {
     Some((group.cwd, group.memory, group.table))
 }
 
-#[test]
-fn a_child_has_its_parents_directory_and_the_memory_named(rt: HostRuntime) -> Result<(), Fail> {
-    let mut tasks = Tasks::new(rt.alloc());
-    let first = make(&rt, &mut tasks, Making::Open)?;
-    expect_group(&rt, &tasks, first);
+/// The clear word of a task.
+fn clear_word(tasks: &Tasks, task: u32) -> Option<u64> {
+    Some(tasks.task(task)?.clear)
+}
+
+/// That a child has what its group names and the call gives, and a clear word that may be set.
+fn expect_child(rt: &impl Abort, tasks: &mut Tasks) -> Result<(), Fail> {
+    let first = make(rt, tasks, Making::Open)?;
+    expect_group(rt, tasks, first);
     tasks.set_cwd(first, 42);
     let mine = Made { place: 9, index: 0 };
-    expect_group(&rt, &tasks, first);
+    expect_group(rt, tasks, first);
     tasks.set_memory(first, mine);
     let other = Made {
         place: 10,
         index: 3,
     };
-    expect_live(&rt, &tasks, first);
-    expect_next(&rt, &tasks);
+    expect_live(rt, tasks, first);
+    expect_next(rt, tasks);
     let child = tasks.fork(first, other, table(), 0x1000)?;
-    assert_eq!(rt; named_by(&tasks, child), Some((42, other, table())));
-    assert_eq!(rt; named_by(&tasks, first), Some((42, mine, table())));
-    assert_eq!(rt; tasks.task(child).map(|task| task.clear), Some(0x1000));
-    expect_live(&rt, &tasks, child);
+    let named = [named_by(tasks, child), named_by(tasks, first)];
+    assert_eq!(rt;
+        named,
+        [Some((42, other, table())), Some((42, mine, table()))]
+    );
+    assert_eq!(rt; clear_word(tasks, child), Some(0x1000));
+    expect_live(rt, tasks, child);
     tasks.set_clear(child, 0x5000);
-    assert_eq!(rt; tasks.task(child).map(|task| task.clear), Some(0x5000));
+    assert_eq!(rt; clear_word(tasks, child), Some(0x5000));
     Ok(())
+}
+
+#[test]
+fn a_child_has_its_parents_directory_and_the_memory_named(rt: HostRuntime) -> Result<(), Fail> {
+    let mut tasks = Tasks::new(rt.alloc());
+    expect_child(&rt, &mut tasks)
 }

@@ -3,11 +3,11 @@ ghost use Rattle.std.specs.Prelude.{◌<◌, ◌-◌, ◌^◌, IsTrue, IsFalse};
 ghost use Rattle.std.specs.FinMap as map;
 ghost use Rattle.task_table.specs.Table.{has_ended, is_live};
 
-use sn_base::Made;
+use sn_base::{List, Made};
 use std::alloc::Global;
 use std::process::Abort;
 use std::test::Fail;
-use task_table::{CloneErr, ReapEnd, Status, Tasks};
+use task_table::{CloneErr, Ended, ReapEnd, Status, Tasks};
 
 /// A call that makes a task: which task makes it, and its clear word.
 #[derive(Clone, Copy)]
@@ -86,6 +86,61 @@ pub(crate) fn make(rt: &impl Abort, tasks: &mut Tasks, making: Making) -> Result
     }
 }
 
+/// Does a call, which has memory and room, and answers which tasks it ends.
+pub(crate) fn ended_by(
+    rt: &impl Abort,
+    alloc: Global,
+    tasks: &mut Tasks,
+    call: Call,
+) -> Result<Ended, Fail> {
+    match call {
+        Call::Open => expect_made(rt, tasks, Making::Open)?,
+        Call::Fork(task) => expect_made(rt, tasks, Making::Fork(task, 0))?,
+        Call::Thread(task) => expect_made(rt, tasks, Making::Thread(task, 0))?,
+        Call::Reap(parent, which, end) => expect_reaped(rt, tasks, parent, which, end),
+        Call::Exit(task, code) => {
+            expect_live(rt, tasks, task);
+            return Ok(tasks.exit(alloc, task, code)?);
+        }
+        Call::EndGroup(group, status) => {
+            expect_group(rt, tasks, group);
+            return Ok(tasks.end_group(alloc, group, status)?);
+        }
+        Call::EndOthers(task) => {
+            expect_live(rt, tasks, task);
+            return Ok(tasks.end_others(alloc, task)?);
+        }
+    }
+    Ok(none_ended(alloc))
+}
+
+/// That no task ended.
+pub(crate) fn none_ended(alloc: Global) -> Ended {
+    Ended {
+        tasks: List::new(alloc),
+        group: false,
+    }
+}
+
+/// Makes a task, for which there is memory and room.
+pub(crate) fn expect_made(rt: &impl Abort, tasks: &mut Tasks, making: Making) -> Result<(), Fail> {
+    let _ = make(rt, tasks, making)?;
+    Ok(())
+}
+
+/// Waits for a child, as a look at which one it would be tells before.
+fn expect_reaped(
+    rt: &impl Abort,
+    tasks: &mut Tasks,
+    parent: u32,
+    which: Option<u32>,
+    end: ReapEnd,
+) {
+    let told = tasks.child_to_reap(parent, which);
+    let reaped = tasks.reap(parent, which);
+    assert_eq!(rt; [told, reaped], [end, end]);
+}
+
 /// Does a call, which has memory and room.
 pub(crate) fn apply(
     rt: &impl Abort,
@@ -93,60 +148,53 @@ pub(crate) fn apply(
     tasks: &mut Tasks,
     call: Call,
 ) -> Result<(), Fail> {
-    match call {
-        Call::Open => {
-            let _ = make(rt, tasks, Making::Open)?;
-        }
-        Call::Fork(task) => {
-            let _ = make(rt, tasks, Making::Fork(task, 0))?;
-        }
-        Call::Thread(task) => {
-            let _ = make(rt, tasks, Making::Thread(task, 0))?;
-        }
-        Call::Exit(task, code) => {
-            expect_live(rt, tasks, task);
-            let _ = tasks.exit(alloc, task, code)?;
-        }
-        Call::EndGroup(group, status) => {
-            expect_group(rt, tasks, group);
-            let _ = tasks.end_group(alloc, group, status)?;
-        }
-        Call::EndOthers(task) => {
-            expect_live(rt, tasks, task);
-            let _ = tasks.end_others(alloc, task)?;
-        }
-        Call::Reap(parent, which, end) => {
-            assert_eq!(rt; tasks.child_to_reap(parent, which), end);
-            assert_eq!(rt; tasks.reap(parent, which), end);
-        }
-    }
+    let _ = ended_by(rt, alloc, tasks, call)?;
     Ok(())
 }
 
-/// A call, and the table after it: each task's number, group and life, each group's number, parent and end.
+/// A call, and the table after it: the groups of tasks 1, 2 and so on, which tasks have ended, and groups by their
+/// numbers, parents and ends.
 pub(crate) struct Row {
     pub call: Call,
-    pub tasks: &'static [(u32, u32, bool)],
+    pub tasks: &'static [u32],
+    pub ended: &'static [u32],
     pub groups: &'static [(u32, u32, Option<Status>)],
 }
 
 /// Does the calls of rows in turn, and compares the table after each.
 pub(crate) fn expect_rows(rt: &impl Abort, alloc: Global, rows: &[Row]) -> Result<(), Fail> {
     let mut table = Tasks::new(alloc);
+    do_rows(rt, alloc, &mut table, rows)
+}
+
+fn do_rows(rt: &impl Abort, alloc: Global, table: &mut Tasks, rows: &[Row]) -> Result<(), Fail> {
     for row in rows {
-        apply(rt, alloc, &mut table, row.call)?;
-        expect_tasks(rt, &table, row.tasks);
-        expect_groups(rt, &table, row.groups);
+        apply(rt, alloc, table, row.call)?;
+        expect_tasks(rt, table, row.tasks, row.ended);
+        expect_groups(rt, table, row.groups);
     }
     Ok(())
 }
 
-fn expect_tasks(rt: &impl Abort, table: &Tasks, expected: &[(u32, u32, bool)]) {
-    assert_eq!(rt; table.last() as usize, expected.len());
-    for &(number, group, live) in expected {
-        let found = table.task(number).map(|task| (task.group, task.live));
-        assert_eq!(rt; found, Some((group, live)), "task {number}");
+/// Aborts unless a table has tasks 1, 2 and so on, of these groups, and these of them have ended.
+fn expect_tasks(rt: &impl Abort, table: &Tasks, groups: &[u32], ended: &[u32]) {
+    assert_eq!(rt; table.last() as usize, groups.len());
+    let mut number = 0_u32;
+    for group in groups {
+        number = number.wrapping_add(1);
+        let live = !ended.contains(&number);
+        assert_eq!(rt;
+            group_and_life(table, number),
+            Some((*group, live)),
+            "task {number}"
+        );
     }
+}
+
+/// A task's group, and whether it lives.
+fn group_and_life(table: &Tasks, number: u32) -> Option<(u32, bool)> {
+    let task = table.task(number)?;
+    Some((task.group, task.live))
 }
 
 pub(crate) fn expect_groups(
@@ -155,8 +203,22 @@ pub(crate) fn expect_groups(
     expected: &[(u32, u32, Option<Status>)],
 ) {
     for &(number, parent, ended) in expected {
-        let found = table.group(number).map(|group| (group.parent, group.ended));
-        assert_eq!(rt; found, Some((parent, ended)), "group {number}");
+        assert_eq!(rt;
+            parent_and_end(table, number),
+            Some((parent, ended)),
+            "group {number}"
+        );
         assert!(rt; table.groups().get(u64::from(number)) == table.group(number));
     }
+}
+
+/// A group's parent, and how it ended.
+fn parent_and_end(table: &Tasks, number: u32) -> Option<(u32, Option<Status>)> {
+    let group = table.group(number)?;
+    Some((group.parent, group.ended))
+}
+
+/// The parent of a group.
+pub(crate) fn parent_of(tasks: &Tasks, number: u32) -> Option<u32> {
+    Some(tasks.group(number)?.parent)
 }

@@ -1,18 +1,17 @@
 //! Tasks that end, each listed with its clear word: before it ends, or as it does.
-use crate::calls::{Call, Making, apply, expect_group, expect_groups, expect_live, make};
+use crate::calls::{
+    Call, Making, ended_by, expect_group, expect_groups, expect_live, expect_made, none_ended,
+};
 use sn_base::List;
 use std::alloc::Global;
 use std::process::Abort;
 use std::test::Fail;
 use task_table::{Ended, EndedTask, ReapEnd, Status, Tasks};
 
-/// A call on tasks that have clear words. Those that end a group end it with 0.
+/// A call on tasks that have clear words.
 #[derive(Clone, Copy)]
 enum Act {
     Make(Making),
-    Exit(u32),
-    EndOthers(u32),
-    EndGroup(u32),
     Members(u32),
     Itself(u32),
     IsLast(u32),
@@ -22,35 +21,9 @@ enum Act {
 }
 
 /// What an act lists, and whether it tells that a group ended.
-fn ended_by(rt: &impl Abort, alloc: Global, tasks: &mut Tasks, act: Act) -> Result<Ended, Fail> {
-    let mut listed = List::new(alloc);
+fn listed_by(rt: &impl Abort, alloc: Global, tasks: &mut Tasks, act: Act) -> Result<Ended, Fail> {
     match act {
-        Act::Make(making) => {
-            let _ = make(rt, tasks, making)?;
-        }
-        Act::Exit(task) => {
-            expect_live(rt, tasks, task);
-            return Ok(tasks.exit(alloc, task, 0)?);
-        }
-        Act::EndOthers(task) => {
-            expect_live(rt, tasks, task);
-            return Ok(tasks.end_others(alloc, task)?);
-        }
-        Act::EndGroup(group) => {
-            expect_group(rt, tasks, group);
-            return Ok(tasks.end_group(alloc, group, Status::Exited(0))?);
-        }
-        Act::Members(group) => listed = tasks.members(alloc, group)?,
-        Act::Itself(task) => {
-            expect_live(rt, tasks, task);
-            listed = tasks.itself(alloc, task)?;
-        }
-        Act::IsLast(task) => {
-            return Ok(Ended {
-                tasks: listed,
-                group: tasks.is_last(task),
-            });
-        }
+        Act::Make(making) => expect_made(rt, tasks, making)?,
         Act::Close(group, status) => {
             expect_group(rt, tasks, group);
             tasks.close(group, status);
@@ -59,12 +32,28 @@ fn ended_by(rt: &impl Abort, alloc: Global, tasks: &mut Tasks, act: Act) -> Resu
             expect_live(rt, tasks, task);
             tasks.leave(task, status);
         }
-        Act::Of(call) => apply(rt, alloc, tasks, call)?,
+        Act::Members(group) => return Ok(only_listed(tasks.members(alloc, group)?)),
+        Act::Itself(task) => {
+            expect_live(rt, tasks, task);
+            return Ok(only_listed(tasks.itself(alloc, task)?));
+        }
+        Act::IsLast(task) => {
+            return Ok(Ended {
+                tasks: List::new(alloc),
+                group: tasks.is_last(task),
+            });
+        }
+        Act::Of(call) => return ended_by(rt, alloc, tasks, call),
     }
-    Ok(Ended {
-        tasks: listed,
+    Ok(none_ended(alloc))
+}
+
+/// These tasks, of which no group ended.
+fn only_listed(tasks: List<EndedTask>) -> Ended {
+    Ended {
+        tasks,
         group: false,
-    })
+    }
 }
 
 /// An act, the tasks and clear words that it lists, whether it tells that a group ended (or that a task is the last of
@@ -80,12 +69,15 @@ struct Row {
 /// Does the acts of rows in turn, and compares what each lists and leaves.
 fn expect_endings(rt: &impl Abort, alloc: Global, rows: &[Row]) -> Result<(), Fail> {
     let mut tasks = Tasks::new(alloc);
+    do_acts(rt, alloc, &mut tasks, rows)
+}
+
+fn do_acts(rt: &impl Abort, alloc: Global, tasks: &mut Tasks, rows: &[Row]) -> Result<(), Fail> {
     for row in rows {
-        let ended = ended_by(rt, alloc, &mut tasks, row.act)?;
+        let ended = listed_by(rt, alloc, tasks, row.act)?;
         expect_listed(rt, ended.tasks.as_slice(), row.listed);
-        assert_eq!(rt; ended.group, row.group);
-        assert_eq!(rt; tasks.live(), row.live);
-        expect_groups(rt, &tasks, row.groups);
+        assert_eq!(rt; (ended.group, tasks.live()), (row.group, row.live));
+        expect_groups(rt, tasks, row.groups);
     }
     Ok(())
 }
@@ -98,25 +90,26 @@ fn expect_listed(rt: &impl Abort, listed: &[EndedTask], expected: &[(u32, u64)])
 }
 
 #[rattlefmt::skip]
-const THREADS: [Row; 7] = [
+const THREADS: &[Row] = &[
     Row { act: Act::Make(Making::Open), listed: &[], group: false, live: 1, groups: &[(1, 0, None)] },
     Row { act: Act::Make(Making::Thread(1, 0x2000)), listed: &[], group: false, live: 2, groups: &[(1, 0, None)] },
     Row { act: Act::Make(Making::Thread(1, 0x3000)), listed: &[], group: false, live: 3, groups: &[(1, 0, None)] },
-    Row { act: Act::Exit(2), listed: &[(2, 0x2000)], group: false, live: 2, groups: &[(1, 0, None)] },
+    Row { act: Act::Of(Call::Exit(2, 0)), listed: &[(2, 0x2000)], group: false, live: 2, groups: &[(1, 0, None)] },
     Row { act: Act::Make(Making::Thread(1, 0x4000)), listed: &[], group: false, live: 3, groups: &[(1, 0, None)] },
-    Row { act: Act::EndOthers(3), listed: &[(1, 0), (4, 0x4000)], group: false, live: 1, groups: &[(1, 0, None)] },
-    Row { act: Act::EndGroup(1), listed: &[(3, 0x3000)], group: true, live: 0,
+    Row { act: Act::Of(Call::EndOthers(3)), listed: &[(1, 0), (4, 0x4000)], group: false, live: 1,
+        groups: &[(1, 0, None)] },
+    Row { act: Act::Of(Call::EndGroup(1, Status::Exited(0))), listed: &[(3, 0x3000)], group: true, live: 0,
         groups: &[(1, 0, Some(Status::Exited(0)))] },
 ];
 
 #[test]
 fn ended_tasks_come_ascending_with_their_clear_words(rt: HostRuntime) -> Result<(), Fail> {
-    expect_endings(&rt, rt.alloc(), &THREADS)
+    expect_endings(&rt, rt.alloc(), THREADS)
 }
 
 /// A group of tasks 1, 2 and 3, and a child of it, of task 4.
 #[rattlefmt::skip]
-const CLOSED_GROUP: [Row; 9] = [
+const CLOSED_GROUP: &[Row] = &[
     Row { act: Act::Make(Making::Open), listed: &[], group: false, live: 1, groups: &[(1, 0, None)] },
     Row { act: Act::Make(Making::Thread(1, 0x2000)), listed: &[], group: false, live: 2, groups: &[(1, 0, None)] },
     Row { act: Act::Make(Making::Thread(1, 0x4000)), listed: &[], group: false, live: 3, groups: &[(1, 0, None)] },
@@ -135,12 +128,12 @@ const CLOSED_GROUP: [Row; 9] = [
 
 #[test]
 fn a_group_is_listed_and_then_closed(rt: HostRuntime) -> Result<(), Fail> {
-    expect_endings(&rt, rt.alloc(), &CLOSED_GROUP)
+    expect_endings(&rt, rt.alloc(), CLOSED_GROUP)
 }
 
 /// The same family.
 #[rattlefmt::skip]
-const LEAVING: [Row; 12] = [
+const LEAVING: &[Row] = &[
     Row { act: Act::Make(Making::Open), listed: &[], group: false, live: 1, groups: &[(1, 0, None)] },
     Row { act: Act::Make(Making::Thread(1, 0x2000)), listed: &[], group: false, live: 2, groups: &[(1, 0, None)] },
     Row { act: Act::Make(Making::Thread(1, 0x4000)), listed: &[], group: false, live: 3, groups: &[(1, 0, None)] },
@@ -163,5 +156,5 @@ const LEAVING: [Row; 12] = [
 
 #[test]
 fn a_thread_leaves_alone_and_the_last_of_a_group_with_it(rt: HostRuntime) -> Result<(), Fail> {
-    expect_endings(&rt, rt.alloc(), &LEAVING)
+    expect_endings(&rt, rt.alloc(), LEAVING)
 }

@@ -2,7 +2,7 @@
 ghost use Rattle.std.specs.Prelude.{◌≡◌, ◌<◌, ◌-◌, ◌^◌, IsTrue};
 ghost use Rattle.task_table.specs.Table.{is_live};
 
-use crate::calls::{Making, expect_live, expect_next, make, memory, table};
+use crate::calls::{Making, expect_live, expect_made, expect_next, make, memory, parent_of, table};
 use std::process::Abort;
 use std::test::Fail;
 use task_table::{CloneErr, Tasks};
@@ -29,43 +29,61 @@ fn thread_in_vain(tasks: &mut Tasks, task: u32) -> Result<u32, CloneErr>
     Ok(thread)
 }
 
-/// Aborts unless the table is that of tasks 1, 2 and 3: 2 is a thread of group 1, and 3 its child.
-fn expect_three(rt: &impl Abort, tasks: &Tasks) {
-    assert_eq!(rt; tasks.last(), 3);
-    assert_eq!(rt; tasks.live(), 3);
-    assert_eq!(rt; tasks.next_live(2), Some(3));
-    assert_eq!(rt; tasks.next_live(3), None);
-    for (number, group) in [(1, Some(1)), (2, Some(1)), (3, Some(3)), (4, None)] {
-        assert_eq!(rt; tasks.task(number).map(|task| task.group), group);
-    }
-    for (number, parent) in [(1, Some(0)), (2, None), (3, Some(1)), (4, None)] {
-        assert_eq!(rt; tasks.group(number).map(|group| group.parent), parent);
-    }
+/// The group of a task.
+fn group_of(tasks: &Tasks, task: u32) -> Option<u32> {
+    Some(tasks.task(task)?.group)
 }
 
-#[test]
-fn a_task_that_is_taken_back_leaves_no_trace(rt: HostRuntime) -> Result<(), Fail> {
-    let mut tasks = Tasks::new(rt.alloc());
+/// Whether the table is that of tasks 1, 2 and 3: 2 is a thread of group 1, and 3 its child.
+fn has_three(tasks: &Tasks) -> bool {
+    tasks.last() == 3
+        && tasks.live() == 3
+        && tasks.next_live(2) == Some(3)
+        && tasks.next_live(3).is_none()
+        && group_of(tasks, 1) == Some(1)
+        && group_of(tasks, 2) == Some(1)
+        && group_of(tasks, 3) == Some(3)
+        && group_of(tasks, 4).is_none()
+        && parent_of(tasks, 1) == Some(0)
+        && parent_of(tasks, 2).is_none()
+        && parent_of(tasks, 3) == Some(1)
+        && parent_of(tasks, 4).is_none()
+}
+
+/// Aborts unless a task's child and its thread, each of which would be task 4, are taken back.
+fn expect_in_vain(rt: &impl Abort, tasks: &mut Tasks, task: u32) {
+    expect_live(rt, tasks, task);
+    expect_next(rt, tasks);
+    assert_eq!(rt; fork_in_vain(tasks, task), Ok(4));
+    assert!(rt; has_three(tasks));
+    expect_live(rt, tasks, task);
+    expect_next(rt, tasks);
+    assert_eq!(rt; thread_in_vain(tasks, task), Ok(4));
+    assert!(rt; has_three(tasks));
+}
+
+/// That tasks that are taken back leave no trace among three others, and in the number of the next one.
+fn expect_no_trace(rt: &impl Abort, tasks: &mut Tasks) -> Result<(), Fail> {
     for making in [
         Making::Open,
         Making::Thread(1, 0x2000),
         Making::Fork(2, 0x3000),
     ] {
-        let _ = make(&rt, &mut tasks, making)?;
+        expect_made(rt, tasks, making)?;
     }
-    expect_three(&rt, &tasks);
-    for task in [1, 3] {
-        expect_live(&rt, &tasks, task);
-        expect_next(&rt, &tasks);
-        assert_eq!(rt; fork_in_vain(&mut tasks, task), Ok(4));
-        expect_three(&rt, &tasks);
-        expect_live(&rt, &tasks, task);
-        expect_next(&rt, &tasks);
-        assert_eq!(rt; thread_in_vain(&mut tasks, task), Ok(4));
-        expect_three(&rt, &tasks);
-    }
-    assert_eq!(rt; make(&rt, &mut tasks, Making::Fork(2, 0x1000)), Ok(4));
-    assert_eq!(rt; tasks.group(4).map(|group| group.parent), Some(1));
-    assert_eq!(rt; tasks.next_live(3), Some(4));
+    assert!(rt; has_three(tasks));
+    expect_in_vain(rt, tasks, 1);
+    expect_in_vain(rt, tasks, 3);
+    assert_eq!(rt; make(rt, tasks, Making::Fork(2, 0x1000)), Ok(4));
+    assert_eq!(rt;
+        [parent_of(tasks, 4), tasks.next_live(3)],
+        [Some(1), Some(4)]
+    );
     Ok(())
+}
+
+#[test]
+fn a_task_that_is_taken_back_leaves_no_trace(rt: HostRuntime) -> Result<(), Fail> {
+    let mut tasks = Tasks::new(rt.alloc());
+    expect_no_trace(&rt, &mut tasks)
 }

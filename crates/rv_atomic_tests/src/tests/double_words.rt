@@ -2,7 +2,7 @@
 use super::*;
 
 #[rattlefmt::skip]
-const SWAP: [(u64, u64, u64); 10] = [
+const SWAP: &[Row] = &[
     (0, 0, 0),
     (1, 0xffff_ffff_ffff_ffff, 0xffff_ffff_ffff_ffff),
     (0xffff_ffff_ffff_ffff, 1, 1),
@@ -16,7 +16,7 @@ const SWAP: [(u64, u64, u64); 10] = [
 ];
 
 #[rattlefmt::skip]
-const ADD: [(u64, u64, u64); 10] = [
+const ADD: &[Row] = &[
     (0, 0, 0),
     (1, 0xffff_ffff_ffff_ffff, 0),
     (0xffff_ffff_ffff_ffff, 1, 0),
@@ -30,7 +30,7 @@ const ADD: [(u64, u64, u64); 10] = [
 ];
 
 #[rattlefmt::skip]
-const XOR: [(u64, u64, u64); 10] = [
+const XOR: &[Row] = &[
     (0, 0, 0),
     (1, 0xffff_ffff_ffff_ffff, 0xffff_ffff_ffff_fffe),
     (0xffff_ffff_ffff_ffff, 1, 0xffff_ffff_ffff_fffe),
@@ -44,7 +44,7 @@ const XOR: [(u64, u64, u64); 10] = [
 ];
 
 #[rattlefmt::skip]
-const AND: [(u64, u64, u64); 10] = [
+const AND: &[Row] = &[
     (0, 0, 0),
     (1, 0xffff_ffff_ffff_ffff, 1),
     (0xffff_ffff_ffff_ffff, 1, 1),
@@ -58,7 +58,7 @@ const AND: [(u64, u64, u64); 10] = [
 ];
 
 #[rattlefmt::skip]
-const OR: [(u64, u64, u64); 10] = [
+const OR: &[Row] = &[
     (0, 0, 0),
     (1, 0xffff_ffff_ffff_ffff, 0xffff_ffff_ffff_ffff),
     (0xffff_ffff_ffff_ffff, 1, 0xffff_ffff_ffff_ffff),
@@ -72,7 +72,7 @@ const OR: [(u64, u64, u64); 10] = [
 ];
 
 #[rattlefmt::skip]
-const MIN: [(u64, u64, u64); 10] = [
+const MIN: &[Row] = &[
     (0, 0, 0),
     (1, 0xffff_ffff_ffff_ffff, 0xffff_ffff_ffff_ffff),
     (0xffff_ffff_ffff_ffff, 1, 0xffff_ffff_ffff_ffff),
@@ -86,7 +86,7 @@ const MIN: [(u64, u64, u64); 10] = [
 ];
 
 #[rattlefmt::skip]
-const MAX: [(u64, u64, u64); 10] = [
+const MAX: &[Row] = &[
     (0, 0, 0),
     (1, 0xffff_ffff_ffff_ffff, 1),
     (0xffff_ffff_ffff_ffff, 1, 1),
@@ -100,7 +100,7 @@ const MAX: [(u64, u64, u64); 10] = [
 ];
 
 #[rattlefmt::skip]
-const MINU: [(u64, u64, u64); 10] = [
+const MINU: &[Row] = &[
     (0, 0, 0),
     (1, 0xffff_ffff_ffff_ffff, 1),
     (0xffff_ffff_ffff_ffff, 1, 1),
@@ -114,7 +114,7 @@ const MINU: [(u64, u64, u64); 10] = [
 ];
 
 #[rattlefmt::skip]
-const MAXU: [(u64, u64, u64); 10] = [
+const MAXU: &[Row] = &[
     (0, 0, 0),
     (1, 0xffff_ffff_ffff_ffff, 0xffff_ffff_ffff_ffff),
     (0xffff_ffff_ffff_ffff, 1, 0xffff_ffff_ffff_ffff),
@@ -137,7 +137,7 @@ fn double_words_are_swapped_and_added(rt: HostRuntime) {
             rs1: x,
             rs2: x,
         },
-        &SWAP,
+        SWAP,
     );
     expect(
         &rt,
@@ -146,7 +146,7 @@ fn double_words_are_swapped_and_added(rt: HostRuntime) {
             rs1: x,
             rs2: x,
         },
-        &ADD,
+        ADD,
     );
 }
 
@@ -160,7 +160,7 @@ fn double_words_are_joined_bit_by_bit(rt: HostRuntime) {
             rs1: x,
             rs2: x,
         },
-        &XOR,
+        XOR,
     );
     expect(
         &rt,
@@ -169,7 +169,7 @@ fn double_words_are_joined_bit_by_bit(rt: HostRuntime) {
             rs1: x,
             rs2: x,
         },
-        &AND,
+        AND,
     );
     expect(
         &rt,
@@ -178,7 +178,7 @@ fn double_words_are_joined_bit_by_bit(rt: HostRuntime) {
             rs1: x,
             rs2: x,
         },
-        &OR,
+        OR,
     );
 }
 
@@ -192,7 +192,7 @@ fn the_least_and_greatest_of_double_words_with_a_sign(rt: HostRuntime) {
             rs1: x,
             rs2: x,
         },
-        &MIN,
+        MIN,
     );
     expect(
         &rt,
@@ -201,7 +201,7 @@ fn the_least_and_greatest_of_double_words_with_a_sign(rt: HostRuntime) {
             rs1: x,
             rs2: x,
         },
-        &MAX,
+        MAX,
     );
 }
 
@@ -215,7 +215,7 @@ fn the_least_and_greatest_of_double_words_without_a_sign(rt: HostRuntime) {
             rs1: x,
             rs2: x,
         },
-        &MINU,
+        MINU,
     );
     expect(
         &rt,
@@ -224,6 +224,6 @@ fn the_least_and_greatest_of_double_words_without_a_sign(rt: HostRuntime) {
             rs1: x,
             rs2: x,
         },
-        &MAXU,
+        MAXU,
     );
 }

@@ -2,7 +2,7 @@
 use super::*;
 
 #[rattlefmt::skip]
-const SWAP: [(u64, u64, u64); 11] = [
+const SWAP: &[Row] = &[
     (0, 0, 0),
     (1, 0xffff_ffff, 0xffff_ffff),
     (0xffff_ffff_ffff_ffff, 1, 1),
@@ -17,7 +17,7 @@ const SWAP: [(u64, u64, u64); 11] = [
 ];
 
 #[rattlefmt::skip]
-const ADD: [(u64, u64, u64); 11] = [
+const ADD: &[Row] = &[
     (0, 0, 0),
     (1, 0xffff_ffff, 0),
     (0xffff_ffff_ffff_ffff, 1, 0),
@@ -32,7 +32,7 @@ const ADD: [(u64, u64, u64); 11] = [
 ];
 
 #[rattlefmt::skip]
-const XOR: [(u64, u64, u64); 11] = [
+const XOR: &[Row] = &[
     (0, 0, 0),
     (1, 0xffff_ffff, 0xffff_fffe),
     (0xffff_ffff_ffff_ffff, 1, 0xffff_fffe),
@@ -47,7 +47,7 @@ const XOR: [(u64, u64, u64); 11] = [
 ];
 
 #[rattlefmt::skip]
-const AND: [(u64, u64, u64); 11] = [
+const AND: &[Row] = &[
     (0, 0, 0),
     (1, 0xffff_ffff, 1),
     (0xffff_ffff_ffff_ffff, 1, 1),
@@ -62,7 +62,7 @@ const AND: [(u64, u64, u64); 11] = [
 ];
 
 #[rattlefmt::skip]
-const OR: [(u64, u64, u64); 11] = [
+const OR: &[Row] = &[
     (0, 0, 0),
     (1, 0xffff_ffff, 0xffff_ffff),
     (0xffff_ffff_ffff_ffff, 1, 0xffff_ffff),
@@ -77,7 +77,7 @@ const OR: [(u64, u64, u64); 11] = [
 ];
 
 #[rattlefmt::skip]
-const MIN: [(u64, u64, u64); 11] = [
+const MIN: &[Row] = &[
     (0, 0, 0),
     (1, 0xffff_ffff, 0xffff_ffff),
     (0xffff_ffff_ffff_ffff, 1, 0xffff_ffff),
@@ -92,7 +92,7 @@ const MIN: [(u64, u64, u64); 11] = [
 ];
 
 #[rattlefmt::skip]
-const MAX: [(u64, u64, u64); 11] = [
+const MAX: &[Row] = &[
     (0, 0, 0),
     (1, 0xffff_ffff, 1),
     (0xffff_ffff_ffff_ffff, 1, 1),
@@ -107,7 +107,7 @@ const MAX: [(u64, u64, u64); 11] = [
 ];
 
 #[rattlefmt::skip]
-const MINU: [(u64, u64, u64); 11] = [
+const MINU: &[Row] = &[
     (0, 0, 0),
     (1, 0xffff_ffff, 1),
     (0xffff_ffff_ffff_ffff, 1, 1),
@@ -122,7 +122,7 @@ const MINU: [(u64, u64, u64); 11] = [
 ];
 
 #[rattlefmt::skip]
-const MAXU: [(u64, u64, u64); 11] = [
+const MAXU: &[Row] = &[
     (0, 0, 0),
     (1, 0xffff_ffff, 0xffff_ffff),
     (0xffff_ffff_ffff_ffff, 1, 0xffff_ffff),
@@ -146,7 +146,7 @@ fn words_are_swapped_and_added(rt: HostRuntime) {
             rs1: x,
             rs2: x,
         },
-        &SWAP,
+        SWAP,
     );
     expect(
         &rt,
@@ -155,7 +155,7 @@ fn words_are_swapped_and_added(rt: HostRuntime) {
             rs1: x,
             rs2: x,
         },
-        &ADD,
+        ADD,
     );
 }
 
@@ -169,7 +169,7 @@ fn words_are_joined_bit_by_bit(rt: HostRuntime) {
             rs1: x,
             rs2: x,
         },
-        &XOR,
+        XOR,
     );
     expect(
         &rt,
@@ -178,7 +178,7 @@ fn words_are_joined_bit_by_bit(rt: HostRuntime) {
             rs1: x,
             rs2: x,
         },
-        &AND,
+        AND,
     );
     expect(
         &rt,
@@ -187,7 +187,7 @@ fn words_are_joined_bit_by_bit(rt: HostRuntime) {
             rs1: x,
             rs2: x,
         },
-        &OR,
+        OR,
     );
 }
 
@@ -201,7 +201,7 @@ fn the_least_and_greatest_of_words_with_a_sign(rt: HostRuntime) {
             rs1: x,
             rs2: x,
         },
-        &MIN,
+        MIN,
     );
     expect(
         &rt,
@@ -210,7 +210,7 @@ fn the_least_and_greatest_of_words_with_a_sign(rt: HostRuntime) {
             rs1: x,
             rs2: x,
         },
-        &MAX,
+        MAX,
     );
 }
 
@@ -224,7 +224,7 @@ fn the_least_and_greatest_of_words_without_a_sign(rt: HostRuntime) {
             rs1: x,
             rs2: x,
         },
-        &MINU,
+        MINU,
     );
     expect(
         &rt,
@@ -233,6 +233,6 @@ fn the_least_and_greatest_of_words_without_a_sign(rt: HostRuntime) {
             rs1: x,
             rs2: x,
         },
-        &MAXU,
+        MAXU,
     );
 }

@@ -7,7 +7,7 @@ const FAR: u64 = 0x5_0000;
 /// The word of a jump, what x5 holds, the target, and the register that gets the next instruction's address, and that
 /// address.
 #[rattlefmt::skip]
-const JUMPS: [(u32, u64, u64, usize, u64); 8] = [
+const JUMPS: &[(u32, u64, u64, usize, u64)] = &[
     (0x0002_80e7, FAR, 0x5_0000, 1, 0x4_0004), // jalr x1, 0(x5)
     (0x0082_82e7, FAR, 0x5_0008, 5, 0x4_0004), // jalr x5, 8(x5)
     (0x0082_8067, FAR, 0x5_0008, 0, 0), // jalr x0, 8(x5)
@@ -20,14 +20,11 @@ const JUMPS: [(u32, u64, u64, usize, u64); 8] = [
 
 #[test]
 fn a_jump_to_a_register_clears_the_lowest_bit(rt: HostRuntime) {
-    for &(word, holds, target, rd, link) in &JUMPS {
-        assert!(rt; rd < 32);
-        let mut regs = regs_at(PC);
-        regs.x[5] = holds;
-        let mut after = regs;
-        after.x[rd] = link;
+    for &(word, holds, target, rd, link) in JUMPS {
+        let regs = with(&rt, regs_at(PC), 5, holds);
+        let mut after = with(&rt, regs, rd, link);
         after.pc = target;
-        expect(&rt, regs, memory_of(PC, word, ZEROS), Step::Next, after);
+        expect_moved(&rt, word, regs, after);
     }
 }
 
@@ -35,16 +32,14 @@ fn a_jump_to_a_register_clears_the_lowest_bit(rt: HostRuntime) {
 fn a_jump_to_half_an_instruction_in_a_register_traps_and_writes_no_link(rt: HostRuntime) {
     let jalr_x1_2_x5 = 0x0022_80e7;
     let jalr_x1_3_x5 = 0x0032_80e7;
-    for word in [jalr_x1_2_x5, jalr_x1_3_x5] {
-        let mut regs = regs_at(PC);
-        regs.x[5] = FAR;
-        expect_unmoved(&rt, regs, memory_of(PC, word, ZEROS), Step::Trap(7));
-    }
+    let regs = with(&rt, regs_at(PC), 5, FAR);
+    let task = (regs, memory_of(PC, 0, ZEROS), Step::Trap(7));
+    expect_words_still(&rt, &[jalr_x1_2_x5, jalr_x1_3_x5], &[task]);
 }
 
 /// The word of a branch on x5 and x6, what they hold, and where the task then stands.
 #[rattlefmt::skip]
-const BRANCHES: [(u32, u64, u64, u64); 16] = [
+const BRANCHES: &[(u32, u64, u64, u64)] = &[
     (0x0062_8463, 7, 7, 0x4_0008), // beq x5, x6, .+8
     (0x0062_8463, 7, 8, 0x4_0004),
     (0xfe62_98e3, 7, 8, 0x3_fff0), // bne x5, x6, .-16
@@ -66,13 +61,13 @@ const BRANCHES: [(u32, u64, u64, u64); 16] = [
 
 #[test]
 fn branches_go_to_their_target_or_on(rt: HostRuntime) {
-    for &(word, a, b, pc) in &BRANCHES {
+    for &(word, a, b, pc) in BRANCHES {
         let mut regs = regs_at(PC);
         regs.x[5] = a;
         regs.x[6] = b;
         let mut after = regs;
         after.pc = pc;
-        expect(&rt, regs, memory_of(PC, word, ZEROS), Step::Next, after);
+        expect_moved(&rt, word, regs, after);
     }
 }
 
@@ -80,10 +75,9 @@ fn branches_go_to_their_target_or_on(rt: HostRuntime) {
 fn a_taken_branch_to_half_an_instruction_traps(rt: HostRuntime) {
     let beq_x5_x6_2 = 0x0062_8163;
     let bge_x5_x6_2_back = 0xfe62_dfe3;
-    for word in [beq_x5_x6_2, bge_x5_x6_2_back] {
-        let mut regs = regs_at(PC);
-        regs.x[5] = 7;
-        regs.x[6] = 7;
-        expect_unmoved(&rt, regs, memory_of(PC, word, ZEROS), Step::Trap(7));
-    }
+    let mut regs = regs_at(PC);
+    regs.x[5] = 7;
+    regs.x[6] = 7;
+    let task = (regs, memory_of(PC, 0, ZEROS), Step::Trap(7));
+    expect_words_still(&rt, &[beq_x5_x6_2, bge_x5_x6_2_back], &[task]);
 }

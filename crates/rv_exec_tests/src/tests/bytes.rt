@@ -26,7 +26,7 @@ pub trait Bytes {
 }
 
 /// So many bytes from an address on, going round at 2^64, which hold what they hold or all lie in a shared area.
-#[derive(Clone, Copy, Debug, PartialEq, Eq)]
+#[derive(Clone, Copy, PartialEq, Eq)]
 pub struct Run<const N: usize> {
     pub from: u64,
     pub bytes: [u8; N],
@@ -73,7 +73,7 @@ impl<const N: usize> Run<N> {
 }
 
 /// The right to a run's bytes: to none of them, or to each but one.
-#[derive(Clone, Copy, Debug, PartialEq, Eq)]
+#[derive(Clone, Copy, PartialEq, Eq)]
 pub struct Right {
     pub is_granted: bool,
     pub lacking: Option<u64>,

@@ -44,11 +44,89 @@ const PAIRS: [(u64, u64); 10] = [
 ];
 
 /// Sixteen bytes: a number's, the lowest first, and eight of zero.
-fn data_of(number: u64) -> Run<16> {
+pub fn data_of(number: u64) -> Run<16> {
     let mut data = ZEROS;
     let low = number.to_le_bytes();
     for place in 0..8 {
         data.bytes[place] = low[place];
     }
     data
+}
+
+/// What an operand at an edge is to an instruction, and what its row's value is.
+#[derive(Clone, Copy)]
+enum Edge {
+    /// x6 holds it, and x5 gets the value.
+    Register,
+    /// Eight bytes at the address in x6 hold it, and x5 gets the value.
+    Loaded,
+    /// x7 holds it, and leaves the value in those bytes, which held `FILL`.
+    Stored,
+    /// As `Loaded`, and so many bytes are reserved.
+    Reserving(u8),
+    /// As `Stored`, where so many bytes were reserved, and x5 gets 0.
+    Conditional(u8),
+}
+
+/// What x5 holds before an instruction.
+const X5: u64 = 0x0505_0505_0505_0505;
+
+/// A reservation of so many bytes.
+fn reserved(width: u8) -> Option<Reserved> {
+    Some(Reserved {
+        address: DATA,
+        width,
+    })
+}
+
+/// That an instruction gives the value of an operand.
+fn expect_edge(rt: &impl Abort, word: u32, edge: Edge, operand: u64, value: u64) {
+    match edge {
+        Edge::Register => expect_left(rt, word, (operand, 0), (0, 0), value),
+        Edge::Loaded => expect_left(rt, word, (DATA, 0), (operand, operand), value),
+        Edge::Stored => expect_left(rt, word, (DATA, operand), (FILL, value), X5),
+        Edge::Reserving(width) => {
+            let reserves = (None, reserved(width));
+            expect_reserved(rt, word, (DATA, 0), (operand, operand), value, reserves);
+        }
+        Edge::Conditional(width) => {
+            let ends = (reserved(width), None);
+            expect_reserved(rt, word, (DATA, operand), (FILL, value), 0, ends);
+        }
+    }
+}
+
+/// That the instruction of each row gives the value of each operand.
+fn expect_edges(rt: &impl Abort, edge: Edge, rows: &[(u32, [u64; 7])]) {
+    for &(word, values) in rows {
+        for place in 0..7 {
+            expect_edge(rt, word, edge, OPERANDS[place], values[place]);
+        }
+    }
+}
+
+/// That an instruction goes on, where x6 and x7 hold these and memory holds those eight bytes before and behind it, and
+/// x5 holds a number behind it.
+fn expect_left(rt: &impl Abort, word: u32, of: (u64, u64), bytes: (u64, u64), x5: u64) {
+    expect_reserved(rt, word, of, bytes, x5, (None, None));
+}
+
+/// The same where the task has reservations before and behind it.
+fn expect_reserved(
+    rt: &impl Abort,
+    word: u32,
+    (a, b): (u64, u64),
+    (old, left): (u64, u64),
+    x5: u64,
+    (reserved, kept): (Option<Reserved>, Option<Reserved>),
+) {
+    let before = regs_with(a, b);
+    let mut after = gone_on(before);
+    after.x[5] = x5;
+    let mut memory = memory_of(PC, word, data_of(old));
+    memory.reserved = reserved;
+    let mut written = memory;
+    written.data = data_of(left);
+    written.reserved = kept;
+    expect_written(rt, before, memory, Step::Next, after, written);
 }

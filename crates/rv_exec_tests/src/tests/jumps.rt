@@ -4,18 +4,16 @@ use super::*;
 /// That jumps from an address come to their targets, with the next instruction's address in a register.
 fn expect_jumps(rt: &impl Abort, from: u64, rows: &[(u32, u64, usize, u64)]) {
     for &(word, target, rd, link) in rows {
-        assert!(rt; rd < 32);
         let before = regs_at(from);
-        let mut after = before;
+        let mut after = with(rt, before, rd, link);
         after.pc = target;
-        after.x[rd] = link;
-        expect(rt, before, memory_of(from, word, ZEROS), Step::Next, after);
+        expect_moved(rt, word, before, after);
     }
 }
 
 /// The word, the target, and the register that gets the next instruction's address, and that address.
 #[rattlefmt::skip]
-const JUMPS: [(u32, u64, usize, u64); 7] = [
+const JUMPS: &[(u32, u64, usize, u64)] = &[
     (0x0080_00ef, 0x4_0008, 1, 0x4_0004), // jal x1, .+8
     (0xff1f_f2ef, 0x3_fff0, 5, 0x4_0004), // jal x5, .-16
     (0x7fdf_ffef, 0x13_fffc, 31, 0x4_0004), // jal x31, .+0xffffc
@@ -27,7 +25,7 @@ const JUMPS: [(u32, u64, usize, u64); 7] = [
 
 #[test]
 fn jumps_go_forwards_and_backwards(rt: HostRuntime) {
-    expect_jumps(&rt, PC, &JUMPS);
+    expect_jumps(&rt, PC, JUMPS);
 }
 
 #[test]
@@ -46,12 +44,6 @@ fn jumps_go_round_at_both_ends_of_the_addresses(rt: HostRuntime) {
 fn a_jump_to_half_an_instruction_traps_and_writes_no_link(rt: HostRuntime) {
     let jal_x1_2 = 0x0020_00ef;
     let jal_x1_2_back = 0xffff_f0ef;
-    let regs = regs_at(PC);
-    expect_unmoved(&rt, regs, memory_of(PC, jal_x1_2, ZEROS), Step::Trap(7));
-    expect_unmoved(
-        &rt,
-        regs,
-        memory_of(PC, jal_x1_2_back, ZEROS),
-        Step::Trap(7),
-    );
+    let task = (regs_at(PC), memory_of(PC, 0, ZEROS), Step::Trap(7));
+    expect_words_still(&rt, &[jal_x1_2, jal_x1_2_back], &[task]);
 }

@@ -19,7 +19,7 @@ const ROUND: Run<16> = Run {
 };
 
 #[rattlefmt::skip]
-const SIGNED: [Row; 11] = [
+const SIGNED: &[Row] = &[
     (0x0001_0083, 2, 0x2_0000, 1, 0xffff_ffff_ffff_ff80), // lb x1, 0(x2)
     (0x0012_0183, 4, 0x2_0000, 3, 0x7f), // lb x3, 1(x4)
     (0xfff3_0283, 6, 0x2_0010, 5, 0xffff_ffff_ffff_fff8), // lb x5, -1(x6)
@@ -34,7 +34,7 @@ const SIGNED: [Row; 11] = [
 ];
 
 #[rattlefmt::skip]
-const UNSIGNED: [Row; 6] = [
+const UNSIGNED: &[Row] = &[
     (0x000c_4b83, 24, 0x2_0000, 23, 0x80), // lbu x23, 0(x24)
     (0x00fd_4c83, 26, 0x2_0000, 25, 0xf8), // lbu x25, 15(x26)
     (0x004e_5d83, 28, 0x2_0000, 27, 0x80fe), // lhu x27, 4(x28)
@@ -44,7 +44,7 @@ const UNSIGNED: [Row; 6] = [
 ];
 
 #[rattlefmt::skip]
-const INTO_X0: [Row; 7] = [
+const INTO_X0: &[Row] = &[
     (0x0001_0003, 2, 0x2_0000, 0, 0), // lb x0, 0(x2)
     (0x0001_1003, 2, 0x2_0000, 0, 0), // lh x0, 0(x2)
     (0x0001_2003, 2, 0x2_0000, 0, 0), // lw x0, 0(x2)
@@ -55,7 +55,7 @@ const INTO_X0: [Row; 7] = [
 ];
 
 #[rattlefmt::skip]
-const HALVES_AND_WORDS: [Row; 8] = [
+const HALVES_AND_WORDS: &[Row] = &[
     (0x0014_1383, 8, 0x2_0000, 7, 0xffff_ffff_ffff_ff7f), // lh x7, 1(x8)
     (0x0014_5383, 8, 0x2_0000, 7, 0xff7f), // lhu x7, 1(x8)
     (0x0004_1383, 8, 0x2_0003, 7, 0xffff_ffff_ffff_fe01), // lh x7, 0(x8)
@@ -67,7 +67,7 @@ const HALVES_AND_WORDS: [Row; 8] = [
 ];
 
 #[rattlefmt::skip]
-const DOUBLES: [Row; 7] = [
+const DOUBLES: &[Row] = &[
     (0x0014_3383, 8, 0x2_0000, 7, 0x8112_3480_fe01_ff7f), // ld x7, 1(x8)
     (0x0024_3383, 8, 0x2_0000, 7, 0x9281_1234_80fe_01ff), // ld x7, 2(x8)
     (0x0034_3383, 8, 0x2_0000, 7, 0xa392_8112_3480_fe01), // ld x7, 3(x8)
@@ -79,7 +79,7 @@ const DOUBLES: [Row; 7] = [
 
 /// Words whose bytes lie on both sides of the last address, by an offset from a register that itself goes round.
 #[rattlefmt::skip]
-const BEHIND_THE_LAST: [Row; 4] = [
+const BEHIND_THE_LAST: &[Row] = &[
     (0xffc4_3383, 8, 0, 7, 0xb4a3_9281_1234_80fe), // ld x7, -4(x8)
     (0xffc4_2383, 8, 2, 7, 0xffff_ffff_9281_1234), // lw x7, -4(x8)
     (0x0204_5383, 8, 0xffff_ffff_ffff_ffdf, 7, 0x8112), // lhu x7, 32(x8)
@@ -88,30 +88,30 @@ const BEHIND_THE_LAST: [Row; 4] = [
 
 #[test]
 fn loads_carry_the_sign_of_each_width_on(rt: HostRuntime) {
-    expect_values(&rt, BYTES, &SIGNED);
+    expect_values(&rt, BYTES, SIGNED);
 }
 
 #[test]
 fn unsigned_loads_are_filled_up_with_zeros(rt: HostRuntime) {
-    expect_values(&rt, BYTES, &UNSIGNED);
+    expect_values(&rt, BYTES, UNSIGNED);
 }
 
 #[test]
 fn what_is_loaded_into_x0_is_let_go(rt: HostRuntime) {
-    expect_values(&rt, BYTES, &INTO_X0);
+    expect_values(&rt, BYTES, INTO_X0);
 }
 
 #[test]
 fn misaligned_halves_and_words_are_loaded_byte_by_byte(rt: HostRuntime) {
-    expect_values(&rt, BYTES, &HALVES_AND_WORDS);
+    expect_values(&rt, BYTES, HALVES_AND_WORDS);
 }
 
 #[test]
 fn misaligned_doubles_are_loaded_byte_by_byte(rt: HostRuntime) {
-    expect_values(&rt, BYTES, &DOUBLES);
+    expect_values(&rt, BYTES, DOUBLES);
 }
 
 #[test]
 fn addresses_of_loads_go_round(rt: HostRuntime) {
-    expect_values(&rt, ROUND, &BEHIND_THE_LAST);
+    expect_values(&rt, ROUND, BEHIND_THE_LAST);
 }

@@ -13,7 +13,7 @@ use rv_table::MemErr;
 use sn_base::Memory as Wanting;
 
 /// An address and a number of bytes that a task has reserved.
-#[derive(Clone, Copy, Debug, PartialEq, Eq)]
+#[derive(Clone, Copy, PartialEq, Eq)]
 pub struct Reserved {
     pub address: u64,
     pub width: u8,
@@ -21,7 +21,7 @@ pub struct Reserved {
 
 /// The memory of a task: so many bytes that may be executed, sixteen bytes that may be read and written where it says
 /// so, and the task's reservation. A store changes both where they lie over one another.
-#[derive(Clone, Copy, Debug, PartialEq, Eq)]
+#[derive(Clone, Copy, PartialEq, Eq)]
 pub struct Small<const C: usize> {
     pub code: Run<C>,
     pub data: Run<16>,

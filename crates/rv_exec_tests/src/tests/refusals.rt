@@ -4,7 +4,7 @@ use super::*;
 /// The words of `lb x1, 0(x2)`, `lh x1, 0(x2)`, `lw x1, 0(x2)`, `ld x1, 0(x2)`, `lbu x1, 0(x2)`, `lhu x1, 0(x2)` and
 /// `lwu x1, 0(x2)`, with the bytes that each loads.
 #[rattlefmt::skip]
-const LOADS: [(u32, u64); 7] = [
+const LOADS: &[(u32, u64)] = &[
     (0x0001_0083, 1),
     (0x0001_1083, 2),
     (0x0001_2083, 4),
@@ -26,10 +26,8 @@ fn regs_with_x2(address: u64) -> Regs {
 
 /// That each load from an address comes to a step that changes nothing.
 fn expect_loads(rt: &impl Abort, address: u64, data: Run<16>, step_wanted: Step) {
-    for &(word, _) in &LOADS {
-        let memory = memory_of(PC, word, data);
-        expect_unmoved(rt, regs_with_x2(address), memory, step_wanted);
-    }
+    let task = (regs_with_x2(address), memory_of(PC, 0, data), step_wanted);
+    expect_accesses_still(rt, LOADS, &[task]);
 }
 
 #[test]
@@ -39,16 +37,15 @@ fn a_load_from_address_0_is_a_segmentation_violation(rt: HostRuntime) {
 
 #[test]
 fn a_load_reaches_to_the_end_of_memory_and_no_further(rt: HostRuntime) {
-    for &(word, width) in &LOADS {
+    for &(word, width) in LOADS {
         assert!(rt; width <= 8);
         let last = DATA + 16 - width;
-        let memory = memory_of(PC, word, ZEROS);
         let before = regs_with_x2(last);
-        let mut after = before;
-        after.pc = PC + 4;
+        let mut after = gone_on(before);
         after.x[1] = 0;
-        expect(&rt, before, memory, Step::Next, after);
-        expect_unmoved(&rt, regs_with_x2(last + 1), memory, Step::Trap(11));
+        expect_moved(&rt, word, before, after);
+        let behind = memory_of(PC, word, ZEROS);
+        expect_unmoved(&rt, regs_with_x2(last + 1), behind, Step::Trap(11));
     }
 }
 
@@ -71,8 +68,9 @@ fn a_load_from_a_shared_area_names_the_area(rt: HostRuntime) {
 #[test]
 fn a_byte_that_may_not_be_read_goes_before_a_shared_area(rt: HostRuntime) {
     let memory = memory_of(PC, LW_X0, SHARED);
-    expect_unmoved(&rt, regs_with_x2(DATA + 13), memory, Step::Trap(11));
-    expect_unmoved(&rt, regs_with_x2(DATA - 1), memory, Step::Trap(11));
+    let behind = (regs_with_x2(DATA + 13), memory, Step::Trap(11));
+    let before = (regs_with_x2(DATA - 1), memory, Step::Trap(11));
+    expect_still(&rt, LW_X0, &[behind, before]);
 }
 
 #[test]
@@ -93,11 +91,12 @@ fn a_fetch_from_a_shared_area_names_the_area(rt: HostRuntime) {
 
 #[test]
 fn want_of_memory_changes_nothing(rt: HostRuntime) {
-    for &(word, _) in &LOADS {
-        for accesses in 0..2 {
-            let mut memory = memory_of(PC, word, ZEROS);
-            memory.accesses = accesses;
-            expect_unmoved(&rt, regs_with_x2(DATA), memory, Step::Memory);
-        }
-    }
+    let regs = regs_with_x2(DATA);
+    let mut at_the_fetch = memory_of(PC, 0, ZEROS);
+    at_the_fetch.accesses = 0;
+    let mut at_the_load = at_the_fetch;
+    at_the_load.accesses = 1;
+    let fetching = (regs, at_the_fetch, Step::Memory);
+    let loading = (regs, at_the_load, Step::Memory);
+    expect_accesses_still(&rt, LOADS, &[fetching, loading]);
 }

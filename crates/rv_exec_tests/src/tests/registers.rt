@@ -6,7 +6,7 @@ use super::*;
 type OfTwo = (u32, usize, u64, usize, u64, usize, u64);
 
 #[rattlefmt::skip]
-const OF_TWO: [OfTwo; 28] = [
+const OF_TWO: &[OfTwo] = &[
     (0x0073_02b3, 6, 0xfedc_ba98_7654_3210, 7, 0x0000_000f_8000_000b, 5, 0xfedc_baa7_f654_321b), // add x5,x6,x7
     (0x40b5_0633, 10, 0xfedc_ba98_7654_3210, 11, 0x0000_000f_8000_000b, 12, 0xfedc_ba88_f654_3205), // sub x12,x10,x11
     (0x01ee_9fb3, 29, 0xfedc_ba98_7654_3210, 30, 0x0000_000f_8000_000b, 31, 0xe5d4_c3b2_a190_8000), // sll x31,x29,x30
@@ -38,7 +38,7 @@ const OF_TWO: [OfTwo; 28] = [
 ];
 
 #[rattlefmt::skip]
-const WORDS: [Row; 4] = [
+const WORDS: &[Row] = &[
     (0xffb3_029b, 6, 0xfedc_ba98_7654_3210, 5, 0x0000_0000_7654_320b), // addiw x5, x6, -5
     (0x0075_161b, 10, 0xfedc_ba98_7654_3210, 12, 0x0000_0000_2a19_0800), // slliw x12, x10, 7
     (0x007e_df9b, 29, 0xfedc_ba98_7654_3210, 31, 0x0000_0000_00ec_a864), // srliw x31, x29, 7
@@ -47,21 +47,16 @@ const WORDS: [Row; 4] = [
 
 #[test]
 fn what_two_registers_give_goes_into_rd(rt: HostRuntime) {
-    for &(word, rs1, a, rs2, b, rd, value) in &OF_TWO {
-        assert!(rt; rs1 < 32 && rs2 < 32 && rd < 32);
-        let mut regs = regs_at(PC);
-        regs.x[rs1] = a;
-        regs.x[rs2] = b;
-        let mut after = regs;
-        after.x[rd] = value;
-        after.pc = PC + 4;
-        expect(&rt, regs, memory_of(PC, word, ZEROS), Step::Next, after);
+    for &(word, rs1, a, rs2, b, rd, value) in OF_TWO {
+        let regs = with(&rt, with(&rt, regs_at(PC), rs1, a), rs2, b);
+        let after = with(&rt, gone_on(regs), rd, value);
+        expect_moved(&rt, word, regs, after);
     }
 }
 
 #[test]
 fn what_an_immediate_and_a_word_give_goes_into_rd(rt: HostRuntime) {
-    expect_values(&rt, ZEROS, &WORDS);
+    expect_values(&rt, ZEROS, WORDS);
 }
 
 #[test]
@@ -69,12 +64,7 @@ fn a_computation_into_x0_writes_nothing(rt: HostRuntime) {
     let add_x0_x6_x7 = 0x0073_0033;
     let mulw_x0_x6_x7 = 0x0273_003b;
     let addiw_x0_x6_5 = 0x0053_001b;
-    for word in [add_x0_x6_x7, mulw_x0_x6_x7, addiw_x0_x6_5] {
-        let regs = regs_at(PC);
-        let mut after = regs;
-        after.pc = PC + 4;
-        expect(&rt, regs, memory_of(PC, word, ZEROS), Step::Next, after);
-    }
+    expect_nothing_written(&rt, &[add_x0_x6_x7, mulw_x0_x6_x7, addiw_x0_x6_5]);
 }
 
 #[test]
@@ -82,10 +72,13 @@ fn a_fence_moves_on_and_does_nothing_else(rt: HostRuntime) {
     let fence = 0x0ff0_000f;
     let fence_tso = 0x8330_000f;
     let fence_i = 0x0000_100f;
-    for word in [fence, fence_tso, fence_i] {
+    expect_nothing_written(&rt, &[fence, fence_tso, fence_i]);
+}
+
+/// That each of these words moves on and does nothing else.
+fn expect_nothing_written(rt: &impl Abort, words: &[u32]) {
+    for &word in words {
         let regs = regs_at(PC);
-        let mut after = regs;
-        after.pc = PC + 4;
-        expect(&rt, regs, memory_of(PC, word, ZEROS), Step::Next, after);
+        expect_moved(rt, word, regs, gone_on(regs));
     }
 }

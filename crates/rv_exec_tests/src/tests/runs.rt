@@ -1,7 +1,5 @@
 //! Runs of a page's decoded words: how many instructions each does, where it ends, and what it leaves. As many steps
 //! as a run did instructions leave the same.
-ghost use Rattle.std.specs.Prelude.{◌<◌, ◌^◌};
-
 use super::*;
 use pages::{Paged, page_of, row_of};
 use rv_exec::{Flow, RowRun, run_row};
@@ -57,41 +55,20 @@ fn run(alloc: Global, task: &mut Task, most: u32) -> Result<RowRun, Fail> {
     }
 }
 
-/// That two tasks have the same registers.
-fn expect_same_regs(rt: &impl Abort, told: &Task, wanted: &Task) {
-    expect_regs(rt, &told.regs, &wanted.regs, 0);
-}
-
-/// That they have the same memory, but for the accesses that it has answered.
-fn expect_same_memory(rt: &impl Abort, told: &Task, wanted: &Task) {
+/// Whether two tasks have the same registers and the same memory, but for the accesses that it has answered.
+fn is_same(told: &Task, wanted: &Task) -> bool {
     let mut memory = told.memory;
     memory.accesses = wanted.memory.accesses;
     memory.ready = wanted.memory.ready;
-    assert!(rt; memory == wanted.memory);
+    told.regs == wanted.regs && memory == wanted.memory
 }
 
-/// That they have both.
-fn expect_task(rt: &impl Abort, told: &Task, wanted: &Task) {
-    expect_same_regs(rt, told, wanted);
-    expect_same_memory(rt, told, wanted);
-}
-
-/// That a run has done so many instructions and ended so.
-fn expect_run(rt: &impl Abort, told: RowRun, count: u32, flow: Flow) {
-    expect_same(rt, told, RowRun { count, flow }, count);
-}
-
-/// Does a step, which moves on.
-fn go(rt: &impl Abort, task: &mut Task) {
-    let told = once(&mut task.regs, &mut task.memory);
-    expect_step(rt, told, Step::Next, 0);
-}
-
-/// A task after so many steps.
+/// A task after so many steps, each of which moves on.
 fn stepped(rt: &impl Abort, task: &Task, count: u32) -> Task {
     let mut stepped = *task;
     for _ in 0..count {
-        go(rt, &mut stepped);
+        let told = once(&mut stepped.regs, &mut stepped.memory);
+        assert_eq!(rt; told, Step::Next);
     }
     stepped
 }
@@ -105,8 +82,8 @@ fn ran(
     (count, flow): (u32, Flow),
 ) -> Result<Task, Fail> {
     let mut told = *task;
-    expect_run(rt, run(alloc, &mut told, most)?, count, flow);
-    expect_task(rt, &told, &stepped(rt, task, count));
+    assert_eq!(rt; run(alloc, &mut told, most)?, RowRun { count, flow });
+    assert!(rt; is_same(&told, &stepped(rt, task, count)));
     Ok(told)
 }
 
@@ -119,23 +96,8 @@ fn expect_ran(
     wanted: &Task,
 ) -> Result<(), Fail> {
     let told = ran(rt, alloc, task, most, end)?;
-    expect_task(rt, &told, wanted);
+    assert!(rt; is_same(&told, wanted));
     Ok(())
-}
-
-/// That a task stands there.
-fn expect_pc(rt: &impl Abort, task: &Task, pc: u64) {
-    expect_same(rt, task.regs.pc, pc, 0);
-}
-
-/// That its x5 holds that.
-fn expect_x5(rt: &impl Abort, task: &Task, number: u64) {
-    expect_same(rt, task.regs.x[5], number, 0);
-}
-
-/// That its first byte that can be written is that.
-fn expect_byte(rt: &impl Abort, task: &Task, byte: u8) {
-    expect_same(rt, task.memory.data.bytes[0], byte, 0);
 }
 
 /// The same task at another place.
@@ -162,7 +124,7 @@ fn with_data_at(task: &Task, address: u64) -> Task {
 /// Adds up x8, four times, which is read from memory, made greater by 3 and written; then jumps over a breakpoint and
 /// calls the system: 28 instructions before the call.
 #[rattlefmt::skip]
-const SUM: [u32; 12] = [
+const SUM: &[u32] = &[
     0x0040_0293, // addi x5, x0, 4
     0x0000_0393, // addi x7, x0, 0
     0x0003_3403, // ld x8, 0(x6)
@@ -179,7 +141,7 @@ const SUM: [u32; 12] = [
 
 #[test]
 fn a_run_ends_at_its_limit(rt: HostRuntime) -> Result<(), Fail> {
-    let task = task_of(&SUM);
+    let task = task_of(SUM);
     for most in 0..29 {
         ran(&rt, rt.alloc(), &task, most, (most, Flow::Next))?;
     }
@@ -209,7 +171,7 @@ fn summed(task: &Task) -> Task {
 
 #[test]
 fn a_run_ends_at_a_call(rt: HostRuntime) -> Result<(), Fail> {
-    let task = task_of(&SUM);
+    let task = task_of(SUM);
     let wanted = summed(&task);
     for most in [29, 30, u32::MAX] {
         expect_ran(&rt, rt.alloc(), (&task, most), (28, Flow::Call), &wanted)?;
@@ -227,7 +189,7 @@ fn expect_goes_on(rt: &impl Abort, alloc: Global, task: &Task, most: u32) -> Res
 
 #[test]
 fn a_run_that_ended_at_its_limit_goes_on_where_it_stands(rt: HostRuntime) -> Result<(), Fail> {
-    let task = task_of(&SUM);
+    let task = task_of(SUM);
     for most in 1..28 {
         expect_goes_on(&rt, rt.alloc(), &task, most)?;
     }
@@ -236,7 +198,7 @@ fn a_run_that_ended_at_its_limit_goes_on_where_it_stands(rt: HostRuntime) -> Res
 
 /// Words that trap, and the signal: SIGILL 4, SIGTRAP 5 and SIGBUS 7. In x6 is an address that is no multiple of 8.
 #[rattlefmt::skip]
-const TRAPS: [(u32, u8); 10] = [
+const TRAPS: &[(u32, u8)] = &[
     (0x0000_0000, 4), // no row
     (0xffff_ffff, 4), // no row
     (0x1050_0073, 4), // no row: wfi
@@ -276,7 +238,7 @@ fn expect_trap(rt: &impl Abort, alloc: Global, word: u32, signal: u8) -> Result<
 
 #[test]
 fn a_run_ends_at_a_trap_which_is_no_instruction_of_it(rt: HostRuntime) -> Result<(), Fail> {
-    for (word, signal) in TRAPS {
+    for &(word, signal) in TRAPS {
         expect_trap(&rt, rt.alloc(), word, signal)?;
     }
     Ok(())
@@ -284,7 +246,7 @@ fn a_run_ends_at_a_trap_which_is_no_instruction_of_it(rt: HostRuntime) -> Result
 
 /// A jump that leaves the page, and where it goes to; x6 is 0x2_0000.
 #[rattlefmt::skip]
-const JUMPS: [(u32, u64); 4] = [
+const JUMPS: &[(u32, u64)] = &[
     (0x0000_106f, 0x4_1004), // jal x0, .+4096
     (0xff9f_f06f, 0x3_fffc), // jal x0, .-8
     (0x0003_0067, 0x2_0000), // jalr x0, 0(x6)
@@ -294,13 +256,13 @@ const JUMPS: [(u32, u64); 4] = [
 /// That a run of a task's whole page does two instructions, behind which the task stands there.
 fn expect_two(rt: &impl Abort, alloc: Global, task: &Task, pc: u64) -> Result<(), Fail> {
     let told = ran(rt, alloc, task, 1000, (2, Flow::Next))?;
-    expect_pc(rt, &told, pc);
+    assert_eq!(rt; told.regs.pc, pc);
     Ok(())
 }
 
 #[test]
 fn a_run_ends_where_a_jump_leaves_the_page(rt: HostRuntime) -> Result<(), Fail> {
-    for (word, target) in JUMPS {
+    for &(word, target) in JUMPS {
         let task = task_of(&[COUNT, word, ECALL]);
         expect_two(&rt, rt.alloc(), &task, target)?;
     }
@@ -317,12 +279,21 @@ fn a_run_ends_where_the_page_does(rt: HostRuntime) -> Result<(), Fail> {
     Ok(())
 }
 
+/// A task at the begin of a page of which each word counts.
+fn counting() -> Task {
+    let mut task = task_of(&[]);
+    for (place, byte) in task.memory.code.bytes.iter_mut().enumerate() {
+        *byte = COUNT.to_le_bytes()[place % 4];
+    }
+    task
+}
+
 #[test]
 fn a_run_does_a_whole_page(rt: HostRuntime) -> Result<(), Fail> {
-    let task = task_of(&[COUNT; 1024]);
+    let task = counting();
     let told = ran(&rt, rt.alloc(), &task, 1025, (1024, Flow::Next))?;
-    expect_pc(&rt, &told, PC + 4096);
-    expect_x5(&rt, &told, task.regs.x[5].wrapping_add(1024));
+    let counted = task.regs.x[5].wrapping_add(1024);
+    assert_eq!(rt; (told.regs.pc, told.regs.x[5]), (PC + 4096, counted));
     Ok(())
 }
 
@@ -339,11 +310,11 @@ fn a_run_does_nothing_inside_an_instruction(rt: HostRuntime) -> Result<(), Fail>
 /// The words of loads of each kind into x5 from x6's address, and of stores of x7 there, and of a load-reserved and a
 /// store-conditional of the same.
 #[rattlefmt::skip]
-const LOADS: [u32; 7] = [
+const LOADS: &[u32] = &[
     0x0003_0283, 0x0003_1283, 0x0003_2283, 0x0003_3283, 0x0003_4283, 0x0003_5283, 0x0003_6283,
 ];
 
-const STORES: [u32; 4] = [0x0073_0023, 0x0073_1023, 0x0073_2023, 0x0073_3023];
+const STORES: &[u32] = &[0x0073_0023, 0x0073_1023, 0x0073_2023, 0x0073_3023];
 
 const RESERVING: u32 = 0x1003_22af;
 
@@ -388,8 +359,8 @@ fn expect_each_refused(rt: &impl Abort, alloc: Global, words: &[u32]) -> Result<
 
 #[test]
 fn a_run_ends_at_an_access_without_its_right_or_in_an_area(rt: HostRuntime) -> Result<(), Fail> {
-    expect_each_refused(&rt, rt.alloc(), &LOADS)?;
-    expect_each_refused(&rt, rt.alloc(), &STORES)?;
+    expect_each_refused(&rt, rt.alloc(), LOADS)?;
+    expect_each_refused(&rt, rt.alloc(), STORES)?;
     expect_each_refused(&rt, rt.alloc(), &[CONDITIONAL])
 }
 
@@ -406,7 +377,7 @@ fn expect_far(rt: &impl Abort, alloc: Global, word: u32) -> Result<(), Fail> {
     ran(rt, alloc, &task, 1000, (2, Flow::Call))?;
     let task = far(&task);
     expect_refused(rt, alloc, &task)?;
-    go(rt, &mut at(&task, PC + 4));
+    stepped(rt, &at(&task, PC + 4), 1);
     Ok(())
 }
 
@@ -420,15 +391,15 @@ fn expect_each_far(rt: &impl Abort, alloc: Global, words: &[u32]) -> Result<(), 
 
 #[test]
 fn a_run_ends_at_an_access_that_is_not_at_hand(rt: HostRuntime) -> Result<(), Fail> {
-    expect_each_far(&rt, rt.alloc(), &LOADS)?;
-    expect_each_far(&rt, rt.alloc(), &STORES)?;
+    expect_each_far(&rt, rt.alloc(), LOADS)?;
+    expect_each_far(&rt, rt.alloc(), STORES)?;
     expect_each_far(&rt, rt.alloc(), &[CONDITIONAL])
 }
 
 /// The word before a store-conditional, the task's reservation before that word, what x5 is told and which byte stands
 /// behind both.
 #[rattlefmt::skip]
-const CONDITIONALS: [(u32, Option<Reserved>, u64, u8); 4] = [
+const CONDITIONALS: &[(u32, Option<Reserved>, u64, u8)] = &[
     (NOP, HELD, 0, 3),
     (NOP, None, 1, 1),
     (NOP, Some(Reserved { address: DATA, width: 8 }), 1, 1),
@@ -452,7 +423,7 @@ fn told_task(task: &Task, told: u64, byte: u8) -> Task {
 
 #[test]
 fn a_run_goes_on_behind_a_store_conditional(rt: HostRuntime) -> Result<(), Fail> {
-    for (before, reserved, told, byte) in CONDITIONALS {
+    for &(before, reserved, told, byte) in CONDITIONALS {
         let task = task_of(&[before, CONDITIONAL, NOP, ECALL]);
         let task = with_reservation(&task, reserved);
         let wanted = told_task(&task, told, byte);
@@ -477,7 +448,7 @@ fn a_run_ends_at_a_store_conditional_into_its_own_page(rt: HostRuntime) -> Resul
 
 #[test]
 fn a_run_ends_at_a_store_into_its_own_page(rt: HostRuntime) -> Result<(), Fail> {
-    for word in STORES {
+    for &word in STORES {
         for address in [PC + 16, PC + 0x800, PC + 4080] {
             let task = with_data_at(&task_with(word), address);
             expect_refused(&rt, rt.alloc(), &task)?;
@@ -494,18 +465,18 @@ fn called(rt: &impl Abort, alloc: Global, word: u32, address: u64) -> Result<Tas
 
 /// That each load from its own page goes on.
 fn expect_loads(rt: &impl Abort, alloc: Global) -> Result<(), Fail> {
-    for word in LOADS {
+    for &word in LOADS {
         let told = called(rt, alloc, word, PC + 0x800)?;
-        expect_x5(rt, &told, 1);
+        assert_eq!(rt; told.regs.x[5], 1);
     }
     Ok(())
 }
 
 /// That each store to an address does.
 fn expect_stores(rt: &impl Abort, alloc: Global, address: u64) -> Result<(), Fail> {
-    for word in STORES {
+    for &word in STORES {
         let told = called(rt, alloc, word, address)?;
-        expect_byte(rt, &told, 3);
+        assert_eq!(rt; told.memory.data.bytes[0], 3);
     }
     Ok(())
 }
@@ -532,40 +503,31 @@ fn task_that_stores() -> Task {
 #[test]
 fn a_word_that_a_step_stores_into_the_page_is_run_next(rt: HostRuntime) -> Result<(), Fail> {
     let alloc = rt.alloc();
-    let mut task = ran(&rt, alloc, &task_that_stores(), 1000, (1, Flow::Refused))?;
-    go(&rt, &mut task);
+    let refused = ran(&rt, alloc, &task_that_stores(), 1000, (1, Flow::Refused))?;
+    let task = stepped(&rt, &refused, 1);
     let told = ran(&rt, alloc, &task, 1000, (1, Flow::Call))?;
-    expect_x5(&rt, &told, 77);
-    expect_pc(&rt, &told, PC + 12);
+    assert_eq!(rt; (told.regs.x[5], told.regs.pc), (77, PC + 12));
     Ok(())
 }
 
-/// That a page has its row, or none.
-fn expect_row<const N: usize>(
-    rt: &impl Abort,
-    alloc: Global,
-    code: &Run<N>,
-    page: u64,
-    is_there: bool,
-) -> Result<(), Fail>
-    requires { page < 2 ^ 52 }
-{
-    expect_same(rt, has_row(alloc, code, page)?, is_there, 0);
-    Ok(())
+/// Whether the page of an address has its row.
+fn has_row<const N: usize>(alloc: Global, code: &Run<N>, at: u64) -> Result<bool, Fail> {
+    Ok(row_of(alloc, code, at / 4096)?.is_some())
 }
 
-fn has_row<const N: usize>(alloc: Global, code: &Run<N>, page: u64) -> Result<bool, Fail>
-    requires { page < 2 ^ 52 }
-{
-    Ok(row_of(alloc, code, page)?.is_some())
+/// Whether the page of a task has its row, the one behind it, and the page in which one word may be executed.
+fn have_rows(alloc: Global) -> Result<[bool; 3], Fail> {
+    let task = task_of(&[NOP]);
+    let word = memory_of(PC, NOP, ZEROS);
+    Ok([
+        has_row(alloc, &task.memory.code, PC)?,
+        has_row(alloc, &task.memory.code, PC + 4096)?,
+        has_row(alloc, &word.code, PC)?,
+    ])
 }
 
 #[test]
 fn a_page_of_which_a_word_may_not_be_executed_has_no_row(rt: HostRuntime) -> Result<(), Fail> {
-    let alloc = rt.alloc();
-    let memory = task_of(&[NOP]).memory;
-    expect_row(&rt, alloc, &memory.code, PC / 4096, true)?;
-    expect_row(&rt, alloc, &memory.code, PC / 4096 + 1, false)?;
-    let word = memory_of(PC, NOP, ZEROS);
-    expect_row(&rt, alloc, &word.code, PC / 4096, false)
+    assert_eq!(rt; have_rows(rt.alloc())?, [true, false, false]);
+    Ok(())
 }

@@ -19,7 +19,7 @@ const ROUND: Run<16> = Run {
 const VALUE: u64 = 0xa8a7_a6a5_a4a3_a2a1;
 
 /// The words of `sb x7, 0(x6)`, `sh x7, 0(x6)`, `sw x7, 0(x6)` and `sd x7, 0(x6)`, with the bytes that each stores.
-const STORES: [(u32, u64); 4] = [
+const STORES: &[(u32, u64)] = &[
     (0x0073_0023, 1),
     (0x0073_1023, 2),
     (0x0073_2023, 4),
@@ -31,7 +31,7 @@ type StoreRow = (u32, u64, [u8; 16]);
 
 /// Stores of each width, aligned and misaligned.
 #[rattlefmt::skip]
-const INSIDE: [StoreRow; 20] = [
+const INSIDE: &[StoreRow] = &[
     (0x0073_0023, 0x2_0000, [ // sb x7, 0(x6)
         0xa1, 0x55, 0x55, 0x55, 0x55, 0x55, 0x55, 0x55, 0x55, 0x55, 0x55, 0x55, 0x55, 0x55, 0x55, 0x55,
     ]),
@@ -96,7 +96,7 @@ const INSIDE: [StoreRow; 20] = [
 
 /// Stores on both sides of the last address. They go by the manual: an emulator has no memory there.
 #[rattlefmt::skip]
-const BEHIND_THE_LAST: [StoreRow; 10] = [
+const BEHIND_THE_LAST: &[StoreRow] = &[
     (0xfe73_0fa3, 0, [ // sb x7, -1(x6)
         0x55, 0x55, 0x55, 0x55, 0x55, 0x55, 0x55, 0xa1, 0x55, 0x55, 0x55, 0x55, 0x55, 0x55, 0x55, 0x55,
     ]),
@@ -131,12 +131,12 @@ const BEHIND_THE_LAST: [StoreRow; 10] = [
 
 #[test]
 fn stores_put_the_lowest_byte_first_aligned_or_not(rt: HostRuntime) {
-    expect_stores(&rt, BYTES, &INSIDE);
+    expect_stores(&rt, BYTES, INSIDE);
 }
 
 #[test]
 fn addresses_of_stores_go_round(rt: HostRuntime) {
-    expect_stores(&rt, ROUND, &BEHIND_THE_LAST);
+    expect_stores(&rt, ROUND, BEHIND_THE_LAST);
 }
 
 #[test]
@@ -177,18 +177,20 @@ fn a_store_needs_no_right_to_read(rt: HostRuntime) {
 
 #[test]
 fn a_store_where_nothing_may_be_written_is_a_segmentation_violation(rt: HostRuntime) {
-    for &(word, _) in &STORES {
-        let mut memory = memory_of(PC, word, BYTES);
-        expect_unmoved(&rt, regs_with(0, VALUE), memory, Step::Trap(11));
-        expect_unmoved(&rt, regs_with(PC, VALUE), memory, Step::Trap(11));
-        memory.writable = Right::NONE;
-        expect_unmoved(&rt, regs_with(DATA, VALUE), memory, Step::Trap(11));
-    }
+    let memory = memory_of(PC, 0, BYTES);
+    let mut unwritable = memory;
+    unwritable.writable = Right::NONE;
+    let tasks = [
+        (regs_with(0, VALUE), memory, Step::Trap(11)),
+        (regs_with(PC, VALUE), memory, Step::Trap(11)),
+        (regs_with(DATA, VALUE), unwritable, Step::Trap(11)),
+    ];
+    expect_accesses_still(&rt, STORES, &tasks);
 }
 
 #[test]
 fn a_store_that_begins_in_memory_and_ends_outside_changes_nothing(rt: HostRuntime) {
-    for &(word, width) in &STORES {
+    for &(word, width) in STORES {
         assert!(rt; width <= 8);
         let memory = memory_of(PC, word, BYTES);
         for inside in 0..width {
@@ -200,36 +202,25 @@ fn a_store_that_begins_in_memory_and_ends_outside_changes_nothing(rt: HostRuntim
 
 #[test]
 fn a_store_that_begins_before_memory_changes_nothing(rt: HostRuntime) {
-    for &(word, _) in &STORES {
-        let memory = memory_of(PC, word, BYTES);
-        expect_unmoved(&rt, regs_with(DATA - 1, VALUE), memory, Step::Trap(11));
-    }
+    let memory = memory_of(PC, 0, BYTES);
+    let task = (regs_with(DATA - 1, VALUE), memory, Step::Trap(11));
+    expect_accesses_still(&rt, STORES, &[task]);
 }
 
 #[test]
 fn a_store_into_a_shared_area_names_the_area(rt: HostRuntime) {
-    for &(word, _) in &STORES {
-        let memory = memory_of(PC, word, SHARED);
-        expect_unmoved(&rt, regs_with(DATA + 8, VALUE), memory, Step::Shared(AREA));
-    }
+    let memory = memory_of(PC, 0, SHARED);
+    let task = (regs_with(DATA + 8, VALUE), memory, Step::Shared(AREA));
+    expect_accesses_still(&rt, STORES, &[task]);
 }
 
 #[test]
 fn a_byte_that_may_not_be_written_goes_before_a_shared_area(rt: HostRuntime) {
     let sh_x7_0_x6 = 0x0073_1023;
     let memory = memory_of(PC, sh_x7_0_x6, SHARED);
-    expect_unmoved(&rt, regs_with(DATA + 15, VALUE), memory, Step::Trap(11));
-    expect_unmoved(&rt, regs_with(DATA - 1, VALUE), memory, Step::Trap(11));
-}
-
-/// Does the instruction at which a task stands, which moves on.
-fn go(rt: &impl Abort, regs: &mut Regs, memory: &mut Memory) {
-    expect_step(rt, once(regs, memory), Step::Next, word_of(memory));
-}
-
-/// That x5 holds that.
-fn expect_x5(rt: &impl Abort, regs: &Regs, number: u64) {
-    expect_same(rt, regs.x[5], number, 0);
+    let behind = (regs_with(DATA + 15, VALUE), memory, Step::Trap(11));
+    let before = (regs_with(DATA - 1, VALUE), memory, Step::Trap(11));
+    expect_still(&rt, sh_x7_0_x6, &[behind, before]);
 }
 
 #[test]
@@ -240,10 +231,10 @@ fn a_word_that_is_stored_is_what_is_fetched_next(rt: HostRuntime) {
     here.from = PC;
     let mut regs = regs_with(PC, addi_x5_x0_77);
     let mut memory = memory_of(PC, sw_x7_0_x6, here);
-    go(&rt, &mut regs, &mut memory);
+    let stored = once(&mut regs, &mut memory);
     regs.pc = PC;
-    go(&rt, &mut regs, &mut memory);
-    expect_x5(&rt, &regs, 77);
+    let added = once(&mut regs, &mut memory);
+    assert_eq!(rt; (stored, added, regs.x[5]), (Step::Next, Step::Next, 77));
 }
 
 /// That stores of x7 leave the bytes that they should.

@@ -3,9 +3,8 @@ use super::*;
 
 /// That words come to a step that changes nothing.
 fn expect_all(rt: &impl Abort, words: &[u32], step_wanted: Step) {
-    for &word in words {
-        expect_unmoved(rt, regs_at(PC), memory_of(PC, word, ZEROS), step_wanted);
-    }
+    let task = (regs_at(PC), memory_of(PC, 0, ZEROS), step_wanted);
+    expect_words_still(rt, words, &[task]);
 }
 
 #[test]

@@ -2,7 +2,7 @@
 use super::*;
 
 #[rattlefmt::skip]
-const UPPERS: [Row; 5] = [
+const UPPERS: &[Row] = &[
     (0x8000_00b7, 0, 0, 1, 0xffff_ffff_8000_0000), // lui x1, 0x80000
     (0x1234_5fb7, 0, 0, 31, 0x1234_5000), // lui x31, 0x12345
     (0x0000_0117, 0, 0, 2, 0x4_0000), // auipc x2, 0
@@ -11,7 +11,7 @@ const UPPERS: [Row; 5] = [
 ];
 
 #[rattlefmt::skip]
-const IMMEDIATES: [Row; 11] = [
+const IMMEDIATES: &[Row] = &[
     (0xfff5_0593, 10, 0, 11, 0xffff_ffff_ffff_ffff), // addi x11, x10, -1
     (0x7ff5_0593, 10, 0xffff_ffff_ffff_ffff, 11, 0x7fe), // addi x11, x10, 2047
     (0x0015_0513, 10, 0x7fff_ffff_ffff_ffff, 10, 0x8000_0000_0000_0000), // addi x10, x10, 1
@@ -26,7 +26,7 @@ const IMMEDIATES: [Row; 11] = [
 ];
 
 #[rattlefmt::skip]
-const SHIFTS: [Row; 6] = [
+const SHIFTS: &[Row] = &[
     (0x03f8_9813, 17, 3, 16, 0x8000_0000_0000_0000), // slli x16, x17, 63
     (0x0208_9813, 17, 0x123_4567_89ab_cdef, 16, 0x89ab_cdef_0000_0000), // slli x16, x17, 32
     (0x03f9_d913, 19, 0x8000_0000_0000_0000, 18, 1), // srli x18, x19, 63
@@ -36,7 +36,7 @@ const SHIFTS: [Row; 6] = [
 ];
 
 #[rattlefmt::skip]
-const INTO_X0: [Row; 11] = [
+const INTO_X0: &[Row] = &[
     (0x1234_5037, 0, 0, 0, 0), // lui x0, 0x12345
     (0x0000_1017, 0, 0, 0, 0), // auipc x0, 0x1
     (0x0015_0013, 10, 5, 0, 0), // addi x0, x10, 1
@@ -52,22 +52,22 @@ const INTO_X0: [Row; 11] = [
 
 #[test]
 fn upper_immediates_go_into_rd_alone_or_with_pc(rt: HostRuntime) {
-    expect_values(&rt, ZEROS, &UPPERS);
+    expect_values(&rt, ZEROS, UPPERS);
 }
 
 #[test]
 fn what_an_immediate_and_a_register_give_goes_into_rd(rt: HostRuntime) {
-    expect_values(&rt, ZEROS, &IMMEDIATES);
+    expect_values(&rt, ZEROS, IMMEDIATES);
 }
 
 #[test]
 fn what_a_shift_gives_goes_into_rd(rt: HostRuntime) {
-    expect_values(&rt, ZEROS, &SHIFTS);
+    expect_values(&rt, ZEROS, SHIFTS);
 }
 
 #[test]
 fn x0_stays_zero_as_the_target(rt: HostRuntime) {
-    expect_values(&rt, ZEROS, &INTO_X0);
+    expect_values(&rt, ZEROS, INTO_X0);
 }
 
 #[test]
@@ -78,11 +78,5 @@ fn the_instruction_behind_the_last_address_is_at_zero(rt: HostRuntime) {
     let mut after = before;
     after.pc = 0;
     after.x[5] = 0xffc;
-    expect(
-        &rt,
-        before,
-        memory_of(top, auipc_x5_1, ZEROS),
-        Step::Next,
-        after,
-    );
+    expect_moved(&rt, auipc_x5_1, before, after);
 }

@@ -3,7 +3,7 @@ use super::*;
 
 /// What x5 gets of the eight bytes of an operand, the lowest first, at the address in x6.
 #[rattlefmt::skip]
-const LOADS: [(u32, [u64; 7]); 7] = [
+const LOADS: &[(u32, [u64; 7])] = &[
     (0x0003_0283, [0, 1, ONES, 0, ONES, ONES, 0]), // lb x5, 0(x6)
     (0x0003_1283, [0, 1, ONES, 0, ONES, ONES, 0]), // lh x5, 0(x6)
     (0x0003_2283, [0, 1, ONES, 0, ONES, 0x7fff_ffff, 0xffff_ffff_8000_0000]), // lw x5, 0(x6)
@@ -15,7 +15,7 @@ const LOADS: [(u32, [u64; 7]); 7] = [
 
 /// What eight bytes of 0x55 at the address in x6 hold after a store of x7.
 #[rattlefmt::skip]
-const STORES: [(u32, [u64; 7]); 4] = [
+const STORES: &[(u32, [u64; 7])] = &[
     (0x0073_0023, [ // sb x7, 0(x6)
         0x5555_5555_5555_5500, 0x5555_5555_5555_5501, 0x5555_5555_5555_55ff, 0x5555_5555_5555_5500,
         0x5555_5555_5555_55ff, 0x5555_5555_5555_55ff, 0x5555_5555_5555_5500,
@@ -33,26 +33,10 @@ const STORES: [(u32, [u64; 7]); 4] = [
 
 #[test]
 fn what_loads_give_at_the_edges(rt: HostRuntime) {
-    for &(word, values) in &LOADS {
-        for place in 0..7 {
-            let before = regs_with(DATA, 0);
-            let mut after = gone_on(before);
-            after.x[5] = values[place];
-            let memory = memory_of(PC, word, data_of(OPERANDS[place]));
-            expect(&rt, before, memory, Step::Next, after);
-        }
-    }
+    expect_edges(&rt, Edge::Loaded, LOADS);
 }
 
 #[test]
 fn what_stores_leave_at_the_edges(rt: HostRuntime) {
-    for &(word, values) in &STORES {
-        for place in 0..7 {
-            let before = regs_with(DATA, OPERANDS[place]);
-            let memory = memory_of(PC, word, data_of(FILL));
-            let mut written = memory;
-            written.data = data_of(values[place]);
-            expect_written(&rt, before, memory, Step::Next, gone_on(before), written);
-        }
-    }
+    expect_edges(&rt, Edge::Stored, STORES);
 }

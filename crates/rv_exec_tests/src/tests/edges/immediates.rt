@@ -3,7 +3,7 @@ use super::*;
 
 /// What x5 gets of x6 and an immediate.
 #[rattlefmt::skip]
-const IMMEDIATES: [(u32, [u64; 7]); 26] = [
+const IMMEDIATES: &[(u32, [u64; 7])] = &[
     (0x8003_0293, [ // addi x5, x6, -2048
         0xffff_ffff_ffff_f800, 0xffff_ffff_ffff_f801, 0xffff_ffff_ffff_f7ff, 0x7fff_ffff_ffff_f800,
         0x7fff_ffff_ffff_f7ff, 0x7fff_f7ff, 0x7fff_f800,
@@ -54,7 +54,7 @@ const IMMEDIATES: [(u32, [u64; 7]); 26] = [
 
 /// What x5 gets of an upper immediate, alone and with pc.
 #[rattlefmt::skip]
-const UPPERS: [(u32, u64); 10] = [
+const UPPERS: &[(u32, u64)] = &[
     (0x0000_02b7, 0), // lui x5, 0x0
     (0x0000_12b7, 0x1000), // lui x5, 0x1
     (0x7fff_f2b7, 0x7fff_f000), // lui x5, 0x7ffff
@@ -69,22 +69,15 @@ const UPPERS: [(u32, u64); 10] = [
 
 #[test]
 fn what_a_register_and_an_immediate_give_at_the_edges(rt: HostRuntime) {
-    for &(word, values) in &IMMEDIATES {
-        for place in 0..7 {
-            let before = regs_with(OPERANDS[place], 0);
-            let mut after = gone_on(before);
-            after.x[5] = values[place];
-            expect(&rt, before, memory_of(PC, word, ZEROS), Step::Next, after);
-        }
-    }
+    expect_edges(&rt, Edge::Register, IMMEDIATES);
 }
 
 #[test]
 fn what_an_upper_immediate_gives_at_the_edges(rt: HostRuntime) {
-    for &(word, value) in &UPPERS {
+    for &(word, value) in UPPERS {
         let before = regs_at(PC);
         let mut after = gone_on(before);
         after.x[5] = value;
-        expect(&rt, before, memory_of(PC, word, ZEROS), Step::Next, after);
+        expect_moved(&rt, word, before, after);
     }
 }

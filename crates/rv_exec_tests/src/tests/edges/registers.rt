@@ -3,7 +3,7 @@ use super::*;
 
 /// What x5 gets of x6 and x7.
 #[rattlefmt::skip]
-const OF_PAIRS: [(u32, [u64; 10]); 18] = [
+const OF_PAIRS: &[(u32, [u64; 10])] = &[
     (0x0073_02b3, [ // add x5, x6, x7
         0, 1, LEAST, GREATEST, 0, GREATEST, 0x7fff_ffff_ffff_fffe, 0xffff_ffff_ffff_fffe, 0x1_7fff_ffff,
         0x8000_0000,
@@ -40,7 +40,7 @@ const OF_PAIRS: [(u32, [u64; 10]); 18] = [
 
 /// What x5 gets of the words of x6 and x7.
 #[rattlefmt::skip]
-const WORDS_OF_PAIRS: [(u32, [u64; 10]); 10] = [
+const WORDS_OF_PAIRS: &[(u32, [u64; 10])] = &[
     (0x0073_02bb, [ // addw x5, x6, x7
         0, 1, 0, ONES, 0, ONES, 0xffff_ffff_ffff_fffe, 0xffff_ffff_ffff_fffe, 0x7fff_ffff, 0xffff_ffff_8000_0000,
     ]),
@@ -62,23 +62,19 @@ const WORDS_OF_PAIRS: [(u32, [u64; 10]); 10] = [
 
 #[test]
 fn what_two_registers_give_at_the_edges(rt: HostRuntime) {
-    expect_of_pairs(&rt, &OF_PAIRS);
+    expect_of_pairs(&rt, OF_PAIRS);
 }
 
 #[test]
 fn what_the_words_of_two_registers_give_at_the_edges(rt: HostRuntime) {
-    expect_of_pairs(&rt, &WORDS_OF_PAIRS);
+    expect_of_pairs(&rt, WORDS_OF_PAIRS);
 }
 
 /// That x5 gets the value of each pair in x6 and x7.
 fn expect_of_pairs(rt: &impl Abort, rows: &[(u32, [u64; 10])]) {
     for &(word, values) in rows {
         for place in 0..10 {
-            let (a, b) = PAIRS[place];
-            let before = regs_with(a, b);
-            let mut after = gone_on(before);
-            after.x[5] = values[place];
-            expect(rt, before, memory_of(PC, word, ZEROS), Step::Next, after);
+            expect_left(rt, word, PAIRS[place], (0, 0), values[place]);
         }
     }
 }

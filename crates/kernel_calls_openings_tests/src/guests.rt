@@ -22,21 +22,6 @@ pub fn expect_bytes(
     Ok(())
 }
 
-/// That so many bytes can't be read at an address.
-pub fn expect_unreadable(
-    rt: &impl Abort,
-    alloc: Global,
-    space: &GuestSpace,
-    at: u64,
-    count: usize,
-) -> Result<(), Fail> {
-    assert!(rt;
-        read(alloc, space, at, count)?.is_none(),
-        "{count} bytes at {at:x}"
-    );
-    Ok(())
-}
-
 /// That so many pages are mapped.
 pub fn expect_pages(rt: &impl Abort, space: &GuestSpace, count: u64) {
     assert_eq!(rt; space.space.areas().len(), count);

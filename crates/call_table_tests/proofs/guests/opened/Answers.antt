@@ -3,13 +3,13 @@ use Rattle.std.proofs.Common.{◌+◌, sym, subst, arith}
 use Rattle.task_table.specs.Table.{TaskTable}
 use Rattle.kernel_model.specs.opening.Opening.{made_by}
 use Rattle.kernel_model.proofs.OpenedTasks.{AreOpened, opened_none, opened_more, may_open}
-use Rattle.call_table_tests.proofs.guests.processes_of.Goals as goal
+use Rattle.call_table_tests.proofs.guests.opened.Goals as goal
 
 pub loop-index-init : goal.loop-index-init
 loop-index-init c = subst (λ (list : TaskTable). AreOpened 0 list) (sym c.new-processes.ensures.none) opened_none
 
-pub open-requires-clause-room : goal.open-requires-clause-room
-open-requires-clause-room c =
+pub with_guest-requires-clause-room : goal.with_guest-requires-clause-room
+with_guest-requires-clause-room c =
     may_open c.loop-index.index c.loop-index.processes.cells.tasks (omega arith) c.loop-index.invariant
 
 pub loop-index-preserved : goal.loop-index-preserved
