@@ -2,17 +2,12 @@
 //!
 //! The contracts of `mount_file` say what each file's bytes say, or its first fault; here files stand written out, and
 //! are read with ample memory. Good files tell their numbers, folders, arguments and environments. Each key is lacking,
-//! unknown, of another type and out of its range; of two faults the first in order is told; a good file and each of the
-//! damaged ones are cut off behind each of their bytes.
+//! unknown, of another type and out of its range; of two faults the first in order is told. Files that are cut off stand
+//! in `mount_file_cut_tests`.
 //!
-//! Expected answers are worked out by hand from the keys and the order of the faults in `docs/GUESTS.md`; where a file
-//! that is cut off is TOML, a parser of TOML from outside has told.
+//! Expected answers are worked out by hand from the keys and the order of the faults in `docs/GUESTS.md`.
 #![tactic(auto)]
 
-#[cfg(test)]
-mod cut;
-#[cfg(test)]
-mod damaged;
 #[cfg(test)]
 mod keys;
 #[cfg(test)]

@@ -64,22 +64,6 @@ pub(crate) fn refused(alloc: Global, bytes: &[u8]) -> Option<MountFault> {
     read_mounts(alloc, bytes).err()
 }
 
-/// Aborts unless the first bytes of a file that has a name here are refused so, or read for `None`.
-pub(crate) fn expect_answer(
-    rt: &impl Abort,
-    alloc: Global,
-    name: &str,
-    bytes: &[u8],
-    answer: Option<MountFault>,
-) {
-    assert_eq!(rt;
-        refused(alloc, bytes),
-        answer,
-        "{name} cut to {} bytes",
-        bytes.len()
-    );
-}
-
 /// The fault of a file of these parts, or `None` where it is read.
 pub(crate) fn fault_of(alloc: Global, parts: [&str; 4]) -> Result<Option<MountFault>, Fail> {
     let file = file_of(alloc, parts)?;

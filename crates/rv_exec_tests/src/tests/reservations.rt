@@ -1,6 +1,5 @@
 //! Load-reserved and store-conditional. What a reservation covers and what ends it goes by this project's choice.
 use super::*;
-use memory::Reserved;
 
 const LR_W: u32 = 0x1003_22af;
 
