@@ -19,7 +19,7 @@ use file_changes::open_files;
 use kernel_calls::{Beginning, open_task, opened};
 use kernel_model::{GuestSpace, Named, OpenFiles};
 use mount_file::Program;
-use proc_cells::Cells;
+use proc_cells::{Cells, Rooms};
 use rv_table::Regs;
 use sn_base::{Map, Memory};
 use std::alloc::Global;
@@ -93,7 +93,7 @@ fn begin(
           files = files_opened number cells.files;
         }) beside n) }
 {
-    let Cells {
+    let Rooms {
         mut tasks,
         mut registers,
         mut spaces,
@@ -101,7 +101,7 @@ fn begin(
         mut files,
         sleepers,
         console,
-    } = cells;
+    } = cells.into_rooms();
     place(
         alloc,
         number,

@@ -33,7 +33,6 @@ use std::{fs, io};
 ///
 /// It knows the path of its folder, and finds its file below that by the route of each call. A file that is no
 /// longer of the node's kind is a failure of the call, as is a name that isn't UTF-8.
-#[derive(Drop)]
 pub struct FolderNode<R: Files> {
     files: R,
     /// The path of the folder that was granted. It never changes.
@@ -42,6 +41,19 @@ pub struct FolderNode<R: Files> {
     access: Access<R::File>,
     /// How many calls failed, at most 2 ^ 64 - 1.
     faults: u64,
+}
+
+/// Lets all of it go. Who owns a node lets go of it by this one call, at each exit.
+impl<R: Files + Drop> Drop for FolderNode<R> {
+    fn drop(self) {
+        let FolderNode {
+            files: _,
+            folder: _,
+            kind: _,
+            access: _,
+            faults: _,
+        } = self;
+    }
 }
 
 impl<R: Files + AllocGlobal + Clone + Drop> FolderNode<R> {

@@ -40,13 +40,25 @@ pub enum Access {
 
 /// A node of a host in memory. It tells its tree. Contracts see it as the record `NodeInMemory` of `tree`, `access`,
 /// `place` and `plan`.
-#[derive(Drop)]
 pub struct MemoryNode {
     alloc: Global,
     tree: Tree,
     access: Access,
     place: Route,
     plan: Plan,
+}
+
+/// Lets all of it go. Who owns a node lets go of it by this one call, at each exit.
+impl Drop for MemoryNode {
+    fn drop(self) {
+        let MemoryNode {
+            alloc: _,
+            tree: _,
+            access: _,
+            place: _,
+            plan: _,
+        } = self;
+    }
 }
 
 impl Model for MemoryNode {
@@ -89,7 +101,13 @@ impl MemoryNode {
         ensures tree { result.0 ≡ self.tree }
         ensures plan { result.1 ≡ self.plan }
     {
-        let MemoryNode { tree, plan, .. } = self;
+        let MemoryNode {
+            alloc: _,
+            tree,
+            access: _,
+            place: _,
+            plan,
+        } = self;
         (tree, plan)
     }
 

@@ -27,13 +27,25 @@ use std::marker::Model;
 
 /// A host in memory. It tells its tree. Contracts see it as the record `HostInMemory` of `tree`, `failed`, `dead` and
 /// `plan`.
-#[derive(Drop)]
 pub struct World {
     alloc: Global,
     tree: Tree,
     failed: u64,
     dead: List<u64>,
     plan: Plan,
+}
+
+/// Lets all of it go. Who owns a host lets go of it by this one call, at each exit.
+impl Drop for World {
+    fn drop(self) {
+        let World {
+            alloc: _,
+            tree: _,
+            failed: _,
+            dead: _,
+            plan: _,
+        } = self;
+    }
 }
 
 impl Model for World {

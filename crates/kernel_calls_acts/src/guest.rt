@@ -67,7 +67,6 @@ pub const MEMORY: Made = Made { place: 0, index: 1 };
 /// group that it calls as, the names of its memory and of its descriptor table, the place of its last call's entry, the
 /// seed of its calls, the kind of mappings that it makes where a test tries both, the registers of other tasks, the
 /// memories that aren't its own, what is open, and the console.
-#[derive(Drop)]
 pub struct Guest {
     pub alloc: Global,
     pub registers: Regs,
@@ -86,6 +85,31 @@ pub struct Guest {
     pub spaces: Named<GuestSpace>,
     pub files: OpenFiles,
     pub console: List<u8>,
+}
+
+/// Lets all of it go. Who owns a guest lets go of it by this one call, at each exit.
+impl Drop for Guest {
+    fn drop(self) {
+        let Guest {
+            alloc: _,
+            registers: _,
+            space: _,
+            areas: _,
+            tasks: _,
+            sleepers: _,
+            task: _,
+            group: _,
+            memory: _,
+            table: _,
+            place: _,
+            seed: _,
+            kind: _,
+            others: _,
+            spaces: _,
+            files: _,
+            console: _,
+        } = self;
+    }
 }
 
 /// One that was opened so, and has not called.

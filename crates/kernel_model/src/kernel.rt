@@ -32,7 +32,6 @@ pub struct Node {
 /// place 0 and the task's number), shared areas by the place of the entry that made them and an index, what is open
 /// (descriptor tables, open file descriptions, pipes), nodes by number, the futex list, the console's bytes, by how
 /// much each node's count of faults rose, the mounts, the key of the random stream, and the number of entries so far.
-#[derive(Drop)]
 pub struct Kernel {
     pub tasks: Tasks,
     pub registers: Map<Regs>,
@@ -46,6 +45,26 @@ pub struct Kernel {
     pub mounts: List<Mount>,
     pub seed: List<u8>,
     pub entries: u64,
+}
+
+/// Lets all of it go. Who owns a kernel lets go of it by this one call, at each exit.
+impl Drop for Kernel {
+    fn drop(self) {
+        let Kernel {
+            tasks: _,
+            registers: _,
+            spaces: _,
+            areas: _,
+            files: _,
+            nodes: _,
+            sleepers: _,
+            console: _,
+            failed: _,
+            mounts: _,
+            seed: _,
+            entries: _,
+        } = self;
+    }
 }
 
 /// A part of the state, as a step reads and changes it.

@@ -12,12 +12,23 @@ use std::alloc::Global;
 
 /// What is mapped in an address space, its break, and what its tasks have reserved; which pages have their words
 /// decoded, and guesses at where pages lie.
-#[derive(Drop)]
 pub struct Space {
     pub(crate) areas: Areas,
     pub(crate) reservations: Reservations,
     pub(crate) decoded: Decoded,
     pub(crate) hints: Hints,
+}
+
+/// Lets all of it go. Who owns an address space lets go of it by this one call, at each exit.
+impl Drop for Space {
+    fn drop(self) {
+        let Space {
+            areas: _,
+            reservations: _,
+            decoded: _,
+            hints: _,
+        } = self;
+    }
 }
 
 impl Space {

@@ -92,7 +92,6 @@ pub enum Word {
 }
 
 /// An address space and the areas in hand, hints, two more spaces, and areas that aren't in hand.
-#[derive(Drop)]
 pub struct Guest {
     pub alloc: Global,
     pub space: Space,
@@ -100,6 +99,20 @@ pub struct Guest {
     pub hints: Hints,
     pub others: [Space; 2],
     pub aside: Handed,
+}
+
+/// Lets all of it go. Who owns a guest lets go of it by this one call, at each exit.
+impl Drop for Guest {
+    fn drop(self) {
+        let Guest {
+            alloc: _,
+            space: _,
+            handed: _,
+            hints: _,
+            others: _,
+            aside: _,
+        } = self;
+    }
 }
 
 /// A space with that mapped.

@@ -13,7 +13,6 @@ use sn_base::{Map, Memory};
 use std::alloc::Global;
 
 /// Tasks that are parked, by number and by what they used. Nothing here says why.
-#[derive(Drop)]
 pub(crate) struct Parked {
     /// The tasks, by number: what each used.
     pub(crate) tasks: Map<Spot>,
@@ -22,6 +21,13 @@ pub(crate) struct Parked {
     // Each parked task is listed with all that it used.
     ghost listed: { AreListed tasks index },
     ghost numbers: { AreNumbers tasks },
+}
+
+/// Lets all of it go, in one call at each exit of who owns it.
+impl Drop for Parked {
+    fn drop(self) {
+        let Parked { tasks: _, index: _ } = self;
+    }
 }
 
 impl Parked {

@@ -6,6 +6,7 @@ ghost use Rattle.kernel_model.specs.entries.Given.{has_any};
 ghost use Rattle.task_table.specs.Table.{has_ended, is_live, live_numbers, no_tasks};
 ghost use Rattle.proc_cells.specs.Beside.{AreAtHome};
 
+use crate::Rooms;
 use futex_core::Waiters;
 use kernel_model::{GuestArea, GuestSpace, Kernel, Named, OpenFiles};
 use rv_table::Regs;
@@ -15,7 +16,6 @@ use task_table::Tasks;
 
 /// The task list, registers by task, address spaces and shared areas by the entry that made them, what is open, the
 /// futex list, and the console.
-#[derive(Drop)]
 pub struct Cells {
     pub tasks: Tasks,
     pub registers: Map<Regs>,
@@ -100,7 +100,7 @@ impl Cells {
     pub fn into_kernel(self, alloc: Global, entries: u64) -> Kernel
         ensures { result ≡ kernel_of self nothing_beside entries }
     {
-        let Cells {
+        let Rooms {
             tasks,
             registers,
             spaces,
@@ -108,7 +108,7 @@ impl Cells {
             files,
             sleepers,
             console,
-        } = self;
+        } = self.into_rooms();
         Kernel {
             tasks,
             registers,
@@ -123,5 +123,51 @@ impl Cells {
             seed: List::new(alloc),
             entries,
         }
+    }
+
+    /// What they hold, each by itself, for who puts more than one of it anew.
+    pub fn into_rooms(self) -> Rooms
+        ensures tasks { result.tasks ≡ self.tasks }
+        ensures registers { result.registers ≡ self.registers }
+        ensures spaces { result.spaces ≡ self.spaces }
+        ensures areas { result.areas ≡ self.areas }
+        ensures files { result.files ≡ self.files }
+        ensures sleepers { result.sleepers ≡ self.sleepers }
+        ensures console { result.console ≡ self.console }
+        ensures at_home { AreAtHome result.tasks result.registers result.spaces }
+    {
+        let Cells {
+            tasks,
+            registers,
+            spaces,
+            areas,
+            files,
+            sleepers,
+            console,
+        } = self;
+        Rooms {
+            tasks,
+            registers,
+            spaces,
+            areas,
+            files,
+            sleepers,
+            console,
+        }
+    }
+}
+
+/// Lets all of it go. Who owns cells lets go of them by this one call, at each exit.
+impl Drop for Cells {
+    fn drop(self) {
+        let Cells {
+            tasks: _,
+            registers: _,
+            spaces: _,
+            areas: _,
+            files: _,
+            sleepers: _,
+            console: _,
+        } = self;
     }
 }

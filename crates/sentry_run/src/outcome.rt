@@ -58,7 +58,6 @@ impl Fault {
 
 /// What a run gives: its exit status and how it came out, the record of its opening, its trace and what it left beside
 /// that, and the mount file as it was read, where it was accepted.
-#[derive(Drop)]
 pub struct Outcome {
     pub status: u8,
     pub fault: Fault,
@@ -66,4 +65,18 @@ pub struct Outcome {
     pub trace: Trace,
     pub left: Left,
     pub mounts: Option<Mounts>,
+}
+
+/// Lets all of it go. Who owns an outcome lets go of it by this one call, at each exit.
+impl Drop for Outcome {
+    fn drop(self) {
+        let Outcome {
+            status: _,
+            fault: _,
+            opening: _,
+            trace: _,
+            left: _,
+            mounts: _,
+        } = self;
+    }
 }

@@ -13,12 +13,23 @@ use std::alloc::Global;
 use std::test::Fail;
 
 /// What a run came to, and the source, the host and the sink then.
-#[derive(Drop)]
 pub struct Told {
     pub outcome: Outcome,
     pub files: MemSource,
     pub world: World,
     pub out: MemSink,
+}
+
+/// Lets all of it go. Who owns what was told lets go of it by this one call, at each exit.
+impl Drop for Told {
+    fn drop(self) {
+        let Told {
+            outcome: _,
+            files: _,
+            world: _,
+            out: _,
+        } = self;
+    }
 }
 
 /// The text of the guest that writes nothing and exits, with its trace.
