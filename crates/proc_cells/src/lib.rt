@@ -12,8 +12,9 @@
 //! kernel with nothing in it, whatever stands beside them (`none`, `begun`). `standing` tells the group, the memory,
 //! the descriptor table and the registers with which a live task is found (`stands`, `registers`), in a group that is
 //! there and hasn't ended (`there`, `lives`). The kernel that `into_kernel` leaves is that of the cells, with nothing
-//! beside them, and `into_rooms` gives what they hold. `proofs/` has what keeps live tasks at home: ends of tasks and thread groups, children that are waited
-//! for, clear words that are set, new tasks, and registers and memories that are set.
+//! beside them, and `into_rooms` gives what they hold. `proofs/` has what keeps live tasks at home: ends of tasks and
+//! thread groups, children that are waited for, clear words that are set, new tasks, and registers and memories that
+//! are set.
 //!
 //! Not said: what an entry does to them, or which task goes on.
 //!
