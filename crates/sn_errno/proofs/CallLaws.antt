@@ -4,22 +4,8 @@ use Rattle.std.specs.Prelude.{Option, Some, None, option_map, unwrap_or, find, c
 use Rattle.std.specs.Fmt.{decimal}
 use Rattle.std.specs.Option.{option_map_or}
 use Rattle.std.proofs.lemmas.Bool.{eqb-true}
-use denote.Enum.Bare.{sameb}
 use Rattle.sn_errno.specs.declared.calls.CallNo.{CallNo}
-use Rattle.sn_errno.specs.contracts.calls.CallNo.{the_type}
-use Rattle.sn_errno.specs.Calls.{Row, calls, row_of, call_of, known_name, call_name}
-
--- the first row with a call
-abbrev row_for : CallNo → Option Row
-row_for call = find (λ row. sameb the_type row.1 call) calls
-
--- the number in the first row with a call
-abbrev pub number_for : CallNo → ℕ
-number_for call = option_map_or (λ row. row.0) (row_for call) 0
-
--- the name in the first row with a call
-abbrev pub name_for : CallNo → List ℕ
-name_for call = option_map_or (λ row. row.2) (row_for call) []
+use Rattle.sn_errno.specs.Calls.{Row, calls, row_of, call_of, row_for, name_for, known_name, call_name}
 
 -- each row of the table is the first with its call
 firsts : map (λ row. row_for row.1) calls ≡ map (λ row. Some row) calls
@@ -54,11 +40,14 @@ found number call e = by (find (λ row. row.0 == number) calls) refl e
     by None f e = cc
     by (Some row) f e = (row, f, (cc), found_in calls firsts number row f)
 
--- no other number has this call
-pub only_number : (number : ℕ) (call : CallNo) → call_of number ≡ Some call → number ≡ number_for call
-only_number number call e =
+-- no two numbers have one call
+pub only_number : (number other : ℕ) (call : CallNo) → call_of number ≡ Some call → call_of other ≡ Some call
+    → number ≡ other
+only_number number other call e h =
     let f = found number call e in
-    sym f.3.number_is ∙ ap (λ o. option_map_or (λ row. row.0) o 0) (sym f.3.is_first) ∙ ap number_for f.2
+    let g = found other call h in
+    let same : f.0 ≡ g.0 = cc (ap row_for f.2, ap row_for g.2) in
+    cc
 
 -- the name beside a number of this call
 pub name_beside : (number : ℕ) (call : CallNo) → call_of number ≡ Some call → known_name number ≡ Some (name_for call)

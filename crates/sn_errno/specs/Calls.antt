@@ -1,6 +1,9 @@
 -- The table of system calls: numbers, calls and names.
 use Rattle.std.specs.Prelude.{ℕ, ◌==◌, List, [], ◌∷◌, ◌++◌, Option, option_map, unwrap_or, find, codes}
 use Rattle.std.specs.Fmt.{decimal}
+use Rattle.std.specs.Option.{option_map_or}
+use denote.Enum.Bare.{sameb}
+use Rattle.sn_errno.specs.contracts.calls.CallNo.{the_type}
 use Rattle.sn_errno.specs.declared.calls.CallNo.{CallNo}
 use Rattle.sn_errno.specs.declared.calls.CallNo.TheVariants.{Getcwd, Dup, Dup3, Fcntl, Ioctl, Mkdirat, Unlinkat}
 use Rattle.sn_errno.specs.declared.calls.CallNo.TheVariants.{Symlinkat, Linkat, Ftruncate, Faccessat, Chdir, Openat}
@@ -90,6 +93,16 @@ call_of number = option_map (λ row. row.1) (row_of number)
 -- Linux's asm-generic/unistd.h
 unfoldable pub known_name : ℕ → Option (List ℕ)
 known_name number = option_map (λ row. row.2) (row_of number)
+
+-- the first row with a call: its only one
+-- Linux's asm-generic/unistd.h
+abbrev pub row_for : CallNo → Option Row
+row_for call = find (λ row. sameb the_type row.1 call) calls
+
+-- the name in the row with a call
+-- Linux's asm-generic/unistd.h
+abbrev pub name_for : CallNo → List ℕ
+name_for call = option_map_or (λ row. row.2) (row_for call) []
 
 -- what a call is printed as: its name, or else `call` and its number
 -- profile

@@ -1,7 +1,7 @@
 //! The table of system calls: names and numbers.
 
 ghost use Rattle.std.specs.Prelude.{◌≡◌, ℕ};
-ghost use Rattle.sn_errno.specs.Calls.{call_of, known_name};
+ghost use Rattle.sn_errno.specs.Calls.{call_of, known_name, name_for};
 
 /// The system calls of the table, by their names and numbers.
 ///
@@ -128,12 +128,18 @@ impl CallNo {
     }
 
     /// The call's number.
-    #[rattlefmt::skip]
-    #[tactic(auto, using(crate::proofs::CallLaws::only_number),
-        unfolding(crate::specs::Calls::call_of, crate::specs::Calls::row_of))]
+    #[tactic(auto, using(crate::proofs::CallLaws::only_number))]
     pub fn number(self) -> u64
         ensures row { call_of result ≡ Some self }
         ensures only { (number : ℕ) → call_of number ≡ Some self → number ≡ result }
+    {
+        self.as_number()
+    }
+
+    /// The number that the list above has beside the call: the number of its row.
+    #[tactic(auto, unfolding(crate::specs::Calls::call_of, crate::specs::Calls::row_of))]
+    fn as_number(self) -> u64
+        ensures { call_of result ≡ Some self }
     {
         self as u64
     }
@@ -142,6 +148,13 @@ impl CallNo {
     #[tactic(auto, using(crate::proofs::CallLaws::name_beside))]
     pub fn name(self) -> &'static str
         ensures { (number : ℕ) → call_of number ≡ Some self → known_name number ≡ Some result.now }
+    {
+        self.name_in_row()
+    }
+
+    /// The name in the call's row.
+    fn name_in_row(self) -> &'static str
+        ensures { result.now ≡ name_for self }
     {
         match self {
             CallNo::Getcwd => "getcwd",
