@@ -164,17 +164,20 @@ mod tests {
     #[test]
     fn a_list_keeps_its_items_in_order(rt: HostRuntime) -> Result<(), Fail> {
         let mut list = List::from_slice(rt.alloc(), &[1, 2])?;
+        let first = add_three_and_set_first(&mut list)?;
+        assert!(rt; first == 9 && list.as_slice() == [9, 2, 3, 4, 5].as_slice());
+        assert_eq!(rt; list.pop(), Some(5));
+        list.truncate(2);
+        let left = (list.len(), list.get(1).copied(), list.get(2).copied());
+        assert_eq!(rt; left, (2, Some(2), None));
+        Ok(())
+    }
+
+    fn add_three_and_set_first(list: &mut List<i32>) -> Result<i32, Memory> {
         list.push(3)?;
         list.extend_from_slice(&[4, 5])?;
         list.set(0, 9);
-        assert_eq!(rt; *list.at(0), 9);
-        assert_eq!(rt; list.as_slice(), [9, 2, 3, 4, 5].as_slice());
-        assert_eq!(rt; list.pop(), Some(5));
-        list.truncate(2);
-        assert_eq!(rt; list.len(), 2);
-        assert_eq!(rt; list.get(1).copied(), Some(2));
-        assert_eq!(rt; list.get(2).copied(), None);
-        Ok(())
+        Ok(*list.at(0))
     }
 
     #[test]

@@ -146,30 +146,44 @@ mod tests {
     fn a_map_keeps_the_last_value_of_each_key(rt: HostRuntime) -> Result<(), Fail> {
         let mut map: Map<u8> = Map::new(rt.alloc());
         assert!(rt; map.is_empty());
+        fill(&mut map)?;
+        assert!(rt; keys_are(&map, rt.alloc(), &[4, 9, u64::MAX])?);
+        assert!(rt; first_values_are_there(&map));
+        change_at_4(&mut map);
+        assert!(rt; map.get_mut(5).is_none());
+        assert!(rt; keys_follow_in_order(&map));
+        let removed = (map.remove(4), map.remove(4));
+        assert_eq!(rt; removed, (Some(8), None));
+        Ok(())
+    }
+
+    fn fill(map: &mut Map<u8>) -> Result<(), Memory> {
         for (key, value) in [(9, 1), (4, 2), (9, 3), (u64::MAX, 4)] {
             map.insert(key, value)?;
         }
-        assert_eq!(rt; map.len(), 3);
-        assert_eq!(rt; map.get(9).copied(), Some(3));
-        assert_eq!(rt; map.get(5).copied(), None);
-        assert_eq!(rt;
-            map.keys(rt.alloc())?.as_slice(),
-            [4, 9, u64::MAX].as_slice()
-        );
+        Ok(())
+    }
+
+    fn keys_are(map: &Map<u8>, alloc: Global, keys: &[u64]) -> Result<bool, Memory> {
+        let found = map.keys(alloc)?;
+        Ok(found.as_slice() == keys)
+    }
+
+    fn first_values_are_there(map: &Map<u8>) -> bool {
+        map.len() == 3 && map.get(9).copied() == Some(3) && map.get(5).copied() == None
+    }
+
+    fn change_at_4(map: &mut Map<u8>) {
         if map.contains(4) {
             map.replace(4, 7);
         }
         if let Some(value) = map.get_mut(4) {
             *value = 8;
         }
-        assert!(rt; map.get_mut(5).is_none());
-        assert_eq!(rt; map.first_above(0), Some(4));
-        assert_eq!(rt; map.first_above(4), Some(9));
-        assert_eq!(rt; map.first_above(8), Some(9));
-        assert_eq!(rt; map.first_above(9), Some(u64::MAX));
-        assert_eq!(rt; map.first_above(u64::MAX), None);
-        assert_eq!(rt; map.remove(4), Some(8));
-        assert_eq!(rt; map.remove(4), None);
-        Ok(())
+    }
+
+    fn keys_follow_in_order(map: &Map<u8>) -> bool {
+        let above = [0, 4, 8, 9, u64::MAX].map(|key| map.first_above(key));
+        above == [Some(4), Some(9), Some(9), Some(u64::MAX), None]
     }
 }
