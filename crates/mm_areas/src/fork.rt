@@ -36,9 +36,7 @@ fn share_page(alloc: Global, page: &mut Page) -> Result<Page, Memory>
 }
 
 /// Other pages of the same rights and contents.
-#[rattlefmt::skip]
-#[tactic(auto, using(crate::proofs::ShareLaws::kept_more, crate::proofs::ShareLaws::copied_more,
-    crate::proofs::SharedLaws::shared_more, crate::proofs::SharedLaws::lost_more, crate::proofs::SharedLaws::lost_all))]
+#[tactic(auto, using(crate::proofs::ShareLaws::kept_more, crate::proofs::SharedLaws::lost_all))]
 fn share_pages(alloc: Global, pages: &mut [Page]) -> Result<Vec<Page>, Memory>
     ensures kept { map mapped_by pages.new ≡ map mapped_by pages.old }
     ensures copied { IfOk result (λ others. map mapped_by others.items ≡ map mapped_by pages.old) }
@@ -65,10 +63,7 @@ fn share_region(alloc: Global, region: &mut Region) -> Result<Region, Memory>
 }
 
 /// Other regions of the same pages.
-#[rattlefmt::skip]
-#[tactic(auto, using(crate::proofs::ShareLaws::kept_more, crate::proofs::ShareLaws::copied_more,
-    crate::proofs::SharedLaws::shared_region_more, crate::proofs::SharedLaws::lost_region_more,
-    crate::proofs::SharedLaws::lost_region_all))]
+#[tactic(auto, using(crate::proofs::ShareLaws::kept_more, crate::proofs::SharedLaws::lost_region_all))]
 fn share_regions(alloc: Global, regions: &mut Vec<Region>) -> Result<Vec<Region>, Memory>
     ensures kept { map seen_by regions.new.items ≡ map seen_by regions.old.items }
     ensures copied { IfOk result (λ others. map seen_by others.items ≡ map seen_by regions.old.items) }
