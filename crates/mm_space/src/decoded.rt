@@ -18,7 +18,7 @@ use std::alloc::Global;
 const KEPT: usize = 64;
 
 /// The pages whose words are kept decoded: of those of one number modulo 64 one at most, so 64 of all.
-#[derive(Debug, Drop)]
+#[derive(Drop)]
 pub(crate) struct Decoded {
     pages: [Option<u64>; KEPT],
 }

@@ -157,8 +157,8 @@ impl Handed {
         ensures err { OnErr result (hand_of self.new ≡ hand_of self.old) }
         ensures err_area { OnErr result (area_state area.new ≡ area_state area.old) }
     {
-        let none = SharedArea::zeros(alloc, 0)?;
         self.areas.reserve(1)?;
+        let none = SharedArea::zeros(alloc, 0)?;
         let area = mem::replace(area, none);
         self.areas.push_reserved(HandedArea { name, area });
         Ok(())

@@ -19,7 +19,7 @@ const HINTS: usize = 64;
 
 /// Guesses at where pages of an address space lie, of each page one by its number modulo 64. They are tested where they
 /// are used, so that no answer rests on them; a wrong one costs a look-up.
-#[derive(Clone, Debug, Drop)]
+#[derive(Drop)]
 pub struct Hints {
     regions: [usize; HINTS],
 }
