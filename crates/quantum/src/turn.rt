@@ -10,7 +10,7 @@ use rv_exec::{Flow, RowRun, Step, run_row, step};
 use rv_table::{Area, Regs};
 
 /// What stops a run.
-#[derive(Clone, Copy, Debug, PartialEq, Eq)]
+#[derive(Clone, Copy)]
 pub(crate) enum Stop {
     Call,
     Trap(u8),
@@ -19,7 +19,7 @@ pub(crate) enum Stop {
 }
 
 /// How many instructions were done in a turn, and what stopped it.
-#[derive(Clone, Copy, Debug, PartialEq, Eq)]
+#[derive(Clone, Copy)]
 pub(crate) struct Turn {
     pub(crate) count: u32,
     pub(crate) stop: Option<Stop>,
