@@ -19,7 +19,7 @@ use std::test::Fail;
 
 /// What is mapped.
 #[rattlefmt::skip]
-const MAPPED: [Mapped; 6] = [
+const MAPPED: &[Mapped] = &[
     (0x1_0000, 4096, READ | EXECUTE, Backing::Zeros),
     (0x1_1000, 4096, READ | WRITE, Backing::Zeros),
     (0x1_2000, 4096, EXECUTE, Backing::Zeros),
@@ -42,7 +42,7 @@ fn fill(alloc: Global, areas: &mut Areas) -> Result<(), Fail> {
 
 /// A guest with that space, and no area in hand.
 pub fn fixture(alloc: Global) -> Result<Guest, Fail> {
-    let mut areas = areas_of(alloc, &MAPPED)?;
+    let mut areas = areas_of(alloc, MAPPED)?;
     fill(alloc, &mut areas)?;
     Ok(Guest::of(alloc, areas))
 }

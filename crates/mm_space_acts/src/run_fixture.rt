@@ -45,7 +45,7 @@ fn fill(alloc: Global, areas: &mut Areas, page: u64) -> Result<(), Fail> {
 
 /// What is mapped.
 #[rattlefmt::skip]
-const MAPPED: [Mapped; 8] = [
+const MAPPED: &[Mapped] = &[
     (0x1f_f000, 4096, READ, Backing::Of(SECOND)),
     (0x20_0000, 0x1_1000, READ | WRITE, Backing::Zeros),
     (0x21_1000, 0x3000, READ | WRITE, Backing::Of(FIRST)),
@@ -75,7 +75,7 @@ pub enum Hand {
 
 /// A guest with that space, and these areas in hand.
 pub fn run_guest(alloc: Global, hand: Hand) -> Result<Guest, Fail> {
-    let mut areas = areas_of(alloc, &MAPPED)?;
+    let mut areas = areas_of(alloc, MAPPED)?;
     fill_each(alloc, &mut areas)?;
     let mut guest = Guest::of(alloc, areas);
     hand_in(&mut guest, hand)?;
