@@ -3,4 +3,5 @@ pub mod Faults
 pub mod Forms
 pub mod Hex
 pub mod Names
+pub mod Paths
 pub mod Views

@@ -1,9 +1,9 @@
 //! The values of a mount file: numbers, seeds, places, folders, paths and texts.
 
-ghost use Rattle.std.specs.Prelude.{◌≡◌, ◌<◌, length, IfOk};
+ghost use Rattle.std.specs.Prelude.{◌≡◌, ◌<◌, ◌∷◌, length, IfOk, None, Some, is_some, if◌then◌else◌};
 ghost use Rattle.mount_file.specs.Read.{Gives, hex_byte};
 ghost use Rattle.mount_file.specs.Values.{entries_in, hex_value, hex_bytes, seed_in, place_in, names_in, folder_from};
-ghost use Rattle.mount_file.specs.Values.{folder_in, path_in, text_in, texts_in};
+ghost use Rattle.mount_file.specs.Values.{folder_in, is_name, path_in, text_in, texts_in};
 ghost use Rattle.toml.specs.Data.{string};
 ghost use Rattle.toml.specs.View.{view, items_view};
 
@@ -79,14 +79,31 @@ pub(crate) fn seed_in(alloc: Global, digits: &str) -> Result<List<u8>, MountFaul
     }
 }
 
+/// The name with these bytes.
+#[tactic(auto, using(crate::proofs::Names::name_given, crate::proofs::Names::name_refused))]
+fn name_in(alloc: Global, bytes: &[u8]) -> Result<Name, MountFault>
+    ensures { Gives (if is_name bytes.now then Some bytes.now else None) result }
+{
+    Ok(name_of(alloc, bytes)?)
+}
+
 /// The place to mount at: `None` for `/`, and else the name behind the slash.
 pub(crate) fn place_in(alloc: Global, at: &str) -> Result<Option<Name>, MountFault>
     ensures { Gives (place_in at.now) result }
 {
     match at.as_bytes() {
-        [b'/'] => Ok(None),
-        [b'/', name @ ..] => Ok(Some(name_of(alloc, name)?)),
+        [b'/', name @ ..] => place_named(alloc, name),
         _ => Err(MountFault::Range),
+    }
+}
+
+/// The place behind the slash: `None` for no bytes, and else a name.
+fn place_named(alloc: Global, name: &[u8]) -> Result<Option<Name>, MountFault>
+    ensures { Gives (place_in (47 ∷ name.now)) result }
+{
+    match name {
+        [] => Ok(None),
+        _ => Ok(Some(name_in(alloc, name)?)),
     }
 }
 
@@ -97,7 +114,7 @@ fn names_in(alloc: Global, bytes: &[u8]) -> Result<Route, MountFault>
 {
     let mut names = Route::new(alloc);
     for piece in bytes.split(|byte| *byte == b'/') {
-        names.push(name_of(alloc, piece)?)?;
+        names.push(name_in(alloc, piece)?)?;
     }
     Ok(names)
 }
@@ -121,15 +138,32 @@ pub(crate) fn folder_in(alloc: Global, folder: &str) -> Result<Folder, MountFaul
 }
 
 /// The path of a task: `/` and a name.
+#[tactic(auto, using(crate::proofs::Paths::path_chosen))]
 pub(crate) fn path_in(alloc: Global, path: &str) -> Result<Text, MountFault>
     ensures { Gives (path_in path.now) result }
 {
-    match path.as_bytes() {
-        [b'/', name @ ..] if name_fault(name).is_none() => Ok(Text::from_slice(
-            alloc,
-            path.as_bytes(),
-        )?),
-        _ => Err(MountFault::Range),
+    let path = path.as_bytes();
+    text_where(alloc, is_path(path), path)
+}
+
+/// Whether bytes are the path of a task.
+fn is_path(path: &[u8]) -> bool
+    ensures { result ≡ is_some (path_in path.now) }
+{
+    match path {
+        [b'/', name @ ..] => name_fault(name).is_none(),
+        _ => false,
+    }
+}
+
+/// The text of bytes where they have the form that it needs.
+fn text_where(alloc: Global, has_form: bool, bytes: &[u8]) -> Result<Text, MountFault>
+    ensures { Gives (if has_form then Some bytes.now else None) result }
+{
+    if has_form {
+        Ok(Text::from_slice(alloc, bytes)?)
+    } else {
+        Err(MountFault::Range)
     }
 }
 
@@ -147,11 +181,7 @@ fn text_in(alloc: Global, value: &Value) -> Result<Text, MountFault>
 fn text_of(alloc: Global, bytes: &[u8]) -> Result<Text, MountFault>
     ensures { Gives (text_in (string bytes.now)) result }
 {
-    if bytes.contains(&0) {
-        Err(MountFault::Range)
-    } else {
-        Ok(Text::from_slice(alloc, bytes)?)
-    }
+    text_where(alloc, !bytes.contains(&0), bytes)
 }
 
 /// The texts of an array.

@@ -6,15 +6,15 @@ use borrow.Author.Tests.{tests}
 use Rattle.mount_file.proofs.Names.{piece_refused, pieces_kept, told}
 use Rattle.mount_file.proofs.values.names_in.Goals as goal
 
-pub returns-in_err-name_of-clause-names : goal.returns-in_err-name_of-clause-names
-returns-in_err-name_of-clause-names c =
+pub returns-in_err-name_in-clause-names : goal.returns-in_err-name_in-clause-names
+returns-in_err-name_in-clause-names c =
     let turn = YieldsList-turn
     (YieldsList-from_slice_split _ (λ byte. nat_eq byte 47) c.args.bytes.now (search rules) (search rules)
     (search rules) (λ x r q k. search (rules, tests)))
     c.loop-piece.yielded _ c.loop-piece.yielded_by _ c.next.new.self c.in-Some.piece c.in-Some.is c.next.ensures.steps
     in
     let refused = piece_refused (slice_split (λ byte. nat_eq byte 47) c.args.bytes.now) (length c.loop-piece.yielded)
-    c.in-Some.piece.now c.in_err-name_of.field-0.0 turn.0 turn.1 (search rules) in
+    c.in-Some.piece.now c.in_err-name_in.field-0.0 turn.0 turn.1 (search rules) in
     told _ c.from_residual.result _ (search rules) refused
 
 pub returns-clause-names : goal.returns-clause-names
