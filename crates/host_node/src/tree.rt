@@ -3,7 +3,8 @@
 ghost use Rattle.std.specs.Prelude.{◌≡◌, ◌+◌, ◌≤◌, length};
 ghost use Rattle.sn_base.specs.Sums.{capped};
 ghost use Rattle.host_node.specs.Tree.{directory as dir, file as regular, link as symlink, lent as away, no_children};
-ghost use Rattle.host_node.specs.Tree.{kind_of, attr_of, faults_of, with_faults, bytes_of, is_directory};
+ghost use Rattle.host_node.specs.Tree.{kind_of, mode_of, size_of, attr_of, faults_of, with_faults, bytes_of};
+ghost use Rattle.host_node.specs.Tree.{is_directory};
 
 mod children;
 mod copies;
@@ -148,27 +149,35 @@ impl Tree {
         ensures value { result ≡ attr_of self.now }
         ensures mode { result.mode ≤ 511 }
     {
+        Attr {
+            kind: self.kind(),
+            mode: self.mode(),
+            size: self.size(),
+        }
+    }
+
+    /// The permission bits of the node.
+    fn mode(&self) -> u32
+        ensures value { result ≡ mode_of self.now }
+        ensures most { result ≤ 511 }
+    {
         match &self.node {
-            Node::Directory { mode, .. } => Attr {
-                kind: Kind::Dir,
-                mode: *mode,
-                size: 0,
-            },
-            Node::File { bytes, mode, .. } => Attr {
-                kind: Kind::File,
-                mode: *mode,
-                size: bytes.len() as u64,
-            },
-            Node::Link { text, .. } => Attr {
-                kind: Kind::Link,
-                mode: 0o777,
-                size: text.as_bytes().len() as u64,
-            },
-            Node::Lent(kind) => Attr {
-                kind: *kind,
-                mode: 0,
-                size: 0,
-            },
+            Node::Directory { mode, .. } => *mode,
+            Node::File { mode, .. } => *mode,
+            Node::Link { .. } => 0o777,
+            Node::Lent(_) => 0,
+        }
+    }
+
+    /// How many bytes the node holds.
+    fn size(&self) -> u64
+        ensures { result ≡ size_of self.now }
+    {
+        match &self.node {
+            Node::Directory { .. } => 0,
+            Node::File { bytes, .. } => bytes.len() as u64,
+            Node::Link { text, .. } => text.as_bytes().len() as u64,
+            Node::Lent(_) => 0,
         }
     }
 
