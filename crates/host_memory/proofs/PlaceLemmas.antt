@@ -1,9 +1,10 @@
 -- What stands in a host's tree after something was put where names lead, one name further.
 use Rattle.std.proofs.Common.{◌≡◌, ℕ, ◌<◌, true, false, List, [], ◌∷◌, length, Option, Some, None, Result, Ok, Err}
-use Rattle.std.proofs.Common.{OnOk, OnErr, IsSome, option_and_then, refl, ap, sym, ◌∙◌, arith}
+use Rattle.std.proofs.Common.{OnOk, OnErr, IsSome, is_some, option_and_then, refl, ap, sym, ◌∙◌, arith, rules}
 use Rattle.std.specs.Option.{option_map_or}
 use Rattle.host_node.specs.declared.kind.Kind.TheVariants.{Dir}
 use Rattle.host_node.specs.Tree.{Shape, directory, file, link, lent, kind_of, is_lent, child_of, with_child, lend_child}
+use Rattle.host_node.specs.Tree.{is_directory}
 use Rattle.host_node.specs.Routes.{subtree, put_subtree, only_directory, directory_at, is_free}
 use Rattle.host_node.proofs.TreeLemmas.{directory_from_child, child_of-with_same, with_child_twice, with_child_found}
 use Rattle.host_node.proofs.TreeLemmas.{lend_child_found, is_lent-none_lent}
@@ -85,14 +86,36 @@ pub is_here : (names : List (List ℕ)) (t s : Shape) → is_free names t ≡ tr
     → is_lent s ≡ false
 is_here names t s f h = is_lent-none_lent s (none_lent-is_free names s t f (sym h))
 
--- and where it is of a directory's kind, it is the directory there
-pub directory_stands : (names : List (List ℕ)) (t s : Shape) → is_free names t ≡ true → Some s ≡ subtree names t
-    → kind_of s ≡ Dir
-    → directory_at names t ≡ Some s
-directory_stands names t s f h k = ap (option_and_then only_directory) (sym h) ∙ by s k (is_here names t s f h)
+-- a look tells whether there is a directory
+pub looked_at : (names : List (List ℕ)) (t : Shape) (o : Option Shape) → o ≡ subtree names t
+    → option_map_or is_directory o false ≡ is_some (directory_at names t)
+looked_at names t o h = by o ∙ ap (λ x. is_some (option_and_then only_directory x)) h
   where
-    by : (s : Shape) → kind_of s ≡ Dir → is_lent s ≡ false → only_directory s ≡ Some s
-    by (directory mode faults entries) k l = refl
-    by (file bytes mode faults) k l = cc
-    by (link text faults) k l = cc
-    by (lent kind) k l = cc
+    by : (o : Option Shape) → option_map_or is_directory o false ≡ is_some (option_and_then only_directory o)
+    by None = refl
+    by (Some (directory mode faults entries)) = refl
+    by (Some (file bytes mode faults)) = refl
+    by (Some (link text faults)) = refl
+    by (Some (lent kind)) = refl
+
+-- where there is one, something stands there,
+pub stands_there : (names : List (List ℕ)) (t : Shape) → is_some (directory_at names t) ≡ true
+    → IsSome (subtree names t)
+stands_there names t h = by (subtree names t) h
+  where
+    by : (o : Option Shape) → is_some (option_and_then only_directory o) ≡ true → IsSome o
+    by None h = cc
+    by (Some s) h = search rules
+
+-- and it is that directory
+pub directory_stands : (names : List (List ℕ)) (t s : Shape) → is_some (directory_at names t) ≡ true
+    → Some s ≡ subtree names t → (directory_at names t ≡ Some s) × (kind_of s ≡ Dir)
+directory_stands names t s d h =
+    let found = by s (ap (λ x. is_some (option_and_then only_directory x)) h ∙ d) in
+    (ap (option_and_then only_directory) (sym h) ∙ found.0, found.1)
+  where
+    by : (s : Shape) → is_some (only_directory s) ≡ true → (only_directory s ≡ Some s) × (kind_of s ≡ Dir)
+    by (directory mode faults entries) d = (refl, refl)
+    by (file bytes mode faults) d = cc
+    by (link text faults) d = cc
+    by (lent kind) d = cc

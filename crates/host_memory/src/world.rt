@@ -1,17 +1,21 @@
 //! A host in memory: what is put and planned, granted and settled.
 
-ghost use Rattle.std.specs.Prelude.{option_copied, option_map, ◌≡◌, [], ◌∷◌, ◌++◌, false, Some, None, Ok, IfOk, IfErr};
-ghost use Rattle.std.specs.Prelude.{IfSome, IfNone, OnOk, OnErr};
+ghost use Rattle.std.specs.Prelude.{option_copied, option_map, ◌≡◌, ◌+◌, [], ◌∷◌, ◌++◌, true, false, Some, None, Ok};
+ghost use Rattle.std.specs.Prelude.{is_some, if◌then◌else◌, IfOk, IfErr, IfSome, IfNone, OnOk, OnErr};
+ghost use Rattle.std.specs.Bool.{OnTrue};
 ghost use Rattle.host_node.specs.declared.kind.Kind.TheVariants.{Dir as Directory};
 ghost use Rattle.host_node.specs.Faults.{has_failed};
-ghost use Rattle.sn_base.specs.Faults.{HasCause};
+ghost use Rattle.sn_base.specs.Faults.{Rose, HasCause};
+ghost use Rattle.sn_base.specs.Sums.{capped};
 ghost use Rattle.host_node.specs.Routes.{directory_at, subtree, put_subtree};
 ghost use Rattle.host_node.specs.Told.{Closed as NotOpen, CanGrant, LacksFolder, TellsGranted, after_grant, CanSettle};
-ghost use Rattle.host_node.specs.Tree.{directory as dir, no_children, faults_of, kind_of};
+ghost use Rattle.host_node.specs.Tree.{directory as dir, lent, no_children, faults_of, kind_of};
 ghost use Rattle.host_memory.specs.Access.{opened_as};
 ghost use Rattle.host_memory.specs.InMemory.{granted_from};
 ghost use Rattle.host_memory.specs.Places.{put_under, put_fault, IsPutFaultOf};
-ghost use Rattle.host_memory.specs.Plans.{fails, after_call, lines_below, lines_after, FailsAsPlanned, IsPlanFaultOf};
+ghost use Rattle.host_memory.specs.Plans.{fails, after_call, lines_below, lines_beside, lines_after, FailsAsPlanned};
+ghost use Rattle.host_memory.specs.Plans.{IsPlanFaultOf};
+ghost use Rattle.host_memory.specs.declared.node.Access.TheVariants.{Closed as NotOpened};
 ghost use Rattle.host_memory.specs.declared.places.PutErr.{PutErr as Fault};
 ghost use Rattle.host_memory.specs.declared.plan.Op.TheVariants.{Lend};
 ghost use Rattle.host_memory.specs.declared.plan.PlanErr.TheVariants.{NoNode};
@@ -129,6 +133,51 @@ impl World {
         };
         self.plan.add(self.alloc, line)
     }
+
+    /// Counts a grant, and answers whether it is to fail. If so, it counts a failed call too.
+    fn meets_grant(&mut self) -> bool
+        ensures planned { result ≡ fails [] Lend self.old.plan }
+        ensures rose { OnTrue result (Rose self.old.failed self.new.failed) }
+        ensures failed { self.new.failed ≡ (if result then capped (self.old.failed + 1) else self.old.failed) }
+        ensures tree { self.new.tree ≡ self.old.tree }
+        ensures dead { self.new.dead ≡ self.old.dead }
+        ensures plan { self.new.plan ≡ after_call [] Lend self.old.plan }
+    {
+        let planned = self.plan.meet(&Route::new(self.alloc), Op::Lend);
+        if planned {
+            self.failed = capped_add(self.failed, 1);
+        }
+        planned
+    }
+
+    /// Whether there is a directory where a folder's names lead.
+    fn has_directory(&self, folder: &Folder) -> bool
+        ensures { result ≡ is_some (directory_at folder.now.names self.now.tree) }
+    {
+        match self.look(folder) {
+            Some(tree) => tree.is_directory(),
+            None => false,
+        }
+    }
+
+    /// Lends the directory that is in a place. It takes no memory.
+    fn lend_at(&mut self, place: Route) -> MemoryNode
+        requires free { CanGrant place (Some self.old.tree) }
+        requires there { is_some (directory_at place self.old.tree) ≡ true }
+        ensures directory { directory_at place self.old.tree ≡ Some result.tree }
+        ensures kind { kind_of result.tree ≡ Directory }
+        ensures access { result.access ≡ NotOpened }
+        ensures place { result.place ≡ place }
+        ensures plan { result.plan ≡ lines_below place self.old.plan }
+        ensures after { self.new ≡ record self.old {
+          tree = put_subtree place (lent Directory) self.old.tree;
+          plan = lines_beside place self.old.plan;
+        } }
+    {
+        let tree = swap_at(&mut self.tree, place.names(), Tree::lent(Kind::Dir));
+        let plan = self.plan.take_below(&place);
+        MemoryNode::new(self.alloc, tree, place, plan)
+    }
 }
 
 impl HostWorld for World {
@@ -144,7 +193,6 @@ impl HostWorld for World {
         self.failed
     }
 
-    #[tactic(auto, using(crate::proofs::PlaceLemmas::directory_stands))]
     fn grant(&mut self, folder: &Folder) -> Result<Option<MemoryNode>, HostErr>
         requires { CanGrant folder.now.names (Some self.old.tree) }
         ensures none { IfOk result (λ granted. IfNone granted
@@ -167,23 +215,14 @@ impl HostWorld for World {
         ensures lacks { directory_at folder.now.names self.old.tree ≡ None →
             fails [] Lend self.old.plan ≡ false → result ≡ Ok None }
     {
-        if self.plan.meet(&Route::new(self.alloc), Op::Lend) {
-            self.failed = capped_add(self.failed, 1);
+        if self.meets_grant() {
             return Err(HostErr::Failed);
         }
-        let names = folder.route().names();
-        match look_at(&self.tree, names) {
-            None => return Ok(None),
-            Some(tree) => {
-                if tree.kind() != Kind::Dir {
-                    return Ok(None);
-                }
-            }
+        if !self.has_directory(folder) {
+            return Ok(None);
         }
         let place = folder.route().copy(self.alloc)?;
-        let tree = swap_at(&mut self.tree, names, Tree::lent(Kind::Dir));
-        let plan = self.plan.take_below(&place);
-        Ok(Some(MemoryNode::new(self.alloc, tree, place, plan)))
+        Ok(Some(self.lend_at(place)))
     }
 
     fn settle(&mut self, folder: &Folder, node: MemoryNode)
