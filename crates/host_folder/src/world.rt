@@ -1,6 +1,6 @@
 //! The folders of the machine: what is granted, settled and buried.
 
-ghost use Rattle.std.specs.Prelude.{◌≡◌, ◌++◌, [], string_bytes, IfOk, IfSome};
+ghost use Rattle.std.specs.Prelude.{◌≡◌, ◌++◌, [], string_bytes, true, IfOk, IfSome};
 ghost use Rattle.sn_base.specs.Faults.{HasCause};
 ghost use Rattle.host_node.specs.Faults.{has_failed};
 ghost use Rattle.host_node.specs.declared.kind.Kind.TheVariants.{Dir as Directory};
@@ -13,7 +13,7 @@ use crate::node::FolderNode;
 use crate::paths::{push_name, start};
 use host_node::{HostErr, HostNode, HostWorld, Kind};
 use sn_base::Memory;
-use sn_text::Folder;
+use sn_text::{Folder, Name};
 use std::fs;
 use std::fs::Files;
 
@@ -53,14 +53,25 @@ impl<R: Files + AllocGlobal + Clone + Drop> Folders<R> {
         ensures fresh { IfOk result (λ granted. IfSome granted (λ node. node.faults ≡ 0)) }
     {
         let mut path = start(self.files.alloc(), folder.is_rooted())?;
-        for name in folder.route().names() {
-            push_name(&mut path, name)?;
-            if !is_directory(fs::symlink_metadata(&self.files, path.as_str()))? {
-                return Ok(None);
-            }
+        if !are_directories(&self.files, &mut path, folder.route().names())? {
+            return Ok(None);
         }
         Ok(Some(FolderNode::new(self.files.clone()?, path, Kind::Dir)))
     }
+}
+
+/// Adds names to a path up to the first that leads to no directory, and answers whether there is none such.
+fn are_directories<R: Files>(files: &R, path: &mut String, names: &[Name]) -> Result<bool, HostErr>
+    ensures { IfOk result (λ all. all ≡ true →
+        string_bytes path.new ≡ string_bytes path.old ++ slashed names.now) }
+{
+    for name in names {
+        push_name(path, name)?;
+        if !is_directory(fs::symlink_metadata(files, path.as_str()))? {
+            return Ok(false);
+        }
+    }
+    Ok(true)
 }
 
 impl<R: Files + AllocGlobal + Clone + Drop + Send> HostWorld for Folders<R>
