@@ -3,6 +3,7 @@ use Rattle.std.proofs.Common.{◌≡◌, ℕ, zero, suc, ◌+◌, true, false, L
 use Rattle.std.proofs.Common.{subst}
 use Rattle.std.specs.Prelude.{Option, Some, None, IfSome, IfOk, Result, Ok, Err, option_map, slice_get}
 use Rattle.std.specs.Prelude.{slice_set}
+use Rattle.std.proofs.lemmas.List.{map-append}
 use Rattle.std.proofs.lemmas.Option.{same_Some}
 use Rattle.host_node.specs.Tree.{Shape, child_of, lend_child}
 use Rattle.host_node.specs.declared.kind.Kind.{Kind}
@@ -10,7 +11,8 @@ use Rattle.host_node.specs.Told.{CanLend, ComesFrom, TellsLent}
 use Rattle.image_walk.specs.declared.granted.Numbering.{Numbering}
 use Rattle.image_walk.specs.declared.loading.Loaded.{Loaded}
 use Rattle.image_walk.specs.declared.walk.Step.{Step}
-use Rattle.image_walk.specs.Granted.{Child, place_of}
+use Rattle.image_walk.specs.Granted.{Child, place_of, told_of}
+use Rattle.image_walk.specs.declared.granted.Lent.{Lent as LentChild}
 use Rattle.image_walk.specs.Loading.{IsHere, LoadsWhere}
 use Rattle.image_walk.specs.Standing.{Stands}
 use Rattle.image_walk.specs.Walking.{IsGrant, TellNothing, SearchedFor, LendsWhere, LoadsAt, Known, Lent, WalksWhere}
@@ -38,6 +40,15 @@ pub searched_none : (told after : Option Shape) (o : Option Loaded) → Searched
     → ((x : Loaded) → o ≡ Some x → ⊥) → SearchedFor told after None
 searched_none told after None h n = h
 searched_none told after (Some x) h n = absurd (n x refl)
+
+-- ---- a child that is lent now
+
+-- it is told behind the others
+pub told_more : {N : Type 0} (told : N → Option Shape) (before kept after : List (LentChild N)) (name called : List ℕ)
+    (node : N) → kept ≡ before → called ≡ name → after ≡ kept ++ record { name = called; node = node } ∷ []
+    → told_of told after ≡ told_of told before ++ (name, told node) ∷ []
+told_more told before kept after name called node same is e =
+    rw (e, same, is) (map-append (λ l. (l.name, told l.node)) before (record { name = name; node = node } ∷ []))
 
 -- ---- a child that was lent before
 

@@ -1,8 +1,8 @@
 -- A child that was lent is behind the others, and tells what it was loaded to.
-use Rattle.std.proofs.Common.{◌+◌, ◌++◌, [], ◌∷◌, ap, ◌∙◌, arith}
-use Rattle.std.proofs.lemmas.List.{length-map, map-append}
+use Rattle.std.proofs.Common.{◌+◌, arith}
+use Rattle.std.proofs.lemmas.List.{length-map}
 use Rattle.image_walk.specs.Granted.{Child, told_of}
-use Rattle.image_walk.proofs.Going.{lends_child}
+use Rattle.image_walk.proofs.Going.{lends_child, told_more}
 use Rattle.image_walk.proofs.walk.lend_program.Goals as goal
 
 pub returns-in-Ok-Some-clause-lends : goal.returns-in-Ok-Some-clause-lends
@@ -16,12 +16,9 @@ returns-in-Ok-Some-clause-lends g c =
     (g.N.HostNode.what c.in-Ok-Some.child) (c.args.granted.now.numbers.first + c.len.result) c.load-loaded.result
     (told_of told c.args.granted.now.lent.items) (told_of told c.push_reserved.new.self.items) node tells
     c.load-loaded.ensures
-    (ap (told_of told) (c.push_reserved.ensures.items
-    ∙ ap (λ xs. xs ++ record { name = c.in_ok-kept.kept; node = c.load-loaded.new.node } ∷ []) c.reserve.ensures.items)
-    ∙ map-append (λ l. (l.name, told l.node)) c.args.granted.now.lent.items
-    (record { name = c.in_ok-kept.kept; node = c.load-loaded.new.node } ∷ [])
-    ∙ ap (λ n. told_of told c.args.granted.now.lent.items ++ (n, told c.load-loaded.new.node) ∷ [])
-    c.in_ok-kept.ensures)
+    (told_more told c.args.granted.now.lent.items c.reserve.new.self.items c.push_reserved.new.self.items
+    c.args.name.now c.in_ok-kept.kept c.load-loaded.new.node c.reserve.ensures.items c.in_ok-kept.ensures
+    c.push_reserved.ensures.items)
     (omega (
       arith,
       length-map {B = Child} c.args.granted.now.lent.items (λ l. (l.name, told l.node)),
