@@ -9,9 +9,15 @@ use std::marker::Model;
 
 /// A shared area. Contracts see the bytes of its pages, and what tasks have reserved there; which frames it shares with
 /// a copy doesn't show.
-#[derive(Drop)]
 pub struct GuestArea {
     pub area: SharedArea,
+}
+
+/// Lets it go. Who owns an area lets go of it by this one call, at each exit.
+impl Drop for GuestArea {
+    fn drop(self) {
+        let GuestArea { area: _ } = self;
+    }
 }
 
 impl Model for GuestArea {

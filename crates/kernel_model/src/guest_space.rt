@@ -9,9 +9,15 @@ use std::marker::Model;
 
 /// A guest's address space. Contracts see what is mapped and reserved there; which frames it shares with others doesn't
 /// show.
-#[derive(Drop)]
 pub struct GuestSpace {
     pub space: Space,
+}
+
+/// Lets it go. Who owns an address space lets go of it by this one call, at each exit.
+impl Drop for GuestSpace {
+    fn drop(self) {
+        let GuestSpace { space: _ } = self;
+    }
 }
 
 impl Model for GuestSpace {

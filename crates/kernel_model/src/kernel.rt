@@ -68,7 +68,7 @@ impl Drop for Kernel {
 }
 
 /// A part of the state, as a step reads and changes it.
-#[derive(Clone, Copy, Debug, Drop, PartialEq, Eq)]
+#[derive(Clone, Copy, Drop)]
 pub enum Part {
     OfTasks,
     OfTask(u32),

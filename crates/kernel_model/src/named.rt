@@ -20,9 +20,15 @@ pub struct Former<V> {
 /// A map from names to values: address spaces, shared areas, descriptor tables, pipes. A name is a place in
 /// the commit log and an index among what the entry there made. Contracts see it as a finite map from
 /// places to finite maps from indices. A place whose last thing is gone keeps its empty map.
-#[derive(Debug, Drop)]
 pub struct Named<V> {
     pub(crate) places: Map<Map<V>>,
+}
+
+/// Lets all of it go. Who owns such a map lets go of it by this one call, at each exit.
+impl<V: Drop> Drop for Named<V> {
+    fn drop(self) {
+        let Named { places: _ } = self;
+    }
 }
 
 impl<V> Model for Named<V> {
