@@ -64,7 +64,7 @@ const OF_ONE_NAME: &[Act] = &[
 ];
 
 #[rattlefmt::skip]
-const CASES: [Case; 4] = [
+const CASES: &[Case] = &[
     Case {
         name: "a_load_gives_the_bytes_lowest_first_or_the_first_that_may_not_be_read",
         begins: Begins::Fixture,
@@ -89,5 +89,5 @@ const CASES: [Case; 4] = [
 
 #[test]
 fn loads_and_fetches_go_by_rights_and_by_the_areas_in_hand(rt: HostRuntime) -> Result<(), Fail> {
-    expect_cases(rt.alloc(), &CASES)
+    expect_cases(rt.alloc(), CASES)
 }

@@ -8,7 +8,7 @@ use std::test::Fail;
 
 /// Two views of two pages of `FIRST`, a page of `SECOND` without rights between them, and a private page.
 #[rattlefmt::skip]
-const MAPPED: [Mapped; 4] = [
+const MAPPED: &[Mapped] = &[
     (0x1_0000, 8192, READ | WRITE, Backing::Of(FIRST)),
     (0x3_0000, 4096, 0, Backing::Of(SECOND)),
     (0x5_0000, 4096, READ | WRITE, Backing::Zeros),
@@ -20,7 +20,7 @@ type Row = (u64, Option<(Area, u64)>);
 
 /// Addresses in each of these, and at and past their ends; and where nothing is mapped.
 #[rattlefmt::skip]
-const BYTES: [Row; 14] = [
+const BYTES: &[Row] = &[
     (0x1_0000, Some((FIRST, 0))), (0x8_0000, Some((FIRST, 0))),
     (0x1_0ffc, Some((FIRST, 4092))), (0x8_0ffc, Some((FIRST, 4092))),
     (0x1_1004, Some((FIRST, 4100))), (0x8_1004, Some((FIRST, 4100))),
@@ -51,6 +51,6 @@ fn expect_bytes(space: &Space, rows: &[Row]) -> Result<(), Fail> {
 fn an_area_at_two_addresses_has_the_same_bytes_there_and_private_memory_has_none(
     rt: HostRuntime,
 ) -> Result<(), Fail> {
-    let space = space_of(rt.alloc(), &MAPPED)?;
-    expect_bytes(&space, &BYTES)
+    let space = space_of(rt.alloc(), MAPPED)?;
+    expect_bytes(&space, BYTES)
 }

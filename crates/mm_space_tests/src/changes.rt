@@ -58,7 +58,7 @@ const MOVED: &[Act] = &[
 ];
 
 #[rattlefmt::skip]
-const CASES: [Case; 4] = [
+const CASES: &[Case] = &[
     Case {
         name: "what_was_unmapped_and_mapped_again_is_zeros",
         begins: Begins::Fixture,
@@ -83,5 +83,5 @@ const CASES: [Case; 4] = [
 
 #[test]
 fn loads_and_fetches_see_each_change_of_what_is_mapped(rt: HostRuntime) -> Result<(), Fail> {
-    expect_cases(rt.alloc(), &CASES)
+    expect_cases(rt.alloc(), CASES)
 }

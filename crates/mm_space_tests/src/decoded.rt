@@ -57,7 +57,7 @@ const TAKEN: &[Act] = &[
 ];
 
 #[rattlefmt::skip]
-const CASES: [Case; 4] = [
+const CASES: &[Case] = &[
     Case { name: "a_page_has_the_words_that_were_stored", begins: TWO, acts: STORED },
     Case {
         name: "a_page_that_may_not_be_executed_has_no_words",
@@ -70,7 +70,7 @@ const CASES: [Case; 4] = [
 
 #[test]
 fn a_page_that_may_be_executed_has_the_words_that_lie_there(rt: HostRuntime) -> Result<(), Fail> {
-    expect_cases(rt.alloc(), &CASES)
+    expect_cases(rt.alloc(), CASES)
 }
 
 /// That at most 64 pages have their words.

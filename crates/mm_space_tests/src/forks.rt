@@ -55,7 +55,7 @@ const KEPT: &[Act] = &[
 const PRIVATE: Begins = Begins::Pair(Side::Private, Side::Private);
 
 #[rattlefmt::skip]
-const CASES: [Case; 3] = [
+const CASES: &[Case] = &[
     Case { name: "a_child_reads_what_its_parent_does", begins: Begins::Fixture, acts: READ },
     Case {
         name: "a_page_that_nobody_has_written_stays_zeros_in_the_others",
@@ -71,7 +71,7 @@ const CASES: [Case; 3] = [
 
 #[test]
 fn a_child_has_what_its_parent_had_and_goes_its_own_way(rt: HostRuntime) -> Result<(), Fail> {
-    expect_cases(rt.alloc(), &CASES)
+    expect_cases(rt.alloc(), CASES)
 }
 
 /// A store by one of three spaces: which, where, how many bytes of which number, and the eight bytes at 0x1_0ff8 of
@@ -80,7 +80,7 @@ type Turn = (usize, u64, u8, u64, [u64; 3]);
 
 /// Stores by three spaces, of which the second is the first's child and the third the second's.
 #[rattlefmt::skip]
-const STORES: [Turn; 6] = [
+const STORES: &[Turn] = &[
     (0, 0x1_0ff8, 1, 0x11, [0xa8a7_a6a5_a4a3_a211, LOW, LOW]),
     (1, 0x1_0ff9, 2, 0x3322, [0xa8a7_a6a5_a4a3_a211, 0xa8a7_a6a5_a433_22a1, LOW]),
     (2, 0x1_0ffc, 4, 0x8877_6655, [0xa8a7_a6a5_a4a3_a211, 0xa8a7_a6a5_a433_22a1, 0x8877_6655_a4a3_a2a1]),
@@ -91,7 +91,7 @@ const STORES: [Turn; 6] = [
 
 /// The same, where the second is the first's child from before, and the third its child after the first store.
 #[rattlefmt::skip]
-const STORES_AGAIN: [Turn; 5] = [
+const STORES_AGAIN: &[Turn] = &[
     (2, 0x1_0ff8, 1, 0x44, [0xa8a7_a6a5_a4a3_2211, LOW, 0xa8a7_a6a5_a4a3_2244]),
     (0, 0x1_0ffe, 2, 0x5555, [0x5555_a6a5_a4a3_2211, LOW, 0xa8a7_a6a5_a4a3_2244]),
     (1, 0x1_0fff, 1, 0x66, [0x5555_a6a5_a4a3_2211, 0x66a7_a6a5_a4a3_a2a1, 0xa8a7_a6a5_a4a3_2244]),
@@ -138,11 +138,11 @@ fn expect_turns(guest: &mut Guest, acts: &[Act], turns: &[Turn]) -> Result<(), F
 }
 
 /// A child, and the child's.
-const IN_LINE: [Act; 4] = [Act::Forks(0), Act::Turns(0), Act::Forks(1), Act::Turns(0)];
+const IN_LINE: &[Act] = &[Act::Forks(0), Act::Turns(0), Act::Forks(1), Act::Turns(0)];
 
 /// A child, and another after a store, which begins with what was stored.
 #[rattlefmt::skip]
-const IN_TWO_LINES: [Act; 7] = [
+const IN_TWO_LINES: &[Act] = &[
     Act::Forks(0), Act::Stores(1, 0x1_0ff8, 2, 0x2211, Ok(())), Act::Forks(1),
     Act::Turns(1), Act::Loads(0x1_0ff8, 8, Ok(0xa8a7_a6a5_a4a3_2211)), Act::Loads(0x1_1000, 8, Ok(HIGH)), Act::Turns(1),
 ];
@@ -155,6 +155,6 @@ fn expect_family(alloc: Global, acts: &[Act], turns: &[Turn]) -> Result<(), Fail
 
 #[test]
 fn a_space_its_child_and_the_childs_each_see_their_own_stores(rt: HostRuntime) -> Result<(), Fail> {
-    expect_family(rt.alloc(), &IN_LINE, &STORES)?;
-    expect_family(rt.alloc(), &IN_TWO_LINES, &STORES_AGAIN)
+    expect_family(rt.alloc(), IN_LINE, STORES)?;
+    expect_family(rt.alloc(), IN_TWO_LINES, STORES_AGAIN)
 }

@@ -126,7 +126,7 @@ const CONDITIONALS: &[Act] = &[
 ];
 
 #[rattlefmt::skip]
-const CASES: [Case; 6] = [
+const CASES: &[Case] = &[
     Case {
         name: "a_load_by_a_hint_is_the_exact_one_or_none",
         begins: Begins::Fixture,
@@ -161,5 +161,5 @@ const CASES: [Case; 6] = [
 
 #[test]
 fn an_access_by_a_hint_is_the_exact_one_or_none(rt: HostRuntime) -> Result<(), Fail> {
-    expect_cases(rt.alloc(), &CASES)
+    expect_cases(rt.alloc(), CASES)
 }

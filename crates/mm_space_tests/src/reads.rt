@@ -45,7 +45,7 @@ fn reads_so(
 }
 
 #[rattlefmt::skip]
-const WHOLE: [(u64, usize); 27] = [
+const WHOLE: &[(u64, usize)] = &[
     (0x20_0000, 0), (0x20_0000, 1), (0x20_0000, 4095), (0x20_0000, 4096), (0x20_0000, 4097), (0x20_0000, 65_536),
     (0x20_0001, 0), (0x20_0001, 1), (0x20_0001, 4095), (0x20_0001, 4096), (0x20_0001, 4097), (0x20_0001, 65_536),
     (0x20_0fff, 0), (0x20_0fff, 1), (0x20_0fff, 4095), (0x20_0fff, 4096), (0x20_0fff, 4097), (0x20_0fff, 65_536),
@@ -56,7 +56,7 @@ const WHOLE: [(u64, usize); 27] = [
 ];
 
 #[rattlefmt::skip]
-const REFUSED: [(u64, usize, MemErr); 17] = [
+const REFUSED: &[(u64, usize, MemErr)] = &[
     // the last byte, one in the middle, and the first may not be read
     (0x21_0fff, 8194, MemErr::Fault { addr: 0x21_3000 }),
     (0x21_6fff, 2, MemErr::Fault { addr: 0x21_7000 }),
@@ -80,7 +80,7 @@ const REFUSED: [(u64, usize, MemErr); 17] = [
 ];
 
 #[rattlefmt::skip]
-const ASKED: [(u64, usize, MemErr); 2] = [
+const ASKED: &[(u64, usize, MemErr)] = &[
     (0x1f_ffff, 0x1_2001, MemErr::Shared(SECOND)),
     (0x20_0000, 0x1_2001, MemErr::Shared(FIRST)),
 ];
@@ -113,7 +113,7 @@ fn expect_refused_of(alloc: Global, hand: Hand, rows: &[(u64, usize, MemErr)]) -
 
 #[test]
 fn a_run_is_the_bytes_that_lie_there_one_behind_another(rt: HostRuntime) -> Result<(), Fail> {
-    expect_whole_of(rt.alloc(), &WHOLE)
+    expect_whole_of(rt.alloc(), WHOLE)
 }
 
 #[rattlefmt::skip]
@@ -130,7 +130,7 @@ const BY_RIGHT: &[Act] = &[
 ];
 
 #[rattlefmt::skip]
-const CASES: [Case; 1] = [
+const CASES: &[Case] = &[
     Case {
         name: "a_run_needs_the_right_that_is_asked",
         begins: Begins::Runs(Hand::First),
@@ -142,7 +142,7 @@ const CASES: [Case; 1] = [
 fn a_run_that_is_refused_moves_nothing_and_needs_the_right_and_the_first_area(
     rt: HostRuntime,
 ) -> Result<(), Fail> {
-    expect_refused_of(rt.alloc(), Hand::First, &REFUSED)?;
-    expect_refused_of(rt.alloc(), Hand::Nothing, &ASKED)?;
-    expect_cases(rt.alloc(), &CASES)
+    expect_refused_of(rt.alloc(), Hand::First, REFUSED)?;
+    expect_refused_of(rt.alloc(), Hand::Nothing, ASKED)?;
+    expect_cases(rt.alloc(), CASES)
 }

@@ -6,7 +6,7 @@ use mm_space_acts::{
     Act, Begins, Case, FIRST, Guest, READ, SECOND, SHORT, Side, WRITE, begin, expect_cases,
     put_byte, space_of,
 };
-use rv_table::MemErr;
+use rv_table::{Area, MemErr};
 use std::alloc::Global;
 use std::test::Fail;
 
@@ -77,7 +77,7 @@ const OF_BOTH: &[Act] = &[
 ];
 
 #[rattlefmt::skip]
-const CASES: [Case; 4] = [
+const CASES: &[Case] = &[
     Case { name: "bytes_past_the_end_of_an_area_are_faults", begins: THREE_PAGES, acts: ABOUT_THE_END },
     Case { name: "each_byte_of_an_area_without_pages_is_a_fault", begins: ONE_PAGE, acts: WITHOUT_PAGES },
     Case {
@@ -96,13 +96,13 @@ const CASES: [Case; 4] = [
 fn an_access_goes_to_the_first_area_of_the_name_and_not_past_its_end(
     rt: HostRuntime,
 ) -> Result<(), Fail> {
-    expect_cases(rt.alloc(), &CASES)
+    expect_cases(rt.alloc(), CASES)
 }
 
 /// Stores through three views of one area: two in one space, at 0x1_0000 and at 0x8_0000, and one in another space at
 /// 0x3_0000. Of each row the view, the place in the area, the width and the number, which each view then has there.
 #[rattlefmt::skip]
-const STORES: [(u64, u64, u8, u64); 8] = [
+const STORES: &[(u64, u64, u8, u64)] = &[
     (0x1_0000, 0, 8, 0x8877_6655_4433_2211),
     (0x8_0000, 0, 1, 0x99),
     (0x3_0000, 7, 2, 0x2211),
@@ -176,58 +176,100 @@ fn expect_views(alloc: Global, rows: &[(u64, u64, u8, u64)]) -> Result<(), Fail>
 fn what_is_stored_through_one_view_of_an_area_each_other_loads(
     rt: HostRuntime,
 ) -> Result<(), Fail> {
-    expect_views(rt.alloc(), &STORES)
+    expect_views(rt.alloc(), STORES)
 }
 
 /// An area of two pages, whose first byte is that value, and in which task 1 has reserved the first granule.
 fn touched(alloc: Global, value: u8) -> Result<SharedArea, Fail> {
     let mut area = SharedArea::zeros(alloc, 2)?;
-    area.frames.write_byte(alloc, 0, 0, value)?;
-    area.reservations.reserve(1, 0)?;
+    touch(alloc, &mut area, value)?;
     Ok(area)
+}
+
+fn touch(alloc: Global, area: &mut SharedArea, value: u8) -> Result<(), Fail> {
+    put_byte(alloc, &mut area.frames, (0, 0), value)?;
+    area.reservations.reserve(1, 0)?;
+    Ok(())
+}
+
+/// Lends such an area, and answers how many pages the one has that is left in its place.
+fn lend_touched(alloc: Global, handed: &mut Handed, name: Area, value: u8) -> Result<usize, Fail> {
+    let mut area = touched(alloc, value)?;
+    handed.lend(alloc, name, &mut area)?;
+    Ok(area.frames.len())
+}
+
+/// Stores 9 as the first byte of `FIRST`.
+fn store_nine(alloc: Global, handed: &mut Handed) -> Result<(), Fail> {
+    let mut space = space_of(alloc, &[(0x1_0000, 8192, READ | WRITE, Backing::Of(FIRST))])?;
+    space.store(alloc, handed, 2, 0x1_0000, 1, 9)?;
+    Ok(())
+}
+
+/// Lends `FIRST` and `SECOND`, and stores into the one. The answers are those of the two that were lent.
+fn lend_both(alloc: Global, handed: &mut Handed) -> Result<[usize; 2], Fail> {
+    let first = lend_touched(alloc, handed, FIRST, 7)?;
+    let second = lend_touched(alloc, handed, SECOND, 8)?;
+    store_nine(alloc, handed)?;
+    Ok([first, second])
+}
+
+/// Takes an area back, and answers its name, its first byte, and how many reservations it has.
+fn taken_back(handed: &mut Handed) -> Option<(Area, Option<u8>, usize)> {
+    let last = handed.take_back()?;
+    Some((
+        last.name,
+        last.area.frames.byte(0, 0),
+        last.area.reservations.len(),
+    ))
 }
 
 #[test]
 fn an_area_that_is_lent_comes_back_as_it_is_then(rt: HostRuntime) -> Result<(), Fail> {
-    let alloc = rt.alloc();
-    let mut first = touched(alloc, 7)?;
-    let mut second = touched(alloc, 8)?;
-    let mut handed = Handed::none(alloc);
-    handed.lend(alloc, FIRST, &mut first)?;
-    handed.lend(alloc, SECOND, &mut second)?;
-    assert_eq!(rt; first.frames.len(), 0);
-    let mut space = space_of(alloc, &[(0x1_0000, 8192, READ | WRITE, Backing::Of(FIRST))])?;
-    space.store(alloc, &mut handed, 2, 0x1_0000, 1, 9)?;
-    let back = handed
-        .take_back()
-        .map(|last| (last.name, last.area.frames.byte(0, 0)));
-    assert_eq!(rt; back, Some((SECOND, Some(8))));
-    let back = handed.take_back().map(|last| (
-        last.name,
-        last.area.frames.byte(0, 0),
-        last.area.reservations.len(),
-    ));
-    assert_eq!(rt; back, Some((FIRST, Some(9), 0)));
-    assert!(rt; handed.take_back().is_none());
+    let mut handed = Handed::none(rt.alloc());
+    let left = lend_both(rt.alloc(), &mut handed)?;
+    let back = [
+        taken_back(&mut handed),
+        taken_back(&mut handed),
+        taken_back(&mut handed),
+    ];
+    assert_eq!(rt;
+        (left, back),
+        (
+            [0, 0],
+            [Some((SECOND, Some(8), 1)), Some((FIRST, Some(9), 0)), None],
+        )
+    );
     Ok(())
+}
+
+/// Puts a byte into an area, and another into its copy.
+fn put_each(alloc: Global, area: &mut SharedArea, copy: &mut SharedArea) -> Result<(), Fail> {
+    put_byte(alloc, &mut area.frames, (0, 0), 1)?;
+    put_byte(alloc, &mut copy.frames, (0, 1), 2)
+}
+
+/// The first two bytes of an area and its last, and whether task 1 has reserved the first granule.
+fn look(area: &SharedArea) -> ([Option<u8>; 3], bool) {
+    let bytes = [
+        area.frames.byte(0, 0),
+        area.frames.byte(0, 1),
+        area.frames.byte(1, 4095),
+    ];
+    (bytes, area.reservations.holds(1, 0))
 }
 
 #[test]
 fn a_copy_of_an_area_goes_its_own_way(rt: HostRuntime) -> Result<(), Fail> {
-    let alloc = rt.alloc();
-    let mut area = touched(alloc, 7)?;
-    let mut copy = area.copy(alloc)?;
-    put_byte(alloc, &mut area.frames, (0, 0), 1)?;
-    put_byte(alloc, &mut copy.frames, (0, 1), 2)?;
+    let mut area = touched(rt.alloc(), 7)?;
+    let mut copy = area.copy(rt.alloc())?;
+    put_each(rt.alloc(), &mut area, &mut copy)?;
     assert_eq!(rt;
-        (area.frames.byte(0, 0), area.frames.byte(0, 1)),
-        (Some(1), Some(0))
+        (look(&area), look(&copy)),
+        (
+            ([Some(1), Some(0), Some(0)], true),
+            ([Some(7), Some(2), Some(0)], true),
+        )
     );
-    assert_eq!(rt;
-        (copy.frames.byte(0, 0), copy.frames.byte(0, 1)),
-        (Some(7), Some(2))
-    );
-    assert_eq!(rt; copy.frames.byte(1, 4095), Some(0));
-    assert!(rt; area.reservations.holds(1, 0) && copy.reservations.holds(1, 0));
     Ok(())
 }
