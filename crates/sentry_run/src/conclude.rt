@@ -53,18 +53,21 @@ fn written<K: Sink>(
 }
 
 /// How a run comes out, once its text is written where it has one.
-fn concluded<K: Sink>(alloc: Global, end: End, trace: &Trace, flag: bool, out: &mut K) -> Fault
-    ensures concludes { Concludes end (λ k. printed k trace.now flag)
+fn concluded<K: Sink>(alloc: Global, end: &End, trace: &Trace, flag: bool, out: &mut K) -> Fault
+    ensures concludes { Concludes end.now (λ k. printed k trace.now flag)
         (side (K.told out.old) (K.count out.old)) (side (K.told out.new) (K.count out.new)) result }
     ensures cause { HasCause (is_sink_fault result) (K.count out.old) (K.count out.new) }
 {
     match end {
-        End::Done(kernel) => written(alloc, &kernel, trace, flag, out, Fault::Done),
-        End::Full(kernel) => written(alloc, &kernel, trace, flag, out, Fault::Full),
-        End::Stuck(kernel) => written(alloc, &kernel, trace, flag, out, Fault::Stuck),
-        End::Image { task, errno } => Fault::Image { task, errno },
+        End::Done(kernel) => written(alloc, kernel, trace, flag, out, Fault::Done),
+        End::Full(kernel) => written(alloc, kernel, trace, flag, out, Fault::Full),
+        End::Stuck(kernel) => written(alloc, kernel, trace, flag, out, Fault::Stuck),
+        End::Image { task, errno } => Fault::Image {
+            task: *task,
+            errno: *errno,
+        },
         End::HostFault => Fault::HostFault,
-        End::Grant { mount } => Fault::Grant { mount },
+        End::Grant { mount } => Fault::Grant { mount: *mount },
         End::Memory => Fault::Memory,
     }
 }
@@ -116,6 +119,6 @@ pub fn conclude<K: Sink>(
         opening,
         trace,
     } = played;
-    let fault = concluded(alloc, end, &trace, flag, out);
+    let fault = concluded(alloc, &end, &trace, flag, out);
     outcome(alloc, fault, opening, trace, Some(mounts))
 }
