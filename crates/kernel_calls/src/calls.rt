@@ -1,6 +1,7 @@
 //! What system calls come to: the table of the calls that the kernel has.
 
-ghost use Rattle.std.specs.Prelude.{◌≡◌, ℕ, false, IfOk, IsTrue, Ok, OnErr};
+ghost use Rattle.std.specs.Prelude.{◌≡◌, ℕ, false, true, IfOk, IsTrue, OnErr};
+ghost use Rattle.futex_core.specs.FutexLists.{FutexList};
 ghost use Rattle.sn_errno.specs.Calls.{call_of};
 ghost use Rattle.sn_errno.specs.Errors.{reply_of};
 ghost use Rattle.sn_errno.specs.declared.errno.Errno.TheVariants.{ENOSYS};
@@ -8,14 +9,13 @@ ghost use Rattle.task_table.specs.Table.{is_live};
 ghost use Rattle.kernel_model.specs.declared.caller.Caller.{Caller as ACaller};
 ghost use Rattle.kernel_model.specs.declared.kernel.Kernel.{Kernel as AKernel};
 ghost use Rattle.kernel_model.specs.calls.Callers.{context_of};
-ghost use Rattle.kernel_model.specs.calls.Table.{call_row};
+ghost use Rattle.kernel_model.specs.calls.Table.{call_row, row_of_call};
 ghost use Rattle.kernel_model.specs.entries.Parts.{parts};
-ghost use Rattle.kernel_calls.specs.Families.{is_on_files};
+ghost use Rattle.kernel_calls.specs.Families.{always_replies, is_on_files};
 ghost use Rattle.guest_access.specs.Lending.{AreAlike};
-ghost use Rattle.kernel_calls.specs.Prepared.{Comes, EndsCaller, EndsTheirs, HasRoomFor, IfWaits, IsApart, IsCalling};
-ghost use Rattle.kernel_calls.specs.Prepared.{WaitsWith};
+ghost use Rattle.kernel_calls.specs.Prepared.{Answers, Comes, EndsCaller, EndsEach, EndsOnly, EndsTheirs, HasRoomFor};
+ghost use Rattle.kernel_calls.specs.Prepared.{IfWaits, IsApart, IsCalling, WaitsWith};
 ghost use Rattle.kernel_calls.specs.declared.prepared.Effect.TheVariants.{Nothing};
-ghost use Rattle.kernel_calls.specs.declared.prepared.Prepared.{Prepared as APrepared};
 
 use crate::Context;
 use crate::clone::clone;
@@ -37,11 +37,10 @@ use std::alloc::Global;
 use task_table::Tasks;
 
 /// The call of a number, of a live task with that memory, with the shared areas there are, with that task list and that
-/// futex list, as far as the kernel has it: the table below has a row a call. Calls on what is open are of `call_fs`,
-/// and none of them comes here. Any other answers ENOSYS. What is mapped and what lies in memory is changed at once;
-/// what is to be done to the task list or the futex list is told, and where that may lack memory nothing has changed so
-/// far. An `Err` changes nothing.
-#[rattlefmt::skip]
+/// futex list, as far as the kernel has it: those that may do something else than reply here, and the table of the
+/// others below. Calls on what is open are of `call_fs`, and none of them comes here. Any other answers ENOSYS. What is
+/// mapped and what lies in memory is changed at once; what is to be done to the task list or the futex list is told,
+/// and where that may lack memory nothing has changed so far. An `Err` changes nothing.
 #[tactic(auto, using(crate::proofs::Answering::answers_lacking))]
 pub fn call(
     alloc: Global,
@@ -71,72 +70,68 @@ pub fn call(
     ensures err { OnErr result (space.new ≡ space.old) }
     ensures err_areas { OnErr result (AreAlike areas.new areas.old) }
 {
-    match CallNo::of(number) {
-        None => lacking(),
-        Some(CallNo::Getcwd) => lacking(),
-        Some(CallNo::Dup) => unreachable!(),
-        Some(CallNo::Dup3) => unreachable!(),
-        Some(CallNo::Fcntl) => unreachable!(),
-        Some(CallNo::Ioctl) => unreachable!(),
-        Some(CallNo::Mkdirat) => lacking(),
-        Some(CallNo::Unlinkat) => lacking(),
-        Some(CallNo::Symlinkat) => lacking(),
-        Some(CallNo::Linkat) => lacking(),
-        Some(CallNo::Ftruncate) => lacking(),
-        Some(CallNo::Faccessat) => lacking(),
-        Some(CallNo::Chdir) => lacking(),
-        Some(CallNo::Openat) => lacking(),
-        Some(CallNo::Close) => unreachable!(),
-        Some(CallNo::Pipe2) => unreachable!(),
-        Some(CallNo::Getdents64) => lacking(),
-        Some(CallNo::Lseek) => unreachable!(),
-        Some(CallNo::Read) => unreachable!(),
-        Some(CallNo::Write) => unreachable!(),
-        Some(CallNo::Readv) => unreachable!(),
-        Some(CallNo::Writev) => unreachable!(),
-        Some(CallNo::Pread64) => unreachable!(),
-        Some(CallNo::Pwrite64) => unreachable!(),
-        Some(CallNo::Readlinkat) => lacking(),
-        Some(CallNo::Newfstatat) => lacking(),
-        Some(CallNo::Fstat) => lacking(),
-        Some(CallNo::Exit) => Ok(Called::Replies(exit(alloc, context, args.a0, space, areas, tasks)?)),
-        Some(CallNo::ExitGroup) => Ok(Called::Replies(exit_group(alloc, context, args.a0, space, areas, tasks)?)),
-        Some(CallNo::SetTidAddress) => Ok(Called::Replies(set_tid_address(context, args.a0))),
-        Some(CallNo::Futex) => futex(alloc, context, args, space, areas, sleepers),
-        Some(CallNo::SetRobustList) => Ok(Called::Replies(set_robust_list())),
-        Some(CallNo::ClockGettime) =>
-            Ok(Called::Replies(clock_gettime(alloc, context, args.a0, args.a1, space, areas)?)),
-        Some(CallNo::SchedYield) => Ok(Called::Replies(sched_yield())),
-        Some(CallNo::Kill) => lacking(),
-        Some(CallNo::RtSigaction) => lacking(),
-        Some(CallNo::RtSigprocmask) => lacking(),
-        Some(CallNo::Uname) => Ok(Called::Replies(uname(alloc, context, args.a0, space, areas)?)),
-        Some(CallNo::Getpid) => Ok(Called::Replies(getpid(context))),
-        Some(CallNo::Getppid) => Ok(Called::Replies(getppid(context, tasks))),
-        Some(CallNo::Getuid) => Ok(Called::Replies(owner())),
-        Some(CallNo::Geteuid) => Ok(Called::Replies(owner())),
-        Some(CallNo::Getgid) => Ok(Called::Replies(owner())),
-        Some(CallNo::Getegid) => Ok(Called::Replies(owner())),
-        Some(CallNo::Gettid) => Ok(Called::Replies(gettid(context))),
-        Some(CallNo::Brk) => Ok(Called::Replies(brk(alloc, args.a0, space)?)),
-        Some(CallNo::Munmap) => Ok(Called::Replies(munmap(args.a0, args.a1, space)?)),
-        Some(CallNo::Clone) => clone(alloc, context, registers, args, space, areas, tasks),
-        Some(CallNo::Execve) => lacking(),
-        Some(CallNo::Mmap) => Ok(Called::Replies(mmap(alloc, context, args, space, areas, files)?)),
-        Some(CallNo::Mprotect) => Ok(Called::Replies(mprotect(args.a0, args.a1, args.a2, space))),
-        Some(CallNo::Wait4) => wait4(alloc, context, args, space, areas, tasks),
-        Some(CallNo::Renameat2) => lacking(),
-        Some(CallNo::Getrandom) =>
-            Ok(Called::Replies(getrandom(alloc, context, args.a0, args.a1, args.a2, space, areas)?)),
+    let Some(call) = CallNo::of(number) else {
+        return Ok(Called::Replies(refused(Errno::ENOSYS)));
+    };
+    match call {
+        CallNo::Futex => futex(alloc, context, args, space, areas, sleepers),
+        CallNo::Clone => clone(alloc, context, registers, args, space, areas, tasks),
+        CallNo::Wait4 => wait4(alloc, context, args, space, areas, tasks),
+        _ => {
+            let prepared = replying(alloc, context, call, args, space, areas, tasks, files)?;
+            Ok(Called::Replies(prepared))
+        }
     }
 }
 
-/// A call that the kernel does not have.
-fn lacking() -> Result<Called, Memory>
-    ensures { (p : APrepared) × (result ≡ Ok (Called.Replies p)) × (p.reply ≡ reply_of ENOSYS)
-        × (p.effect ≡ Nothing) }
+/// What a call comes to that always replies, a row a call, with those last that the kernel does not have.
+#[rattlefmt::skip]
+#[tactic(auto, using(crate::proofs::Answering::answers_lacking))]
+fn replying(
+    alloc: Global,
+    context: &Context<'_>,
+    call: CallNo,
+    args: &Args,
+    space: &mut GuestSpace,
+    areas: &mut Named<GuestArea>,
+    tasks: &Tasks,
+    files: &OpenFiles,
+) -> Result<Prepared, Memory>
+    requires lives { IsTrue (is_live tasks.now.tasks context.now.task) }
+    requires replies { always_replies call ≡ true }
+    ensures row { IfOk result (λ p. (c : ACaller) (k : AKernel) (waiting : FutexList) (console : ℕ) →
+        IsCalling c k context.now space.old areas.old tasks.now waiting console → k.files ≡ files.now →
+        Answers (row_of_call (context_of k) c args.now call) p c k space.new areas.new) }
+    ensures own { IfOk result (λ p. EndsOnly p.effect context.now.task) }
+    ensures ended { IfOk result (λ p. EndsEach p.effect context.now.task context.now.group tasks.now) }
+    ensures err { OnErr result (space.new ≡ space.old) }
+    ensures err_areas { OnErr result (AreAlike areas.new areas.old) }
 {
-    Ok(Called::Replies(refused(Errno::ENOSYS)))
+    match call {
+        CallNo::Exit => exit(alloc, context, args.a0, space, areas, tasks),
+        CallNo::ExitGroup => exit_group(alloc, context, args.a0, space, areas, tasks),
+        CallNo::SetTidAddress => Ok(set_tid_address(context, args.a0)),
+        CallNo::SetRobustList => Ok(set_robust_list()),
+        CallNo::ClockGettime => clock_gettime(alloc, context, args.a0, args.a1, space, areas),
+        CallNo::SchedYield => Ok(sched_yield()),
+        CallNo::Uname => uname(alloc, context, args.a0, space, areas),
+        CallNo::Getpid => Ok(getpid(context)),
+        CallNo::Getppid => Ok(getppid(context, tasks)),
+        CallNo::Getuid | CallNo::Geteuid | CallNo::Getgid | CallNo::Getegid => Ok(owner()),
+        CallNo::Gettid => Ok(gettid(context)),
+        CallNo::Brk => brk(alloc, args.a0, space),
+        CallNo::Munmap => munmap(args.a0, args.a1, space),
+        CallNo::Mmap => mmap(alloc, context, args, space, areas, files),
+        CallNo::Mprotect => Ok(mprotect(args.a0, args.a1, args.a2, space)),
+        CallNo::Getrandom => getrandom(alloc, context, args.a0, args.a1, args.a2, space, areas),
+        CallNo::Getcwd | CallNo::Mkdirat | CallNo::Unlinkat | CallNo::Symlinkat | CallNo::Linkat
+        | CallNo::Ftruncate | CallNo::Faccessat | CallNo::Chdir | CallNo::Openat | CallNo::Getdents64
+        | CallNo::Readlinkat | CallNo::Newfstatat | CallNo::Fstat | CallNo::Kill | CallNo::RtSigaction
+        | CallNo::RtSigprocmask | CallNo::Execve | CallNo::Renameat2 => Ok(refused(Errno::ENOSYS)),
+        CallNo::Futex | CallNo::Clone | CallNo::Wait4 | CallNo::Dup | CallNo::Dup3 | CallNo::Fcntl | CallNo::Ioctl
+        | CallNo::Close | CallNo::Pipe2 | CallNo::Lseek | CallNo::Read | CallNo::Write | CallNo::Readv
+        | CallNo::Writev | CallNo::Pread64 | CallNo::Pwrite64 => unreachable!(),
+    }
 }
 
 /// A call that is refused with an error.
