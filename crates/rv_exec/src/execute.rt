@@ -66,8 +66,7 @@ pub(crate) fn execute<M: Mem, A: Access>(regs: &mut Regs, mem: &mut M, access: &
         Instr::Sra { rd, rs1, rs2 } => combine(regs, instr, rd, rs1, rs2),
         Instr::Or { rd, rs1, rs2 } => combine(regs, instr, rd, rs1, rs2),
         Instr::And { rd, rs1, rs2 } => combine(regs, instr, rd, rs1, rs2),
-        Instr::Fence => go_on(regs),
-        Instr::FenceI => go_on(regs),
+        Instr::Fence | Instr::FenceI => go_on(regs),
         Instr::Ecall => Flow::Call,
         Instr::Ebreak => Flow::Trap(5),
         Instr::Addiw { rd, rs1, .. } => compute(regs, instr, rd, rs1),
@@ -98,26 +97,26 @@ pub(crate) fn execute<M: Mem, A: Access>(regs: &mut Regs, mem: &mut M, access: &
         Instr::Sd { rs1, rs2, imm } => store(regs, mem, access, rs1, imm, 8, rs2),
         Instr::LrW { rd, rs1 } => load_reserved(regs, mem, access, Load::Word, rd, rs1),
         Instr::ScW { rd, rs1, rs2 } => store_conditional(regs, mem, access, Load::Word, rd, rs1, rs2),
-        Instr::AmoswapW { rd, rs1, rs2 } => operate(regs, mem, access, instr, Load::Word, rd, rs1, rs2),
-        Instr::AmoaddW { rd, rs1, rs2 } => operate(regs, mem, access, instr, Load::Word, rd, rs1, rs2),
-        Instr::AmoxorW { rd, rs1, rs2 } => operate(regs, mem, access, instr, Load::Word, rd, rs1, rs2),
-        Instr::AmoandW { rd, rs1, rs2 } => operate(regs, mem, access, instr, Load::Word, rd, rs1, rs2),
-        Instr::AmoorW { rd, rs1, rs2 } => operate(regs, mem, access, instr, Load::Word, rd, rs1, rs2),
-        Instr::AmominW { rd, rs1, rs2 } => operate(regs, mem, access, instr, Load::Word, rd, rs1, rs2),
-        Instr::AmomaxW { rd, rs1, rs2 } => operate(regs, mem, access, instr, Load::Word, rd, rs1, rs2),
-        Instr::AmominuW { rd, rs1, rs2 } => operate(regs, mem, access, instr, Load::Word, rd, rs1, rs2),
-        Instr::AmomaxuW { rd, rs1, rs2 } => operate(regs, mem, access, instr, Load::Word, rd, rs1, rs2),
+        Instr::AmoswapW { rd, rs1, rs2 }
+        | Instr::AmoaddW { rd, rs1, rs2 }
+        | Instr::AmoxorW { rd, rs1, rs2 }
+        | Instr::AmoandW { rd, rs1, rs2 }
+        | Instr::AmoorW { rd, rs1, rs2 }
+        | Instr::AmominW { rd, rs1, rs2 }
+        | Instr::AmomaxW { rd, rs1, rs2 }
+        | Instr::AmominuW { rd, rs1, rs2 }
+        | Instr::AmomaxuW { rd, rs1, rs2 } => operate(regs, mem, access, instr, Load::Word, rd, rs1, rs2),
         Instr::LrD { rd, rs1 } => load_reserved(regs, mem, access, Load::Double, rd, rs1),
         Instr::ScD { rd, rs1, rs2 } => store_conditional(regs, mem, access, Load::Double, rd, rs1, rs2),
-        Instr::AmoswapD { rd, rs1, rs2 } => operate(regs, mem, access, instr, Load::Double, rd, rs1, rs2),
-        Instr::AmoaddD { rd, rs1, rs2 } => operate(regs, mem, access, instr, Load::Double, rd, rs1, rs2),
-        Instr::AmoxorD { rd, rs1, rs2 } => operate(regs, mem, access, instr, Load::Double, rd, rs1, rs2),
-        Instr::AmoandD { rd, rs1, rs2 } => operate(regs, mem, access, instr, Load::Double, rd, rs1, rs2),
-        Instr::AmoorD { rd, rs1, rs2 } => operate(regs, mem, access, instr, Load::Double, rd, rs1, rs2),
-        Instr::AmominD { rd, rs1, rs2 } => operate(regs, mem, access, instr, Load::Double, rd, rs1, rs2),
-        Instr::AmomaxD { rd, rs1, rs2 } => operate(regs, mem, access, instr, Load::Double, rd, rs1, rs2),
-        Instr::AmominuD { rd, rs1, rs2 } => operate(regs, mem, access, instr, Load::Double, rd, rs1, rs2),
-        Instr::AmomaxuD { rd, rs1, rs2 } => operate(regs, mem, access, instr, Load::Double, rd, rs1, rs2),
+        Instr::AmoswapD { rd, rs1, rs2 }
+        | Instr::AmoaddD { rd, rs1, rs2 }
+        | Instr::AmoxorD { rd, rs1, rs2 }
+        | Instr::AmoandD { rd, rs1, rs2 }
+        | Instr::AmoorD { rd, rs1, rs2 }
+        | Instr::AmominD { rd, rs1, rs2 }
+        | Instr::AmomaxD { rd, rs1, rs2 }
+        | Instr::AmominuD { rd, rs1, rs2 }
+        | Instr::AmomaxuD { rd, rs1, rs2 } => operate(regs, mem, access, instr, Load::Double, rd, rs1, rs2),
         Instr::Illegal => Flow::Trap(4),
     }
 }
