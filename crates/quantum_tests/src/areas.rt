@@ -58,21 +58,26 @@ fn run_without(alloc: Global, task: &mut Task) -> QuantumEnd {
 fn expect_in_hand(rt: &impl Abort, alloc: Global, task: &mut Task) -> Result<(), Fail> {
     map_area(alloc, task, Rights::READ | Rights::WRITE)?;
     task.regs.x[8] = DATA + 8;
-    let before = [task.run(alloc), task.run(alloc)];
-    assert_eq!(rt; (before, task.regs.x[7]), ([touched(1), touched(0)], 0));
+    let before = ([task.run(alloc), task.run(alloc)], task.regs.x[7]);
     task.handed.push(area(alloc)?)?;
-    let loaded = task.run_at_most(alloc, 1);
-    assert_eq!(rt; (loaded, task.regs.x[7]), (QuantumEnd::Ended(1), 5));
+    let loaded = (task.run_at_most(alloc, 1), task.regs.x[7]);
+    assert_eq!(rt;
+        (before, loaded),
+        (([touched(1), touched(0)], 0), (QuantumEnd::Ended(1), 5))
+    );
     let ends = [
         run_without(alloc, task),
         task.run_at_most(alloc, 1),
         task.run(alloc),
     ];
+    let stored = task.space.load(&task.handed, DATA + 8, 8);
     assert_eq!(rt;
-        ends,
-        [touched(1), QuantumEnd::Ended(1), QuantumEnd::Call(0)]
+        (ends, stored),
+        (
+            [touched(1), QuantumEnd::Ended(1), QuantumEnd::Call(0)],
+            Ok(5),
+        )
     );
-    assert_eq!(rt; task.space.load(&task.handed, DATA + 8, 8), Ok(5));
     Ok(())
 }
 
@@ -88,10 +93,11 @@ fn a_run_ends_before_a_shared_area_and_one_with_the_area_in_hand_goes_on(
 /// Aborts unless a task may first not write the area, and then hasn't it in hand.
 fn expect_fault_first(rt: &impl Abort, alloc: Global, task: &mut Task) -> Result<(), Fail> {
     map_area(alloc, task, Rights::READ)?;
-    assert_eq!(rt; task.run(alloc), trap(0, 11));
+    let first = task.run(alloc);
     let rights = Rights::READ | Rights::WRITE;
     task.space.protect(DATA, 4096, rights)?;
-    assert_eq!(rt; task.run(alloc), touched(0));
+    let then = task.run(alloc);
+    assert_eq!(rt; [first, then], [trap(0, 11), touched(0)]);
     Ok(())
 }
 

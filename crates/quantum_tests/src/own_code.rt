@@ -12,7 +12,7 @@ fn words(first: u32, second: u32) -> u64 {
 }
 
 /// ld x7, 0(x6); sd x7, 0(x8), onto two of the words behind it.
-const STORING: [u32; 6] = [LOAD_DOUBLE, STORE_WORD, NOP, NOP, NOP, ECALL];
+const STORING: &[u32] = &[LOAD_DOUBLE, STORE_WORD, NOP, NOP, NOP, ECALL];
 
 /// Aborts unless a task runs the two words that it stores at an address.
 fn expect_stored(rt: &impl Abort, alloc: Global, task: &mut Task, at: u64) -> Result<(), Fail> {
@@ -25,13 +25,13 @@ fn expect_stored(rt: &impl Abort, alloc: Global, task: &mut Task, at: u64) -> Re
 
 #[test]
 fn code_stored_into_the_page_that_runs_is_run(rt: HostRuntime) -> Result<(), Fail> {
-    let mut task = Task::of(rt.alloc(), &STORING)?;
+    let mut task = Task::of(rt.alloc(), STORING)?;
     expect_stored(&rt, rt.alloc(), &mut task, CODE + 8)
 }
 
 #[test]
 fn code_stored_over_the_end_of_the_page_that_runs_is_run(rt: HostRuntime) -> Result<(), Fail> {
-    let mut task = Task::at(rt.alloc(), CODE + 4096 - 12, &STORING)?;
+    let mut task = Task::at(rt.alloc(), CODE + 4096 - 12, STORING)?;
     expect_stored(&rt, rt.alloc(), &mut task, CODE + 4096 - 4)
 }
 
@@ -45,12 +45,20 @@ fn run_with(alloc: Global, task: &mut Task, stored: u64) -> Result<QuantumEnd, F
 /// Aborts unless a task runs what it has stored last.
 fn expect_anew(rt: &impl Abort, alloc: Global, task: &mut Task) -> Result<(), Fail> {
     task.regs.x[8] = CODE + 8;
-    let nothing = run_with(alloc, task, words(NOP, NOP))?;
-    assert_eq!(rt; (nothing, task.regs.x[5]), (QuantumEnd::Call(4), 0));
-    let adds = run_with(alloc, task, words(NOP, ADDI_X5_64))?;
-    assert_eq!(rt; (adds, task.regs.x[5]), (QuantumEnd::Call(4), 64));
-    let calls = run_with(alloc, task, words(ECALL, NOP))?;
-    assert_eq!(rt; (calls, task.regs.pc), (QuantumEnd::Call(2), CODE + 8));
+    let nothing = (run_with(alloc, task, words(NOP, NOP))?, task.regs.x[5]);
+    let adds = (
+        run_with(alloc, task, words(NOP, ADDI_X5_64))?,
+        task.regs.x[5],
+    );
+    let calls = (run_with(alloc, task, words(ECALL, NOP))?, task.regs.pc);
+    assert_eq!(rt;
+        [nothing, adds, calls],
+        [
+            (QuantumEnd::Call(4), 0),
+            (QuantumEnd::Call(4), 64),
+            (QuantumEnd::Call(2), CODE + 8),
+        ]
+    );
     Ok(())
 }
 

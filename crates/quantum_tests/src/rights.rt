@@ -9,16 +9,22 @@ use std::test::Fail;
 
 /// Aborts unless a task's code traps while it may not be executed.
 fn expect_trap_between(rt: &impl Abort, alloc: Global, task: &mut Task) -> Result<(), Fail> {
-    assert_eq!(rt; task.run(alloc), QuantumEnd::Call(1));
+    let called = task.run(alloc);
     let data = Rights::READ | Rights::WRITE;
     task.space.protect(CODE, 4096, data)?;
     task.regs.pc = CODE;
-    let trapped = task.run(alloc);
-    assert_eq!(rt; (trapped, task.regs.pc), (trap(0, 11), CODE));
+    let trapped = (task.run(alloc), task.regs.pc);
     let code = Rights::READ | Rights::EXECUTE;
     task.space.protect(CODE, 4096, code)?;
-    let ended = task.run(alloc);
-    assert_eq!(rt; (ended, task.regs.x[5]), (QuantumEnd::Call(1), 2));
+    let again = (task.run(alloc), task.regs.x[5]);
+    assert_eq!(rt;
+        (called, trapped, again),
+        (
+            QuantumEnd::Call(1),
+            (trap(0, 11), CODE),
+            (QuantumEnd::Call(1), 2),
+        )
+    );
     Ok(())
 }
 
@@ -38,9 +44,12 @@ fn expect_no_store(rt: &impl Abort, alloc: Global, task: &mut Task) -> Result<()
     task.space.protect(DATA, 4096, Rights::READ)?;
     let trapped = task.run(alloc);
     let data = task.space.load(&task.handed, DATA, 8);
-    assert_eq!(rt; (trapped, data), (trap(1, 11), Ok(5)));
     task.space.protect(DATA, 4096, Rights::WRITE)?;
-    assert_eq!(rt; task.run(alloc), QuantumEnd::Call(1));
+    let called = task.run(alloc);
+    assert_eq!(rt;
+        (trapped, data, called),
+        (trap(1, 11), Ok(5), QuantumEnd::Call(1))
+    );
     Ok(())
 }
 
@@ -61,7 +70,7 @@ fn an_access_without_the_right_traps_and_changes_nothing(rt: HostRuntime) -> Res
 }
 
 #[rattlefmt::skip]
-const ATOMIC: [u32; 5] = [
+const ATOMIC: &[u32] = &[
     0x0053_33af, // amoadd.d x7, x5, (x6)
     0x1003_33af, // lr.d x7, (x6)
     0x1853_34af, // sc.d x9, x5, (x6)
@@ -75,13 +84,16 @@ fn expect_one_store(rt: &impl Abort, alloc: Global, task: &mut Task) -> Result<(
     task.regs.x[5] = 2;
     let end = task.run(alloc);
     let numbers = [task.regs.x[7], task.regs.x[9], task.regs.x[10]];
-    assert_eq!(rt; (end, numbers), (QuantumEnd::Call(4), [42, 0, 1]));
-    assert_eq!(rt; task.space.load(&task.handed, DATA, 8), Ok(2));
+    let data = task.space.load(&task.handed, DATA, 8);
+    assert_eq!(rt;
+        (end, numbers, data),
+        (QuantumEnd::Call(4), [42, 0, 1], Ok(2))
+    );
     Ok(())
 }
 
 #[test]
 fn atomic_instructions_of_a_run_keep_and_lose_the_reservation(rt: HostRuntime) -> Result<(), Fail> {
-    let mut task = Task::of(rt.alloc(), &ATOMIC)?;
+    let mut task = Task::of(rt.alloc(), ATOMIC)?;
     expect_one_store(&rt, rt.alloc(), &mut task)
 }
