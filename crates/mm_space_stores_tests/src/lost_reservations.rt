@@ -9,7 +9,7 @@ use std::test::Fail;
 /// Five tasks reserve the first and the last eight bytes of the page at 0x1_1000, the eight before it and behind it,
 /// and eight in an area.
 #[rattlefmt::skip]
-const RESERVED: [Act; 8] = [
+const RESERVED: &[Act] = &[
     Act::Hands(SECOND, 2, 0, 0),
     Act::Hands(FIRST, 2, 0, 0),
     Act::Maps(Some(0x1_2000), 4096, READ | WRITE, Backing::Zeros, Ok(0x1_2000)),
@@ -22,7 +22,7 @@ const RESERVED: [Act; 8] = [
 
 /// What is done to the page.
 #[rattlefmt::skip]
-const CHANGES: [Act; 4] = [
+const CHANGES: &[Act] = &[
     Act::Unmaps(0x1_1000, 1, Ok(())),
     Act::Protects(0x1_1000, 4096, READ, Ok(())),
     Act::Maps(Some(0x1_1000), 1, READ | WRITE, Backing::Zeros, Ok(0x1_1000)),
@@ -31,7 +31,7 @@ const CHANGES: [Act; 4] = [
 
 /// Those of the page are lost, and no others.
 #[rattlefmt::skip]
-const LOST: [Act; 5] = [
+const LOST: &[Act] = &[
     Act::Takes(1, 0x1_1000, 8, false),
     Act::Takes(2, 0x1_1ff8, 8, false),
     Act::Takes(3, 0x1_0ff8, 8, true),
@@ -43,9 +43,9 @@ const LOST: [Act; 5] = [
 fn expect_lost(alloc: Global, changes: &[Act]) -> Result<(), Fail> {
     for change in changes {
         let mut guest = begin(alloc, SPACE)?;
-        guest.expect("reserved", &RESERVED)?;
+        guest.expect("reserved", RESERVED)?;
         guest.expect("changed", &[*change])?;
-        guest.expect("lost", &LOST)?;
+        guest.expect("lost", LOST)?;
     }
     Ok(())
 }
@@ -78,7 +78,7 @@ const KEPT: &[Act] = &[
 ];
 
 #[rattlefmt::skip]
-const CASES: [Case; 2] = [
+const CASES: &[Case] = &[
     Case {
         name: "a_shared_page_that_is_unmapped_takes_its_spaces_reservations_alone",
         begins: SPACE,
@@ -95,6 +95,6 @@ const CASES: [Case; 2] = [
 fn a_change_takes_the_reservations_of_its_own_space_and_pages_alone(
     rt: HostRuntime,
 ) -> Result<(), Fail> {
-    expect_lost(rt.alloc(), &CHANGES)?;
-    expect_cases(rt.alloc(), &CASES)
+    expect_lost(rt.alloc(), CHANGES)?;
+    expect_cases(rt.alloc(), CASES)
 }

@@ -20,12 +20,12 @@ const SIX_PAGES: &[Mapped] = &[
 pub(crate) const SPACE: Begins = Begins::With(SIX_PAGES);
 
 /// Both areas in hand.
-const HANDED: [Act; 2] = [Act::Hands(SECOND, 2, 0, 0), Act::Hands(FIRST, 2, 0, 0)];
+const HANDED: &[Act] = &[Act::Hands(SECOND, 2, 0, 0), Act::Hands(FIRST, 2, 0, 0)];
 
 /// Stores about the granule of the eight bytes from 8 on: where each begins, of how many bytes, and whether another
 /// task's reservation of the granule stays.
 #[rattlefmt::skip]
-const ABOUT_A_GRANULE: [(u8, u8, bool); 23] = [
+const ABOUT_A_GRANULE: &[(u8, u8, bool)] = &[
     (0x07, 1, true),
     (0x08, 1, false),
     (0x09, 1, false),
@@ -52,10 +52,10 @@ const ABOUT_A_GRANULE: [(u8, u8, bool); 23] = [
 ];
 
 /// Loads that reserve in that granule: where each begins, and of how many bytes.
-const WITHIN_A_GRANULE: [(u8, u8); 3] = [(0x08, 8), (0x08, 4), (0x0c, 4)];
+const WITHIN_A_GRANULE: &[(u8, u8)] = &[(0x08, 8), (0x08, 4), (0x0c, 4)];
 
 /// Where a page begins that is reserved in, and one that is stored to: the same private page, or the same of an area.
-const PAGES: [(u64, u64); 6] = [
+const PAGES: &[(u64, u64)] = &[
     (0x1_0000, 0x1_0000),
     (0x1_1000, 0x1_1000),
     (0x4_0000, 0x4_0000),
@@ -110,16 +110,16 @@ fn expect_each_load(
     row: (u8, u8, bool),
 ) -> Result<(), Fail> {
     for reserved in loads {
-        expect_each_page(guest, *reserved, row, &PAGES)?;
+        expect_each_page(guest, *reserved, row, PAGES)?;
     }
     Ok(())
 }
 
 /// The same for each of these stores.
 fn expect_about(guest: &mut Guest, rows: &[(u8, u8, bool)]) -> Result<(), Fail> {
-    guest.expect("in hand", &HANDED)?;
+    guest.expect("in hand", HANDED)?;
     for row in rows {
-        expect_each_load(guest, &WITHIN_A_GRANULE, *row)?;
+        expect_each_load(guest, WITHIN_A_GRANULE, *row)?;
     }
     Ok(())
 }
@@ -136,7 +136,7 @@ fn expect_about_both(alloc: Global, rows: &[(u8, u8, bool)]) -> Result<(), Fail>
 fn another_tasks_store_to_any_byte_of_the_granule_ends_a_reservation(
     rt: HostRuntime,
 ) -> Result<(), Fail> {
-    expect_about_both(rt.alloc(), &ABOUT_A_GRANULE)
+    expect_about_both(rt.alloc(), ABOUT_A_GRANULE)
 }
 
 /// Reserves on both sides of a page's end, and beside; a store over that page's end ends those on both sides.
@@ -197,7 +197,7 @@ const AT_BOTH_ENDS: &[Act] = &[
 ];
 
 #[rattlefmt::skip]
-const CASES: [Case; 4] = [
+const CASES: &[Case] = &[
     Case {
         name: "a_store_over_a_pages_end_ends_the_reservations_on_both_sides",
         begins: SPACE,
@@ -222,7 +222,7 @@ const CASES: [Case; 4] = [
 
 /// What a store-conditional is told, once a load has reserved the eight bytes at 8: of which address and of how many
 /// bytes it is.
-const CONDITIONALS: [(u64, u8, bool); 6] = [
+const CONDITIONALS: &[(u64, u8, bool)] = &[
     (0x08, 8, true),
     (0x08, 4, false),
     (0x0c, 4, false),
@@ -257,7 +257,7 @@ fn expect_each_told(guest: &mut Guest, base: u64, rows: &[(u64, u8, bool)]) -> R
 }
 
 /// Two loads that reserve one after the other, in private pages and in an area.
-const IN_TURN: [(u64, u64); 9] = [
+const IN_TURN: &[(u64, u64)] = &[
     (0x1_0008, 0x1_0010),
     (0x1_0008, 0x1_000c),
     (0x1_0008, 0x4_0008),
@@ -296,11 +296,11 @@ fn expect_each_last(guest: &mut Guest, rows: &[(u64, u64)]) -> Result<(), Fail> 
 
 /// All of it, in private pages and in an area's.
 fn expect_each(guest: &mut Guest) -> Result<(), Fail> {
-    guest.expect("in hand", &HANDED)?;
-    expect_each_told(guest, 0x1_0000, &CONDITIONALS)?;
-    expect_each_told(guest, 0x4_0000, &CONDITIONALS)?;
-    expect_each_told(guest, 0x7_1000, &CONDITIONALS)?;
-    expect_each_last(guest, &IN_TURN)
+    guest.expect("in hand", HANDED)?;
+    expect_each_told(guest, 0x1_0000, CONDITIONALS)?;
+    expect_each_told(guest, 0x4_0000, CONDITIONALS)?;
+    expect_each_told(guest, 0x7_1000, CONDITIONALS)?;
+    expect_each_last(guest, IN_TURN)
 }
 
 fn expect_of_six(alloc: Global) -> Result<(), Fail> {
@@ -312,6 +312,6 @@ fn expect_of_six(alloc: Global) -> Result<(), Fail> {
 fn a_reservation_is_of_just_its_address_and_width_serves_once_and_ends_by_others_stores(
     rt: HostRuntime,
 ) -> Result<(), Fail> {
-    expect_cases(rt.alloc(), &CASES)?;
+    expect_cases(rt.alloc(), CASES)?;
     expect_of_six(rt.alloc())
 }

@@ -20,7 +20,7 @@ type Stored = (u64, u8, u64, u64, u64);
 
 /// Each store over the end of the first page, with that page's last eight bytes and the second's first eight after it.
 #[rattlefmt::skip]
-const OVER_THE_END: [(u64, u8, u64, u64); 11] = [
+const OVER_THE_END: &[(u64, u8, u64, u64)] = &[
     (0x1_0fff, 2, 0x11a7_a6a5_a4a3_a2a1, 0xb8b7_b6b5_b4b3_b222),
     (0x1_0ffd, 4, 0x3322_11a5_a4a3_a2a1, 0xb8b7_b6b5_b4b3_b244),
     (0x1_0ffe, 4, 0x2211_a6a5_a4a3_a2a1, 0xb8b7_b6b5_b4b3_4433),
@@ -35,7 +35,7 @@ const OVER_THE_END: [(u64, u8, u64, u64); 11] = [
 ];
 
 /// Pairs of pages that may both be written: of their own, of one area, of two, and of both sorts.
-const WRITABLE: [Sides; 6] = [
+const WRITABLE: &[Sides] = &[
     (Side::Private, Side::Private),
     (Side::Private, Side::Of(FIRST)),
     (Side::Of(FIRST), Side::Private),
@@ -170,8 +170,8 @@ fn expect_each_put(alloc: Global, sides: Sides, rows: &[(u64, u8, u64, u64)]) ->
 /// The same on each of these pairs; and stores within a page.
 fn expect_writable(alloc: Global, pairs: &[Sides]) -> Result<(), Fail> {
     for sides in pairs {
-        expect_each_put(alloc, *sides, &OVER_THE_END)?;
-        expect_each_within(alloc, *sides, &WITHIN)?;
+        expect_each_put(alloc, *sides, OVER_THE_END)?;
+        expect_each_within(alloc, *sides, WITHIN)?;
     }
     Ok(())
 }
@@ -180,12 +180,12 @@ fn expect_writable(alloc: Global, pairs: &[Sides]) -> Result<(), Fail> {
 fn a_store_puts_its_bytes_lowest_first_over_a_pages_end_too_and_leaves_the_bytes_beside(
     rt: HostRuntime,
 ) -> Result<(), Fail> {
-    expect_writable(rt.alloc(), &WRITABLE)
+    expect_writable(rt.alloc(), WRITABLE)
 }
 
 /// Pairs of which the second page may not be written, or lies in an area that isn't handed in, with what is answered.
 #[rattlefmt::skip]
-const REFUSED: [(Side, Side, MemErr); 15] = [
+const REFUSED: &[(Side, Side, MemErr)] = &[
     (Side::Private, Side::Missing, MemErr::Fault { addr: 0x1_1000 }),
     (Side::Private, Side::ReadOnly, MemErr::Fault { addr: 0x1_1000 }),
     (Side::Private, Side::Of(SHORT), MemErr::Fault { addr: 0x1_1000 }),
@@ -204,7 +204,7 @@ const REFUSED: [(Side, Side, MemErr); 15] = [
 ];
 
 /// Pairs of which the first page may not be written.
-const BARRED: [Sides; 6] = [
+const BARRED: &[Sides] = &[
     (Side::Missing, Side::Private),
     (Side::Missing, Side::Missing),
     (Side::Missing, Side::Of(SECOND)),
@@ -255,14 +255,14 @@ fn expect_each_refused(
 /// That on each of these pairs each store is refused.
 fn expect_second(alloc: Global, rows: &[(Side, Side, MemErr)]) -> Result<(), Fail> {
     for &(first, second, refusal) in rows {
-        expect_each_refused(alloc, (first, second), Some(refusal), &OVER_THE_END)?;
+        expect_each_refused(alloc, (first, second), Some(refusal), OVER_THE_END)?;
     }
     Ok(())
 }
 
 fn expect_first(alloc: Global, pairs: &[Sides]) -> Result<(), Fail> {
     for sides in pairs {
-        expect_each_refused(alloc, *sides, None, &OVER_THE_END)?;
+        expect_each_refused(alloc, *sides, None, OVER_THE_END)?;
     }
     Ok(())
 }
@@ -271,13 +271,13 @@ fn expect_first(alloc: Global, pairs: &[Sides]) -> Result<(), Fail> {
 fn where_a_page_may_not_be_written_its_first_byte_is_the_fault_and_nothing_changes(
     rt: HostRuntime,
 ) -> Result<(), Fail> {
-    expect_second(rt.alloc(), &REFUSED)?;
-    expect_first(rt.alloc(), &BARRED)
+    expect_second(rt.alloc(), REFUSED)?;
+    expect_first(rt.alloc(), BARRED)
 }
 
 /// Stores within a page: of how many of a number's bytes, and the same eight bytes of the two pages after each.
 #[rattlefmt::skip]
-const WITHIN: [Stored; 18] = [
+const WITHIN: &[Stored] = &[
     (0x1_0ff8, 1, VALUE, 0xa8a7_a6a5_a4a3_a211, HIGH),
     (0x1_0fff, 1, VALUE, 0x11a7_a6a5_a4a3_a2a1, HIGH),
     (0x1_1000, 1, VALUE, LOW, 0xb8b7_b6b5_b4b3_b211),
@@ -370,7 +370,7 @@ const COUNTS: &[Act] = &[
 ];
 
 #[rattlefmt::skip]
-const CASES: [Case; 2] = [
+const CASES: &[Case] = &[
     Case {
         name: "a_store_over_the_end_of_all_addresses_is_a_fault",
         begins: Begins::Pair(Side::Private, Side::Private),
@@ -401,7 +401,7 @@ fn within(side: Side, at: u64) -> Result<(), MemErr> {
 
 /// Questions of the first page.
 #[rattlefmt::skip]
-const WITHIN_THE_FIRST: [(u64, u8); 6] = [
+const WITHIN_THE_FIRST: &[(u64, u8)] = &[
     (0x1_0000, 8), (0x1_0ff8, 8), (0x1_0ffc, 4), (0x1_0ffe, 2), (0x1_0fff, 1), (0x1_0001, 3),
 ];
 
@@ -420,14 +420,14 @@ fn expect_by_right(guest: &mut Guest, side: Side, rows: &[(u64, u8)]) -> Result<
 
 fn expect_of_side(alloc: Global, side: Side) -> Result<(), Fail> {
     let mut guest = pair_of(alloc, side, Side::Private)?;
-    expect_by_right(&mut guest, side, &WITHIN_THE_FIRST)
+    expect_by_right(&mut guest, side, WITHIN_THE_FIRST)
 }
 
 #[test]
 fn each_byte_is_asked_for_by_its_pages_right_and_none_past_the_end_of_all_addresses(
     rt: HostRuntime,
 ) -> Result<(), Fail> {
-    expect_cases(rt.alloc(), &CASES)?;
+    expect_cases(rt.alloc(), CASES)?;
     expect_of_side(rt.alloc(), Side::Private)?;
     expect_of_side(rt.alloc(), Side::ReadOnly)?;
     expect_of_side(rt.alloc(), Side::Missing)?;

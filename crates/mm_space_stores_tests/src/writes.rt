@@ -60,7 +60,7 @@ fn expect_as_put(guest: &Guest, run: (u64, usize)) -> Result<(), Fail> {
 }
 
 #[rattlefmt::skip]
-const WHOLE: [(u64, usize); 23] = [
+const WHOLE: &[(u64, usize)] = &[
     (0x20_0000, 0), (0x20_0000, 1), (0x20_0000, 4095), (0x20_0000, 4096), (0x20_0000, 4097), (0x20_0000, 65_536),
     (0x20_0001, 0), (0x20_0001, 1), (0x20_0001, 4095), (0x20_0001, 4096), (0x20_0001, 4097), (0x20_0001, 65_536),
     (0x20_0fff, 1), (0x20_0fff, 2), (0x20_0fff, 4096), (0x20_0fff, 4097), (0x20_0fff, 65_536),
@@ -75,7 +75,7 @@ fn expect_put(guest: &mut Guest, task: u32, (at, count): (u64, usize)) -> Result
 }
 
 #[rattlefmt::skip]
-const REFUSED: [(u64, usize, MemErr); 13] = [
+const REFUSED: &[(u64, usize, MemErr)] = &[
     // the last byte, one in the middle, and the first may not be written
     (0x21_0fff, 8194, MemErr::Fault { addr: 0x21_3000 }),
     (0x21_2fff, 2, MemErr::Fault { addr: 0x21_3000 }),
@@ -133,8 +133,8 @@ fn expect_refused_of(alloc: Global, rows: &[(u64, usize, MemErr)]) -> Result<(),
 fn a_run_is_put_in_its_place_and_no_other_byte_and_a_refused_one_puts_nothing(
     rt: HostRuntime,
 ) -> Result<(), Fail> {
-    expect_whole(rt.alloc(), &WHOLE)?;
-    expect_refused_of(rt.alloc(), &REFUSED)
+    expect_whole(rt.alloc(), WHOLE)?;
+    expect_refused_of(rt.alloc(), REFUSED)
 }
 
 /// Puts four bytes at the end of one page of the area, of which the last lies in the page behind. The byte before them
@@ -150,7 +150,7 @@ const EVERYWHERE: &[Act] = &[
 ];
 
 #[rattlefmt::skip]
-const CASES: [Case; 1] = [
+const CASES: &[Case] = &[
     Case {
         name: "a_run_in_an_area_is_there_wherever_the_area_is_mapped",
         begins: Begins::Runs(Hand::Both),
@@ -168,7 +168,7 @@ fn page_and_two(alloc: Global) -> Result<Vec<u8>, Fail> {
 
 /// The page 0 of the area then.
 #[rattlefmt::skip]
-const LATER: [Act; 3] = [
+const LATER: &[Act] = &[
     Act::Reads(0x21_5000, &[2, 3, 1, 1]), Act::Reads(0x21_8000, &[2, 3, 1, 1]), Act::Reads(0x21_9000, &[2, 3, 1, 1]),
 ];
 
@@ -180,14 +180,14 @@ fn expect_later(alloc: Global) -> Result<(), Fail> {
         guest.write(1, 0x21_8000, &bytes).is_ok(),
         (0x21_8000, bytes.len()),
     )?;
-    guest.expect("later", &LATER)
+    guest.expect("later", LATER)
 }
 
 #[test]
 fn a_run_in_an_area_is_there_wherever_it_is_mapped_and_the_later_byte_stays(
     rt: HostRuntime,
 ) -> Result<(), Fail> {
-    expect_cases(rt.alloc(), &CASES)?;
+    expect_cases(rt.alloc(), CASES)?;
     expect_later(rt.alloc())
 }
 
@@ -211,7 +211,7 @@ fn a_child_that_is_written_leaves_its_parent_its_bytes(rt: HostRuntime) -> Resul
 
 /// Task 1 reserves eight bytes; a task puts a run; whether task 1 has its reservation then.
 #[rattlefmt::skip]
-const RESERVED: [Met; 14] = [
+const RESERVED: &[Met] = &[
     (0x20_1000, 2, 0x20_0ff0, 16, true),
     (0x20_1000, 2, 0x20_0ff0, 17, false),
     (0x20_1000, 2, 0x20_1007, 1, false),
@@ -254,5 +254,5 @@ fn expect_each_met(alloc: Global, rows: &[Met]) -> Result<(), Fail> {
 
 #[test]
 fn a_run_ends_the_reservations_of_others_that_it_meets(rt: HostRuntime) -> Result<(), Fail> {
-    expect_each_met(rt.alloc(), &RESERVED)
+    expect_each_met(rt.alloc(), RESERVED)
 }
