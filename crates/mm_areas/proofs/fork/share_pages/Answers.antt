@@ -23,7 +23,8 @@ loop-index-preserved c =
     record {
       kept = kept_more mapped_by olds pages index old new met.kept c.index-pages-index.is
           (c.share_page.ensures.kept ∙ there);
-      copied = ap (map mapped_by) is ∙ copied_more mapped_by olds pages copies index old copy within met.kept met.copied
+      copied = ap (map mapped_by) is
+          ∙ copied_more mapped_by olds pages copies index old copy within met.kept met.copied
           c.index-pages-index.is (c.in_ok-share_page.ensures.copied ∙ there);
       lost = lost_more pages index new within met.lost c.in_ok-share_page.ensures.lost;
       shared = subst AreShared (sym is) (shared_more copies copy met.shared c.in_ok-share_page.ensures.shared);
