@@ -1,8 +1,8 @@
 -- What a call does, piece by piece.
 use Rattle.std.proofs.Common.{◌≡◌, ℕ, ◌+◌, Bool, true, false, cond, List, [], ◌∷◌, ◌++◌, Option, Some, None, refl, ap}
 use Rattle.std.proofs.Common.{pos}
-use Rattle.std.proofs.Common.{sym, ◌∙◌, ◌↔◌, subst, is_some, unwrap_or, ℤ, inl, inr}
-use Rattle.std.specs.Prelude.{IsTrue, not, Result, Ok}
+use Rattle.std.proofs.Common.{sym, ◌∙◌, subst, is_some, ℤ, inl, inr}
+use Rattle.std.specs.Prelude.{not, Result, Ok}
 use Rattle.std.specs.List.{list_any}
 use Rattle.std.specs.Ordering.{int_eq, nat_cmp}
 use Rattle.std.specs.FinMap as map
@@ -124,68 +124,69 @@ module _ (s : Parts) (context : Context) (c : Caller) (number : ℕ) (args : Arg
       ∙ outcome-bind s (call_row context c number args) (by_answer c reply given)
 
 -- a call at which its task does not stand fits nothing
-pub call_elsewhere : (k kept : Kernel) (c : Caller) → kept ≡ k → (number : ℕ) (args : Args) (reply : ℤ) (given : Given)
+pub call_elsewhere : (k : Kernel) (c : Caller) (number : ℕ) (args : Args) (reply : ℤ) (given : Given)
     → stands_at number args c.registers (outcome_in (parts k) (next_row c)).next ≡ false
-    → Does (outcome_in (parts k) (call_entry (context_of k) c number args reply given)) k kept (Ok false)
-call_elsewhere k kept c same number args reply given elsewhere =
-    (entry_at (parts k) (context_of k) c number args reply given false elsewhere, same)
+    → Does (outcome_in (parts k) (call_entry (context_of k) c number args reply given)) k k (Ok false)
+call_elsewhere k c number args reply given elsewhere =
+    (entry_at (parts k) (context_of k) c number args reply given false elsewhere, refl)
 
--- what a call does at which its task stands, over the kernel and for the caller that were left as they were
-module _ (k kept : Kernel) (found c : Caller) (same : kept ≡ k) (stay : c ≡ found) (number : ℕ) (args : Args)
+-- what a call does at which its task stands, for the caller that was left as it was
+module _ (k : Kernel) (found c : Caller) (stay : c ≡ found) (number : ℕ) (args : Args)
     (reply told : ℤ) (value : told ≡ reply) (given : Given)
     (stands : stands_at number args found.registers (outcome_in (parts k) (next_row found)).next ≡ true) where
   call_does : (left : Kernel) (r : Result Bool Memory)
-      → Does (outcome_in (parts kept) (by_given (context_of kept) c number args told given)) kept left r
+      → Does (outcome_in (parts k) (by_given (context_of k) c number args told given)) k left r
       → Does (outcome_in (parts k) (call_entry (context_of k) found number args reply given)) k left r
   call_does left r does =
       subst (λ o. Does o k left r)
       (ap (λ (x : Caller). outcome_in (parts k) (by_given (context_of k) x number args told given)) stay
       ∙ ap (λ v. outcome_in (parts k) (by_given (context_of k) found number args v given)) value
-      ∙ sym (entry_at (parts k) (context_of k) found number args reply given true stands))
-      (subst (λ (m : Kernel). Does (outcome_in (parts m) (by_given (context_of m) c number args told given)) m left r)
-      same does)
+      ∙ sym (entry_at (parts k) (context_of k) found number args reply given true stands)) does
 
   -- one whose record is in disorder,
   pub call_in_disorder : is_in_order given ≡ false
-      → Does (outcome_in (parts k) (call_entry (context_of k) found number args reply given)) k kept (Ok false)
+      → Does (outcome_in (parts k) (call_entry (context_of k) found number args reply given)) k k (Ok false)
   call_in_disorder order =
-      call_does kept (Ok false) (call_disordered (parts kept) (context_of kept) c number args told given order, refl)
+      call_does k (Ok false) (call_disordered (parts k) (context_of k) c number args told given order, refl)
 
   -- one that met a rise,
   pub call_that_fails : is_in_order given ≡ true → has_any given.rises ≡ true → (left : Kernel)
-      (r : Result Bool Memory) → Does (outcome_in (parts kept) (failing c told given)) kept left r
+      (r : Result Bool Memory) → Does (outcome_in (parts k) (failing c told given)) k left r
       → Does (outcome_in (parts k) (call_entry (context_of k) found number args reply given)) k left r
   call_that_fails order failed left r does =
       call_does left r
-      (subst (λ o. Does o kept left r)
-      (sym (call_failing (parts kept) (context_of kept) c number args told given failed order)) does)
+      (subst (λ o. Does o k left r)
+      (sym (call_failing (parts k) (context_of k) c number args told given failed order)) does)
 
-  module _ (d : Called) (space : AddressSpace) (areas : NamedMap AreaState)
-      (comes : ComesTo (call_row (context_of kept) c number args) d c kept space areas)
-      (order : is_in_order given ≡ true) (unfailed : has_any given.rises ≡ false) where
-    -- one that drew a number and no more,
-    pub call_that_draws : has_any given.fresh ≡ true
-        → Does (outcome_in (parts k) (call_entry (context_of k) found number args reply given)) k kept (Ok false)
-    call_that_draws drew =
-        call_does kept (Ok false) (
-          given_answered (parts kept) (context_of kept) c number args told given order unfailed
-              ∙ answer_drawing (parts kept) c told given
-              (outcome_in (parts kept) (call_row (context_of kept) c number args))
-              (comes_unnamed (call_row (context_of kept) c number args) d c kept space areas comes) drew,
-          refl,
-        )
+  -- and one that met nothing
+  pub call_answered : is_in_order given ≡ true → has_any given.rises ≡ false → (left : Kernel)
+      (r : Result Bool Memory)
+      → Does (outcome_in (parts k) (by_answer c told given
+      (outcome_in (parts k) (call_row (context_of k) c number args)))) k left r
+      → Does (outcome_in (parts k) (call_entry (context_of k) found number args reply given)) k left r
+  call_answered order unfailed left r does =
+      call_does left r
+      (subst (λ o. Does o k left r)
+      (sym (given_answered (parts k) (context_of k) c number args told given order unfailed)) does)
 
-    -- and one that drew nothing and met nothing
-    pub call_that_comes : has_any given.fresh ≡ false → (left : Kernel) (r : Result Bool Memory)
-        → Does (replied_to c told (Some []) (outcome_in (parts kept) (call_row (context_of kept) c number args)))
-        kept left r
-        → Does (outcome_in (parts k) (call_entry (context_of k) found number args reply given)) k left r
-    call_that_comes drew left r does =
-        call_does left r
-        (subst (λ o. Does o kept left r)
-        (sym (given_answered (parts kept) (context_of kept) c number args told given order unfailed
-        ∙ answer_quiet (parts kept) c told given (outcome_in (parts kept) (call_row (context_of kept) c number args))
-        (comes_unnamed (call_row (context_of kept) c number args) d c kept space areas comes) drew)) does)
+-- what a call does that met nothing
+module _ (k : Kernel) (c : Caller) (row : Prog Answer) (d : Called) (space : AddressSpace)
+    (areas : NamedMap AreaState) (comes : ComesTo row d c k space areas) (reply : ℤ) (given : Given) where
+  -- one that drew a number and no more,
+  pub call_that_draws : has_any given.fresh ≡ true
+      → outcome_in (parts k) (by_answer c reply given (outcome_in (parts k) row)) ≡ None
+  call_that_draws drew =
+      answer_drawing (parts k) c reply given (outcome_in (parts k) row) (comes_unnamed row d c k space areas comes) drew
+
+  -- and one that drew nothing
+  pub call_that_comes : has_any given.fresh ≡ false → (left : Kernel) (r : Result Bool Memory) (told : ℤ)
+      → told ≡ reply → Does (replied_to c told (Some []) (outcome_in (parts k) row)) k left r
+      → Does (outcome_in (parts k) (by_answer c reply given (outcome_in (parts k) row))) k left r
+  call_that_comes drew left r told value does =
+      subst (λ o. Does o k left r)
+      (ap (λ v. replied_to c v (Some []) (outcome_in (parts k) row)) value
+      ∙ sym (answer_quiet (parts k) c reply given (outcome_in (parts k) row)
+      (comes_unnamed row d c k space areas comes) drew)) does
 
 -- ---- a task as its call left it
 
@@ -254,12 +255,11 @@ pub memory_stays : (k : Kernel) (c after : Caller) → after ≡ record c { spac
 memory_stays k c after is stays there =
     ap (λ (x : Caller). get_named k.spaces x.memory.place x.memory.index) is ∙ there ∙ ap (λ s. Some s) (sym stays)
 
-pub memory_there : (k kept : Kernel) (found c : Caller) → kept ≡ k → c ≡ found
+pub memory_there : (k : Kernel) (found c : Caller) → c ≡ found
     → get_named k.spaces found.memory.place found.memory.index ≡ Some found.space
-    → get_named kept.spaces c.memory.place c.memory.index ≡ Some c.space
-memory_there k kept found c same stay there =
-    ap (λ (m : Kernel). get_named m.spaces c.memory.place c.memory.index) same
-    ∙ ap (λ (x : Caller). get_named k.spaces x.memory.place x.memory.index) stay
+    → get_named k.spaces c.memory.place c.memory.index ≡ Some c.space
+memory_there k found c stay there =
+    ap (λ (x : Caller). get_named k.spaces x.memory.place x.memory.index) stay
     ∙ there
     ∙ ap (λ (x : Caller). Some x.space) (sym stay)
 
@@ -394,10 +394,9 @@ faulted_registers given k left some =
 -- ---- numbers that a call draws
 
 -- a call that may be made, and whose record is in order, draws numbers that are unused
-pub drawn_unused : (k kept : Kernel) (given : Given) → kept ≡ k → may_meet k.nodes given ≡ true
-    → is_in_order given ≡ true → AreUnused given.fresh kept
-drawn_unused k kept given same may order =
-    ordered_unused given kept order (ap (λ (m : Kernel). may_meet m.nodes given) same ∙ may)
+pub drawn_unused : (k : Kernel) (given : Given) → may_meet k.nodes given ≡ true → is_in_order given ≡ true
+    → AreUnused given.fresh k
+drawn_unused k given may order = ordered_unused given k order may
 
 -- ---- a child that is made
 

@@ -1,19 +1,15 @@
 -- What an entry does, by who is found and how it stands to the futex list.
-use Rattle.std.proofs.Common.{◌≡◌, ℕ, ◌+◌, Bool, true, false, cond, List, [], ◌∷◌, Option, Some, None, refl, ap}
-use Rattle.std.proofs.Common.{sym, ◌∙◌, subst, option_map, is_some, unwrap_or}
-use Rattle.std.specs.Prelude.{Result, Ok}
+use Rattle.std.proofs.Common.{◌≡◌, ℕ, Bool, true, false, cond, List, Option, Some, ap}
+use Rattle.std.proofs.Common.{sym, ◌∙◌, subst}
+use Rattle.std.specs.Prelude.{Result}
 use Rattle.sn_base.specs.declared.memory.Memory.{Memory}
 use Rattle.futex_core.specs.FutexLists.{FutexList, is_asleep, is_woken}
 use Rattle.kernel_model.specs.declared.caller.Caller.{Caller}
 use Rattle.kernel_model.specs.declared.entry.Entry.{Entry}
 use Rattle.kernel_model.specs.declared.kernel.Kernel.{Kernel}
-use Rattle.kernel_model.specs.declared.kernel.Part.{Part}
-use Rattle.kernel_model.specs.declared.kernel.Part.TheVariants.{OfTasks, OfTask, OfSpace, OfArea, OfTable}
-use Rattle.kernel_model.specs.declared.kernel.Part.TheVariants.{OfDescription}
-use Rattle.kernel_model.specs.declared.kernel.Part.TheVariants.{OfPipe, OfNode, OfSleepers, OfConsole, OfFaults}
 use Rattle.kernel_model.specs.calls.Callers.{context_of, caller_of}
-use Rattle.kernel_model.specs.entries.Parts.{Holds, parts, outcome_in, Change, put, changed}
-use Rattle.kernel_model.specs.entries.Steps.{may_enter, row_of, task_of, if_live, entry_row, stepped, step}
+use Rattle.kernel_model.specs.entries.Parts.{parts, outcome_in, Change}
+use Rattle.kernel_model.specs.entries.Steps.{row_of, task_of, if_live, entry_row}
 use Rattle.kernel_model.specs.entries.Waiting.{Wait, Awake, Asleep, Woken, wait_of}
 use Rattle.kernel_model.proofs.Trees.{outcome-bind}
 use Rattle.plain_steps.specs.Doing.{Does}
@@ -49,12 +45,17 @@ module _ (list : FutexList) (task : ℕ) (not_asleep : is_asleep list task ≡ f
   pub awake_so : is_woken list task ≡ false → wait_of list task ≡ Awake
   awake_so is = waits_by false is
 
--- what an entry does by how its task stands to the futex list, the entry does
-module _ (k kept : Kernel) (e : Entry) (number : ℕ) (c : Caller) (same : kept ≡ k) (of : number ≡ task_of e)
-    (some : outcome_in (parts k) (caller_of number) ≡ Some c) where
-  pub entry_waiting : (wait : Wait) → wait_of kept.sleepers c.task ≡ wait → (left : Kernel) (r : Result Bool Memory)
-      → Does (outcome_in (parts kept) (row_of (context_of kept) e c wait)) kept left r
-      → Does (outcome_in (parts k) (entry_row (context_of k) e)) k left r
-  entry_waiting wait is left r does =
-      entry_does k kept e number (Some c) same of some left r
-      (subst (λ w. Does (outcome_in (parts kept) (row_of (context_of kept) e c w)) kept left r) (sym is) does)
+-- what an entry of a live task does, the entry does
+pub entry_found : (k kept left : Kernel) (e : Entry) (number : ℕ) (c : Caller) (r : Result Bool Memory) → kept ≡ k
+    → number ≡ task_of e → outcome_in (parts k) (caller_of number) ≡ Some c
+    → Does (outcome_in (parts kept) (row_of (context_of kept) e c (wait_of kept.sleepers c.task))) kept left r
+    → Does (outcome_in (parts k) (entry_row (context_of k) e)) k left r
+entry_found k kept left e number c r same of some does =
+    entry_does k kept e number (Some c) same of some left r does
+
+-- and what it does by how its task stands to the futex list
+pub row_waiting : (k left : Kernel) (e : Entry) (c : Caller) (wait : Wait) (r : Result Bool Memory)
+    → wait_of k.sleepers c.task ≡ wait → Does (outcome_in (parts k) (row_of (context_of k) e c wait)) k left r
+    → Does (outcome_in (parts k) (row_of (context_of k) e c (wait_of k.sleepers c.task))) k left r
+row_waiting k left e c wait r is does =
+    subst (λ w. Does (outcome_in (parts k) (row_of (context_of k) e c w)) k left r) (sym is) does

@@ -1,6 +1,8 @@
 -- Runs, single instructions and ends, piece by piece.
 use Rattle.std.proofs.Common.{◌≡◌, ◌≢◌, ℕ, ◌<◌, ◌≤◌, Bool, false, cond, Some, None, ap, sym, ◌∙◌, subst, eq-eqb, arith}
-use Rattle.std.specs.Prelude.{Result}
+use Rattle.std.specs.Prelude.{Result, List, Option}
+use Rattle.std.specs.FinMap as map
+use Rattle.std.specs.Ordering.{nat_cmp}
 use Rattle.std.proofs.lemmas.Bool.{ne_eqb}
 use Rattle.sn_base.specs.declared.memory.Memory.{Memory}
 use Rattle.rv_table.specs.declared.regs.Regs.{Regs}
@@ -8,16 +10,16 @@ use Rattle.task_table.specs.declared.task.Status.TheVariants.{Killed}
 use Rattle.mm_space.specs.Handing.{AreaState}
 use Rattle.mm_space.specs.Spaces.{AddressSpace}
 use Rattle.guest_access.proofs.Runs.{step_none}
+use Rattle.guest_access.specs.Memories.{with_memory}
 use Rattle.guest_access.specs.Stepping.{Steps}
 use Rattle.kernel_model.specs.Names.{NamedMap}
 use Rattle.kernel_model.specs.declared.caller.Caller.{Caller}
 use Rattle.kernel_model.specs.declared.kernel.Kernel.{Kernel}
-use Rattle.kernel_model.specs.declared.kernel.Part.TheVariants.{OfTask, OfSpace}
 use Rattle.kernel_model.specs.declared.traps.Next.{Next}
 use Rattle.kernel_model.specs.declared.traps.Next.TheVariants.{Traps}
 use Rattle.kernel_model.specs.calls.Ending.{group_end}
 use Rattle.kernel_model.specs.entries.Areas.{Stands, next_row}
-use Rattle.kernel_model.specs.entries.Parts.{parts, done, outcome_in, put, changed}
+use Rattle.kernel_model.specs.entries.Parts.{Change, parts, done, outcome_in, changed}
 use Rattle.kernel_model.specs.entries.Steps.{end_at, end_row, killed, run_alone, step_row}
 use Rattle.kernel_model.specs.laws.InPlace.{changed_by}
 use Rattle.kernel_model.specs.machine.Instructions.{goes_on}
@@ -52,16 +54,15 @@ module _ (c : Caller) (k : Kernel) (next : Next) (is : (outcome_in (parts k) (ne
       ∙ ap (λ n. outcome_in (parts k) (end_at signal c n)) is
 
 -- a task whose next instruction traps ends by that signal,
-pub ends : (k kept left : Kernel) (c after : Caller) (trap signal : ℕ) (r : Result Bool Memory)
-    → (outcome_in (parts k) (next_row c)).next ≡ Traps trap → trap ≡ signal → kept ≡ k → after ≡ c
-    → Does (outcome_in (parts kept) (killed signal after)) kept left r
+pub ends : (k left : Kernel) (c after : Caller) (trap signal : ℕ) (r : Result Bool Memory)
+    → (outcome_in (parts k) (next_row c)).next ≡ Traps trap → trap ≡ signal → after ≡ c
+    → Does (outcome_in (parts k) (killed signal after)) k left r
     → Does (outcome_in (parts k) (end_row signal c)) k left r
-ends k kept left c after trap signal r is same stay task does =
+ends k left c after trap signal r is same task does =
     subst (λ o. Does o k left r)
     (sym (end_is c k (Traps trap) is signal
     ∙ ap (λ b. outcome_in (parts k) (cond b (killed signal c) (done None))) (eq-eqb trap signal same)))
-    (subst (λ (x : Caller). Does (outcome_in (parts k) (killed signal x)) k left r) task
-    (subst (λ (m : Kernel). Does (outcome_in (parts m) (killed signal after)) m left r) stay does))
+    (subst (λ (x : Caller). Does (outcome_in (parts k) (killed signal x)) k left r) task does)
 
 -- and by no other
 pub ends_not : (c : Caller) (k : Kernel) (trap signal : ℕ)
@@ -80,14 +81,16 @@ group_gone k left c signal is =
     ∙ ap (λ m. Some m) is
 
 -- a step leaves its task's registers and memory, and the shared areas
-pub step_done : (c : Caller) (k kept left : Kernel) (r : Regs) (space : AddressSpace) (areas : NamedMap AreaState)
-    → kept ≡ k → left ≡ put (OfTask c.task) (Some r) (put (OfSpace c.memory) (Some space) kept)
-    → Steps c k r space areas
-    → changed_by (outcome_in (parts k) (step_row c)) k ≡ Some (record left { areas = areas })
-step_done c k kept left r space areas same is steps =
+pub step_done : (c : Caller) (k left : Kernel) (r : Regs) (space : AddressSpace) (areas : NamedMap AreaState)
+    (registers : map.FinMap nat_cmp Regs) → registers ≡ map.insert k.registers c.task r
+    → left ≡ with_memory c space areas (record k { registers = registers }) → Steps c k r space areas
+    → changed_by (outcome_in (parts k) (step_row c)) k ≡ Some left
+step_done c k left r space areas registers set is steps =
     ap (λ o. changed_by o k) steps.row_is
     ∙ ap (λ m. Some m) (steps.done_is
-    ∙ ap (λ (m : Kernel). record (put (OfTask c.task) (Some r) (put (OfSpace c.memory) (Some space) m)) {
-      areas = areas;
-    }) (sym same)
-    ∙ ap (λ (m : Kernel). record m { areas = areas }) (sym is))
+    ∙ ap (λ m. record (with_memory c space areas k) { registers = m }) (sym set) ∙ sym is)
+
+-- what is done over a kernel that was left as it was, is done over that
+pub does_over : (k kept left : Kernel) (row : Kernel → Option (List Change)) (r : Result Bool Memory) → kept ≡ k
+    → Does (row kept) kept left r → Does (row k) k left r
+does_over k kept left row r same does = subst (λ (m : Kernel). Does (row m) m left r) same does

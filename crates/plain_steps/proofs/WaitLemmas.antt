@@ -1,8 +1,9 @@
 -- A call that puts its task to sleep, piece by piece.
-use Rattle.std.proofs.Common.{◌≡◌, ℕ, Bool, List, [], ◌∷◌, Option, Some, None, ap, sym, ◌∙◌, subst}
+use Rattle.std.proofs.Common.{◌≡◌, ℕ, Bool, List, [], ◌∷◌, Option, ap, sym, ◌∙◌, subst, option_map}
 use Rattle.std.specs.Prelude.{Result}
 use Rattle.sn_base.specs.declared.memory.Memory.{Memory}
 use Rattle.futex_core.specs.FutexLists.{after_sleep}
+use Rattle.futex_core.specs.declared.keys.FutexKey.{FutexKey}
 use Rattle.mm_space.specs.Handing.{AreaState}
 use Rattle.mm_space.specs.Spaces.{AddressSpace}
 use Rattle.kernel_model.specs.Names.{NamedMap}
@@ -26,23 +27,15 @@ use Rattle.kernel_calls.specs.declared.prepared.Called.TheVariants as called
 use Rattle.call_fs.specs.Called.{ComesTo}
 use Rattle.call_fs.specs.declared.called.Called.{Called}
 use Rattle.call_fs.specs.declared.called.Called.TheVariants.{Of, Moves, MakesPipe}
-use Rattle.plain_steps.specs.Doing.{Does}
+use Rattle.plain_steps.specs.Doing.{Does, kept_key, key_slept_on}
 
--- what an entry of a task that falls asleep changes, by what has become of its call
-abbrev kept_slept : ACalled → Caller → Kernel → Option (List Change)
-kept_slept (called.Replies p) c k = None
-kept_slept (called.Makes child) c k = None
-kept_slept (called.Sleeps key) c k = Some ((OfSleepers, after_sleep k.sleepers c.task key) ∷ [])
-kept_slept (called.Waits awaited) c k = None
-
-abbrev pub slept : Called → Caller → Kernel → Option (List Change)
-slept (Of d) c k = kept_slept d c k
-slept (Moves reply transfer) c k = None
-slept (MakesPipe new) c k = None
+-- what an entry of a task that falls asleep changes, by the word that its call puts it to sleep on
+abbrev pub slept_on : Option FutexKey → Caller → Kernel → Option (List Change)
+slept_on key c k = option_map (λ at. (OfSleepers, after_sleep k.sleepers c.task at) ∷ []) key
 
 kept_so : (row : Prog Answer) (d : ACalled) (c : Caller) (k : Kernel) (space : AddressSpace)
     (areas : NamedMap AreaState) → Comes row d c k space areas
-    → slept_by (outcome_in (parts k) row) (outcome_in (parts k) row).reply ≡ kept_slept d c k
+    → slept_by (outcome_in (parts k) row) (outcome_in (parts k) row).reply ≡ slept_on (kept_key d) c k
 kept_so row (called.Replies p) c k space areas comes = ap (λ (a : Answer). slept_by a a.reply) comes.row_is
 kept_so row (called.Makes child) c k space areas comes = ap (λ (a : Answer). slept_by a a.reply) comes.row_is
 kept_so row (called.Sleeps key) c k space areas comes = ap (λ (a : Answer). slept_by a a.reply) comes
@@ -50,7 +43,7 @@ kept_so row (called.Waits awaited) c k space areas comes = ap (λ (a : Answer). 
 
 slept_so : (row : Prog Answer) (d : Called) (c : Caller) (k : Kernel) (space : AddressSpace)
     (areas : NamedMap AreaState) → ComesTo row d c k space areas
-    → slept_by (outcome_in (parts k) row) (outcome_in (parts k) row).reply ≡ slept d c k
+    → slept_by (outcome_in (parts k) row) (outcome_in (parts k) row).reply ≡ slept_on (key_slept_on d) c k
 slept_so row (Of d) c k space areas comes = kept_so row d c k space areas comes
 slept_so row (Moves reply transfer) c k space areas comes = ap (λ (a : Answer). slept_by a a.reply) comes.row_is
 slept_so row (MakesPipe new) c k space areas comes = ap (λ (a : Answer). slept_by a a.reply) comes.row_is
@@ -60,7 +53,7 @@ module _ (c : Caller) (k : Kernel) where
   pub sleeps_at : (number : ℕ) (args : Args) (d : Called) (space : AddressSpace) (areas : NamedMap AreaState)
       → number ≡ call_of c.registers → args ≡ args_of c.registers
       → ComesTo (call_row (context_of k) c number args) d c k space areas
-      → outcome_in (parts k) (sleep_at (context_of k) c Calls) ≡ slept d c k
+      → outcome_in (parts k) (sleep_at (context_of k) c Calls) ≡ slept_on (key_slept_on d) c k
   sleeps_at number args d space areas at those comes =
       ap (λ n. outcome_in (parts k) (call_row (context_of k) c n (args_of c.registers) >>= asleep)) (sym at)
       ∙ ap (λ a. outcome_in (parts k) (call_row (context_of k) c number a >>= asleep)) (sym those)
@@ -77,12 +70,11 @@ module _ (c : Caller) (k : Kernel) where
       outcome-bind (parts k) (next_row c) (λ (x : Stands). sleep_at (context_of k) c x.next)
       ∙ ap (λ n. outcome_in (parts k) (sleep_at (context_of k) c n)) is
 
--- what is done for a task at a call, over the kernel and for the caller that were left as they were, its entry does
-pub sleep_does : (k kept left : Kernel) (c after : Caller) (r : Result Bool Memory)
-    → (outcome_in (parts k) (next_row c)).next ≡ Calls → kept ≡ k → after ≡ c
-    → Does (outcome_in (parts kept) (sleep_at (context_of kept) after Calls)) kept left r
+-- what is done for a task at a call, for the caller that was left as it was, its entry does
+pub sleep_does : (k left : Kernel) (c after : Caller) (r : Result Bool Memory)
+    → (outcome_in (parts k) (next_row c)).next ≡ Calls → after ≡ c
+    → Does (outcome_in (parts k) (sleep_at (context_of k) after Calls)) k left r
     → Does (outcome_in (parts k) (sleep_row (context_of k) c)) k left r
-sleep_does k kept left c after r is same stay does =
+sleep_does k left c after r is stay does =
     subst (λ o. Does o k left r) (sym (sleep_is c k Calls is))
-    (subst (λ (x : Caller). Does (outcome_in (parts k) (sleep_at (context_of k) x Calls)) k left r) stay
-    (subst (λ (m : Kernel). Does (outcome_in (parts m) (sleep_at (context_of m) after Calls)) m left r) same does))
+    (subst (λ (x : Caller). Does (outcome_in (parts k) (sleep_at (context_of k) x Calls)) k left r) stay does)

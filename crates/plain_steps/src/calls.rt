@@ -16,7 +16,7 @@ ghost use Rattle.kernel_model.specs.calls.Table.{call_row};
 ghost use Rattle.kernel_model.specs.entries.Areas.{next_row};
 ghost use Rattle.kernel_model.specs.entries.Given.{may_meet};
 ghost use Rattle.kernel_model.specs.entries.Parts.{Change, Prog, changed, outcome_in, parts};
-ghost use Rattle.kernel_model.specs.entries.Steps.{call_entry, failing, replied_by, replied_to, same_args, stands_at};
+ghost use Rattle.kernel_model.specs.entries.Steps.{by_answer, call_entry, failing, replied_by, replied_to, same_args, stands_at};
 ghost use Rattle.kernel_model.specs.laws.Beginnings.{IsRoomFor};
 ghost use Rattle.call_fs.specs.Called.{ComesTo, HasRoomIn, IfOf, IsApartIn};
 ghost use Rattle.plain_steps.specs.Doing.{Does, IsThere};
@@ -42,7 +42,7 @@ use task_table::Tasks;
 pub(crate) fn call_task(
     alloc: Global,
     kernel: &mut Kernel,
-    mut caller: Caller,
+    caller: &mut Caller,
     no: u64,
     args: &Args,
     reply: i64,
@@ -50,13 +50,37 @@ pub(crate) fn call_task(
 ) -> Result<bool, Memory>
     requires few { kernel.old.entries < MOST_ENTRIES }
     requires may { may_meet kernel.old.nodes given.now ≡ true }
-    requires there { IsThere caller kernel.old }
-    requires space { get_named kernel.old.spaces caller.memory.place caller.memory.index ≡ Some caller.space }
+    requires there { IsThere caller.old kernel.old }
+    requires space { get_named kernel.old.spaces caller.old.memory.place caller.old.memory.index
+        ≡ Some caller.old.space }
     ensures { Does (outcome_in (parts kernel.old)
-        (call_entry (context_of kernel.old) caller no args.now reply given.now)) kernel.old kernel.new result }
+        (call_entry (context_of kernel.old) caller.old no args.now reply given.now)) kernel.old kernel.new result }
 {
     let mut areas = copied_areas(alloc, kernel)?;
-    if !stands_at(alloc, &mut caller, &mut areas, no, args)? {
+    call_over(alloc, kernel, caller, &mut areas, no, args, reply, given)
+}
+
+/// As `call_task`, over these shared areas.
+fn call_over(
+    alloc: Global,
+    kernel: &mut Kernel,
+    caller: &mut Caller,
+    areas: &mut Named<GuestArea>,
+    no: u64,
+    args: &Args,
+    reply: i64,
+    given: &Given,
+) -> Result<bool, Memory>
+    requires few { kernel.old.entries < MOST_ENTRIES }
+    requires may { may_meet kernel.old.nodes given.now ≡ true }
+    requires there { IsThere caller.old kernel.old }
+    requires space { get_named kernel.old.spaces caller.old.memory.place caller.old.memory.index
+        ≡ Some caller.old.space }
+    requires areas { kernel.old.areas ≡ areas.old }
+    ensures { Does (outcome_in (parts kernel.old)
+        (call_entry (context_of kernel.old) caller.old no args.now reply given.now)) kernel.old kernel.new result }
+{
+    if !stands_at(alloc, caller, areas, no, args)? {
         return Ok(false);
     }
     if !is_in_order(given) {
@@ -65,7 +89,30 @@ pub(crate) fn call_task(
     if !given.rises.is_empty() {
         return failing(alloc, kernel, caller, reply, given);
     }
-    let called = prepare(alloc, kernel, &mut caller, &mut areas, no, args)?;
+    answer_call(alloc, kernel, caller, areas, no, args, reply, given)
+}
+
+/// Does the call that a task stands at, which met no fault.
+fn answer_call(
+    alloc: Global,
+    kernel: &mut Kernel,
+    caller: &mut Caller,
+    areas: &mut Named<GuestArea>,
+    no: u64,
+    args: &Args,
+    reply: i64,
+    given: &Given,
+) -> Result<bool, Memory>
+    requires few { kernel.old.entries < MOST_ENTRIES }
+    requires there { IsThere caller.old kernel.old }
+    requires space { get_named kernel.old.spaces caller.old.memory.place caller.old.memory.index
+        ≡ Some caller.old.space }
+    requires areas { kernel.old.areas ≡ areas.old }
+    ensures { Does (outcome_in (parts kernel.old) (by_answer caller.old reply given.now
+        (outcome_in (parts kernel.old) (call_row (context_of kernel.old) caller.old no args.now))))
+        kernel.old kernel.new result }
+{
+    let called = prepare(alloc, kernel, caller, areas, no, args)?;
     if !given.fresh.is_empty() {
         return Ok(false);
     }
@@ -159,21 +206,22 @@ pub(crate) fn prepare(
 fn finish(
     alloc: Global,
     kernel: &mut Kernel,
-    caller: Caller,
-    areas: Named<GuestArea>,
+    caller: &mut Caller,
+    areas: &mut Named<GuestArea>,
     reply: i64,
     called: Called,
 ) -> Result<bool, Memory>
     requires few { kernel.old.entries < MOST_ENTRIES }
-    requires there { IsThere caller kernel.old }
-    requires own { IfOf called (λ o. EndsCaller o caller.task) }
+    requires there { IsThere caller.old kernel.old }
+    requires own { IfOf called (λ o. EndsCaller o caller.old.task) }
     requires room { IfOf called (λ o. HasRoomFor o kernel.old.tasks) }
     requires sure { HasRoomIn called kernel.old.files }
-    requires space { IsApartIn called →
-        get_named kernel.old.spaces caller.memory.place caller.memory.index ≡ Some caller.space }
-    requires areas { IsApartIn called → kernel.old.areas ≡ areas }
-    ensures { (row : Prog Answer) → ComesTo row called caller kernel.old caller.space areas →
-        Does (replied_to caller reply (Some []) (outcome_in (parts kernel.old) row)) kernel.old kernel.new result }
+    requires space { IsApartIn called → get_named kernel.old.spaces caller.old.memory.place caller.old.memory.index
+        ≡ Some caller.old.space }
+    requires areas { IsApartIn called → kernel.old.areas ≡ areas.old }
+    ensures { (row : Prog Answer) → ComesTo row called caller.old kernel.old caller.old.space areas.old →
+        Does (replied_to caller.old reply (Some []) (outcome_in (parts kernel.old) row))
+        kernel.old kernel.new result }
 {
     match called {
         Called::Of(kept) => match kept {
@@ -196,16 +244,16 @@ fn finish(
 /// are as the call left them.
 fn answer(
     kernel: &mut Kernel,
-    caller: Caller,
-    areas: Named<GuestArea>,
+    caller: &mut Caller,
+    areas: &mut Named<GuestArea>,
     reply: i64,
     prepared: Prepared,
 ) -> bool
-    requires there { IsThere caller kernel.old }
-    requires own { EndsOnly prepared.effect caller.task }
-    ensures { (changes : Items Change) → changed changes kernel.old
-        ≡ with_effect prepared.effect caller.group (with_memory caller caller.space areas kernel.old) →
-        Does (replied_by caller reply changes (Replies prepared.reply)) kernel.old kernel.new (Ok result) }
+    requires there { IsThere caller.old kernel.old }
+    requires own { EndsOnly prepared.effect caller.old.task }
+    ensures { (changes : Items Change) → changed changes kernel.old ≡ with_effect prepared.effect caller.old.group
+        (with_memory caller.old caller.old.space areas.old kernel.old) →
+        Does (replied_by caller.old reply changes (Replies prepared.reply)) kernel.old kernel.new (Ok result) }
 {
     if reply != prepared.reply {
         return false;
@@ -221,23 +269,23 @@ fn answer(
 fn make_child(
     alloc: Global,
     kernel: &mut Kernel,
-    caller: Caller,
+    caller: &Caller,
     reply: i64,
     child: Boxed<Child>,
 ) -> Result<bool, Memory>
     requires few { kernel.old.entries < MOST_ENTRIES }
-    requires there { IsThere caller kernel.old }
+    requires there { IsThere caller.now kernel.old }
     requires room { IsRoomFor kernel.old.tasks }
     ensures { (changes : Items Change) →
-        changed changes kernel.old ≡ with_child child (kernel.old.entries + 1) caller kernel.old →
-        Does (replied_by caller reply changes (Replies (pos (kernel.old.tasks.last + 1))))
+        changed changes kernel.old ≡ with_child child (kernel.old.entries + 1) caller.now kernel.old →
+        Does (replied_by caller.now reply changes (Replies (pos (kernel.old.tasks.last + 1))))
         kernel.old kernel.new result }
 {
     let number = next_number(&kernel.tasks);
     if reply != number {
         return Ok(false);
     }
-    let context = context(&caller, kernel.entries + 1, kernel.seed.as_slice());
+    let context = context(caller, kernel.entries + 1, kernel.seed.as_slice());
     make(
         alloc,
         &context,
@@ -263,13 +311,13 @@ fn next_number(tasks: &Tasks) -> i64
 fn failing(
     alloc: Global,
     kernel: &mut Kernel,
-    caller: Caller,
+    caller: &Caller,
     reply: i64,
     given: &Given,
 ) -> Result<bool, Memory>
-    requires there { IsThere caller kernel.old }
+    requires there { IsThere caller.now kernel.old }
     requires unused { AreUnused given.now.fresh kernel.old }
-    ensures { Does (outcome_in (parts kernel.old) (failing caller reply given.now)) kernel.old kernel.new result }
+    ensures { Does (outcome_in (parts kernel.old) (failing caller.now reply given.now)) kernel.old kernel.new result }
 {
     if !is_failure(reply) {
         return Ok(false);

@@ -9,7 +9,7 @@ ghost use Rattle.kernel_model.specs.entries.Steps.{end_row, killed, run_alone, r
 ghost use Rattle.plain_steps.specs.Doing.{Does, IsThere};
 
 use crate::callers::{context, copied_areas};
-use crate::effects::settle;
+use crate::effects::{put_memory, put_space, settle};
 use guest_access::{run, step};
 use kernel_calls::{Effect, end_group};
 use kernel_model::{Caller, GuestArea, Kernel, Named, Next};
@@ -24,11 +24,11 @@ use task_table::Status;
 pub(crate) fn run_task(
     alloc: Global,
     kernel: &mut Kernel,
-    mut caller: Caller,
+    caller: &mut Caller,
     n: u32,
 ) -> Result<bool, Memory>
-    requires { IsThere caller kernel.old }
-    ensures { Does (outcome_in (parts kernel.old) (run_row n caller)) kernel.old kernel.new result }
+    requires { IsThere caller.old kernel.old }
+    ensures { Does (outcome_in (parts kernel.old) (run_row n caller.old)) kernel.old kernel.new result }
 {
     if n < 1 || QUANTUM < n {
         return Ok(false);
@@ -50,23 +50,53 @@ pub(crate) fn run_task(
     step_task(alloc, kernel, caller)
 }
 
+/// Puts what a run has left of a task in the place of its registers and its memory.
+fn put_run(kernel: &mut Kernel, left: &mut Caller)
+    requires task { IsTrue (map.contains_key kernel.old.registers left.old.task) }
+    requires space { IsTrue (has_named kernel.old.spaces left.old.memory.place left.old.memory.index) }
+    ensures { kernel.new ≡ put (OfTask left.old.task) (Some left.old.registers)
+        (put (OfSpace left.old.memory) (Some left.old.space) kernel.old) }
+{
+    kernel
+        .registers
+        .replace(u64::from(left.task), left.registers);
+    put_space(&mut kernel.spaces, left.memory, &mut left.space);
+}
+
 /// Runs a task's next instruction, which does not run alone, if it runs with the shared areas that it touches.
-fn step_task(alloc: Global, kernel: &mut Kernel, mut caller: Caller) -> Result<bool, Memory>
-    requires there { IsThere caller kernel.old }
-    requires alone { run_alone 1 caller ≡ None }
-    ensures { Does (outcome_in (parts kernel.old) (step_row caller)) kernel.old kernel.new result }
+fn step_task(alloc: Global, kernel: &mut Kernel, caller: &mut Caller) -> Result<bool, Memory>
+    requires there { IsThere caller.old kernel.old }
+    requires alone { run_alone 1 caller.old ≡ None }
+    ensures { Does (outcome_in (parts kernel.old) (step_row caller.old)) kernel.old kernel.new result }
 {
     let mut areas = copied_areas(alloc, kernel)?;
+    step_over(alloc, kernel, caller, &mut areas)
+}
+
+/// As `step_task`, over these shared areas, which take their places where it runs.
+fn step_over(
+    alloc: Global,
+    kernel: &mut Kernel,
+    caller: &mut Caller,
+    areas: &mut Named<GuestArea>,
+) -> Result<bool, Memory>
+    requires there { IsThere caller.old kernel.old }
+    requires alone { run_alone 1 caller.old ≡ None }
+    requires areas { kernel.old.areas ≡ areas.old }
+    ensures { Does (outcome_in (parts kernel.old) (step_row caller.old)) kernel.old kernel.new result }
+{
     match step(
         alloc,
         caller.task,
         &mut caller.registers,
         &mut caller.space,
-        &mut areas,
+        areas,
     )? {
         Next::Goes => {
-            put_run(kernel, caller);
-            kernel.areas = areas;
+            kernel
+                .registers
+                .replace(u64::from(caller.task), caller.registers);
+            put_memory(kernel, caller, areas);
             Ok(true)
         }
         Next::Calls => Ok(false),
@@ -75,43 +105,44 @@ fn step_task(alloc: Global, kernel: &mut Kernel, mut caller: Caller) -> Result<b
     }
 }
 
-/// Puts what a run has left of a task in the place of its registers and its memory.
-fn put_run(kernel: &mut Kernel, left: Caller)
-    requires task { IsTrue (map.contains_key kernel.old.registers left.task) }
-    requires space { IsTrue (has_named kernel.old.spaces left.memory.place left.memory.index) }
-    ensures { kernel.new ≡
-        put (OfTask left.task) (Some left.registers) (put (OfSpace left.memory) (Some left.space) kernel.old) }
-{
-    let Caller {
-        task,
-        memory,
-        registers,
-        space,
-        ..
-    } = left;
-    kernel.registers.replace(u64::from(task), registers);
-    kernel.spaces.replace(memory.place, memory.index, space);
-}
-
 /// Ends the thread group of a task whose next instruction traps with that signal.
 pub(crate) fn end_task(
     alloc: Global,
     kernel: &mut Kernel,
-    mut caller: Caller,
+    caller: &mut Caller,
     signal: u8,
 ) -> Result<bool, Memory>
     requires few { kernel.old.entries < MOST_ENTRIES }
-    requires there { IsThere caller kernel.old }
-    requires space { get_named kernel.old.spaces caller.memory.place caller.memory.index ≡ Some caller.space }
-    ensures { Does (outcome_in (parts kernel.old) (end_row signal caller)) kernel.old kernel.new result }
+    requires there { IsThere caller.old kernel.old }
+    requires space { get_named kernel.old.spaces caller.old.memory.place caller.old.memory.index
+        ≡ Some caller.old.space }
+    ensures { Does (outcome_in (parts kernel.old) (end_row signal caller.old)) kernel.old kernel.new result }
 {
     let mut areas = copied_areas(alloc, kernel)?;
+    end_over(alloc, kernel, caller, &mut areas, signal)
+}
+
+/// As `end_task`, over these shared areas.
+fn end_over(
+    alloc: Global,
+    kernel: &mut Kernel,
+    caller: &mut Caller,
+    areas: &mut Named<GuestArea>,
+    signal: u8,
+) -> Result<bool, Memory>
+    requires few { kernel.old.entries < MOST_ENTRIES }
+    requires there { IsThere caller.old kernel.old }
+    requires space { get_named kernel.old.spaces caller.old.memory.place caller.old.memory.index
+        ≡ Some caller.old.space }
+    requires areas { kernel.old.areas ≡ areas.old }
+    ensures { Does (outcome_in (parts kernel.old) (end_row signal caller.old)) kernel.old kernel.new result }
+{
     match step(
         alloc,
         caller.task,
         &mut caller.registers,
         &mut caller.space,
-        &mut areas,
+        areas,
     )? {
         Next::Traps(trap) => {
             if trap != signal {
@@ -130,23 +161,24 @@ pub(crate) fn end_task(
 fn kill(
     alloc: Global,
     kernel: &mut Kernel,
-    mut caller: Caller,
-    mut areas: Named<GuestArea>,
+    caller: &mut Caller,
+    areas: &mut Named<GuestArea>,
     signal: u8,
 ) -> Result<bool, Memory>
     requires few { kernel.old.entries < MOST_ENTRIES }
-    requires there { IsThere caller kernel.old }
-    requires space { get_named kernel.old.spaces caller.memory.place caller.memory.index ≡ Some caller.space }
-    requires areas { kernel.old.areas ≡ areas }
-    ensures { Does (outcome_in (parts kernel.old) (killed signal caller)) kernel.old kernel.new result }
+    requires there { IsThere caller.old kernel.old }
+    requires space { get_named kernel.old.spaces caller.old.memory.place caller.old.memory.index
+        ≡ Some caller.old.space }
+    requires areas { kernel.old.areas ≡ areas.old }
+    ensures { Does (outcome_in (parts kernel.old) (killed signal caller.old)) kernel.old kernel.new result }
 {
-    let context = context(&caller, kernel.entries + 1, kernel.seed.as_slice());
+    let context = context(caller, kernel.entries + 1, kernel.seed.as_slice());
     let ending = end_group(
         alloc,
         &context,
         Status::Killed(signal),
         &mut caller.space,
-        &mut areas,
+        areas,
         &kernel.tasks,
     )?;
     settle(kernel, caller, areas, Effect::EndsGroup(ending));

@@ -14,7 +14,7 @@ ghost use Rattle.call_fs.specs.Transfers.{HasRoom, after_transfer};
 ghost use Rattle.plain_steps.specs.Doing.{Does, IsThere};
 
 use crate::callers::context;
-use crate::effects::go_on;
+use crate::effects::{go_on, put_memory};
 use call_fs::{NewPipe, Transfer, commit_transfer, make_pipe};
 use kernel_model::{Caller, GuestArea, Kernel, Named};
 use mount_file::MOST_ENTRIES;
@@ -25,17 +25,18 @@ use std::alloc::Global;
 pub(crate) fn move_bytes(
     alloc: Global,
     kernel: &mut Kernel,
-    caller: Caller,
-    mut areas: Named<GuestArea>,
+    caller: &mut Caller,
+    areas: &mut Named<GuestArea>,
     reply: i64,
     value: i64,
     transfer: Transfer,
 ) -> Result<bool, Memory>
-    requires there { IsThere caller kernel.old }
+    requires there { IsThere caller.old kernel.old }
     requires room { HasRoom transfer kernel.old.files }
     ensures { (changes : Items Change) → changed changes kernel.old
-        ≡ after_transfer transfer caller.space (with_memory caller caller.space areas kernel.old) →
-        Does (replied_by caller reply changes (Replies value)) kernel.old kernel.new result }
+        ≡ after_transfer transfer caller.old.space
+        (with_memory caller.old caller.old.space areas.old kernel.old) →
+        Does (replied_by caller.old reply changes (Replies value)) kernel.old kernel.new result }
 {
     if reply != value {
         return Ok(false);
@@ -44,16 +45,13 @@ pub(crate) fn move_bytes(
         alloc,
         transfer,
         &caller.space,
-        &mut areas,
+        areas,
         &mut kernel.files,
         &mut kernel.console,
     )?;
     let task = caller.task;
     let registers = caller.registers;
-    kernel
-        .spaces
-        .replace(caller.memory.place, caller.memory.index, caller.space);
-    kernel.areas = areas;
+    put_memory(kernel, caller, areas);
     go_on(kernel, task, registers, value);
     Ok(true)
 }
@@ -62,38 +60,36 @@ pub(crate) fn move_bytes(
 pub(crate) fn open_pipe(
     alloc: Global,
     kernel: &mut Kernel,
-    mut caller: Caller,
-    mut areas: Named<GuestArea>,
+    caller: &mut Caller,
+    areas: &mut Named<GuestArea>,
     reply: i64,
     new: Boxed<NewPipe>,
 ) -> Result<bool, Memory>
     requires few { kernel.old.entries < MOST_ENTRIES }
-    requires there { IsThere caller kernel.old }
-    requires space { get_named kernel.old.spaces caller.memory.place caller.memory.index ≡ Some caller.space }
-    requires areas { kernel.old.areas ≡ areas }
-    ensures { (row : Prog Answer) (makes : MakesPipe row new (context_of kernel.old) caller kernel.old) →
-        Does (replied_by caller reply (pipe_made (context_of kernel.old) caller new.ends.buffer new.ends.flags
+    requires there { IsThere caller.old kernel.old }
+    requires space { get_named kernel.old.spaces caller.old.memory.place caller.old.memory.index
+        ≡ Some caller.old.space }
+    requires areas { kernel.old.areas ≡ areas.old }
+    ensures { (row : Prog Answer) (makes : MakesPipe row new (context_of kernel.old) caller.old kernel.old) →
+        Does (replied_by caller.old reply (pipe_made (context_of kernel.old) caller.old new.ends.buffer new.ends.flags
         makes.hand makes.table (new.ends.first, new.ends.second)).changes (Replies (pos 0)))
         kernel.old kernel.new result }
 {
     if !is_zero(reply) {
         return Ok(false);
     }
-    let context = context(&caller, kernel.entries + 1, kernel.seed.as_slice());
+    let context = context(caller, kernel.entries + 1, kernel.seed.as_slice());
     make_pipe(
         alloc,
         &context,
         new.into_inner(),
         &mut caller.space,
-        &mut areas,
+        areas,
         &mut kernel.files,
     )?;
     let task = caller.task;
     let registers = caller.registers;
-    kernel
-        .spaces
-        .replace(caller.memory.place, caller.memory.index, caller.space);
-    kernel.areas = areas;
+    put_memory(kernel, caller, areas);
     go_on(kernel, task, registers, 0);
     Ok(true)
 }

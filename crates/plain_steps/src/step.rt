@@ -26,26 +26,51 @@ pub fn change(alloc: Global, kernel: &mut Kernel, entry: &Entry) -> Result<bool,
         kernel.old kernel.new result }
 {
     let number = entry.task();
-    let Some(caller) = caller(alloc, kernel, number)? else {
+    let Some(mut caller) = caller(alloc, kernel, number)? else {
         return Ok(false);
     };
+    enter(alloc, kernel, &mut caller, entry)
+}
+
+/// Does what an entry of a live task does, by how the task stands to the futex list. What it has changed of the caller
+/// counts for nothing afterwards.
+fn enter(
+    alloc: Global,
+    kernel: &mut Kernel,
+    caller: &mut Caller,
+    entry: &Entry,
+) -> Result<bool, Memory>
+    requires few { kernel.old.entries < MOST_ENTRIES }
+    requires may { may_enter kernel.old.nodes entry.now ≡ true }
+    requires there { IsThere caller.old kernel.old }
+    requires space { get_named kernel.old.spaces caller.old.memory.place caller.old.memory.index
+        ≡ Some caller.old.space }
+    ensures { Does (outcome_in (parts kernel.old) (row_of (context_of kernel.old) entry.now caller.old
+        (wait_of kernel.old.sleepers caller.old.task))) kernel.old kernel.new result }
+{
     if kernel.sleepers.is_asleep(caller.task) {
         return Ok(false);
     }
     if kernel.sleepers.is_woken(caller.task) {
-        return Ok(woken(kernel, &caller, entry));
+        return Ok(woken(kernel, caller, entry));
     }
     awake(alloc, kernel, caller, entry)
 }
 
 /// Does what an entry of a task does that is not on the futex list.
-fn awake(alloc: Global, kernel: &mut Kernel, caller: Caller, entry: &Entry) -> Result<bool, Memory>
+fn awake(
+    alloc: Global,
+    kernel: &mut Kernel,
+    caller: &mut Caller,
+    entry: &Entry,
+) -> Result<bool, Memory>
     requires few { kernel.old.entries < MOST_ENTRIES }
     requires may { may_enter kernel.old.nodes entry.now ≡ true }
-    requires there { IsThere caller kernel.old }
-    requires space { get_named kernel.old.spaces caller.memory.place caller.memory.index ≡ Some caller.space }
-    requires waits { wait_of kernel.old.sleepers caller.task ≡ Awake }
-    ensures { Does (outcome_in (parts kernel.old) (row_of (context_of kernel.old) entry.now caller Awake))
+    requires there { IsThere caller.old kernel.old }
+    requires space { get_named kernel.old.spaces caller.old.memory.place caller.old.memory.index
+        ≡ Some caller.old.space }
+    requires waits { wait_of kernel.old.sleepers caller.old.task ≡ Awake }
+    ensures { Does (outcome_in (parts kernel.old) (row_of (context_of kernel.old) entry.now caller.old Awake))
         kernel.old kernel.new result }
 {
     match entry {

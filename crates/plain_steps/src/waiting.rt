@@ -8,12 +8,13 @@ ghost use Rattle.kernel_model.specs.entries.Given.{is_quiet};
 ghost use Rattle.kernel_model.specs.entries.Parts.{outcome_in, parts};
 ghost use Rattle.kernel_model.specs.entries.Steps.{row_of, sleep_at, sleep_row, woken_at, woken_entry};
 ghost use Rattle.kernel_model.specs.entries.Waiting.{Awake, Woken, wait_of};
-ghost use Rattle.plain_steps.specs.Doing.{Does, IsThere};
+ghost use Rattle.plain_steps.specs.Doing.{Does, IsThere, key_slept_on};
 
 use crate::callers::copied_areas;
 use crate::calls::{is_call, prepare};
 use crate::effects::go_on;
 use call_fs::Called;
+use futex_core::FutexKey;
 use guest_access::step;
 use kernel_calls::{args_of, call_of, sleep};
 use kernel_model::{Args, Caller, Entry, Given, GuestArea, Kernel, Named, Next};
@@ -25,22 +26,42 @@ use std::alloc::Global;
 pub(crate) fn sleep_task(
     alloc: Global,
     kernel: &mut Kernel,
-    mut caller: Caller,
+    caller: &mut Caller,
 ) -> Result<bool, Memory>
     requires few { kernel.old.entries < MOST_ENTRIES }
-    requires there { IsThere caller kernel.old }
-    requires space { get_named kernel.old.spaces caller.memory.place caller.memory.index ≡ Some caller.space }
-    requires waits { wait_of kernel.old.sleepers caller.task ≡ Awake }
-    ensures { Does (outcome_in (parts kernel.old) (sleep_row (context_of kernel.old) caller))
+    requires there { IsThere caller.old kernel.old }
+    requires space { get_named kernel.old.spaces caller.old.memory.place caller.old.memory.index
+        ≡ Some caller.old.space }
+    requires waits { wait_of kernel.old.sleepers caller.old.task ≡ Awake }
+    ensures { Does (outcome_in (parts kernel.old) (sleep_row (context_of kernel.old) caller.old))
         kernel.old kernel.new result }
 {
     let mut areas = copied_areas(alloc, kernel)?;
+    sleep_over(alloc, kernel, caller, &mut areas)
+}
+
+/// As `sleep_task`, over these shared areas.
+fn sleep_over(
+    alloc: Global,
+    kernel: &mut Kernel,
+    caller: &mut Caller,
+    areas: &mut Named<GuestArea>,
+) -> Result<bool, Memory>
+    requires few { kernel.old.entries < MOST_ENTRIES }
+    requires there { IsThere caller.old kernel.old }
+    requires space { get_named kernel.old.spaces caller.old.memory.place caller.old.memory.index
+        ≡ Some caller.old.space }
+    requires areas { kernel.old.areas ≡ areas.old }
+    requires waits { wait_of kernel.old.sleepers caller.old.task ≡ Awake }
+    ensures { Does (outcome_in (parts kernel.old) (sleep_row (context_of kernel.old) caller.old))
+        kernel.old kernel.new result }
+{
     match step(
         alloc,
         caller.task,
         &mut caller.registers,
         &mut caller.space,
-        &mut areas,
+        areas,
     )? {
         Next::Calls => sleep_in(alloc, kernel, caller, areas),
         Next::Goes => Ok(false),
@@ -53,32 +74,41 @@ pub(crate) fn sleep_task(
 fn sleep_in(
     alloc: Global,
     kernel: &mut Kernel,
-    mut caller: Caller,
-    mut areas: Named<GuestArea>,
+    caller: &mut Caller,
+    areas: &mut Named<GuestArea>,
 ) -> Result<bool, Memory>
     requires few { kernel.old.entries < MOST_ENTRIES }
-    requires there { IsThere caller kernel.old }
-    requires space { get_named kernel.old.spaces caller.memory.place caller.memory.index ≡ Some caller.space }
-    requires areas { kernel.old.areas ≡ areas }
-    requires waits { wait_of kernel.old.sleepers caller.task ≡ Awake }
-    ensures { Does (outcome_in (parts kernel.old) (sleep_at (context_of kernel.old) caller Calls))
+    requires there { IsThere caller.old kernel.old }
+    requires space { get_named kernel.old.spaces caller.old.memory.place caller.old.memory.index
+        ≡ Some caller.old.space }
+    requires areas { kernel.old.areas ≡ areas.old }
+    requires waits { wait_of kernel.old.sleepers caller.old.task ≡ Awake }
+    ensures { Does (outcome_in (parts kernel.old) (sleep_at (context_of kernel.old) caller.old Calls))
         kernel.old kernel.new result }
 {
     let no = call_of(&caller.registers);
     let args = args_of(&caller.registers);
-    let called = prepare(alloc, kernel, &mut caller, &mut areas, no, &args)?;
+    let key = key_slept_on(&prepare(alloc, kernel, caller, areas, no, &args)?);
+    match key {
+        Some(key) => {
+            sleep(&mut kernel.sleepers, caller.task, key)?;
+            Ok(true)
+        }
+        None => Ok(false),
+    }
+}
+
+/// The futex word on which a call puts its task to sleep, where it does so.
+fn key_slept_on(called: &Called) -> Option<FutexKey>
+    ensures { result ≡ key_slept_on called.now }
+{
     match called {
-        Called::Of(kept) => match kept {
-            kernel_calls::Called::Sleeps(key) => {
-                sleep(&mut kernel.sleepers, caller.task, key)?;
-                Ok(true)
-            }
-            kernel_calls::Called::Replies(_) => Ok(false),
-            kernel_calls::Called::Makes(_) => Ok(false),
-            kernel_calls::Called::Waits(_) => Ok(false),
-        },
-        Called::Moves { .. } => Ok(false),
-        Called::MakesPipe(_) => Ok(false),
+        Called::Of(kernel_calls::Called::Sleeps(key)) => Some(*key),
+        Called::Of(kernel_calls::Called::Replies(_)) => None,
+        Called::Of(kernel_calls::Called::Makes(_)) => None,
+        Called::Of(kernel_calls::Called::Waits(_)) => None,
+        Called::Moves { .. } => None,
+        Called::MakesPipe(_) => None,
     }
 }
 

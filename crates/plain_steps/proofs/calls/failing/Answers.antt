@@ -19,7 +19,7 @@ use Rattle.plain_steps.proofs.calls.failing.Goals as goal
 
 pub returns-then-not-is_failure : goal.returns-then-not-is_failure
 returns-then-not-is_failure c = (
-  failing_other c.args.caller c.args.reply c.args.given.now (parts c.args.kernel.now)
+  failing_other c.args.caller.now c.args.reply c.args.given.now (parts c.args.kernel.now)
       (ap (λ z. int_eq z (reply_of EIO)) (sym (to_z-of_z c.ranges.reply)) ∙ sym c.is_failure.ensures
       ∙ c.if-not-is_failure.true),
   refl,
@@ -32,7 +32,7 @@ returns-then-not-branch c =
     done_nothing (outcome_in (parts c.args.kernel.now) (faulted c.args.given.now)) c.in_ok-faulted.field-0
     c.args.kernel.now c.faulted.new.kernel c.in_ok-faulted.ensures.fits c.in_ok-faulted.ensures.ok
     c.if-not-branch.true in
-    (failing_none c.args.caller c.args.reply c.args.given.now (parts c.args.kernel.now) nothing.0, nothing.1)
+    (failing_none c.args.caller.now c.args.reply c.args.given.now (parts c.args.kernel.now) nothing.0, nothing.1)
 
 pub go_on-requires : goal.go_on-requires
 go_on-requires c =
@@ -41,7 +41,7 @@ go_on-requires c =
     done_all (outcome_in (parts c.args.kernel.now) (faulted c.args.given.now)) c.in_ok-faulted.field-0
     c.args.kernel.now c.faulted.new.kernel c.in_ok-faulted.ensures.fits c.in_ok-faulted.ensures.ok
     c.if-not-branch.false in
-    ap (λ m. map.contains_key m c.args.caller.task)
+    ap (λ m. map.contains_key m c.args.caller.now.task)
     (faulted_registers c.args.given.now c.args.kernel.now c.faulted.new.kernel all)
     ∙ c.requires.there.registers
 
@@ -52,10 +52,10 @@ returns c =
     done_all (outcome_in (parts c.args.kernel.now) (faulted c.args.given.now)) c.in_ok-faulted.field-0
     c.args.kernel.now c.faulted.new.kernel c.in_ok-faulted.ensures.fits c.in_ok-faulted.ensures.ok
     c.if-not-branch.false in
-    failing_some c.args.caller c.args.reply c.args.given.now c.args.kernel.now c.faulted.new.kernel
+    failing_some c.args.caller.now c.args.reply c.args.given.now c.args.kernel.now c.faulted.new.kernel
     (ap (λ z. int_eq z (reply_of EIO)) (sym (to_z-of_z c.ranges.reply)) ∙ sym c.is_failure.ensures
     ∙ c.if-not-is_failure.false) all
     ∙ ap (λ k. Some k)
     (sym (c.go_on.ensures
-    ∙ ap (λ v. put (OfTask c.args.caller.task) (Some (replied c.args.caller.registers (to_z w64 (of_z w64 v))))
+    ∙ ap (λ v. put (OfTask c.args.caller.now.task) (Some (replied c.args.caller.now.registers (to_z w64 (of_z w64 v))))
     c.faulted.new.kernel) (c.number.ensures ∙ c.of.ensures)))

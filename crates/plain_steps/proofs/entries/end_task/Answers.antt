@@ -1,44 +1,12 @@
--- A group ends by the signal with which its task's next instruction traps, and by no other.
-use Rattle.std.proofs.Common.{refl, ap, sym, ◌∙◌}
-use Rattle.kernel_model.specs.machine.Instructions.{goes_on}
-use Rattle.plain_steps.proofs.RunLemmas.{end_is, ends, ends_not, same_task}
+-- What is done over copies of the areas is done over the kernel that was copied.
+use Rattle.kernel_model.specs.entries.Steps.{end_row}
+use Rattle.kernel_model.specs.declared.kernel.Kernel.{Kernel}
+use Rattle.kernel_model.specs.entries.Parts.{outcome_in, parts}
+use Rattle.plain_steps.proofs.RunLemmas.{does_over}
 use Rattle.plain_steps.proofs.entries.end_task.Goals as goal
 
-pub returns-then-trap-signal : goal.returns-then-trap-signal
-returns-then-trap-signal c = (
-  ends_not c.args.caller c.args.kernel.now c.in-Traps.trap c.args.signal
-      (c.in_ok-trap.ensures.next c.args.caller c.args.kernel.now
-      (record { task = refl; registers = refl; space = refl; areas = sym c.in_ok-areas.ensures.copied })
-      ∙ c.in-Traps.is) c.if-trap-signal.true,
-  c.copied_areas.ensures.kept,
-)
-
-pub returns-else-trap-signal : goal.returns-else-trap-signal
-returns-else-trap-signal c =
-    ends c.args.kernel.now c.copied_areas.new.kernel c.kill.new.kernel c.args.caller
-    (record c.args.caller { registers = c.step.new.registers; space = c.step.new.space })
-    c.in-Traps.trap c.args.signal c.kill.result
-    (c.in_ok-trap.ensures.next c.args.caller c.args.kernel.now
-    (record { task = refl; registers = refl; space = refl; areas = sym c.in_ok-areas.ensures.copied })
-    ∙ c.in-Traps.is) c.if-trap-signal.false c.copied_areas.ensures.kept
-    (same_task c.args.caller c.step.new.registers c.step.new.space
-    (c.in_ok-trap.ensures.kept (ap goes_on c.in-Traps.is)).0
-    (c.in_ok-trap.ensures.kept (ap goes_on c.in-Traps.is)).1) c.kill.ensures
-
-pub returns-in-Goes : goal.returns-in-Goes
-returns-in-Goes c = (
-  end_is c.args.caller c.args.kernel.now _
-      (c.in_ok-trap.ensures.next c.args.caller c.args.kernel.now
-      (record { task = refl; registers = refl; space = refl; areas = sym c.in_ok-areas.ensures.copied })
-      ∙ c.in-Goes.is) c.args.signal,
-  c.copied_areas.ensures.kept,
-)
-
-pub returns-in-Calls : goal.returns-in-Calls
-returns-in-Calls c = (
-  end_is c.args.caller c.args.kernel.now _
-      (c.in_ok-trap.ensures.next c.args.caller c.args.kernel.now
-      (record { task = refl; registers = refl; space = refl; areas = sym c.in_ok-areas.ensures.copied })
-      ∙ c.in-Calls.is) c.args.signal,
-  c.copied_areas.ensures.kept,
-)
+pub returns : goal.returns
+returns c =
+    does_over c.args.kernel.now c.copied_areas.new.kernel c.end_over.new.kernel
+    (λ (m : Kernel). outcome_in (parts m) (end_row c.args.signal c.args.caller.now)) c.end_over.result
+    c.copied_areas.ensures.kept c.end_over.ensures

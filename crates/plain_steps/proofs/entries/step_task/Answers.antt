@@ -1,30 +1,12 @@
--- An instruction runs with the areas that it touches where it goes on so, and else it is no step.
-use Rattle.std.proofs.Common.{refl, ap, sym}
-use Rattle.kernel_model.specs.machine.Instructions.{goes_on}
-use Rattle.plain_steps.proofs.RunLemmas.{no_step, step_done}
+-- What is done over copies of the areas is done over the kernel that was copied.
+use Rattle.kernel_model.specs.entries.Steps.{step_row}
+use Rattle.kernel_model.specs.declared.kernel.Kernel.{Kernel}
+use Rattle.kernel_model.specs.entries.Parts.{outcome_in, parts}
+use Rattle.plain_steps.proofs.RunLemmas.{does_over}
 use Rattle.plain_steps.proofs.entries.step_task.Goals as goal
 
-pub returns-in-Goes : goal.returns-in-Goes
-returns-in-Goes c =
-    step_done c.args.caller c.args.kernel.now c.copied_areas.new.kernel c.put_run.new.kernel c.step.new.registers
-    c.step.new.space c.step.new.areas c.copied_areas.ensures.kept c.put_run.ensures
-    (c.in_ok-step.ensures.goes c.in-Goes.is c.args.caller c.args.kernel.now
-    (record { task = refl; registers = refl; space = refl; areas = sym c.in_ok-areas.ensures.copied }))
-
-pub returns-in-Calls : goal.returns-in-Calls
-returns-in-Calls c = (
-  no_step c.args.caller c.args.kernel.now c.in_ok-step.field-0
-      (c.in_ok-step.ensures.next c.args.caller c.args.kernel.now
-      (record { task = refl; registers = refl; space = refl; areas = sym c.in_ok-areas.ensures.copied }))
-      (ap goes_on c.in-Calls.is) c.requires.alone,
-  c.copied_areas.ensures.kept,
-)
-
-pub returns-in-Traps : goal.returns-in-Traps
-returns-in-Traps c = (
-  no_step c.args.caller c.args.kernel.now c.in_ok-step.field-0
-      (c.in_ok-step.ensures.next c.args.caller c.args.kernel.now
-      (record { task = refl; registers = refl; space = refl; areas = sym c.in_ok-areas.ensures.copied }))
-      (ap goes_on c.in-Traps.is) c.requires.alone,
-  c.copied_areas.ensures.kept,
-)
+pub returns : goal.returns
+returns c =
+    does_over c.args.kernel.now c.copied_areas.new.kernel c.step_over.new.kernel
+    (λ (m : Kernel). outcome_in (parts m) (step_row c.args.caller.now)) c.step_over.result
+    c.copied_areas.ensures.kept c.step_over.ensures

@@ -15,18 +15,19 @@ use Rattle.plain_steps.proofs.moving.move_bytes.Goals as goal
 pub returns : goal.returns
 returns c = λ changes told.
     let fits : SFits w64 c.args.value = search rules in
-    let memory : Kernel = with_memory c.args.caller c.args.caller.space c.args.areas c.args.kernel.now in
+    let memory : Kernel = with_memory c.args.caller.now c.args.caller.now.space c.args.areas.now c.args.kernel.now in
     let moved : Kernel = record memory {
       console = c.commit_transfer.new.console;
       files = c.commit_transfer.new.files;
     } in
-    let after : Kernel = record moved { spaces = c.replace.new.self; areas = c.commit_transfer.new.areas } in
-    call_done c.args.kernel.now c.args.caller c.args.reply c.args.value changes after c.go_on.new.kernel
+    call_done c.args.kernel.now c.args.caller.now c.args.reply c.args.value changes c.put_memory.new.kernel
+    c.go_on.new.kernel
     ((Decides-int_eq c.args.reply c.args.value).1 (sym (to_z-of_z c.ranges.reply)
     ∙ ap (to_z w64) c.if-reply-value.false ∙ to_z-of_z fits))
     (told
     ∙ c.in_ok-commit_transfer.ensures.ok memory refl refl refl
-    ∙ ap (λ s. record moved { spaces = s }) (sym c.replace.ensures)
-    ∙ ap (λ a. record moved { spaces = c.replace.new.self; areas = a }) (sym c.commit_transfer.ensures.kept))
+    ∙ ap (λ a. record moved { areas = a }) (sym c.commit_transfer.ensures.kept)
+    ∙ sym c.put_memory.ensures)
     (c.go_on.ensures
-    ∙ ap (λ v. put (OfTask c.args.caller.task) (Some (replied c.args.caller.registers v)) after) (to_z-of_z fits))
+    ∙ ap (λ v. put (OfTask c.args.caller.now.task) (Some (replied c.args.caller.now.registers v))
+    c.put_memory.new.kernel) (to_z-of_z fits))

@@ -1,35 +1,13 @@
--- A task sleeps whose next instruction makes a call that puts it to sleep.
-use Rattle.std.proofs.Common.{refl, ap, sym, ◌∙◌}
-use Rattle.kernel_model.specs.machine.Instructions.{goes_on}
-use Rattle.plain_steps.proofs.RunLemmas.{same_task}
-use Rattle.plain_steps.proofs.WaitLemmas.{sleep_does, sleep_is}
+-- What is done over copies of the areas is done over the kernel that was copied.
+use Rattle.kernel_model.specs.calls.Callers.{context_of}
+use Rattle.kernel_model.specs.entries.Steps.{sleep_row}
+use Rattle.kernel_model.specs.declared.kernel.Kernel.{Kernel}
+use Rattle.kernel_model.specs.entries.Parts.{outcome_in, parts}
+use Rattle.plain_steps.proofs.RunLemmas.{does_over}
 use Rattle.plain_steps.proofs.waiting.sleep_task.Goals as goal
 
-pub returns-in-Calls : goal.returns-in-Calls
-returns-in-Calls c =
-    sleep_does c.args.kernel.now c.copied_areas.new.kernel c.sleep_in.new.kernel c.args.caller
-    (record c.args.caller { registers = c.step.new.registers; space = c.step.new.space }) c.sleep_in.result
-    (c.in_ok-step.ensures.next c.args.caller c.args.kernel.now
-    (record { task = refl; registers = refl; space = refl; areas = sym c.in_ok-areas.ensures.copied })
-    ∙ c.in-Calls.is) c.copied_areas.ensures.kept
-    (same_task c.args.caller c.step.new.registers c.step.new.space
-    (c.in_ok-step.ensures.kept (ap goes_on c.in-Calls.is)).0
-    (c.in_ok-step.ensures.kept (ap goes_on c.in-Calls.is)).1) c.sleep_in.ensures
-
-pub returns-in-Goes : goal.returns-in-Goes
-returns-in-Goes c = (
-  sleep_is c.args.caller c.args.kernel.now _
-      (c.in_ok-step.ensures.next c.args.caller c.args.kernel.now
-      (record { task = refl; registers = refl; space = refl; areas = sym c.in_ok-areas.ensures.copied })
-      ∙ c.in-Goes.is),
-  c.copied_areas.ensures.kept,
-)
-
-pub returns-in-Traps : goal.returns-in-Traps
-returns-in-Traps c = (
-  sleep_is c.args.caller c.args.kernel.now _
-      (c.in_ok-step.ensures.next c.args.caller c.args.kernel.now
-      (record { task = refl; registers = refl; space = refl; areas = sym c.in_ok-areas.ensures.copied })
-      ∙ c.in-Traps.is),
-  c.copied_areas.ensures.kept,
-)
+pub returns : goal.returns
+returns c =
+    does_over c.args.kernel.now c.copied_areas.new.kernel c.sleep_over.new.kernel
+    (λ (m : Kernel). outcome_in (parts m) (sleep_row (context_of m) c.args.caller.now)) c.sleep_over.result
+    c.copied_areas.ensures.kept c.sleep_over.ensures
