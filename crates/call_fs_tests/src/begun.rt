@@ -1,6 +1,6 @@
 //! Guests with a heap and a pipe, and the places in their memory that the tables name.
 
-use kernel_calls_acts::{Act, Guest, HEAP, PIPE2, TOP, WRITE, new_guest};
+use kernel_calls_for_tests::{Act, Guest, HEAP, PIPE2, TOP, WRITE, new_guest};
 use std::alloc::Global;
 use std::test::Fail;
 

@@ -13,7 +13,7 @@ use call_fs::{
 use fd_table::Descriptor;
 use guest_access::read as read_bytes;
 use kernel_calls::Context;
-use kernel_calls_acts::{Act, Guest, HEAP, new_guest};
+use kernel_calls_for_tests::{Act, Guest, HEAP, new_guest};
 use kernel_model::{GuestArea, GuestSpace, Named, OpenFiles};
 use sn_base::{List, Made};
 use sn_errno::Reply;

@@ -4,9 +4,9 @@
 //! The contracts of `call_fs` say what each call comes to by its row; here it's tried at each error of each call, at
 //! two errors at once where the row has an order, at full tables, at numbers whose upper bits are set, at the last and
 //! the last but one descriptor of a pipe's end, and at pipes that are empty, full or almost so. By `call` guests of
-//! `kernel_calls_acts` ask for each of those in the table by its number, make pipes, read and write by numbers that
-//! come and go, map by them, and do so as processes and threads. Beside it stand what `file_changes` does for a process
-//! that is made or ends.
+//! `kernel_calls_for_tests` ask for each of those in the table by its number, make pipes, read and write by numbers
+//! that come and go, map by them, and do so as processes and threads. Beside it stand what `file_changes` does for a
+//! process that is made or ends.
 //!
 //! Expected values are those that dup(2), fcntl(2), ioctl(2), close(2), lseek(2), pread(2), read(2), write(2),
 //! readv(2), pipe(2), mmap(2), fork(2) and pipe(7) give, worked out by hand, with the numbers of Linux's

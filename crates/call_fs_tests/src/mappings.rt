@@ -1,6 +1,6 @@
 //! mmap of a file: by whether its number is open.
 
-use kernel_calls_acts::{Act, CLOSE, DUP, FIXED, MAPPINGS_END, MMAP, PRIVATE, expect_acts};
+use kernel_calls_for_tests::{Act, CLOSE, DUP, FIXED, MAPPINGS_END, MMAP, PRIVATE, expect_acts};
 use std::test::Fail;
 
 /// MAP_PRIVATE and MAP_SHARED, without MAP_ANONYMOUS.

@@ -1,7 +1,7 @@
 //! pipe2 of guests: of two errors which is told, which numbers the ends have, and what a pipe's two ends are.
 
 use crate::begun::{BARRED, BYTES, END, IMAGE, P32, expect};
-use kernel_calls_acts::{
+use kernel_calls_for_tests::{
     Act, CLOSE, DUP, FCNTL, Guest, HEAP, LSEEK, MAPPINGS_END, PIPE2, READ, SHARED, WRITE,
     expect_acts, new_guest,
 };

@@ -3,7 +3,7 @@
 use crate::begun::{
     BARRED, BYTES, END, IMAGE, NUMBERS, OVER, P32, RECORDS, ZEROS, expect, expect_with,
 };
-use kernel_calls_acts::{Act, CLOSE, DUP, FCNTL, HEAP, READ, READV, WRITE};
+use kernel_calls_for_tests::{Act, CLOSE, DUP, FCNTL, HEAP, READ, READV, WRITE};
 use std::test::Fail;
 
 /// read(2), ERRORS, with the order of docs/GUESTS.md: descriptor, buffer and count.

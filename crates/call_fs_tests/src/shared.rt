@@ -1,7 +1,7 @@
 //! Records, buffers and numbers of ends in shared areas, and over the border of private and shared pages.
 
 use crate::begun::{BYTES, expect};
-use kernel_calls_acts::{
+use kernel_calls_for_tests::{
     Act, FIXED, MAPPINGS_END, PIPE2, PRIVATE, READ, READV, SHARED, WRITE, WRITEV,
 };
 use std::test::Fail;

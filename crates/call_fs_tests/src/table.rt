@@ -1,7 +1,7 @@
 //! The table of calls: each number is the call of its name, and other numbers are none.
 
 use crate::begun::NUMBERS;
-use kernel_calls_acts::{
+use kernel_calls_for_tests::{
     Act, CLOSE, DUP, DUP3, ENOSYS, FCNTL, GETPID, HEAP, IOCTL, LSEEK, PIPE2, PREAD64, PWRITE64,
     READ, READV, WRITE, WRITEV, expect_acts,
 };

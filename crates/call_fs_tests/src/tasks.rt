@@ -1,6 +1,6 @@
 //! Calls on descriptors by processes and threads: whose numbers are opened and closed, and whose flags are set.
 
-use kernel_calls_acts::{Act, CLOSE, DUP, DUP3, FCNTL, MEMORY, WRITE, expect_acts};
+use kernel_calls_for_tests::{Act, CLOSE, DUP, DUP3, FCNTL, MEMORY, WRITE, expect_acts};
 use sn_base::Made;
 use std::test::Fail;
 

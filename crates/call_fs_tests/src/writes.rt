@@ -3,7 +3,7 @@
 use crate::begun::{
     BARRED, BYTES, END, IMAGE, NUMBERS, OVER, P32, RECORDS, ZEROS, expect, expect_with,
 };
-use kernel_calls_acts::{
+use kernel_calls_for_tests::{
     Act, CLOSE, DUP, DUP3, FCNTL, Guest, HEAP, READ, TOP, WRITE, WRITEV, ask, expect_acts,
     new_guest,
 };

@@ -1,6 +1,6 @@
 //! Calls of the system that fail, and how they are answered and counted.
 
-use host_folder_acts::{Ask, Call, Line, Row, expect_not_granted, expect_script};
+use host_folder_for_tests::{Ask, Call, Line, Row, expect_not_granted, expect_script};
 use host_node::HostErr;
 use std::test::Fail;
 

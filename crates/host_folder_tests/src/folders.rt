@@ -1,7 +1,7 @@
 //! Folders of the machine: what is listed, read, told and opened of their files.
 
 use host_folder::Folders;
-use host_folder_acts::{
+use host_folder_for_tests::{
     Ask, Row, expect_buried, expect_folder, expect_made, expect_no_grant, granted, granted_by,
     make_folder, settle_at,
 };

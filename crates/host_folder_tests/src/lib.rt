@@ -5,7 +5,7 @@
 //! which calls it is to be asked for, and what it answers, each call looks at its own path, follows no link, and opens
 //! a file as it is; calls of it that fail are answered and counted, and want of memory is not counted.
 //!
-//! What the tables are made of stands in `host_folder_acts`.
+//! What the tables are made of stands in `host_folder_for_tests`.
 //!
 //! Expected values are worked out by hand from the manual pages of lstat(2), open(2), pread(2) and readdir(3).
 #![tactic(auto)]

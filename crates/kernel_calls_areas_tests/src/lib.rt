@@ -5,7 +5,8 @@
 //! addresses; and changes of what is mapped end reservations, where they meet their pages. Guests are of words that an
 //! assembler made.
 //!
-//! Other mappings and buffers stand in `kernel_calls_tests`, and what the tables are made of in `kernel_calls_acts`.
+//! Other mappings and buffers stand in `kernel_calls_tests`, and what the tables are made of in
+//! `kernel_calls_for_tests`.
 //!
 //! Expected values are from outside: the RISC-V manual, and the Linux manual pages by hand.
 #![tactic(auto)]

@@ -1,6 +1,6 @@
 //! What ends a reservation of the task's own: each change of what is mapped that meets its page.
 
-use kernel_calls_acts::{
+use kernel_calls_for_tests::{
     Act, FIXED, Guest, HEAP, MAPPINGS_END, PRIVATE, RESERVE, SHARED, STORE_RESERVED,
     STORE_RESERVED_WORD, ask, expect_acts, expect_acts_of, new_guest,
 };

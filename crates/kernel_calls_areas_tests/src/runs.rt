@@ -1,6 +1,6 @@
 //! Runs of instructions that end before one that touches a shared area, and that instruction alone.
 
-use kernel_calls_acts::{
+use kernel_calls_for_tests::{
     ADD, ADD_WORD, Act, Guest, JUMP, LOAD, MAPPINGS_END, RESERVE, RESERVE_WORD, SHARED, STORE,
     STORE_RESERVED, STORE_RESERVED_WORD, expect_acts, guest_of, new_guest,
 };

@@ -1,6 +1,6 @@
 //! Shared areas: buffers of calls that lie there, and one area at two addresses.
 
-use kernel_calls_acts::{
+use kernel_calls_for_tests::{
     ADD, Act, FIXED, Guest, HEAP, LOAD, MAPPINGS_END, PRIVATE, RESERVE, SHARED, STORE,
     STORE_RESERVED, expect_acts, new_guest,
 };

@@ -1,7 +1,7 @@
 //! What is expected of a guest's memory and registers: each expectation is a call here, and not the many steps of an
 //! assertion.
 
-use kernel_calls_acts::read;
+use kernel_calls_for_tests::read;
 use kernel_model::GuestSpace;
 use mm_areas::Rights;
 use rv_table::{Reg, Regs};

@@ -3,7 +3,7 @@
 use crate::guests::{expect_bytes, expect_pages, expect_register, expect_rights, expect_unmapped};
 use guest_access::{Ran, run, step};
 use kernel_calls::{Beginning, args_of, call_of, reply};
-use kernel_calls_acts::opened;
+use kernel_calls_for_tests::opened;
 use kernel_model::{Args, GuestSpace, Named, Next};
 use mm_areas::Rights;
 use rv_table::{Reg, Regs};

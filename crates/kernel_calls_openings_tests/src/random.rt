@@ -2,7 +2,7 @@
 
 use crate::guests::expect_bytes;
 use kernel_calls::opening_random;
-use kernel_calls_acts::opened;
+use kernel_calls_for_tests::opened;
 use sn_vectors::images::GUEST;
 use std::alloc::Global;
 use std::process::Abort;

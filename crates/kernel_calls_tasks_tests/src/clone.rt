@@ -1,7 +1,7 @@
 //! Calls that make tasks: why some are refused, and what a child begins with.
 
 use kernel_calls::Child;
-use kernel_calls_acts::{
+use kernel_calls_for_tests::{
     Act, CLONE, EAGAIN, EFAULT, EINVAL, EXIT, Ends, Guest, HEAP, MAPPINGS_END, PRIVATE, RESERVE,
     SHARED, STORE, TOP, crowd, expect_acts, guest_among, new_guest,
 };

@@ -1,6 +1,8 @@
 //! Descriptors as processes and threads are made and end: who has which, and what is closed with the last.
 
-use kernel_calls_acts::{Act, EXIT, EXIT_GROUP, Ends, MEMORY, READ_END, WRITE_END, expect_acts};
+use kernel_calls_for_tests::{
+    Act, EXIT, EXIT_GROUP, Ends, MEMORY, READ_END, WRITE_END, expect_acts,
+};
 use sn_base::Made;
 use std::test::Fail;
 

@@ -1,6 +1,6 @@
 //! Tasks that end: their statuses, their clear words, and who is woken by these.
 
-use kernel_calls_acts::{
+use kernel_calls_for_tests::{
     Act, EXIT, EXIT_GROUP, Ends, Guest, HEAP, MAPPINGS_END, PRIVATE, SHARED, TOP, Word, end,
     expect_acts_among, family, guest_among,
 };

@@ -1,6 +1,6 @@
 //! Tasks that sleep on words, are told why they may not, and are woken.
 
-use kernel_calls_acts::{
+use kernel_calls_for_tests::{
     Act, EAGAIN, EFAULT, EINVAL, ENOSYS, FIXED, FUTEX, GETTID, Guest, HEAP, MAPPINGS_END, MEMORY,
     PRIVATE, SHARED, TOP, expect_acts, expect_acts_among, family, guest_among,
 };

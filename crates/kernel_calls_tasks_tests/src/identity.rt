@@ -1,6 +1,6 @@
 //! Who a guest is told that it is, and which system it runs on.
 
-use kernel_calls_acts::{
+use kernel_calls_for_tests::{
     Act, EFAULT, GETEGID, GETEUID, GETGID, GETPID, GETPPID, GETTID, GETUID, Guest, HEAP,
     MAPPINGS_END, PRIVATE, SET_ROBUST_LIST, SHARED, TOP, UNAME, expect_acts, expect_acts_among,
     family, new_guest,

@@ -5,7 +5,7 @@
 //! for their children, and end, and their descriptors are copied and closed.
 //!
 //! Calls that map memory or fill buffers stand in `kernel_calls_tests`, and what the tables are made of in
-//! `kernel_calls_acts`.
+//! `kernel_calls_for_tests`.
 //!
 //! Expected values are from outside: the Linux manual pages by hand.
 #![tactic(auto)]

@@ -1,6 +1,6 @@
 //! Children that take their places among the tasks: their numbers, groups, registers and memories.
 
-use kernel_calls_acts::{
+use kernel_calls_for_tests::{
     Act, EXIT_GROUP, Ends, GETPID, GETPPID, GETTID, HEAP, MAPPINGS_END, MEMORY, SHARED, STORE, TOP,
     expect_acts, expect_acts_among, family,
 };

@@ -1,6 +1,6 @@
 //! What time it is: 1,000 ns for each place, as clock_gettime(2) stores it.
 
-use kernel_calls_acts::{
+use kernel_calls_for_tests::{
     Act, CLOCK_GETTIME, EFAULT, EINVAL, HEAP, MAPPINGS_END, PRIVATE, SCHED_YIELD, SHARED, TOP,
     expect_acts,
 };

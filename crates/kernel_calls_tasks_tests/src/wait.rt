@@ -1,6 +1,6 @@
 //! Parents that wait for their children: which is told, and where its status is put.
 
-use kernel_calls_acts::{
+use kernel_calls_for_tests::{
     Act, ECHILD, EFAULT, EINVAL, HEAP, MAPPINGS_END, PRIVATE, SHARED, TOP, WAIT4, brood,
     expect_acts, expect_acts_among,
 };

@@ -1,6 +1,6 @@
 //! brk.
 
-use kernel_calls_acts::{Act, FIXED, HEAP, JUMP, PRIVATE, STORE, TOP, expect_acts};
+use kernel_calls_for_tests::{Act, FIXED, HEAP, JUMP, PRIVATE, STORE, TOP, expect_acts};
 use kernel_model::Next;
 use std::test::Fail;
 

@@ -1,7 +1,7 @@
 //! What a call takes from a guest's buffer, and what it comes to.
 
 use kernel_calls::{Effect, Prepared};
-use kernel_calls_acts::{Act, EXIT_GROUP, Guest, WRITE, ask, guest_in, opened, read};
+use kernel_calls_for_tests::{Act, EXIT_GROUP, Guest, WRITE, ask, guest_in, opened, read};
 use kernel_model::GuestSpace;
 use sn_base::List;
 use sn_vectors::images::GUEST;

@@ -1,6 +1,6 @@
 //! What pages hold once they are mapped, replaced, unmapped and protected.
 
-use kernel_calls_acts::{
+use kernel_calls_for_tests::{
     Act, ENOMEM, FIXED, HEAP, LOAD, MAPPINGS_END, MPROTECT, PRIVATE, SHARED, STORE, TOP,
     expect_acts, expect_acts_of,
 };

@@ -1,7 +1,7 @@
 //! Bytes that go into guests' buffers and from there into pipes: which of them may be accessed, and by which areas.
 
 use guest_access::{asks_for_area, is_accessible, read, scatter, send};
-use kernel_calls_acts::{Act, Guest, HEAP, MAPPINGS_END, PRIVATE, SHARED, new_guest};
+use kernel_calls_for_tests::{Act, Guest, HEAP, MAPPINGS_END, PRIVATE, SHARED, new_guest};
 use mm_areas::Rights;
 use pipe_core::{CAPACITY, Pipe};
 use stat_layout::IoVec;

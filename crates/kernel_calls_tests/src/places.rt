@@ -1,6 +1,6 @@
 //! Where mappings go, and how many pages there may be.
 
-use kernel_calls_acts::{
+use kernel_calls_for_tests::{
     Act, ENOMEM, FIXED, Guest, HEAP, MAPPINGS_END, MMAP, PRIVATE, SHARED, TOP, expect_acts,
     new_guest,
 };

@@ -1,7 +1,9 @@
 //! The bytes that getrandom puts, against another ChaCha20 with a counter and a stream of 64 bits: some forty lines of
 //! Python after the cipher's public definition, with the seed as its key and the place of the entry as its stream.
 
-use kernel_calls_acts::{Act, Guest, MAPPINGS_END, PRIVATE, SHARED, TOP, expect_acts, new_guest};
+use kernel_calls_for_tests::{
+    Act, Guest, MAPPINGS_END, PRIVATE, SHARED, TOP, expect_acts, new_guest,
+};
 use std::alloc::Global;
 use std::test::Fail;
 

@@ -1,6 +1,6 @@
 //! What refuses mmap, munmap, mprotect and getrandom, and of two causes which is told.
 
-use kernel_calls_acts::{
+use kernel_calls_for_tests::{
     Act, EBADF, EFAULT, EINVAL, ENODEV, ENOMEM, FIXED, GETRANDOM, HEAP, MMAP, MPROTECT, MUNMAP,
     PRIVATE, SHARED, TOP, expect_acts,
 };

@@ -7,7 +7,7 @@
 //! what is mapped, and what a store-conditional is told.
 //!
 //! What is mapped, loads, hints and forks stand in `mm_space_tests`, and what the tables are made of in
-//! `mm_space_acts`.
+//! `mm_space_for_tests`.
 //!
 //! Expected values are worked out by hand: bytes stand lowest first, and a page's number is its address by 4,096.
 #![tactic(auto)]

@@ -2,7 +2,7 @@
 
 use crate::reservations::SPACE;
 use mm_areas::{AreaErr, Backing};
-use mm_space_acts::{Act, Case, FIRST, READ, SECOND, WRITE, begin, expect_cases};
+use mm_space_for_tests::{Act, Case, FIRST, READ, SECOND, WRITE, begin, expect_cases};
 use std::alloc::Global;
 use std::test::Fail;
 

@@ -1,7 +1,7 @@
 //! Reservations: which stores end them, and what a store-conditional is told.
 
 use mm_areas::Backing;
-use mm_space_acts::{
+use mm_space_for_tests::{
     Act, Begins, Case, FIRST, Guest, Mapped, READ, SECOND, Side, THIRD, WRITE, begin, expect_cases,
     space_of,
 };

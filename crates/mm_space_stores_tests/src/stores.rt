@@ -1,6 +1,6 @@
 //! Stores, over the end of a page and within one, and whether they may be made.
 
-use mm_space_acts::{
+use mm_space_for_tests::{
     Act, Begins, Case, FIRST, Guest, HIGH, LOW, SECOND, SHORT, Side, THIRD, expect_cases,
     first_bytes, pair_of, second_bytes,
 };

@@ -2,7 +2,7 @@
 
 use mm_areas::Backing;
 use mm_space::{Handed, Space};
-use mm_space_acts::{READ, WRITE, space_of};
+use mm_space_for_tests::{READ, WRITE, space_of};
 use std::alloc::Global;
 use std::test::Fail;
 

@@ -1,6 +1,6 @@
 //! Runs of bytes put into memory.
 
-use mm_space_acts::{
+use mm_space_for_tests::{
     Act, Begins, Case, Guest, Hand, SECOND, begin, expect_cases, expect_of_run, pattern,
 };
 use rv_table::MemErr;

@@ -1,6 +1,6 @@
 //! Loads and fetches.
 
-use mm_space_acts::{Act, Begins, Case, FIRST, SECOND, expect_cases};
+use mm_space_for_tests::{Act, Begins, Case, FIRST, SECOND, expect_cases};
 use rv_table::MemErr;
 use std::test::Fail;
 

@@ -2,7 +2,7 @@
 
 use mm_areas::Backing;
 use mm_space::Space;
-use mm_space_acts::{FIRST, Mapped, READ, SECOND, WRITE, space_of};
+use mm_space_for_tests::{FIRST, Mapped, READ, SECOND, WRITE, space_of};
 use rv_table::Area;
 use std::test::Fail;
 

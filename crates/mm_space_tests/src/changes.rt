@@ -1,7 +1,7 @@
 //! Changes of what is mapped, as loads and fetches see them.
 
 use mm_areas::{AreaErr, Backing};
-use mm_space_acts::{Act, Begins, Case, EXECUTE, READ, SECOND, expect_cases};
+use mm_space_for_tests::{Act, Begins, Case, EXECUTE, READ, SECOND, expect_cases};
 use rv_table::MemErr;
 use std::test::Fail;
 

@@ -1,7 +1,9 @@
 //! Decoded words of pages that may be executed.
 
 use mm_areas::Backing;
-use mm_space_acts::{Act, Begins, Case, EXECUTE, Guest, READ, WRITE, Word, begin, expect_cases};
+use mm_space_for_tests::{
+    Act, Begins, Case, EXECUTE, Guest, READ, WRITE, Word, begin, expect_cases,
+};
 use std::alloc::Global;
 use std::test::Fail;
 

@@ -1,6 +1,6 @@
 //! A space and its child.
 
-use mm_space_acts::{Act, Begins, Case, FIRST, Guest, HIGH, LOW, Side, begin, expect_cases};
+use mm_space_for_tests::{Act, Begins, Case, FIRST, Guest, HIGH, LOW, Side, begin, expect_cases};
 use rv_table::MemErr;
 use std::alloc::Global;
 use std::test::Fail;

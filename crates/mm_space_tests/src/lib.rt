@@ -8,7 +8,7 @@
 //! at an address.
 //!
 //! Stores, runs of bytes that are put and reservations stand in `mm_space_stores_tests`, and what the tables are made
-//! of in `mm_space_acts`.
+//! of in `mm_space_for_tests`.
 //!
 //! Expected values are worked out by hand: bytes stand lowest first, and a page's number is its address by 4,096.
 #![tactic(auto)]

@@ -1,7 +1,7 @@
 //! Loads and stores by hints.
 
 use mm_areas::Backing;
-use mm_space_acts::{Act, Begins, Case, FIRST, READ, WRITE, expect_cases};
+use mm_space_for_tests::{Act, Begins, Case, FIRST, READ, WRITE, expect_cases};
 use rv_table::MemErr;
 use std::test::Fail;
 

@@ -1,6 +1,6 @@
 //! Runs of bytes: whether all of them may be accessed, and what they are.
 
-use mm_space_acts::{
+use mm_space_for_tests::{
     Act, Begins, Case, EXECUTE, FIRST, Guest, Hand, READ, SECOND, WRITE, begin, expect_cases,
     expect_of_run, pattern,
 };

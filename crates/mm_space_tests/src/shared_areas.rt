@@ -2,7 +2,7 @@
 
 use mm_areas::Backing;
 use mm_space::{Handed, SharedArea};
-use mm_space_acts::{
+use mm_space_for_tests::{
     Act, Begins, Case, FIRST, Guest, READ, SECOND, SHORT, Side, WRITE, begin, expect_cases,
     put_byte, space_of,
 };

@@ -2,7 +2,7 @@
 //! as a run did instructions leave the same.
 
 use rv_exec::{Flow, RowRun, Step, run_row};
-use rv_exec_acts::{
+use rv_exec_for_tests::{
     AREA, DATA, HELD, PC, Paged, Reserved, Right, Run, Small, ZEROS, memory_of, once, page_of,
     regs_with, row_of,
 };

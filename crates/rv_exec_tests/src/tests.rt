@@ -4,7 +4,7 @@
 
 use operations::OPERATIONS;
 use rv_exec::Step;
-use rv_exec_acts::{
+use rv_exec_for_tests::{
     AREA, DATA, HELD, Memory, PC, Reserved, Right, Run, SHARED, ZEROS, gone_on, leaves, memory_of,
     once, regs_at, regs_with,
 };

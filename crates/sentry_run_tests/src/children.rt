@@ -5,7 +5,7 @@ use crate::task_guests::{
     WAITS_FOR_A_SLEEPER, WAITS_FOR_A_THREAD, WAITS_ON_A_PAGE_THAT_GOES, WAKES, WAKES_ACROSS,
 };
 use sentry_run::Fault;
-use sentry_run_cases::{
+use sentry_run_for_tests::{
     Case, Expected, Failing, Host, MountFile, QUIET, Several, Words, expect_cases,
 };
 use std::test::Fail;

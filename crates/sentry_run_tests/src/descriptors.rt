@@ -1,6 +1,6 @@
 //! Guests that open, close and write by descriptors: words that an assembler made, and what they print.
 
-use sentry_run_cases::{Case, Expected, Host, QUIET, Several, expect_cases};
+use sentry_run_for_tests::{Case, Expected, Host, QUIET, Several, expect_cases};
 use std::test::Fail;
 
 /// Duplicates its output, and writes a line by the duplicate. It has a number from 9 on for its input, and five calls

@@ -1,6 +1,6 @@
 //! Guests that use memory: their text and their trace, and that a plain kernel does the trace too.
 
-use sentry_run_cases::{Case, Expected, Host, MountFile, QUIET, Words, expect_cases};
+use sentry_run_for_tests::{Case, Expected, Host, MountFile, QUIET, Words, expect_cases};
 use sn_vectors::programs::{ATOMICS, JUMPS_INTO_A_SHARED_PAGE, STORES, STORES_WITHOUT_THE_RIGHT};
 use std::test::Fail;
 

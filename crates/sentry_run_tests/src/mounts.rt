@@ -3,7 +3,7 @@
 use host_memory::Op;
 use mount_file::MountFault;
 use sentry_run::Fault;
-use sentry_run_cases::{Case, Expected, Failing, MountFile, QUIET, Table, expect_cases};
+use sentry_run_for_tests::{Case, Expected, Failing, MountFile, QUIET, Table, expect_cases};
 use sn_errno::Errno;
 use std::test::Fail;
 

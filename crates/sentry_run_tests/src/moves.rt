@@ -1,6 +1,6 @@
 //! Guests that move bytes through pipes: words that an assembler made, and what they print.
 
-use sentry_run_cases::{Case, Expected, Host, QUIET, expect_cases};
+use sentry_run_for_tests::{Case, Expected, Host, QUIET, expect_cases};
 use std::test::Fail;
 
 /// Makes a pipe whose ends don't wait, fills it, is refused a byte more, and reads a page of it. A write of a byte more

@@ -5,7 +5,7 @@ use crate::pipe_guests::{
     READS_BY_A_RECORD_IN_A_SHARED_PAGE, READS_TO_THE_END, STOPS_WAITING, WAIT_FOR_ONE_ANOTHER,
 };
 use sentry_run::Fault;
-use sentry_run_cases::{Case, Expected, Host, QUIET, Several, expect_cases};
+use sentry_run_for_tests::{Case, Expected, Host, QUIET, Several, expect_cases};
 use std::test::Fail;
 
 /// What these print: their calls, with the errors of errno(3): EBADF 9, EAGAIN 11, EFAULT 14 and EPIPE 32. The buffer

@@ -7,7 +7,7 @@ ghost use Rattle.host_memory.specs.Access.{opened_as};
 use host_memory::{MemoryNode, Plan, World};
 use host_node::{Attr, HostErr, HostNode, HostWorld, Kind, Listing, Tree};
 use sentry_run::Fault;
-use sentry_run_cases::{QUIET, QUIET_TEXT, run, source_of, words_of, world_of};
+use sentry_run_for_tests::{QUIET, QUIET_TEXT, run, source_of, words_of, world_of};
 use sn_base::Memory;
 use sn_edge::{MemSink, MemSource};
 use sn_text::{Folder, Name, Route, name_of};

@@ -1,6 +1,6 @@
 //! Guests that print, and what calls answer them.
 
-use sentry_run_cases::{Case, Expected, Host, QUIET, Words, expect_cases};
+use sentry_run_for_tests::{Case, Expected, Host, QUIET, Words, expect_cases};
 use sn_vectors::programs::{ATOMICS, STORES};
 use sn_vectors::words::*;
 use std::test::Fail;

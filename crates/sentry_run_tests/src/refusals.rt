@@ -2,7 +2,7 @@
 
 use host_memory::Op;
 use sentry_run::Fault;
-use sentry_run_cases::{Case, Expected, Failing, Host, QUIET, expect_cases};
+use sentry_run_for_tests::{Case, Expected, Failing, Host, QUIET, expect_cases};
 use sn_errno::Errno;
 use std::test::Fail;
 

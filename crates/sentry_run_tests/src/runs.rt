@@ -3,7 +3,7 @@
 
 use mount_file::MountFault;
 use sentry_run::Fault;
-use sentry_run_cases::{Case, Expected, Failing, MountFile, QUIET, Words, expect_cases};
+use sentry_run_for_tests::{Case, Expected, Failing, MountFile, QUIET, Words, expect_cases};
 use std::test::Fail;
 
 /// The text without a task that has ended.

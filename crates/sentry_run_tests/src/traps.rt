@@ -1,7 +1,7 @@
 //! Guests that a trap ends, each by its signal, and one that never ends.
 
 use sentry_run::Fault;
-use sentry_run_cases::{Case, Expected, Host, MountFile, QUIET, Words, expect_cases};
+use sentry_run_for_tests::{Case, Expected, Host, MountFile, QUIET, Words, expect_cases};
 use sn_vectors::words::*;
 use std::test::Fail;
 

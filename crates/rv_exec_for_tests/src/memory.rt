@@ -1,0 +1,227 @@
+//! A small memory: bytes to be executed, and sixteen to be read and written.
+
+ghost use Rattle.std.specs.Prelude.{◌≡◌, ◌≢◌, nat_eq};
+ghost use Rattle.rv_table.specs.Words.{IsWidth};
+ghost use Rattle.rv_table.specs.Bytes.{AllowsAs, AnswersAs, loaded};
+ghost use Rattle.rv_exec.specs.Writes.{Stores};
+ghost use Rattle.rv_exec_for_tests.specs.MemoryAfter.{memory_after};
+ghost use Rattle.rv_exec_for_tests.specs.Places.{reached};
+
+use crate::bytes::{Bytes, Reached, Right, Run, access};
+use rv_exec::Mem;
+use rv_table::MemErr;
+use sn_base::Memory as Wanting;
+
+/// An address and a number of bytes that a task has reserved.
+#[derive(Clone, Copy, PartialEq, Eq)]
+pub struct Reserved {
+    pub address: u64,
+    pub width: u8,
+}
+
+/// The memory of a task: so many bytes that may be executed, sixteen bytes that may be read and written where it says
+/// so, and the task's reservation. A store changes both where they lie over one another.
+#[derive(Clone, Copy, PartialEq, Eq)]
+pub struct Small<const C: usize> {
+    pub code: Run<C>,
+    pub data: Run<16>,
+    pub readable: Right,
+    pub writable: Right,
+    pub reserved: Option<Reserved>,
+    /// How many calls are answered before memory is wanting. `take` and a store that is ready want none.
+    pub accesses: u64,
+    /// Whether bytes that may be written were found since the last fetch, load or reservation.
+    pub ready: bool,
+    /// Whether the sixteen bytes are at hand.
+    pub is_near: bool,
+}
+
+/// A memory in which one word may be executed.
+pub type Memory = Small<4>;
+
+impl<const C: usize> Small<C> {
+    /// Whether memory is wanting at a call. Nothing is ready behind it.
+    fn is_wanting(&mut self) -> bool
+        ensures { ⟦<Small<C> as Mem>⟧.told self.new ≡ ⟦<Small<C> as Mem>⟧.told self.old }
+    {
+        self.ready = false;
+        if self.accesses == 0 {
+            return true;
+        }
+        self.accesses -= 1;
+        false
+    }
+
+    /// The number of so many bytes at an address, each of which may be read.
+    fn number(&self, at: u64, width: u8) -> Result<u64, MemErr>
+        requires { IsWidth width }
+        ensures answer { AnswersAs (loaded
+            (reached self.now.readable.is_granted self.now.readable.lacking
+            (⟦<Run<16> as Bytes>⟧.byte_at self.now.data))
+            at width) result }
+        ensures lean { result ≢ Err MemErr.Memory }
+    {
+        let bytes = Reached {
+            run: self.data,
+            right: self.readable,
+        };
+        access(&bytes, at, width)
+    }
+
+    /// Whether each of so many bytes at an address may be written.
+    fn room(&self, at: u64, width: u8) -> Result<(), MemErr>
+        requires { IsWidth width }
+        ensures answer { AllowsAs (loaded
+            (reached self.now.writable.is_granted self.now.writable.lacking
+            (⟦<Run<16> as Bytes>⟧.byte_at self.now.data))
+            at width) result }
+        ensures lean { result ≢ Err MemErr.Memory }
+    {
+        let bytes = Reached {
+            run: self.data,
+            right: self.writable,
+        };
+        match access(&bytes, at, width) {
+            Ok(_) => Ok(()),
+            Err(refusal) => Err(refusal),
+        }
+    }
+
+    /// Stores so many of a number's bytes at an address, where bytes of memory lie there.
+    fn put(&mut self, at: u64, width: u8, value: u64)
+        requires { IsWidth width }
+        ensures { ⟦<Small<C> as Mem>⟧.told self.new ≡
+            memory_after nat_eq (Stores at width value) (⟦<Small<C> as Mem>⟧.told self.old) }
+    {
+        self.code.put(at, width, value);
+        self.data.put(at, width, value);
+    }
+}
+
+impl<const C: usize> Mem for Small<C> {
+    ghost use Rattle.std.specs.Prelude.{Bool, true, false, nat_eq, ◌==◌, ◌&&◌};
+    ghost use Rattle.std.specs.Option.{option_map_or};
+    ghost use Rattle.rv_table.specs.Bytes.{Memory as Seen};
+    ghost use Rattle.rv_exec_for_tests.specs.MemoryAfter.{is_memory_after, memory_after};
+    ghost use Rattle.rv_exec_for_tests.specs.Pages.{instrs_of};
+    ghost use Rattle.rv_exec_for_tests.specs.Places.{itself, reached};
+    ghost use Rattle.rv_exec_for_tests.specs.Decoded.{decoded};
+
+    ghost State = { Seen };
+
+    ghost told = { λ memory. record {
+      code = ⟦<Run<C> as Bytes>⟧.byte_at memory.code;
+      data_ = reached memory.readable.is_granted memory.readable.lacking (⟦<Run<16> as Bytes>⟧.byte_at memory.data);
+      room = reached memory.writable.is_granted memory.writable.lacking (⟦<Run<16> as Bytes>⟧.byte_at memory.data);
+      reserves = λ address width. option_map_or
+          (λ reserved. (reserved.address == address) && (reserved.width == width)) memory.reserved false;
+    } };
+
+    ghost seen = { λ state. state };
+
+    ghost after = { memory_after nat_eq };
+
+    ghost is_same = { λ state. nat_eq };
+
+    ghost instrs = { λ state. instrs_of state.code };
+
+    ghost is_ready = { λ memory at width. memory.ready };
+
+    ghost takes_memory = { true };
+
+    fn fetch(&mut self, at: u64) -> Result<u32, MemErr> {
+        if self.is_wanting() {
+            return Err(MemErr::Memory);
+        }
+        match access(&self.code, at, 4) {
+            Ok(word) => Ok(word as u32),
+            Err(refusal) => Err(refusal),
+        }
+    }
+
+    fn load(&mut self, at: u64, width: u8) -> Result<u64, MemErr> {
+        if self.is_wanting() {
+            return Err(MemErr::Memory);
+        }
+        self.number(at, width)
+    }
+
+    fn writable(&mut self, at: u64, width: u8) -> Result<(), MemErr> {
+        if self.is_wanting() {
+            return Err(MemErr::Memory);
+        }
+        let answer = self.room(at, width);
+        self.ready = answer.is_ok();
+        answer
+    }
+
+    fn store(&mut self, at: u64, width: u8, value: u64) -> Result<(), MemErr> {
+        if !self.ready && self.is_wanting() {
+            return Err(MemErr::Memory);
+        }
+        match self.room(at, width) {
+            Ok(()) => {
+                self.put(at, width, value);
+                Ok(())
+            }
+            Err(refusal) => Err(refusal),
+        }
+    }
+
+    fn reserve(&mut self, at: u64, width: u8) -> Result<(), Wanting> {
+        if self.is_wanting() {
+            return Err(Wanting);
+        }
+        self.reserved = Some(Reserved { address: at, width });
+        Ok(())
+    }
+
+    fn take(&mut self, at: u64, width: u8) -> bool {
+        let is_held = match self.reserved {
+            Some(reserved) => reserved.address == at && reserved.width == width,
+            None => false,
+        };
+        self.reserved = None;
+        is_held
+    }
+
+    fn load_near(&mut self, at: u64, width: u8) -> Option<u64> {
+        if !self.is_near {
+            return None;
+        }
+        match self.number(at, width) {
+            Ok(number) => Some(number),
+            Err(_) => None,
+        }
+    }
+
+    fn store_near(&mut self, at: u64, width: u8, value: u64) -> bool {
+        if !self.is_near || at % 4096 + u64::from(width) > 4096 {
+            return false;
+        }
+        match self.room(at, width) {
+            Ok(()) => {
+                self.put(at, width, value);
+                true
+            }
+            Err(_) => false,
+        }
+    }
+
+    fn conditional_near(&mut self, at: u64, width: u8, value: u64) -> Option<bool> {
+        if !self.is_near || at % 4096 + u64::from(width) > 4096 || self.room(at, width).is_err() {
+            return None;
+        }
+        let is_held = self.take(at, width);
+        if is_held {
+            self.put(at, width, value);
+        }
+        Some(is_held)
+    }
+
+    ghost written = { is_memory_after nat_eq };
+
+    ghost itself = { λ state. itself };
+
+    ghost decoded = { λ state. decoded state.code };
+}
