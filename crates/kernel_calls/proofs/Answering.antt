@@ -6,7 +6,7 @@ use Rattle.mm_areas.specs.declared.fault.AreaErr.{AreaErr}
 use Rattle.sn_errno.specs.declared.errno.Errno.{Errno}
 use Rattle.sn_errno.specs.declared.errno.Errno.TheVariants.{ENOSYS}
 use Rattle.sn_errno.specs.Errors.{reply_of}
-use Rattle.mm_space.specs.Handing.{AreaState, InHand}
+use Rattle.mm_space.specs.Handing.{AreaState}
 use Rattle.mm_space.specs.Spaces.{AddressSpace}
 use Rattle.futex_core.specs.FutexLists.{FutexList, after_wake, waiters_on}
 use Rattle.futex_core.specs.declared.keys.FutexKey.{FutexKey}
@@ -14,16 +14,13 @@ use Rattle.task_table.specs.Table.{TaskTable}
 use Rattle.kernel_model.specs.Names.{NamedMap, get_named, with_named}
 use Rattle.kernel_model.specs.declared.caller.Caller.{Caller}
 use Rattle.kernel_model.specs.declared.kernel.Kernel.{Kernel}
-use Rattle.kernel_model.specs.declared.kernel.Part.TheVariants.{OfArea, OfSleepers, OfSpace, OfTasks}
+use Rattle.kernel_model.specs.declared.kernel.Part.TheVariants.{OfSleepers, OfSpace, OfTasks}
 use Rattle.kernel_model.specs.calls.Answers.{Answer, replies, refuses}
 use Rattle.kernel_model.specs.calls.Ending.{clear_set, set_tid_address_row}
 use Rattle.kernel_model.specs.calls.Futex.{wakes_on}
 use Rattle.kernel_model.specs.calls.Memory.{remaps, unless_refused}
-use Rattle.kernel_model.specs.entries.Areas.{area_changes}
 use Rattle.kernel_model.specs.entries.Parts.{parts, Prog, done, outcome_in, Change, changed}
-use Rattle.kernel_model.proofs.ChildLaws.{changed-append}
 use Rattle.kernel_model.proofs.NamedMaps.{with_same}
-use Rattle.guest_access.specs.Lending.{with_hand, AreThose}
 use Rattle.guest_access.specs.Memories.{with_memory}
 use Rattle.kernel_calls.specs.Prepared.{Answers, AnswersKept, HasSpace, IsCalling, with_effect}
 use Rattle.kernel_calls.specs.declared.context.Context.{Context}

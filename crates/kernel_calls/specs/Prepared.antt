@@ -3,7 +3,6 @@ use Rattle.std.specs.Prelude.{◌≡◌, ℕ, ◌+◌, ⊤, Option, Some, None, 
 use Rattle.std.specs.Prelude.{length, pos}
 use Rattle.std.specs.FinMap as map
 use Rattle.rv_table.specs.declared.error.Area.{Area}
-use Rattle.rv_table.specs.declared.regs.Regs.{Regs}
 use Rattle.mm_space.specs.Handing.{AreaState}
 use Rattle.mm_space.specs.Spaces.{AddressSpace}
 use Rattle.futex_core.specs.FutexLists.{FutexList, after_sleep, after_wake}
@@ -24,7 +23,6 @@ use Rattle.kernel_model.specs.calls.Ending.{clear_set, group_end, left_by, woken
 use Rattle.kernel_model.specs.laws.Beginnings.{IsRoomFor}
 use Rattle.kernel_model.specs.laws.Files.{without_table}
 use Rattle.kernel_model.specs.entries.Parts.{Parts, parts, Prog, outcome_in, Change, changed}
-use Rattle.kernel_model.specs.entries.Steps.{step_row}
 use Rattle.file_changes.specs.Changes.{files_after}
 use Rattle.kernel_calls.specs.Children.{with_child}
 use Rattle.guest_access.specs.Memories.{with_memory}
