@@ -7,7 +7,7 @@ use crate::Given;
 use sn_base::List;
 
 /// The six argument registers of a system call, a0 to a5.
-#[derive(Clone, Copy, Drop)]
+#[derive(Clone, Copy, Debug, Drop, PartialEq, Eq)]
 pub struct Args {
     pub a0: u64,
     pub a1: u64,

@@ -68,7 +68,7 @@ impl Drop for Kernel {
 }
 
 /// A part of the state, as a step reads and changes it.
-#[derive(Clone, Copy, Drop)]
+#[derive(Clone, Copy, Debug, Drop, PartialEq, Eq)]
 pub enum Part {
     OfTasks,
     OfTask(u32),

@@ -11,7 +11,7 @@ use std::alloc::Global;
 /// An open file description, and how many descriptors have it, of all tables. It is closed with the last of them.
 ///
 /// open(2), Open file descriptions; close(2).
-#[derive(Clone, Copy, Drop)]
+#[derive(Clone, Copy, Debug, Drop, PartialEq, Eq)]
 pub struct OpenFile {
     pub description: Description,
     pub descriptors: u64,

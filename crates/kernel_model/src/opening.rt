@@ -13,7 +13,7 @@ pub struct Fresh {
 }
 
 /// By how much the count of faults of the node of that number rose.
-#[derive(Clone, Copy, Drop, PartialEq, Eq)]
+#[derive(Clone, Copy, Debug, Drop, PartialEq, Eq)]
 pub struct Rise {
     pub ino: u64,
     pub count: u64,
