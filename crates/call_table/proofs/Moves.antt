@@ -8,7 +8,7 @@ use Rattle.std.proofs.lemmas.Bool.{eq-eqb}
 use Rattle.sn_base.proofs.Maps.{get-insert_other}
 use Rattle.futex_core.specs.declared.keys.FutexKey.{FutexKey}
 use Rattle.futex_core.specs.FutexLists.{after_leave, after_sleep}
-use Rattle.rv_table.specs.declared.regs.Regs.{Regs}
+use Rattle.rv_table.specs.declared.registers.Regs.{Regs}
 use Rattle.mm_space.specs.Spaces.{AddressSpace}
 use Rattle.sn_base.specs.declared.made.Made.{Made}
 use Rattle.task_table.specs.declared.task.Task.{Task}

@@ -3,7 +3,7 @@ use Rattle.std.proofs.Common.{◌≡◌, ℕ, ◌+◌, List, ap, sym, ◌∙◌}
 use Rattle.std.specs.FinMap as map
 use Rattle.elf_image.specs.declared.image.Image.{Image}
 use Rattle.mount_file.specs.declared.mounts.Program.{Program}
-use Rattle.rv_table.specs.declared.regs.Regs.{Regs}
+use Rattle.rv_table.specs.declared.registers.Regs.{Regs}
 use Rattle.mm_space.specs.Spaces.{AddressSpace}
 use Rattle.task_table.specs.Clones.{opened}
 use Rattle.kernel_model.specs.Names.{with_named}

@@ -4,7 +4,7 @@ ghost use Rattle.std.specs.Prelude.{◌≡◌, ◌+◌, [], true, IsTrue, IfOk, 
 ghost use Rattle.std.specs.FinMap as map;
 ghost use Rattle.std.specs.Ordering.{nat_cmp};
 ghost use Rattle.futex_core.specs.FutexLists.{after_sleep};
-ghost use Rattle.rv_table.specs.declared.regs.Regs.{Regs as ARegs};
+ghost use Rattle.rv_table.specs.declared.registers.Regs.{Regs as ARegs};
 ghost use Rattle.task_table.specs.Table.{is_live};
 ghost use Rattle.kernel_model.specs.Names.{has_named};
 ghost use Rattle.kernel_model.specs.declared.caller.Caller.{Caller as ACaller};

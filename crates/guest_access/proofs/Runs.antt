@@ -6,7 +6,7 @@ use Rattle.std.specs.Prelude.{option_and_then, nat_le, ◌&&◌, ◌%◌, ◌/�
 use Rattle.std.proofs.lemmas.Bool.{le-leb}
 use Rattle.std.specs.FinMap as map
 use Rattle.rv_table.specs.declared.error.Area.{Area}
-use Rattle.rv_table.specs.declared.regs.Regs.{Regs}
+use Rattle.rv_table.specs.declared.registers.Regs.{Regs}
 use Rattle.rv_table.specs.Bytes.{behind}
 use Rattle.rv_exec.specs.Writes.{Write, Stores, Reserves, Releases, all_after}
 use Rattle.rv_exec.specs.Execution.{Done, exec}

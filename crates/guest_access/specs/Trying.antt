@@ -1,7 +1,7 @@
 -- Accesses and instructions with the shared areas that they ask for, as they are tried.
 use Rattle.std.specs.Prelude.{◌≡◌, ℕ, Some, None, Bool, true, false, Option, List, if◌then◌else◌}
 use Rattle.rv_table.specs.Bytes.{Value, loaded}
-use Rattle.rv_table.specs.declared.regs.Regs.{Regs}
+use Rattle.rv_table.specs.declared.registers.Regs.{Regs}
 use Rattle.mm_areas.specs.declared.rights.Rights.{Rights}
 use Rattle.mm_space.specs.Accesses.{byte_at}
 use Rattle.mm_space.specs.Handing.{AreaState, InHand}

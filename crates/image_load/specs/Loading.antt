@@ -5,7 +5,7 @@ use Rattle.elf_image.specs.Loadable.{Loadable}
 use Rattle.mm_areas.specs.declared.places.TheConstants.{MOST_PAGES}
 use Rattle.mm_areas.specs.Mappings.{pages_in}
 use Rattle.mm_space.specs.Spaces.{AddressSpace, unreserved}
-use Rattle.rv_table.specs.declared.regs.Regs.{Regs}
+use Rattle.rv_table.specs.declared.registers.Regs.{Regs}
 use Rattle.image_load.specs.declared.stack.Auxiliary.{Auxiliary}
 use Rattle.image_load.specs.declared.stack.LoadErr.{LoadErr}
 use Rattle.image_load.specs.declared.stack.LoadErr.TheVariants.{TooBig, Limit, Memory}

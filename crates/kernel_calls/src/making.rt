@@ -3,7 +3,7 @@
 ghost use Rattle.std.specs.Prelude.{◌≡◌, IsTrue, OnErr, OnOk};
 ghost use Rattle.std.specs.FinMap as map;
 ghost use Rattle.std.specs.Ordering.{nat_cmp};
-ghost use Rattle.rv_table.specs.declared.regs.Regs.{Regs as ARegs};
+ghost use Rattle.rv_table.specs.declared.registers.Regs.{Regs as ARegs};
 ghost use Rattle.task_table.specs.Clones.{forked, threaded};
 ghost use Rattle.task_table.specs.Table.{is_live};
 ghost use Rattle.kernel_model.specs.Names.{has_named, with_named};

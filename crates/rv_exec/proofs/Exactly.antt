@@ -1,7 +1,7 @@
 -- A step by exact accesses, by what their flow comes to.
 use Rattle.std.proofs.Common.{◌≢◌, Bool, true, false, refl, ap}
 use Rattle.std.proofs.lemmas.Bool.{false≢true}
-use Rattle.rv_table.specs.declared.regs.Regs.{Regs}
+use Rattle.rv_table.specs.declared.registers.Regs.{Regs}
 use Rattle.rv_exec.specs.Execution.{Done, Goes, Calls, Traps, Touches, StepsAs}
 use Rattle.rv_exec.specs.Flows.{FlowsAs, outcome_of}
 use Rattle.rv_exec.specs.Writes.{Write}

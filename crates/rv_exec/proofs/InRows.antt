@@ -4,7 +4,7 @@ use Rattle.std.specs.Prelude.{option_and_then, slice_index_or}
 use Rattle.std.proofs.lemmas.List.{get_or_default}
 use Rattle.rv_table.specs.declared.instr.Instr.{Instr}
 use Rattle.rv_table.specs.declared.instr.Instr.TheVariants as instr
-use Rattle.rv_table.specs.declared.regs.Regs.{Regs}
+use Rattle.rv_table.specs.declared.registers.Regs.{Regs}
 use Rattle.rv_table.specs.Bytes.{Accessed, Memory, Value, Fault, Shared, loaded}
 use Rattle.rv_exec.specs.Courses.{EndsBy, Going, going, one_more, ran, went_by}
 use Rattle.rv_exec.specs.Execution.{Done, Goes, Calls, Traps, Touches, by_word, done_by, exec}

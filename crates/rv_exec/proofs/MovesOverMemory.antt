@@ -1,6 +1,6 @@
 -- A flow that changes registers alone, over memory of which the same is told.
 use Rattle.std.proofs.Common.{◌≡◌, Bool, [], ◌∷◌}
-use Rattle.rv_table.specs.declared.regs.Regs.{Regs}
+use Rattle.rv_table.specs.declared.registers.Regs.{Regs}
 use Rattle.rv_exec.specs.Execution.{Done, Goes, Calls, Traps, Touches}
 use Rattle.rv_exec.specs.Flows.{MovesAs, FlowsAs}
 use Rattle.rv_exec.specs.Writes.{Write}

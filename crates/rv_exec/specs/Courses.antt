@@ -1,6 +1,6 @@
 -- Instructions one after another.
 use Rattle.std.specs.Prelude.{◌≡◌, ⊤, ℕ, zero, suc, ◌<◌, Option, Some, None, option_and_then}
-use Rattle.rv_table.specs.declared.regs.Regs.{Regs}
+use Rattle.rv_table.specs.declared.registers.Regs.{Regs}
 use Rattle.rv_table.specs.Bytes.{Memory}
 use Rattle.rv_exec.specs.Execution.{Done, Goes, Calls, Traps, Touches, exec}
 use Rattle.rv_exec.specs.Writes.{Write, all_after}

@@ -3,7 +3,7 @@ use Rattle.std.specs.Prelude.{◌≡◌, ℕ, ◌+◌, ◌-◌, ◌%◌, ◌^◌
 use Rattle.rv_table.specs.declared.error.Area.{Area}
 use Rattle.rv_table.specs.declared.instr.Instr.{Instr}
 use Rattle.rv_table.specs.declared.instr.Instr.TheVariants as instr
-use Rattle.rv_table.specs.declared.regs.Regs.{Regs}
+use Rattle.rv_table.specs.declared.registers.Regs.{Regs}
 use Rattle.rv_table.specs.Fields.{sign_extend}
 use Rattle.rv_table.specs.Registers.{reg, with_reg, at_pc, gone_on}
 use Rattle.rv_table.specs.Table.{instr_of}

@@ -1,6 +1,6 @@
 -- What an instruction and an access come to, told without what a refusal is about.
 use Rattle.std.specs.Prelude.{◌≡◌, ⊤, ℕ, Bool, true, false, Option, Some, None, []}
-use Rattle.rv_table.specs.declared.regs.Regs.{Regs}
+use Rattle.rv_table.specs.declared.registers.Regs.{Regs}
 use Rattle.rv_table.specs.Bytes.{Accessed, Value, Fault, Shared}
 use Rattle.rv_exec.specs.Execution.{Done, Goes, Calls, Traps, Touches}
 use Rattle.rv_exec.specs.Writes.{Write, all_after}

@@ -1,6 +1,6 @@
 -- The registers of a task.
 use Rattle.std.specs.Prelude.{ℕ, ◌+◌, ◌%◌, ◌^◌, ◌==◌, if◌then◌else◌, slice_index, slice_set}
-use Rattle.rv_table.specs.declared.regs.Regs.{Regs}
+use Rattle.rv_table.specs.declared.registers.Regs.{Regs}
 
 -- what a register holds; x0 is 0
 -- RISC-V Unprivileged ISA 20191213, 2.1

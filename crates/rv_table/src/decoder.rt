@@ -10,10 +10,10 @@ ghost use Rattle.rv_table.specs.Table.{instr_of};
 
 use crate::Instr;
 use crate::atomics::atomic;
+use crate::computations::{register, word_immediate, word_register};
 use crate::fields::{
     b_immediate, i_immediate, j_immediate, rd, rs1, rs2, s_immediate, shamt, u_immediate,
 };
-use crate::registers::{register, word_immediate, word_register};
 
 /// The instruction of a word: `Illegal` where no row of the table makes one of it.
 pub fn decode(word: u32) -> Instr

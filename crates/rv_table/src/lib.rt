@@ -20,16 +20,16 @@
 #![tactic(auto)]
 
 mod atomics;
+mod computations;
 mod decoder;
 mod error;
 mod fields;
 mod instr;
 mod reg;
 mod registers;
-mod regs;
 
 pub use decoder::decode;
 pub use error::{Area, MemErr};
 pub use instr::Instr;
 pub use reg::Reg;
-pub use regs::Regs;
+pub use registers::Regs;

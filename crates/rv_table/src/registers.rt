@@ -1,91 +1,59 @@
-//! The decoder's rows of computations on two registers, and of those on words.
+//! The registers of a task.
 
-ghost use Rattle.std.specs.Prelude.{◌≡◌, option_to_list, ◌++◌};
-ghost use Rattle.rv_table.specs.Fields.{funct3_of, funct7_of};
-ghost use Rattle.rv_table.specs.Table.{by_funct3, by_two, r_format, i_format, word_shift_format, registers};
-ghost use Rattle.rv_table.specs.Table.{word_immediates, word_shifts, word_registers};
+ghost use Rattle.std.specs.Prelude.{◌≡◌, ◌<◌, ◌==◌, if◌then◌else◌};
+ghost use Rattle.rv_table.specs.Registers.{reg, with_reg, at_pc, gone_on};
 
-use crate::Instr;
-use crate::fields::{i_immediate, rd, rs1, rs2, word_shamt};
+use crate::Reg;
 
-/// By funct7 and funct3.
-pub fn register(word: u32) -> Option<Instr>
-    ensures { by_two r_format funct7_of funct3_of registers word ≡ option_to_list result }
-{
-    let rd = rd(word);
-    let rs1 = rs1(word);
-    let rs2 = rs2(word);
-    match (word >> 25, (word >> 12) % 8) {
-        (0, 0) => Some(Instr::Add { rd, rs1, rs2 }),
-        (0, 1) => Some(Instr::Sll { rd, rs1, rs2 }),
-        (0, 2) => Some(Instr::Slt { rd, rs1, rs2 }),
-        (0, 3) => Some(Instr::Sltu { rd, rs1, rs2 }),
-        (0, 4) => Some(Instr::Xor { rd, rs1, rs2 }),
-        (0, 5) => Some(Instr::Srl { rd, rs1, rs2 }),
-        (0, 6) => Some(Instr::Or { rd, rs1, rs2 }),
-        (0, 7) => Some(Instr::And { rd, rs1, rs2 }),
-        (32, 0) => Some(Instr::Sub { rd, rs1, rs2 }),
-        (32, 5) => Some(Instr::Sra { rd, rs1, rs2 }),
-        (1, 0) => Some(Instr::Mul { rd, rs1, rs2 }),
-        (1, 1) => Some(Instr::Mulh { rd, rs1, rs2 }),
-        (1, 2) => Some(Instr::Mulhsu { rd, rs1, rs2 }),
-        (1, 3) => Some(Instr::Mulhu { rd, rs1, rs2 }),
-        (1, 4) => Some(Instr::Div { rd, rs1, rs2 }),
-        (1, 5) => Some(Instr::Divu { rd, rs1, rs2 }),
-        (1, 6) => Some(Instr::Rem { rd, rs1, rs2 }),
-        (1, 7) => Some(Instr::Remu { rd, rs1, rs2 }),
-        _ => None,
-    }
+/// The state of a hardware thread: the program counter and the integer registers x0 to x31, of which x0 is 0.
+///
+/// RISC-V Unprivileged ISA 20191213, 2.1, Programmers' Model for Base Integer ISA.
+#[derive(Clone, Copy, Debug, PartialEq, Eq)]
+pub struct Regs {
+    pub pc: u64,
+    pub x: [u64; 32],
 }
 
-/// By funct3; where that is a shift's, by funct7 too.
-pub fn word_immediate(word: u32) -> Option<Instr>
-    ensures { by_funct3 i_format word_immediates word ++ by_two word_shift_format funct3_of funct7_of word_shifts word
-        ≡ option_to_list result }
+/// All bits of a register.
+const ALL: u64 = u64::MAX;
+
+/// The bits that a read gives of a register, by its number: none of x0.
+#[rattlefmt::skip]
+const MASKS: [u64; 32] = [
+    0, ALL, ALL, ALL, ALL, ALL, ALL, ALL, ALL, ALL, ALL, ALL, ALL, ALL, ALL, ALL,
+    ALL, ALL, ALL, ALL, ALL, ALL, ALL, ALL, ALL, ALL, ALL, ALL, ALL, ALL, ALL, ALL,
+];
+
+/// What is read of a register that holds so much, by its number.
+#[inline(always)]
+fn masked(value: u64, number: usize) -> u64
+    requires { number < 32 }
+    ensures { result ≡ if number == 0 then 0 else value }
 {
-    match (word >> 12) % 8 {
-        0 => Some(Instr::Addiw {
-            rd: rd(word),
-            rs1: rs1(word),
-            imm: i_immediate(word),
-        }),
-        _ => word_shift(word),
-    }
+    value & MASKS[number]
 }
 
-/// By funct3 and funct7.
-fn word_shift(word: u32) -> Option<Instr>
-    ensures { by_two word_shift_format funct3_of funct7_of word_shifts word ≡ option_to_list result }
-{
-    let rd = rd(word);
-    let rs1 = rs1(word);
-    let shamt = word_shamt(word);
-    match ((word >> 12) % 8, word >> 25) {
-        (1, 0) => Some(Instr::Slliw { rd, rs1, shamt }),
-        (5, 0) => Some(Instr::Srliw { rd, rs1, shamt }),
-        (5, 32) => Some(Instr::Sraiw { rd, rs1, shamt }),
-        _ => None,
+impl Regs {
+    /// What a register holds. x0 holds 0. There is no branch, since each instruction reads registers.
+    pub fn read(&self, register: Reg) -> u64
+        ensures { result ≡ reg self.now register }
+    {
+        let number = register.number();
+        masked(self.x[number], number)
     }
-}
 
-/// By funct7 and funct3.
-pub fn word_register(word: u32) -> Option<Instr>
-    ensures { by_two r_format funct7_of funct3_of word_registers word ≡ option_to_list result }
-{
-    let rd = rd(word);
-    let rs1 = rs1(word);
-    let rs2 = rs2(word);
-    match (word >> 25, (word >> 12) % 8) {
-        (0, 0) => Some(Instr::Addw { rd, rs1, rs2 }),
-        (0, 1) => Some(Instr::Sllw { rd, rs1, rs2 }),
-        (0, 5) => Some(Instr::Srlw { rd, rs1, rs2 }),
-        (32, 0) => Some(Instr::Subw { rd, rs1, rs2 }),
-        (32, 5) => Some(Instr::Sraw { rd, rs1, rs2 }),
-        (1, 0) => Some(Instr::Mulw { rd, rs1, rs2 }),
-        (1, 4) => Some(Instr::Divw { rd, rs1, rs2 }),
-        (1, 5) => Some(Instr::Divuw { rd, rs1, rs2 }),
-        (1, 6) => Some(Instr::Remw { rd, rs1, rs2 }),
-        (1, 7) => Some(Instr::Remuw { rd, rs1, rs2 }),
-        _ => None,
+    /// Puts a value into a register. A write to x0 does nothing.
+    pub fn write(&mut self, register: Reg, value: u64)
+        ensures { self.new ≡ with_reg self.old register value }
+    {
+        let number = register.number();
+        self.x[number] = if number == 0 { self.x[0] } else { value };
+    }
+
+    /// Moves on to the next instruction, 4 bytes further.
+    pub fn go_on(&mut self)
+        ensures { self.new ≡ gone_on self.old }
+    {
+        self.pc = self.pc.wrapping_add(4);
     }
 }

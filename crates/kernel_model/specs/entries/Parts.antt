@@ -5,7 +5,7 @@ use Rattle.std.specs.FinMap as map
 use Rattle.fd_table.specs.Tables.{Table}
 use Rattle.kernel_model.specs.Names.{NamedMap, get_named, with_named, without_named}
 use Rattle.rv_table.specs.declared.error.Area.{Area}
-use Rattle.rv_table.specs.declared.regs.Regs.{Regs}
+use Rattle.rv_table.specs.declared.registers.Regs.{Regs}
 use Rattle.sn_base.specs.declared.made.Made.{Made}
 use Rattle.task_table.specs.Table.{TaskTable}
 use Rattle.mm_space.specs.Handing.{AreaState}

@@ -9,7 +9,7 @@ use Rattle.std.specs.Ordering.{int_eq}
 use Rattle.sn_errno.specs.declared.errno.Errno.{Errno}
 use Rattle.sn_errno.specs.declared.errno.Errno.TheVariants.{EIO, ENFILE}
 use Rattle.sn_errno.specs.Errors.{reply_of}
-use Rattle.rv_table.specs.declared.regs.Regs.{Regs}
+use Rattle.rv_table.specs.declared.registers.Regs.{Regs}
 use Rattle.futex_core.specs.FutexLists.{after_leave}
 use Rattle.mm_space.specs.Handing.{InHand}
 use Rattle.task_table.specs.declared.task.Status.TheVariants.{Killed}

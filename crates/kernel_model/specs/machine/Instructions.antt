@@ -1,6 +1,6 @@
 -- What the next instruction of a task does, in the words of the kernel.
 use Rattle.std.specs.Prelude.{◌≡◌, ℕ, ◌<◌, Bool, true, false}
-use Rattle.rv_table.specs.declared.regs.Regs.{Regs}
+use Rattle.rv_table.specs.declared.registers.Regs.{Regs}
 use Rattle.rv_exec.specs.Execution.{Done, exec}
 use Rattle.rv_exec.specs.Execution as done
 use Rattle.quantum.specs.Acting.{Acting, memory_of}

@@ -1,7 +1,7 @@
 -- The registers of a task at a system call.
 use Rattle.std.specs.Prelude.{ℕ, ℤ}
 use Rattle.std.specs.Int.{cast_unsigned, w64}
-use Rattle.rv_table.specs.declared.regs.Regs.{Regs}
+use Rattle.rv_table.specs.declared.registers.Regs.{Regs}
 use Rattle.rv_table.specs.Registers.{reg, with_reg, gone_on}
 use Rattle.kernel_model.specs.declared.entry.Args.{Args}
 

@@ -1,6 +1,6 @@
 -- A task at work in an address space, with shared areas in hand.
 use Rattle.std.specs.Prelude.{ℕ, List, []}
-use Rattle.rv_table.specs.declared.regs.Regs.{Regs}
+use Rattle.rv_table.specs.declared.registers.Regs.{Regs}
 use Rattle.mm_space.specs.Handing.{InHand}
 use Rattle.mm_space.specs.Spaces.{AddressSpace, Reach}
 use Rattle.quantum.specs.Acting.{Acting, acting_on}

@@ -2,7 +2,7 @@
 use Rattle.std.proofs.Common.{◌≡◌, ℕ, ◌<◌, false, refl, ap, ◌∙◌, arith}
 use Rattle.std.specs.Prelude.{Result, Ok, Err, IfOk, OnErr, None}
 use Rattle.std.specs.FinMap as map
-use Rattle.rv_table.specs.declared.regs.Regs.{Regs}
+use Rattle.rv_table.specs.declared.registers.Regs.{Regs}
 use Rattle.mm_space.specs.Spaces.{AddressSpace}
 use Rattle.sn_base.specs.declared.made.Made.{Made}
 use Rattle.kernel_model.specs.Names.{NamedMap, with_named}

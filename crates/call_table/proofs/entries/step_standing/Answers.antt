@@ -2,7 +2,7 @@
 use Rattle.std.proofs.Common.{ap, sym, ◌∙◌, refl}
 use Rattle.std.specs.FinMap as map
 use Rattle.std.specs.Ordering.{nat_cmp}
-use Rattle.rv_table.specs.declared.regs.Regs.{Regs}
+use Rattle.rv_table.specs.declared.registers.Regs.{Regs}
 use Rattle.kernel_model.specs.Names.{with_named}
 use Rattle.kernel_model.specs.declared.traps.Next.TheVariants.{Goes}
 use Rattle.proc_cells.specs.Beside.{Held}
