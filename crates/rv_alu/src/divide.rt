@@ -5,7 +5,8 @@ ghost use Rattle.std.specs.Int.{IsNonZero, w32};
 ghost use Rattle.rv_table.specs.Words.{signed, bits_of, low_word, signed_word, word};
 ghost use Rattle.rv_alu.specs.Values.{quotient, remainder};
 
-use crate::words::{carried, low_word, signed_word, word};
+use crate::words::{carried, word};
+use rv_table::{low_word, signed_word};
 
 /// The quotient of signed numbers: -1 by 0.
 #[inline]

@@ -4,7 +4,8 @@ ghost use Rattle.std.specs.Prelude.{◌≡◌, ◌^◌, ◌%◌, ◌*◌};
 ghost use Rattle.std.specs.Int.{int_shr};
 ghost use Rattle.rv_table.specs.Words.{signed, bits_of, low_word, signed_word, word, shifted_left, shifted_right};
 
-use crate::words::{carried, low_word, signed_word, word};
+use crate::words::{carried, word};
+use rv_table::{low_word, signed_word};
 
 /// To the left.
 #[inline]

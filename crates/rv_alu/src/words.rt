@@ -1,23 +1,9 @@
 //! Numbers of 64 and of 32 bits, with and without a sign.
 
-ghost use Rattle.std.specs.Prelude.{◌≡◌, ◌^◌, ◌%◌, int_lt, nat_lt};
-ghost use Rattle.rv_table.specs.Words.{signed, bits_of, low_word, signed_word, word, flag};
+ghost use Rattle.std.specs.Prelude.{◌≡◌, int_lt, nat_lt};
+ghost use Rattle.rv_table.specs.Words.{signed, bits_of, word, flag};
 
-/// The low 32 bits of a register.
-#[inline]
-pub(crate) fn low_word(n: u64) -> u32
-    ensures { result ≡ low_word n }
-{
-    (n % 0x1_0000_0000) as u32
-}
-
-/// The low 32 bits of a register, as a signed number.
-#[inline]
-pub(crate) fn signed_word(n: u64) -> i32
-    ensures { result ≡ signed_word n }
-{
-    low_word(n).cast_signed()
-}
+use rv_table::signed_word;
 
 /// A word as a register has it: with its sign carried on.
 #[inline]

@@ -3,8 +3,8 @@
 ghost use Rattle.std.specs.Prelude.{◌≡◌};
 ghost use Rattle.rv_atomic.specs.Atomics.{stored_by};
 
-use crate::words::{greater, greater_word, lesser, lesser_word, low_word};
-use rv_table::Instr;
+use crate::words::{greater, greater_word, lesser, lesser_word};
+use rv_table::{Instr, low_word};
 
 /// The value that an atomic memory operation stores: `old` is what memory held, as the instruction loads it, and `b`
 /// what rs2 holds. A W instruction reads the low 32 bits of both alone, and its value is the number that the word's

@@ -1,24 +1,9 @@
-//! Words and double words, with and without a sign.
+//! The lesser and the greater of two words, and of two double words, as signed numbers.
 
 ghost use Rattle.std.specs.Prelude.{◌≡◌};
-ghost use Rattle.rv_table.specs.Words.{low_word, signed_word};
 ghost use Rattle.rv_atomic.specs.Atomics.{lesser, greater, lesser_word, greater_word};
 
-/// The low 32 bits of a register.
-#[inline]
-pub(crate) fn low_word(n: u64) -> u32
-    ensures { result ≡ low_word n }
-{
-    (n % 0x1_0000_0000) as u32
-}
-
-/// The low 32 bits of a register, as a signed number.
-#[inline]
-pub(crate) fn signed_word(n: u64) -> i32
-    ensures { result ≡ signed_word n }
-{
-    low_word(n).cast_signed()
-}
+use rv_table::{low_word, signed_word};
 
 /// The lesser of two double words, as signed numbers.
 pub(crate) fn lesser(a: u64, b: u64) -> u64

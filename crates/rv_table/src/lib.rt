@@ -4,8 +4,8 @@
 //! immediate with its sign carried on to 64 bits. The table stands in `specs/Table.antt`, a row a line in the manual's
 //! order, and the fields of a word in `specs/Fields.antt`. `rows_of word` is the list of all instructions that rows of
 //! the table make of a word. The registers of a task are `Regs`, and why memory answers nothing is `MemErr`. What the
-//! crates above say of numbers of 64 and of 32 bits stands in `specs/Words.antt`, and how they see memory, byte by
-//! byte, in `specs/Bytes.antt`.
+//! crates above say of numbers of 64 and of 32 bits stands in `specs/Words.antt`, with `low_word` and `signed_word` for
+//! the W instructions' operands, and how they see memory, byte by byte, in `specs/Bytes.antt`.
 //!
 //! Proved: of every word, `decode` gives the only row that fits it, and `Illegal` where none does (`row`), which is
 //! what the definition `instr_of` says (`instr`). So no two rows fit one word. A register's number is kept (`number`)
@@ -27,9 +27,11 @@ mod fields;
 mod instr;
 mod reg;
 mod registers;
+mod words;
 
 pub use decoder::decode;
 pub use error::{Area, MemErr};
 pub use instr::Instr;
 pub use reg::Reg;
 pub use registers::Regs;
+pub use words::{low_word, signed_word};

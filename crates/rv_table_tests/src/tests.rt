@@ -5,6 +5,7 @@ use std::process::Abort;
 mod atomics;
 mod flow;
 mod registers;
+mod words;
 
 /// A row's name, and the number of rd, that of rs1, and the immediate or the shift that it takes from a word.
 type Parts = (&'static str, usize, usize, i64);
