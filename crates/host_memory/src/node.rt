@@ -65,7 +65,7 @@ impl Model for MemoryNode {
     ghost use Rattle.std.specs.Prelude.{◌≡◌, false};
     ghost use Rattle.host_node.specs.Tree.{is_lent};
     ghost use Rattle.std.specs.Coded.{codes};
-    ghost use Rattle.host_node.specs.TreeCode.{coded_shape};
+    ghost use Rattle.host_node.specs.laws.TreeCode.{coded_shape};
     ghost use Rattle.host_memory.specs.InMemory.{NodeInMemory};
 
     ghost Value = { NodeInMemory };

@@ -54,7 +54,7 @@ impl Drop for World {
 
 impl Model for World {
     ghost use Rattle.std.specs.Coded.{codes};
-    ghost use Rattle.host_node.specs.TreeCode.{coded_shape};
+    ghost use Rattle.host_node.specs.laws.TreeCode.{coded_shape};
     ghost use Rattle.host_memory.specs.InMemory.{HostInMemory};
 
     ghost Value = { HostInMemory };

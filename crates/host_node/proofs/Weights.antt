@@ -2,7 +2,7 @@
 use Rattle.std.proofs.Common.{◌≡◌, ℕ, ◌<◌, ◌≤◌, ◌+◌, ◌*◌, List, [], ◌∷◌, length, get_or, zero, suc, arith, ap}
 use Rattle.host_node.specs.declared.tree.Entry.{Entry}
 use Rattle.host_node.specs.Levels.{children_from}
-use Rattle.host_node.specs.TreeSize.{weight, weight_of_entries}
+use Rattle.host_node.specs.laws.TreeSize.{weight, weight_of_entries}
 
 weight_at : (es : List Entry) (i : ℕ) (d : Entry) → i < length es → weight (get_or es i d).tree + 1
     ≤ weight_of_entries (children_from es)

@@ -5,6 +5,4 @@ pub mod Order
 pub mod Routes
 pub mod Told
 pub mod Tree
-pub mod TreeCode
-pub mod TreeFalls
-pub mod TreeSize
+pub mod laws

@@ -57,14 +57,14 @@ struct Entry {
 
 impl Model for Tree {
     ghost use Rattle.host_node.specs.Tree.{Shape};
-    ghost use Rattle.host_node.specs.TreeCode.{coded_shape};
+    ghost use Rattle.host_node.specs.laws.TreeCode.{coded_shape};
 
     ghost Value = { Shape };
 
     ghost coded = { coded_shape };
 
     ghost use Rattle.host_node.specs.Levels.{shape_of, IsSound};
-    ghost use Rattle.host_node.specs.TreeSize.{weight};
+    ghost use Rattle.host_node.specs.laws.TreeSize.{weight};
 
     ghost view = { λ a. shape_of a.node };
 
@@ -72,7 +72,7 @@ impl Model for Tree {
 
     ghost size = { weight };
 
-    ghost use Rattle.host_node.specs.TreeFalls.{deep_le-weight};
+    ghost use Rattle.host_node.specs.laws.TreeFalls.{deep_le-weight};
 
     ghost size_decreases = { λ a h. deep_le-weight a.node };
 }

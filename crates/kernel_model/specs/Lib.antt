@@ -1,7 +1,5 @@
 -- The definitions of the one-thread kernel, by subject.
 pub mod Names
-pub mod NameLends
-pub mod Formers
 pub mod machine
 pub mod calls
 pub mod descriptors

@@ -22,7 +22,7 @@ impl Drop for GuestArea {
 
 impl Model for GuestArea {
     ghost use Rattle.mm_space.specs.Handing.{AreaState, area_state};
-    ghost use Rattle.kernel_model.specs.machine.AreaCodes.{coded_area};
+    ghost use Rattle.kernel_model.specs.laws.AreaCodes.{coded_area};
 
     ghost Value = { AreaState };
 

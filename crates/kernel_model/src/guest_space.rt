@@ -22,7 +22,7 @@ impl Drop for GuestSpace {
 
 impl Model for GuestSpace {
     ghost use Rattle.mm_space.specs.Spaces.{AddressSpace, space_of};
-    ghost use Rattle.kernel_model.specs.machine.SpaceCodes.{coded_space};
+    ghost use Rattle.kernel_model.specs.laws.SpaceCodes.{coded_space};
 
     ghost Value = { AddressSpace };
 

@@ -46,8 +46,8 @@ impl<V> Model for Named<V> {
 impl<V> Named<V> {
     ghost use Rattle.std.specs.Borrow.{sem};
     ghost use Rattle.std.specs.Option.{option_copied_mut};
-    ghost use Rattle.kernel_model.specs.NameLends.{lends_named};
-    ghost use Rattle.kernel_model.specs.Formers.{IsFormer};
+    ghost use Rattle.kernel_model.specs.laws.NameLends.{lends_named};
+    ghost use Rattle.kernel_model.specs.laws.Formers.{IsFormer};
 
     /// The empty map, which takes no memory.
     pub fn new(alloc: Global) -> Self

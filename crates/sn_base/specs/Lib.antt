@@ -1,6 +1,6 @@
 -- What contracts of this crate say, by subject.
 pub mod Faults
 pub mod MapKeys
-pub mod MapLends
 pub mod Prefix
 pub mod Sums
+pub mod laws

@@ -33,7 +33,7 @@ impl<V> Model for Map<V> {
 impl<V> Map<V> {
     ghost use Rattle.std.specs.Borrow.{sem};
     ghost use Rattle.std.specs.Option.{option_copied_mut};
-    ghost use Rattle.sn_base.specs.MapLends.{lends_value};
+    ghost use Rattle.sn_base.specs.laws.MapLends.{lends_value};
 
     /// The empty map, which takes no memory.
     pub fn new(alloc: Global) -> Self

@@ -1,6 +1,6 @@
 use Rattle.std.proofs.Common.{◌≡◌, ◌+◌, ◌*◌, take}
 use Rattle.host_node.specs.Levels.{children_from}
-use Rattle.host_node.specs.TreeSize.{weight, weight_of_entries}
+use Rattle.host_node.specs.laws.TreeSize.{weight, weight_of_entries}
 use Rattle.host_node.proofs.tree.+copies.Given as goal
 
 abbrev pub decreases-Tree::copy : goal.decreases-Tree::copy

@@ -7,7 +7,7 @@ use Rattle.host_node.specs.declared.tree.Node.{Node}
 use Rattle.host_node.specs.declared.tree.Node.TheVariants.{Directory, File, Link, Lent}
 use Rattle.host_node.specs.declared.tree.Tree.TheDeep.{deep-Node, deep-Entry}
 use Rattle.host_node.specs.Levels.{shape_of, children_from}
-use Rattle.host_node.specs.TreeSize.{weight, weight_of_entries}
+use Rattle.host_node.specs.laws.TreeSize.{weight, weight_of_entries}
 
 -- no entry is deeper than all of them together
 pub most_le-weight : (es : List Entry) → most deep-Entry es ≤ weight_of_entries (children_from es)
