@@ -6,7 +6,7 @@ ghost use Rattle.kernel_model.specs.Names.{with_named};
 ghost use Rattle.kernel_model.specs.entries.Steps.{task_of};
 ghost use Rattle.kernel_model.specs.files.Numbers.{numbers_in};
 ghost use Rattle.kernel_model.specs.opening.Arguments.{is_too_long};
-ghost use Rattle.kernel_model.specs.laws.Beginnings.{HasRoom, MayOpen};
+ghost use Rattle.kernel_model.specs.laws.Room.{HasRoom, MayOpen};
 ghost use Rattle.kernel_model.specs.opening.Opening.{files_opened, made_by, root_of, with_task};
 ghost use Rattle.task_table.specs.Clones.{opened as opened_task};
 ghost use Rattle.task_table.specs.Table.{is_live, no_tasks};

@@ -3,7 +3,7 @@
 ghost use Rattle.std.specs.Prelude.{◌≡◌, ◌≤◌, ◌+◌, false, length, IfOk};
 ghost use Rattle.kernel_model.specs.opening.Arguments.{is_too_long};
 ghost use Rattle.kernel_model.specs.opening.Opening.{made_by};
-ghost use Rattle.kernel_model.specs.laws.Beginnings.{HasRoom, MayOpen};
+ghost use Rattle.kernel_model.specs.laws.Room.{HasRoom, MayOpen};
 ghost use Rattle.task_table.specs.Clones.{opened as opened_task};
 
 use call_table::Processes;

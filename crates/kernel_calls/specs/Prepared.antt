@@ -20,7 +20,7 @@ use Rattle.kernel_model.specs.declared.kernel.Part.TheVariants.{OfSleepers}
 use Rattle.kernel_model.specs.calls.Answers.{Answer, replies, sleeps, not_ready}
 use Rattle.kernel_model.specs.calls.Callers.{Context as RowContext}
 use Rattle.kernel_model.specs.calls.Ending.{clear_set, group_end, left_by, woken_on}
-use Rattle.kernel_model.specs.laws.Beginnings.{IsRoomFor}
+use Rattle.kernel_model.specs.laws.Room.{IsRoomFor}
 use Rattle.kernel_model.specs.laws.Files.{without_table}
 use Rattle.kernel_model.specs.entries.Parts.{Parts, parts, Prog, outcome_in, Change, changed}
 use Rattle.file_changes.specs.Changes.{files_after}

@@ -3,7 +3,7 @@
 ghost use Rattle.std.specs.Prelude.{◌≡◌, true, Some, IfOk};
 ghost use Rattle.kernel_model.specs.machine.Image.{image_of};
 ghost use Rattle.kernel_model.specs.opening.Opening.{image_within};
-ghost use Rattle.kernel_model.specs.laws.Beginnings.{fits};
+ghost use Rattle.kernel_model.specs.laws.Room.{fits};
 
 use elf_image::{Image, ImageFault, read_image};
 use image_load::has_too_many_pages;

@@ -9,7 +9,7 @@ ghost use Rattle.task_table.specs.Table.{is_live};
 ghost use Rattle.kernel_model.specs.Names.{has_named, with_named};
 ghost use Rattle.kernel_model.specs.declared.caller.Caller.{Caller as ACaller};
 ghost use Rattle.kernel_model.specs.declared.kernel.Kernel.{Kernel as AKernel};
-ghost use Rattle.kernel_model.specs.laws.Beginnings.{IsRoomFor};
+ghost use Rattle.kernel_model.specs.laws.Room.{IsRoomFor};
 ghost use Rattle.kernel_model.specs.laws.Files.{with_copy};
 ghost use Rattle.kernel_calls.specs.Children.{with_child, with_task, with_words};
 

@@ -5,7 +5,7 @@ ghost use Rattle.task_table.specs.Clones.{opened as with_opened};
 ghost use Rattle.kernel_model.specs.opening.Arguments.{is_too_long};
 ghost use Rattle.kernel_model.specs.opening.Opening.{made_by, registers_opened, root_among, root_of};
 ghost use Rattle.kernel_model.specs.opening.Opening.{space_opened};
-ghost use Rattle.kernel_model.specs.laws.Beginnings.{HasRoom, IsRoomFor};
+ghost use Rattle.kernel_model.specs.laws.Room.{HasRoom, IsRoomFor};
 
 use crate::opening_random;
 use elf_image::Image;

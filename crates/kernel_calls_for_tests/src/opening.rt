@@ -2,7 +2,7 @@
 
 ghost use Rattle.std.specs.Prelude.{◌≡◌, false, IfOk};
 ghost use Rattle.kernel_model.specs.opening.Arguments.{is_too_long};
-ghost use Rattle.kernel_model.specs.laws.Beginnings.{HasRoom};
+ghost use Rattle.kernel_model.specs.laws.Room.{HasRoom};
 
 use elf_image::Image;
 use kernel_calls::{Beginning, is_too_long, opened as beginning_of, read_executable};

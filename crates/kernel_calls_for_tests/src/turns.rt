@@ -3,7 +3,7 @@
 
 ghost use Rattle.std.specs.Prelude.{IsTrue};
 ghost use Rattle.kernel_model.specs.Names.{has_named};
-ghost use Rattle.kernel_model.specs.laws.Beginnings.{IsRoomFor};
+ghost use Rattle.kernel_model.specs.laws.Room.{IsRoomFor};
 ghost use Rattle.task_table.specs.Table.{is_live};
 
 use crate::families::lives;

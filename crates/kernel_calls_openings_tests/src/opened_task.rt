@@ -1,6 +1,6 @@
 //! Opening tasks in the task list, and the number of their working directory.
 
-ghost use Rattle.kernel_model.specs.laws.Beginnings.{IsRoomFor};
+ghost use Rattle.kernel_model.specs.laws.Room.{IsRoomFor};
 
 use kernel_calls::{open_task, root_of};
 use mount_file::Mount;

@@ -6,7 +6,7 @@ use Rattle.task_table.specs.Clones.{opened}
 use Rattle.task_table.specs.Kept.{IsSound}
 use Rattle.task_table.specs.Table.{TaskTable, no_tasks, live_count}
 use Rattle.task_table.proofs.Keeping.{sound_empty, sound_with_group}
-use Rattle.kernel_model.specs.laws.Beginnings.{MayOpen}
+use Rattle.kernel_model.specs.laws.Room.{MayOpen}
 
 -- so many tasks were opened: each of them lives, and the last has that number
 pub record AreOpened (n : ℕ) (list : TaskTable) : Type 0 where

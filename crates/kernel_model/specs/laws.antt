@@ -6,7 +6,7 @@ pub mod AreaCodes
 pub mod NameLends
 pub mod Formers
 pub mod InPlace
-pub mod Beginnings
+pub mod Room
 pub mod Children
 pub mod Files
 pub mod Writes

@@ -19,7 +19,7 @@ use Rattle.kernel_model.specs.opening.Opening.{tasks_begun, opening_of}
 use Rattle.kernel_model.specs.opening.Records.{is_of}
 use Rattle.kernel_model.specs.entries.Given.{may_meet}
 use Rattle.kernel_model.specs.entries.Parts.{parts, outcome_in, changed}
-use Rattle.plain_kernel.specs.Beginnings.{Executes, IsRefusedBy}
+use Rattle.plain_kernel.specs.OpeningTasks.{Executes, IsRefusedBy}
 
 -- an execve that failed refuses the opening
 pub fails_refused : (does : Executed) (before after : Kernel) (answer : Execved) (errno : Errno) (rest : Kernel

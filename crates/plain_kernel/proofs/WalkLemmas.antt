@@ -22,8 +22,8 @@ use Rattle.kernel_model.specs.entries.Parts.{Parts, parts, done, outcome_in, ◌
 use Rattle.kernel_model.specs.laws.InPlace.{with_nodes, numbered, changed_by}
 use Rattle.plain_kernel.specs.declared.walking.Execved.{Execved}
 use Rattle.plain_kernel.specs.declared.walking.Execved.TheVariants as answers
-use Rattle.kernel_model.specs.laws.Beginnings.{fits}
-use Rattle.plain_kernel.specs.Beginnings.{Executes, IsByImage, IsFrom, MayStart}
+use Rattle.kernel_model.specs.laws.Room.{fits}
+use Rattle.plain_kernel.specs.OpeningTasks.{Executes, IsByImage, IsFrom, MayStart}
 use Rattle.node_numbers.specs.Unused.{AreUnused}
 use Rattle.kernel_model.proofs.Trees.{outcome-bind}
 use Rattle.node_numbers.proofs.NodesSoFar.{with_nodes_first, all_numbered_is}

@@ -1,2 +1,2 @@
 -- What contracts of this crate say, by subject.
-pub mod Beginnings
+pub mod OpeningTasks

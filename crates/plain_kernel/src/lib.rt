@@ -14,9 +14,9 @@
 //! Standards: RISC-V Unprivileged ISA 20191213, ELF-64 Object File Format, Linux man-pages sections 2, 3 and 7.
 #![tactic(auto)]
 
-mod beginning;
-mod opened;
+mod opening_tasks;
 mod plain;
+mod records;
 mod walking;
 
 pub use plain::{OpeningErr, Plain};

@@ -2,11 +2,11 @@
 
 ghost use Rattle.std.specs.Prelude.{◌≡◌, ◌<◌, ◌≤◌, length, is_some, unwrap_or, IfOk, IfErr, OnOk, OnErr};
 ghost use Rattle.kernel_model.specs.opening.Opening.{opening_of, Opens};
-ghost use Rattle.plain_kernel.specs.Beginnings.{IsRefusedBy};
+ghost use Rattle.plain_kernel.specs.OpeningTasks.{IsRefusedBy};
 ghost use Rattle.kernel_model.specs.entries.Steps.{step};
 
-use crate::beginning::{bare, begin_tasks};
-use crate::opened::is_of;
+use crate::opening_tasks::{bare, begin_tasks};
+use crate::records::is_of;
 use host_node::Tree;
 use kernel_model::{Entry, Kernel, Opening};
 use mount_file::{MOST_ENTRIES, MOST_TASKS, Mounts};

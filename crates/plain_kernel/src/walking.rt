@@ -8,8 +8,8 @@ ghost use Rattle.kernel_model.specs.entries.Given.{has_any, above_last, may_meet
 ghost use Rattle.kernel_model.specs.opening.Opening.{image_in, executed, numbered_image, walk_of, draws_just};
 ghost use Rattle.kernel_model.specs.opening.Opening.{by_walk, name_in_path, root_of, execve_of};
 ghost use Rattle.kernel_model.specs.entries.Parts.{parts, outcome_in as outcome};
-ghost use Rattle.kernel_model.specs.laws.Beginnings.{fits};
-ghost use Rattle.plain_kernel.specs.Beginnings.{Executes, IsFrom, MayStart};
+ghost use Rattle.kernel_model.specs.laws.Room.{fits};
+ghost use Rattle.plain_kernel.specs.OpeningTasks.{Executes, IsFrom, MayStart};
 
 use elf_image::Image;
 use host_node::{Kind, Tree};
@@ -51,7 +51,7 @@ pub enum Execved {
 }
 
 impl Execved {
-    ghost use Rattle.plain_kernel.specs.Beginnings.{IsByImage};
+    ghost use Rattle.plain_kernel.specs.OpeningTasks.{IsByImage};
 
     fn by_image(image: Result<Image, Errno>) -> Execved
         ensures { IsByImage image result }

@@ -17,7 +17,7 @@ ghost use Rattle.kernel_model.specs.entries.Areas.{next_row};
 ghost use Rattle.kernel_model.specs.entries.Given.{may_meet};
 ghost use Rattle.kernel_model.specs.entries.Parts.{Change, Prog, changed, outcome_in, parts};
 ghost use Rattle.kernel_model.specs.entries.Steps.{by_answer, call_entry, failing, replied_by, replied_to, same_args, stands_at};
-ghost use Rattle.kernel_model.specs.laws.Beginnings.{IsRoomFor};
+ghost use Rattle.kernel_model.specs.laws.Room.{IsRoomFor};
 ghost use Rattle.call_fs.specs.Called.{ComesTo, HasRoomIn, IfOf, IsApartIn};
 ghost use Rattle.plain_steps.specs.Doing.{Does, IsThere};
 ghost use Rattle.node_numbers.specs.Unused.{AreUnused};

@@ -6,7 +6,7 @@ ghost use Rattle.std.specs.Prelude.{OnErr};
 ghost use Rattle.host_node.specs.Tree.{Shape};
 ghost use Rattle.sn_errno.specs.declared.errno.Errno.TheVariants.{E2BIG};
 ghost use Rattle.kernel_model.proofs.OpenedTasks.{AreOpened};
-ghost use Rattle.kernel_model.specs.laws.Beginnings.{MayOpen};
+ghost use Rattle.kernel_model.specs.laws.Room.{MayOpen};
 ghost use Rattle.kernel_model.specs.opening.Arguments.{is_too_long};
 ghost use Rattle.kernel_model.specs.opening.Opening.{bare};
 ghost use Rattle.mount_file.specs.Form.{AreNamed, HasForm};

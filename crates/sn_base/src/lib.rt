@@ -10,7 +10,7 @@
 //! (`err`), and says when it can be refused: `Map::insert` only where the key has nothing (`absent`),
 //! `List::extend_from_slice` only where there is something to add (`some`). `Map::replace`,
 //! `Map::remove`, `List::set`, `List::pop` and `List::truncate` take no memory. `capped_add` is the sum
-//! that stops at 2 ^ 64 - 1. Laws of finite maps, of beginnings of lists and of capped sums stand in
+//! that stops at 2 ^ 64 - 1. Laws of finite maps, of fronts of lists and of capped sums stand in
 //! `proofs/`, for the proofs of the crates above.
 //!
 //! Not said: time, how much memory a call takes, or that memory suffices.

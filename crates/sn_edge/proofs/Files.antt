@@ -4,7 +4,7 @@ use Rattle.std.proofs.Common.{option_map, find, sym, ap, ◌∙◌}
 use Rattle.std.specs.Str.{bytes_eq}
 use Rattle.std.proofs.lemmas.List.{at_drop_more}
 use Rattle.sn_edge.specs.Shelf.{content_at}
-use Rattle.sn_edge.specs.Opened.{content_of}
+use Rattle.sn_edge.specs.FilePlace.{content_of}
 
 abbrev chosen : List (List ℕ × List ℕ) → List ℕ → ℕ → Bool → Option (List ℕ)
 chosen files name place b =

@@ -4,5 +4,5 @@ pub mod Taken
 pub mod Shelf
 pub mod Plan
 pub mod InMemory
-pub mod Opened
+pub mod FilePlace
 pub mod Reading

@@ -3,7 +3,7 @@
 ghost use Rattle.std.specs.Prelude.{◌≡◌, ◌≤◌, length, IfOk, OnOk, OnErr, IsSome, IsNone};
 ghost use Rattle.sn_base.specs.Faults.{HasCause};
 ghost use Rattle.sn_edge.specs.Errors.{has_failed};
-ghost use Rattle.sn_edge.specs.Opened.{ReadsOpened};
+ghost use Rattle.sn_edge.specs.FilePlace.{ReadsOpened};
 
 use crate::system::failure;
 use crate::{EdgeErr, Source};

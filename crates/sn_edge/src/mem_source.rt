@@ -7,7 +7,7 @@ ghost use Rattle.sn_edge.specs.Errors.{has_failed};
 ghost use Rattle.sn_edge.specs.Shelf.{content_at, HasFile, after_open, after_read, after_failed_read, Gets, IsAtEnd};
 ghost use Rattle.sn_edge.specs.Plan.{no_plan, fails_next, fails_no_more, with_failing, after_call};
 ghost use Rattle.sn_edge.specs.InMemory.{empty_shelf, with_file};
-ghost use Rattle.sn_edge.specs.Opened.{content_of};
+ghost use Rattle.sn_edge.specs.FilePlace.{content_of};
 
 use crate::named_file::NamedFile;
 use crate::plan::Plan;
@@ -32,7 +32,7 @@ impl Model for MemSource {
     ghost use Rattle.std.specs.Prelude.{◌<◌, ◌≤◌, length};
     ghost use Rattle.std.specs.Option.{ForSome};
     ghost use Rattle.sn_edge.specs.InMemory.{SourceInMemory};
-    ghost use Rattle.sn_edge.specs.Opened.{content_of, rest_of};
+    ghost use Rattle.sn_edge.specs.FilePlace.{content_of, rest_of};
 
     ghost Value = { SourceInMemory };
 

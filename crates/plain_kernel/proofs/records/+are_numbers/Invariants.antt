@@ -1,6 +1,6 @@
 -- Each number is looked at once.
 use Rattle.std.proofs.Common.{length}
-use Rattle.plain_kernel.proofs.opened.+are_numbers.Given as goal
+use Rattle.plain_kernel.proofs.records.+are_numbers.Given as goal
 
 abbrev pub decreases-are_numbers : goal.decreases-are_numbers
 decreases-are_numbers l = length l.numbers.now

@@ -9,7 +9,7 @@ use Rattle.kernel_model.specs.entries.Parts.{parts, outcome_in}
 use Rattle.kernel_model.proofs.OpenedTasks.{opens_still}
 use Rattle.plain_kernel.proofs.BeginLemmas.{fails_refused, starts_begun}
 use Rattle.plain_kernel.proofs.WalkLemmas.{tasks_stay}
-use Rattle.plain_kernel.proofs.beginning.begin_task.Goals as goal
+use Rattle.plain_kernel.proofs.opening_tasks.begin_task.Goals as goal
 
 pub returns-in-Fails-clause-refused : goal.returns-in-Fails-clause-refused
 returns-in-Fails-clause-refused c = λ rest.

@@ -2,7 +2,7 @@
 use Rattle.std.proofs.Common.{◌≡◌, ◌+◌, drop}
 use Rattle.kernel_model.specs.opening.Opening.{tasks_begun}
 use Rattle.kernel_model.proofs.OpenedTasks.{AreOpened}
-use Rattle.plain_kernel.proofs.beginning.begin_tasks.Given as goal
+use Rattle.plain_kernel.proofs.opening_tasks.begin_tasks.Given as goal
 
 abbrev pub invariant-loop-index : goal.invariant-loop-index
 invariant-loop-index l = record {

@@ -6,7 +6,7 @@ use Rattle.kernel_model.specs.opening.Opening.{execve_of, made_by, root_of, task
 use Rattle.kernel_model.specs.entries.Parts.{outcome_in, parts}
 use Rattle.kernel_model.proofs.OpenedTasks.{AreOpened, opened_none, opened_more, may_open}
 use Rattle.plain_kernel.proofs.BeginLemmas.{begun_at, no_record, next_may, next_misfits, refused_same}
-use Rattle.plain_kernel.proofs.beginning.begin_tasks.Goals as goal
+use Rattle.plain_kernel.proofs.opening_tasks.begin_tasks.Goals as goal
 
 pub loop-index-init : goal.loop-index-init
 loop-index-init c =

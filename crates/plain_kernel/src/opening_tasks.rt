@@ -9,8 +9,8 @@ ghost use Rattle.kernel_model.specs.opening.Opening.{root_of, task_begun, tasks_
 ghost use Rattle.kernel_model.specs.opening.Arguments.{is_too_long};
 ghost use Rattle.kernel_model.specs.entries.Given.{may_meet};
 ghost use Rattle.kernel_model.specs.entries.Parts.{parts, outcome_in as outcome};
-ghost use Rattle.kernel_model.specs.laws.Beginnings.{HasRoom, MayOpen};
-ghost use Rattle.plain_kernel.specs.Beginnings.{IsRefusedBy};
+ghost use Rattle.kernel_model.specs.laws.Room.{HasRoom, MayOpen};
+ghost use Rattle.plain_kernel.specs.OpeningTasks.{IsRefusedBy};
 
 use crate::OpeningErr;
 use crate::walking::{Execved, execve, root_number};

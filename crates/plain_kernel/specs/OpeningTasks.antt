@@ -10,7 +10,7 @@ use Rattle.plain_kernel.specs.declared.plain.OpeningErr.TheVariants.{Image, Misf
 use Rattle.kernel_model.specs.entries.Parts.{Change, changed}
 use Rattle.mount_file.specs.declared.mounts.Program.{Program}
 use Rattle.kernel_model.specs.opening.Arguments.{is_too_long}
-use Rattle.kernel_model.specs.laws.Beginnings.{HasRoom}
+use Rattle.kernel_model.specs.laws.Room.{HasRoom}
 use Rattle.kernel_model.specs.opening.Opening.{Executed, Starts, Fails, Unfit, Begun, Refuses, Misfits}
 
 -- an execve in place answers what it does, and does its changes

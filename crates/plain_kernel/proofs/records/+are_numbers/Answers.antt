@@ -3,7 +3,7 @@ use Rattle.std.proofs.Common.{◌+◌, ◌-◌, nat_eq, sym, ap, ◌∙◌, arit
 use Rattle.kernel_model.specs.files.Numbers.{count_up}
 use lib.Pointwise.{pointwise}
 use Rattle.plain_kernel.proofs.CountLemmas.{no_numbers, some_for_none, other_first, then_others, rest_of}
-use Rattle.plain_kernel.proofs.opened.+are_numbers.Goals as goal
+use Rattle.plain_kernel.proofs.records.+are_numbers.Goals as goal
 
 pub returns-in-empty : goal.returns-in-empty
 returns-in-empty t c = no_numbers c.args.numbers.now c.args.first c.args.count c.in-empty.len_below
