@@ -20,7 +20,8 @@ const COUNTED: [u8; 32] = [
 /// The entries of the guest that writes random bytes.
 #[rattlefmt::skip]
 const RANDOM_LINES: &[Line] = &[
-    Line::Run(1, 4), Line::Call(1, 278, 5), Line::Run(1, 4), Line::Call(1, 64, 5), Line::Run(1, 2), Line::Call(1, 94, 0),
+    Line::Run(1, 4), Line::Call(1, 278, 5), Line::Run(1, 4), Line::Call(1, 64, 5),
+    Line::Run(1, 2), Line::Call(1, 94, 0),
 ];
 
 /// Seeds, and the bytes that it then leaves on the console: the first of the stream 2, since the call is the second

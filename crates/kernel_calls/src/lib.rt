@@ -5,8 +5,8 @@
 //! task list, the futex list or what is open `commit` does, `make` gives a child its place, and `sleep` puts a task to
 //! sleep. `end_group` prepares the end of a thread group by a signal. `args_of`, `call_of` and `reply` are of the
 //! registers at a call; and of execve there are `is_too_long`, `read_executable`, `opened`, `opening_random`,
-//! `open_task` and `root_of`. They know no host and no trace; of other tasks' registers `make` alone knows, which puts a
-//! child's among them. Buffers go by `guest_access`, and what is open changes by `file_changes`.
+//! `open_task` and `root_of`. They know no host and no trace; of other tasks' registers `make` alone knows, which puts
+//! a child's among them. Buffers go by `guest_access`, and what is open changes by `file_changes`.
 //!
 //! Proved, by the definitions of `kernel_model`: `call` comes to what its row says, in every state that has what was
 //! handed in (`row`). Where what is left may lack memory, and where the call waits, memory is as it was (`apart`), and

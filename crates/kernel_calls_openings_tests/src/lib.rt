@@ -2,8 +2,8 @@
 //! memory.
 //!
 //! The contracts of `kernel_calls` and `guest_access` say what each of them does; here tasks begin with the pages,
-//! strings and random bytes of their images, their arguments and roots are what they should be, and runs of instructions
-//! stop where they should. Guests are those of `sn_vectors`, and others of words that an assembler made.
+//! strings and random bytes of their images, their arguments and roots are what they should be, and runs of
+//! instructions stop where they should. Guests are those of `sn_vectors`, and others of words that an assembler made.
 //!
 //! Expected values are from outside: the RISC-V and ELF-64 manuals, the Linux manual pages by hand, and for random
 //! bytes another implementation of ChaCha20.

@@ -64,7 +64,8 @@ loop-place-preserved c =
           ∙ none_more _ _ c.loop-place.invariant.drawn numbers;
       whole = λ beside seed.
           ap (λ es. each_whole (kernel_of_cells c.args.self.now.cells beside 0) es) grown
-          ∙ whole_more (kernel_of_cells c.args.self.now.cells beside 0) (kernel_of_cells before beside (length c.loop-place.trace))
+          ∙ whole_more (kernel_of_cells c.args.self.now.cells beside 0)
+          (kernel_of_cells before beside (length c.loop-place.trace))
           (kernel_of_cells after beside (length c.loop-place.trace + 1)) c.loop-place.trace entry
           (c.loop-place.invariant.state beside seed) (c.loop-place.invariant.whole beside seed)
           (steps beside (length c.loop-place.trace) seed place)
