@@ -1,18 +1,19 @@
 //! What a directory of the machine lists.
 
 ghost use Rattle.std.specs.Prelude.{◌≡◌, ◌↔◌, ◌∷◌, ◌++◌, []};
-ghost use Rattle.std.specs.Prelude.{All, IfOk, IfErr, IfSome, OnOk, IsOkUnless, IsTrue, IsPermutation};
+ghost use Rattle.std.specs.Prelude.{All, IfOk, IfErr, IfSome, OnOk, IsOkUnless, IsErrAnd, IsTrue, IsPermutation};
 ghost use Rattle.host_node.specs.Order.{IsAscending, names_of};
 ghost use Rattle.sn_text.specs.Names.{IsName};
 ghost use Rattle.host_folder.specs.Entries.{entries_of, listed_as};
+ghost use Rattle.host_folder.specs.Failures.{IsRefusalOf};
 
-use crate::failures::refusal;
+use crate::failures::answer_from;
 use crate::seen::{Seen, see_all};
 use host_node::{HostErr, Listed, Listing};
 use sn_text::{Name, NameFault, name_of};
 use std::alloc::Global;
-use std::fs;
-use std::fs::Files;
+use std::fs::{Files, ReadDir};
+use std::{fs, io};
 
 /// The entries of a directory that are directories, files or links, by the order of their names' bytes.
 pub(crate) fn list<R: Files + AllocGlobal + Clone + Drop>(
@@ -22,10 +23,21 @@ pub(crate) fn list<R: Files + AllocGlobal + Clone + Drop>(
     ensures ordered { IfOk result (λ listing. IsAscending (names_of listing)) }
     ensures names { IfOk result (All (λ entry. IsName entry.name)) }
 {
-    let told = fs::read_dir(files, path).map_err(refusal)?;
-    let told = told.collect(files.alloc())?;
-    let seen = see_all(files.alloc(), told)?;
-    listing_of(files.alloc(), seen.as_slice())
+    listing_from(files.alloc(), fs::read_dir(files, path))
+}
+
+/// What a directory lists, from what opening it for that came to.
+fn listing_from<R: Files + Clone + Drop>(
+    alloc: Global,
+    opened: io::Result<ReadDir<R>>,
+) -> Result<Listing, HostErr>
+    ensures ordered { IfOk result (λ listing. IsAscending (names_of listing)) }
+    ensures names { IfOk result (All (λ entry. IsName entry.name)) }
+    ensures refused { IfErr opened (λ error. IsErrAnd result (IsRefusalOf error)) }
+{
+    let told = answer_from(opened)?.collect(alloc)?;
+    let seen = see_all(alloc, told)?;
+    listing_of(alloc, seen.as_slice())
 }
 
 /// The listing of all entries that were seen and aren't hidden.

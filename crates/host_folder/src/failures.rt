@@ -1,6 +1,6 @@
 //! What errors of the system are for us, and how failures are counted.
 
-ghost use Rattle.std.specs.Prelude.{◌≡◌};
+ghost use Rattle.std.specs.Prelude.{◌≡◌, IfOk, IfErr, IsErrAnd};
 ghost use Rattle.host_node.specs.Faults.{has_failed};
 ghost use Rattle.sn_base.specs.Faults.{HasCause};
 ghost use Rattle.host_folder.specs.Failures.{IsRefusalOf};
@@ -19,6 +19,14 @@ pub(crate) fn refusal(error: io::Error) -> HostErr
     } else {
         HostErr::Failed
     }
+}
+
+/// What an answer of the system is here: what it gave, or what its error is.
+pub(crate) fn answer_from<T>(found: io::Result<T>) -> Result<T, HostErr>
+    ensures ok { IfOk found (λ given. result ≡ Ok given) }
+    ensures refused { IfErr found (λ error. IsErrAnd result (IsRefusalOf error)) }
+{
+    found.map_err(refusal)
 }
 
 /// Hands an answer on, and counts it where it is a failure. The count stays at the greatest one.

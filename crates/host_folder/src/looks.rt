@@ -7,7 +7,7 @@ ghost use Rattle.host_folder.specs.Failures.{IsAbsence, IsRefusalOf};
 ghost use Rattle.host_folder.specs.Kinds.{IsOfKind, IsKindOf, attr_by};
 
 use crate::attributes::{attributes, kind_of};
-use crate::failures::refusal;
+use crate::failures::{answer_from, refusal};
 use host_node::{Attr, HostErr, Kind};
 use std::fs::Metadata;
 use std::io;
@@ -20,7 +20,7 @@ pub(crate) fn same_kind(found: io::Result<Metadata>, kind: Kind) -> Result<Metad
     ensures changed { IfOk found (λ metadata. ¬ (IsOfKind kind metadata) → result ≡ Err HostErr.Failed) }
     ensures refused { IfErr found (λ error. IsErrAnd result (IsRefusalOf error)) }
 {
-    let metadata = found.map_err(refusal)?;
+    let metadata = answer_from(found)?;
     if kind_of(&metadata) == Some(kind) {
         Ok(metadata)
     } else {

@@ -1,8 +1,8 @@
 //! Directories, files and links of a granted folder, and their calls.
 
 ghost use Rattle.std.specs.Prelude.{◌≡◌, ◌≢◌, ◌≤◌, ◌∷◌, ◌++◌, [], length, string_bytes};
-ghost use Rattle.std.specs.Prelude.{All, IfOk, IfErr, IfSome, OnOk, OnErr, IsOk, IsNone, IsOkUnless, IsErrAnd, IsUtf8};
-ghost use Rattle.std.specs.Prelude.{option_map, true};
+ghost use Rattle.std.specs.Prelude.{All, IfOk, IfErr, IfSome, OnOk, OnErr, IsOk, IsNone, IsOkUnless, IsOkAnd, IsErrAnd};
+ghost use Rattle.std.specs.Prelude.{option_map, true, IsUtf8};
 ghost use Rattle.std.specs.Fs.{new_options, with_read, with_write};
 ghost use Rattle.std.specs.IoError.{error_kind};
 ghost use Rattle.sn_base.specs.Faults.{HasCause};
@@ -18,7 +18,7 @@ ghost use Rattle.host_folder.specs.Paths.{slashed};
 
 use crate::access::Access;
 use crate::entries::list;
-use crate::failures::{counted, refusal};
+use crate::failures::{answer_from, counted};
 use crate::looks::{attr_from, child_kind, same_kind};
 use crate::paths::{path_of, push_name};
 use crate::reading::read_from;
@@ -207,8 +207,8 @@ impl<R: Files + AllocGlobal + Clone + Drop> FolderNode<R> {
         ensures folder { self.new.folder ≡ self.old.folder }
     {
         match &mut self.access {
-            Access::Readable(file) => read_from(file, at, buf).map_err(refusal),
-            Access::Writable(file) => read_from(file, at, buf).map_err(refusal),
+            Access::Readable(file) => answer_from(read_from(file, at, buf)),
+            Access::Writable(file) => answer_from(read_from(file, at, buf)),
             Access::Shut | Access::Listable => Err(HostErr::Failed),
         }
     }
@@ -227,7 +227,16 @@ fn options(write: bool) -> OpenOptions
 fn open_file<R: Files>(files: &R, path: &str, write: bool) -> Result<Access<R::File>, HostErr>
     ensures { IfOk result (λ access. opened_by access ≡ opened_for write) }
 {
-    let file = options(write).open(files, path).map_err(refusal)?;
+    access_from(options(write).open(files, path), write)
+}
+
+/// How a node stands to a file, from what opening it for reading, or for reading and writing, came to.
+fn access_from<F: Drop>(opened: io::Result<F>, write: bool) -> Result<Access<F>, HostErr>
+    ensures file { IfOk opened (λ file. IsOkAnd result (λ access. file_of access ≡ Some file)) }
+    ensures access { IfOk result (λ access. opened_by access ≡ opened_for write) }
+    ensures refused { IfErr opened (λ error. IsErrAnd result (IsRefusalOf error)) }
+{
+    let file = answer_from(opened)?;
     if write {
         Ok(Access::Writable(file))
     } else {

@@ -6,7 +6,7 @@ ghost use Rattle.host_folder.specs.Failures.{IsRefusalOf};
 ghost use Rattle.host_folder.specs.Kinds.{IsKindOf};
 
 use crate::attributes::kind_of;
-use crate::failures::refusal;
+use crate::failures::answer_from;
 use host_node::{HostErr, Kind};
 use std::alloc::Global;
 use std::fs::{DirEntry, Files, Metadata};
@@ -26,7 +26,7 @@ fn seen_as(alloc: Global, text: &str, found: io::Result<Metadata>) -> Result<See
     ensures refused { IfErr found (λ error. IsErrAnd result (IsRefusalOf error)) }
     ensures memory { IsOk found → IsOkUnless result HostErr.Memory }
 {
-    let metadata = found.map_err(refusal)?;
+    let metadata = answer_from(found)?;
     let kind = kind_of(&metadata);
     let text = String::from_str(alloc, text)?;
     Ok(Seen { text, kind })
@@ -37,7 +37,7 @@ fn see<R: Files + Drop>(alloc: Global, told: io::Result<DirEntry<R>>) -> Result<
     ensures seen { IfOk result (IsSeen told) }
     ensures refused { IfErr told (λ error. IsErrAnd result (IsRefusalOf error)) }
 {
-    let entry = told.map_err(refusal)?;
+    let entry = answer_from(told)?;
     seen_as(alloc, entry.file_name(), entry.metadata())
 }
 

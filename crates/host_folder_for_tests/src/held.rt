@@ -30,8 +30,8 @@ pub enum Ask {
     Lends(&'static str, Kind),
     /// Nothing is lent under a name.
     Nothing(&'static str),
-    /// To lend what stands under a name fails.
-    Refuses(&'static [u8]),
+    /// To lend what stands under a name is refused so.
+    Refuses(&'static [u8], HostErr),
 }
 
 /// What is asked of a granted directory, or of what stands under a name of it.
@@ -102,12 +102,12 @@ where
         Ok(self.node.lend(&self.route, &name)?.is_none())
     }
 
-    /// Whether lending what stands under a name fails.
-    fn refuses(&mut self, bytes: &[u8]) -> Result<bool, Fail> {
+    /// Whether lending what stands under a name is refused so.
+    fn refuses(&mut self, bytes: &[u8], wanted: HostErr) -> Result<bool, Fail> {
         let name = name_of(self.alloc, bytes)?;
         match self.node.lend(&self.route, &name) {
-            Err(HostErr::Failed) => Ok(true),
-            _ => Ok(false),
+            Err(error) => Ok(error == wanted),
+            Ok(_) => Ok(false),
         }
     }
 
@@ -145,7 +145,7 @@ where
             Ask::Lists(wanted, entries) => self.lists(wanted, entries),
             Ask::Lends(text, kind) => self.lends(text, kind),
             Ask::Nothing(text) => self.has_nothing(text),
-            Ask::Refuses(bytes) => self.refuses(bytes),
+            Ask::Refuses(bytes, wanted) => self.refuses(bytes, wanted),
         }
     }
 

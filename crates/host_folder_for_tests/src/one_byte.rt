@@ -1,4 +1,4 @@
-//! A file of which one byte is read, and then no more.
+//! A file of which one byte is read, and then no more: what is asked of it then is an error.
 
 ghost use Rattle.std.specs.Prelude.{IsErr};
 
@@ -6,29 +6,57 @@ use std::fs::{Metadata, OpenFile};
 use std::io;
 use std::io::{ErrorKind, Read, Seek, SeekFrom, Write};
 
+/// A call that ends with an error of a kind.
+fn failed<T>(kind: ErrorKind) -> io::Result<T>
+    ensures { IsErr result }
+{
+    Err(io::Error::from(kind))
+}
+
 /// A call that is refused.
 pub fn refused<T>() -> io::Result<T>
     ensures { IsErr result }
 {
-    Err(io::Error::from(ErrorKind::PermissionDenied))
+    failed(ErrorKind::PermissionDenied)
+}
+
+/// A call for which there is no memory.
+pub fn exhausted<T>() -> io::Result<T>
+    ensures { IsErr result }
+{
+    failed(ErrorKind::OutOfMemory)
 }
 
 /// A file of which one byte is read, and no more.
 #[derive(Drop)]
 pub struct OneByte {
     is_read: bool,
+    /// What the error of each further read is.
+    end: ErrorKind,
 }
 
 impl OneByte {
+    /// One that refuses further reads.
     pub fn new() -> OneByte {
-        OneByte { is_read: false }
+        OneByte {
+            is_read: false,
+            end: ErrorKind::PermissionDenied,
+        }
+    }
+
+    /// One that has no memory for them.
+    pub fn exhausted() -> OneByte {
+        OneByte {
+            is_read: false,
+            end: ErrorKind::OutOfMemory,
+        }
     }
 }
 
 impl Read for OneByte {
     fn read(&mut self, buf: &mut [u8]) -> io::Result<usize> {
         if self.is_read || buf.is_empty() {
-            return refused();
+            return failed(self.end);
         }
         self.is_read = true;
         buf[0] = b'x';

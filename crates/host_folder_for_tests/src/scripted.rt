@@ -1,6 +1,6 @@
 //! A system that knows which calls it is to be asked for, in order.
 
-use crate::one_byte::{OneByte, refused};
+use crate::one_byte::{OneByte, exhausted, refused};
 use std::alloc::{Allocator, Global};
 use std::fs::{Files, Metadata, OpenOptions};
 use std::io;
@@ -30,8 +30,12 @@ pub enum Call {
     Write,
     /// A directory is opened, which has these names, each with a NUL behind it.
     List(&'static [u8]),
-    /// A directory is opened, which is refused.
+    /// A file or a directory is opened, which is refused.
     Locked,
+    /// A file or a directory is opened, for which there is no memory.
+    FullOpen,
+    /// A file is opened for reading alone, and there is no memory for its second read.
+    FullRead,
 }
 
 /// A call, and the path that it is for.
@@ -99,6 +103,9 @@ impl Files for Scripted<'_> {
         match self.next(path) {
             Some(Call::Read) if leaves_it(how) && !how.asks_write() => Ok(OneByte::new()),
             Some(Call::Write) if leaves_it(how) && how.asks_write() => Ok(OneByte::new()),
+            Some(Call::FullRead) if leaves_it(how) && !how.asks_write() => Ok(OneByte::exhausted()),
+            Some(Call::Locked) => refused(),
+            Some(Call::FullOpen) => exhausted(),
             _ => self.astray(),
         }
     }
@@ -107,6 +114,7 @@ impl Files for Scripted<'_> {
         match self.next(path) {
             Some(Call::List(names)) => Ok(Cursor::new(Vec::from_slice(self.alloc(), names)?)),
             Some(Call::Locked) => refused(),
+            Some(Call::FullOpen) => exhausted(),
             _ => self.astray(),
         }
     }
@@ -119,7 +127,7 @@ impl Files for Scripted<'_> {
             Some(Call::Device) => self.rt.symlink_metadata("/dev/null"),
             Some(Call::Nothing) => Err(io::Error::from(ErrorKind::NotFound)),
             Some(Call::Hidden) => refused(),
-            Some(Call::Full) => Err(io::Error::from(ErrorKind::OutOfMemory)),
+            Some(Call::Full) => exhausted(),
             _ => self.astray(),
         }
     }

@@ -31,6 +31,17 @@ pub fn expect_script(
     expect_met(script, &met)
 }
 
+/// The calls of a system, and what is asked of a granted directory over it.
+pub type Trial = (&'static [Line], &'static [Row]);
+
+/// The same of each of these trials.
+pub fn expect_trials(rt: HostRuntime, path: &str, trials: &[Trial]) -> Result<(), Fail> {
+    for (script, rows) in trials {
+        expect_script(rt, path, script, rows)?;
+    }
+    Ok(())
+}
+
 /// Whether a grant of `a/b`, from the root or from here, gives a directory.
 fn grants(rt: HostRuntime, rooted: bool, script: &[Line]) -> Result<bool, Fail> {
     let folder = folder_from(rt.alloc(), rooted, "a/b")?;

@@ -1,6 +1,8 @@
 //! Calls of the system that fail, and how they are answered and counted.
 
-use host_folder_for_tests::{Ask, Call, Line, Row, expect_not_granted, expect_script};
+use host_folder_for_tests::{
+    Ask, Call, Line, Row, Trial, expect_not_granted, expect_script, expect_trials,
+};
 use host_node::HostErr;
 use std::test::Fail;
 
@@ -87,7 +89,7 @@ fn a_device_is_hidden(rt: HostRuntime) -> Result<(), Fail> {
 /// A name that isn't UTF-8.
 #[rattlefmt::skip]
 const ODD_NAME: &[Row] = &[
-    (None, &[Ask::Refuses(b"\xff"), Ask::Faults(1)]),
+    (None, &[Ask::Refuses(b"\xff", HostErr::Failed), Ask::Faults(1)]),
 ];
 
 #[test]
@@ -141,4 +143,51 @@ fn a_folder_that_cannot_be_looked_at_fails_the_grant(rt: HostRuntime) -> Result<
 fn want_of_memory_is_not_counted(rt: HostRuntime) -> Result<(), Fail> {
     let script = [(Call::Directory, "./any"), (Call::Full, "./any/full")];
     expect_not_granted(rt, "any/full", &script, HostErr::Memory, 0)
+}
+
+/// What a look finds at the folder, and at a file of it.
+const ANY: Line = (Call::Directory, "./any");
+
+const FILE: Line = (Call::File, "./any/file");
+
+/// A call of the system for which there is no memory, and the same call refused: the look at a stat, at a loan, at an
+/// opening and at a listing, the listing itself, the look at an entry of it, the opening of a file, and a read of it.
+#[rattlefmt::skip]
+const REFUSED: &[Trial] = &[
+    (&[ANY, (Call::Full, "./any")], &[(None, &[Ask::Stats(Err(HostErr::Memory)), Ask::Faults(0)])]),
+    (&[ANY, (Call::Hidden, "./any")], &[(None, &[Ask::Stats(Err(HostErr::Failed)), Ask::Faults(1)])]),
+
+    (&[ANY, (Call::Full, "./any/file")], &[(None, &[Ask::Refuses(b"file", HostErr::Memory), Ask::Faults(0)])]),
+    (&[ANY, (Call::Hidden, "./any/file")], &[(None, &[Ask::Refuses(b"file", HostErr::Failed), Ask::Faults(1)])]),
+
+    (&[ANY, (Call::Full, "./any")], &[(None, &[Ask::Opens(false, Err(HostErr::Memory)), Ask::Faults(0)])]),
+    (&[ANY, (Call::Hidden, "./any")], &[(None, &[Ask::Opens(false, Err(HostErr::Failed)), Ask::Faults(1)])]),
+
+    (&[ANY, (Call::Full, "./any")], &[(None, &[Ask::Lists(Err(HostErr::Memory), &[]), Ask::Faults(0)])]),
+    (&[ANY, (Call::Hidden, "./any")], &[(None, &[Ask::Lists(Err(HostErr::Failed), &[]), Ask::Faults(1)])]),
+
+    (&[ANY, ANY, (Call::FullOpen, "./any/")], &[(None, &[Ask::Lists(Err(HostErr::Memory), &[]), Ask::Faults(0)])]),
+    (&[ANY, ANY, (Call::Locked, "./any/")], &[(None, &[Ask::Lists(Err(HostErr::Failed), &[]), Ask::Faults(1)])]),
+
+    (&[ANY, ANY, (Call::List(b"file\0"), "./any/"), (Call::Full, "./any/file")],
+        &[(None, &[Ask::Lists(Err(HostErr::Memory), &[]), Ask::Faults(0)])]),
+    (&[ANY, ANY, (Call::List(b"file\0"), "./any/"), (Call::Hidden, "./any/file")],
+        &[(None, &[Ask::Lists(Err(HostErr::Failed), &[]), Ask::Faults(1)])]),
+
+    (&[ANY, FILE, FILE, (Call::FullOpen, "./any/file")],
+        &[(Some("file"), &[Ask::Opens(false, Err(HostErr::Memory)), Ask::Faults(0)])]),
+    (&[ANY, FILE, FILE, (Call::Locked, "./any/file")],
+        &[(Some("file"), &[Ask::Opens(false, Err(HostErr::Failed)), Ask::Faults(1)])]),
+
+    (&[ANY, FILE, FILE, (Call::FullRead, "./any/file")],
+        &[(Some("file"), &[Ask::Opens(false, Ok(())), Ask::Reads(0, 2, Err(HostErr::Memory)), Ask::Faults(0)])]),
+    (&[ANY, FILE, FILE, (Call::Read, "./any/file")],
+        &[(Some("file"), &[Ask::Opens(false, Ok(())), Ask::Reads(0, 2, Err(HostErr::Failed)), Ask::Faults(1)])]),
+];
+
+#[test]
+fn an_error_of_the_system_is_a_fault_unless_it_is_want_of_memory(
+    rt: HostRuntime,
+) -> Result<(), Fail> {
+    expect_trials(rt, "any", REFUSED)
 }
