@@ -8,7 +8,7 @@
 //! makes. `Held` is a node with its route, for tests that do more.
 //!
 //! Proved: that each call meets what host_folder requires of its callers, and that no function stops. No function says
-//! what it gives, so that no test's proof has a contract of host_folder before it.
+//! what a node answers, so that no test's proof has a contract of host_folder before it.
 //!
 //! Not said: what an ask comes to, which the tests try.
 #![tactic(auto)]

@@ -6,7 +6,7 @@
 //! that comes to something else, by its index; `expect_cases` does a table of them.
 //!
 //! Proved: that each call meets what mm_space requires of its callers, and that no function stops. No function says
-//! what it gives, so that no test's proof has a contract of mm_space before it.
+//! what a call comes to, so that no test's proof has a contract of mm_space before it.
 //!
 //! Not said: what an act comes to, which the tests try.
 //!

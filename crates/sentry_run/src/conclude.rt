@@ -17,7 +17,7 @@ use sn_base::{List, Memory};
 use sn_edge::{EdgeErr, Sink, write_all};
 use std::alloc::Global;
 
-/// Nothing is left beside a trace as long as no call fails and none waits.
+/// Nothing is left beside a trace as long as no call draws a number or meets a fault.
 fn nothing_left(alloc: Global) -> Left
     ensures { result ≡ no_left }
 {
