@@ -1,5 +1,6 @@
 -- What contracts of this crate say, by subject.
 pub mod Command
+pub mod Untold
 pub mod Played
 pub mod Stopped
 pub mod Granted

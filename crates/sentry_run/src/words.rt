@@ -1,19 +1,34 @@
 //! The words of the command line, and the command that they are.
 
-ghost use Rattle.std.specs.Prelude.{◌≡◌, option_map, map, string_bytes};
+ghost use Rattle.std.specs.Prelude.{◌≡◌, option_map, map, string_bytes, IfErr};
 ghost use Rattle.kernel_model.specs.Words.{accepted, is_option, workers_of, traced, options};
 ghost use Rattle.sentry_run.specs.Command.{command_of};
+ghost use Rattle.sentry_run.specs.Untold.{IsMemoryWhere, IsUntold};
 
 use crate::outcome::Fault;
 use std::io::ErrorKind;
 use std::{env, io};
 
 /// The words after the program's name, as the system tells them. Words that it can't tell are no command.
-pub fn told_words(rt: HostRuntime) -> Result<Vec<String>, Fault> {
+pub fn told_words(rt: HostRuntime) -> Result<Vec<String>, Fault>
+    ensures { IfErr result IsUntold }
+{
     match words_from(rt) {
         Ok(words) => Ok(words),
-        Err(error) if error.kind() == ErrorKind::OutOfMemory => Err(Fault::Memory),
-        Err(_) => Err(Fault::Usage),
+        Err(error) => Err(untold(error)),
+    }
+}
+
+/// What an error of the system is where it is asked for the words: of the kind `OutOfMemory` it is want of memory, else
+/// they are no command.
+fn untold(error: io::Error) -> Fault
+    ensures memory { IsMemoryWhere error result }
+    ensures untold { IsUntold result }
+{
+    if error.kind() == ErrorKind::OutOfMemory {
+        Fault::Memory
+    } else {
+        Fault::Usage
     }
 }
 
