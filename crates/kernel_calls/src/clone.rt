@@ -206,9 +206,15 @@ fn new_child(
     ensures words { result.words ≡ words }
 {
     let flags = flags_of(args);
+    let Args {
+        a1: stack,
+        a3: tls,
+        a4: child_word,
+        ..
+    } = *args;
     Child {
-        registers: child_registers(flags, args.a1, args.a3, registers),
-        clear: child_clear(flags, args.a4),
+        registers: child_registers(flags, stack, tls, registers),
+        clear: child_clear(flags, child_word),
         memory,
         words,
     }
@@ -285,13 +291,17 @@ fn with_parent_word(
 {
     let mut words = copies(alloc, space, areas)?;
     let asked = sets_parent_word(flags_of(args));
+    let Args {
+        a2: parent_word,
+        ..
+    } = *args;
     let set = set_word(
         alloc,
         task,
         asked,
         &mut words.space,
         &mut words.areas,
-        args.a2,
+        parent_word,
         number,
     )?;
     if !set {
@@ -313,7 +323,8 @@ fn set_child_word(
         areas.old areas.new args.now.a4 number set) }
 {
     let asked = sets_child_word(flags_of(args));
-    set_word(alloc, task, asked, space, areas, args.a4, number)
+    let Args { a4: child_word, .. } = *args;
+    set_word(alloc, task, asked, space, areas, child_word, number)
 }
 
 /// Puts a number into a word for a task, where that is asked for, and answers whether the word could be written.
@@ -348,7 +359,8 @@ fn is_full(tasks: &Tasks) -> bool
 fn flags_of(args: &Args) -> u32
     ensures { result ≡ (cloning_of args.now).flags }
 {
-    (args.a0 % (1 << 32)) as u32
+    let Args { a0: flags, .. } = *args;
+    (flags % (1 << 32)) as u32
 }
 
 /// Those of a new process, or those of a new thread.

@@ -52,20 +52,27 @@ pub(crate) fn futex(
     ensures room { IfOk result (λ d. (list : TaskTable) → HasRoomFor d list) }
     ensures kept { areas.new ≡ areas.old }
 {
-    let operation = (args.a1 % (1 << 32)) as u32;
-    let value = (args.a2 % (1 << 32)) as u32;
+    let Args {
+        a0: address,
+        a1: operation,
+        a2: value,
+        a3: timeout,
+        ..
+    } = *args;
+    let operation = (operation % (1 << 32)) as u32;
+    let value = (value % (1 << 32)) as u32;
     if !is_known(operation) {
         return Ok(Called::Replies(refused(Errno::ENOSYS)));
     }
-    if args.a0 % 4 != 0 {
+    if address % 4 != 0 {
         return Ok(Called::Replies(refused(Errno::EINVAL)));
     }
-    if has_timeout(operation, args.a3) {
+    if has_timeout(operation, timeout) {
         return Ok(Called::Replies(refused(Errno::ENOSYS)));
     }
-    match word_at(alloc, space, areas, args.a0)? {
+    match word_at(alloc, space, areas, address)? {
         Some(word) => {
-            let key = key_at(context.memory, space, args.a0);
+            let key = key_at(context.memory, space, address);
             Ok(by_word(key, operation, word, value, sleepers))
         }
         None => Ok(Called::Replies(refused(Errno::EFAULT))),

@@ -59,7 +59,12 @@ pub(crate) fn mmap(
     ensures err { OnErr result (space.new ≡ space.old) }
     ensures err_areas { OnErr result (AreAlike areas.new areas.old) }
 {
-    let file = file_refusal(context.table, args.a3, args.a4, files);
+    let Args {
+        a3: flags,
+        a4: fd,
+        ..
+    } = *args;
+    let file = file_refusal(context.table, flags, fd, files);
     map(alloc, context.place, args, file, space, areas)
 }
 
@@ -82,12 +87,19 @@ fn map(
     if let Some(errno) = refusal(space, args, file) {
         return Ok(refused(errno));
     }
+    let Args {
+        a0: hint,
+        a1: length,
+        a2: protection,
+        a3: flags,
+        ..
+    } = *args;
     let asked = Asked {
-        place: asked_place(args.a0, args.a3),
-        length: args.a1,
-        rights: rights_in(args.a2),
+        place: asked_place(hint, flags),
+        length,
+        rights: rights_in(protection),
     };
-    let address = if is_shared(args.a3) {
+    let address = if is_shared(flags) {
         map_shared(alloc, place, asked, space, areas)?
     } else {
         map_over(alloc, asked, Backing::Zeros, space)?
@@ -99,13 +111,21 @@ fn map(
 fn refusal(space: &GuestSpace, args: &Args, file: Option<Errno>) -> Option<Errno>
     ensures { result ≡ map_refusal space.now args.now.a0 args.now.a1 args.now.a2 args.now.a3 args.now.a5 file }
 {
+    let Args {
+        a0: hint,
+        a1: length,
+        a2: protection,
+        a3: flags,
+        a5: offset,
+        ..
+    } = *args;
     let place = space
         .space
         .areas()
-        .place_of(asked_place(args.a0, args.a3), args.a1);
-    if is_no_protection(args.a2)
-        || !is_of_one_kind(args.a3)
-        || args.a5 % 4096 != 0
+        .place_of(asked_place(hint, flags), length);
+    if is_no_protection(protection)
+        || !is_of_one_kind(flags)
+        || offset % 4096 != 0
         || place == Err(AreaErr::Invalid)
     {
         return Some(Errno::EINVAL);

@@ -60,9 +60,16 @@ pub(crate) fn wait4(
     ensures room { IfOk result (λ d. HasRoomFor d tasks.now) }
     ensures err { OnErr result ((space.new ≡ space.old) × (areas.new ≡ areas.old)) }
 {
-    let child = (args.a0 % (1 << 32)) as u32;
-    let options = (args.a2 % (1 << 32)) as u32;
-    if !is_asked(child, options, args.a3) {
+    let Args {
+        a0: child,
+        a1: address,
+        a2: options,
+        a3: usage,
+        ..
+    } = *args;
+    let child = (child % (1 << 32)) as u32;
+    let options = (options % (1 << 32)) as u32;
+    if !is_asked(child, options, usage) {
         return Ok(Called::Replies(refused(Errno::EINVAL)));
     }
     let which = asked_child(child);
@@ -70,7 +77,7 @@ pub(crate) fn wait4(
         ReapEnd::NoChild => Ok(Called::Replies(refused(Errno::ECHILD))),
         ReapEnd::NotYet => Ok(not_yet(options)),
         ReapEnd::Reaped { child, status } => Ok(Called::Replies(reap(
-            alloc, context, args.a1, child, status, which, space, areas,
+            alloc, context, address, child, status, which, space, areas,
         )?)),
     }
 }

@@ -24,16 +24,16 @@ returns-then-not-is_known-clause-row c caller k list console calling =
     (sym c.is_known.ensures ∙ c.if-not-is_known.true))
     c.refused.ensures.reply c.refused.ensures.effect refl (sym calling.areas)
 
-pub returns-then-args-ne0-clause-row : goal.returns-then-args-ne0-clause-row
-returns-then-args-ne0-clause-row c caller k list console calling =
+pub returns-then-address-ne0-clause-row : goal.returns-then-address-ne0-clause-row
+returns-then-address-ne0-clause-row c caller k list console calling =
     let a = c.args in
     let w = a.args.now in
-    answers_refused (futex_row w.a0 w.a1 w.a2 w.a3 caller) c.refused-then-args-ne0.result caller k a.space.now
+    answers_refused (futex_row w.a0 w.a1 w.a2 w.a3 caller) c.refused-then-address-ne0.result caller k a.space.now
     a.space.now a.areas.now
     (has_space caller k a.context.now a.space.now a.areas.now list a.sleepers.now console calling) EINVAL
     (address_odd (parts k) caller w.a0 (w.a1 % 2 ^ 32) (w.a2 % 2 ^ 32) w.a3
-    (sym c.is_known.ensures ∙ c.if-not-is_known.false) c.if-args-ne0.true)
-    c.refused-then-args-ne0.ensures.reply c.refused-then-args-ne0.ensures.effect refl (sym calling.areas)
+    (sym c.is_known.ensures ∙ c.if-not-is_known.false) c.if-address-ne0.true)
+    c.refused-then-address-ne0.ensures.reply c.refused-then-address-ne0.ensures.effect refl (sym calling.areas)
 
 pub returns-then-has_timeout-clause-row : goal.returns-then-has_timeout-clause-row
 returns-then-has_timeout-clause-row c caller k list console calling =
@@ -43,7 +43,7 @@ returns-then-has_timeout-clause-row c caller k list console calling =
     a.space.now a.areas.now
     (has_space caller k a.context.now a.space.now a.areas.now list a.sleepers.now console calling) ENOSYS
     (timeout_there (parts k) caller w.a0 (w.a1 % 2 ^ 32) (w.a2 % 2 ^ 32) w.a3
-    (sym c.is_known.ensures ∙ c.if-not-is_known.false) c.if-args-ne0.false
+    (sym c.is_known.ensures ∙ c.if-not-is_known.false) c.if-address-ne0.false
     (sym c.has_timeout.ensures ∙ c.if-has_timeout.true))
     c.refused-then-has_timeout.ensures.reply c.refused-then-has_timeout.ensures.effect refl (sym calling.areas)
 
@@ -56,7 +56,7 @@ returns-in-Some-clause-row c caller k list console calling =
     ∙ ap (λ s. key_at a.context.now.memory s w.a0) calling.space ∙ sym c.key_at-key.ensures in
     comes_alike c.by_word.result (futex_row w.a0 w.a1 w.a2 w.a3 caller) _ caller k a.space.now a.areas.now
     (word_looked_at (parts k) caller w.a0 (w.a1 % 2 ^ 32) (w.a2 % 2 ^ 32) w.a3
-    (sym c.is_known.ensures ∙ c.if-not-is_known.false) c.if-args-ne0.false
+    (sym c.is_known.ensures ∙ c.if-not-is_known.false) c.if-address-ne0.false
     (sym c.has_timeout.ensures ∙ c.if-has_timeout.false)
     ∙ word_read (parts k) caller w.a0 (w.a1 % 2 ^ 32) (w.a2 % 2 ^ 32) w.a3
     (outcome_in (parts k) (bytes_read caller.space w.a0 4)) c.in-Some.word
@@ -76,7 +76,7 @@ returns-in-None-clause-row c caller k list console calling =
     answers_refused (futex_row w.a0 w.a1 w.a2 w.a3 caller) c.refused-in-None.result caller k a.space.now a.space.now
     a.areas.now (has_space caller k a.context.now a.space.now a.areas.now list a.sleepers.now console calling) EFAULT
     (word_looked_at (parts k) caller w.a0 (w.a1 % 2 ^ 32) (w.a2 % 2 ^ 32) w.a3
-    (sym c.is_known.ensures ∙ c.if-not-is_known.false) c.if-args-ne0.false
+    (sym c.is_known.ensures ∙ c.if-not-is_known.false) c.if-address-ne0.false
     (sym c.has_timeout.ensures ∙ c.if-has_timeout.false)
     ∙ word_unread (parts k) caller w.a0 (w.a1 % 2 ^ 32) (w.a2 % 2 ^ 32) w.a3
     (outcome_in (parts k) (bytes_read caller.space w.a0 4))
