@@ -5,7 +5,7 @@ ghost use Rattle.host_node.specs.Tree.{Shape};
 ghost use Rattle.image_walk.specs.Granted.{CanGiveBack, GivesBack, place_of, told_of};
 
 use host_node::HostNode;
-use sn_text::Name;
+use sn_text::{Name, is_same_name};
 use std::alloc::Global;
 
 /// A child of a granted folder's root that was lent, and its name.
@@ -79,7 +79,7 @@ pub(crate) fn place_of<N: HostNode>(name: &Name, lent: &[Lent<N>]) -> Option<usi
     match lent {
         [] => None,
         [first, rest @ ..] => {
-            if name.as_bytes() == first.name.as_bytes() {
+            if is_same_name(name, &first.name) {
                 return Some(0);
             }
             match place_of(name, rest) {

@@ -7,7 +7,7 @@
 //! want of memory; what it answers has a mount at `/`, no two that clash and so far no more than one, and 1 to 64
 //! tasks, each with a path of `/` and a name (`form`). Bytes say one thing at most and have one first fault at most
 //! (`mounts_same`, `fault_same`, `no_fault` in `proofs/`). `Mount::copy` and `copied_mounts` answer the same mounts, in
-//! memory of their own.
+//! memory of their own, and `is_same_place` tells whether two places of mounts are one.
 //!
 //! Not said: whether the folders and images are there, and when memory runs out.
 //!
@@ -25,5 +25,5 @@ mod values;
 
 pub use mounts::{Mount, MountFault, Mounts, Program, copied_mounts};
 pub use read::{LONGEST_MOUNT_FILE, read_mounts};
-pub use rules::{MOST_MOUNTS, MOST_TASKS};
+pub use rules::{MOST_MOUNTS, MOST_TASKS, is_same_place};
 pub use values::MOST_ENTRIES;

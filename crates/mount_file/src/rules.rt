@@ -6,7 +6,7 @@ ghost use Rattle.std.specs.Str.{bytes_eq};
 ghost use Rattle.mount_file.specs.Rules.{is_same_place, is_in, clashes, has_clash, has_root, has_too_many, rule_broken};
 
 use crate::mounts::{Mount, MountFault, Mounts};
-use sn_text::Name;
+use sn_text::{Name, is_same_name};
 
 /// How many mounts there may be, so far.
 pub const MOST_MOUNTS: usize = 1;
@@ -65,8 +65,8 @@ fn clashes(mount: &Mount, other: &Mount) -> bool
         || is_in(mount.folder.route().names(), other.folder.route().names())
 }
 
-/// Whether two places are the same.
-fn is_same_place(place: &Option<Name>, other: &Option<Name>) -> bool
+/// Whether two places of mounts are the same: `None` is `/`.
+pub fn is_same_place(place: &Option<Name>, other: &Option<Name>) -> bool
     ensures { result ≡ is_same_place place.now other.now }
 {
     match (place, other) {
@@ -92,13 +92,6 @@ fn begins_with(names: &[Name], others: &[Name]) -> bool
             .iter()
             .zip(names.iter())
             .all(|(other, name)| is_same_name(other, name))
-}
-
-/// Whether two names are the same.
-fn is_same_name(name: &Name, other: &Name) -> bool
-    ensures { result ≡ bytes_eq name.now other.now }
-{
-    name.as_bytes() == other.as_bytes()
 }
 
 /// Whether there are more mounts or tasks than may be.

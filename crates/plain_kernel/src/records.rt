@@ -6,12 +6,12 @@ ghost use Rattle.mount_file.specs.declared.mounts.Program.{Program as AProgram};
 ghost use Rattle.kernel_model.specs.declared.opening.Opened.{Opened as AnOpened};
 ghost use Rattle.kernel_model.specs.files.Numbers.{count_up};
 ghost use lib.Pointwise.{pointwise};
-ghost use Rattle.kernel_model.specs.opening.Records.{begins, same_flag, same_place, same_folder, same_mount};
+ghost use Rattle.kernel_model.specs.opening.Records.{begins, same_flag, same_folder, same_mount};
 ghost use Rattle.kernel_model.specs.opening.Records.{is_of};
 
 use kernel_model::{Opened, Opening};
-use mount_file::{Mount, Mounts, Program};
-use sn_text::{Folder, Name, Text, same_names};
+use mount_file::{Mount, Mounts, Program, is_same_place};
+use sn_text::{Folder, Text, same_names};
 
 /// Whether the record is of these mounts and tasks, with the roots numbered 1 up.
 pub(crate) fn is_of(opening: &Opening, mounts: &Mounts) -> bool
@@ -36,17 +36,7 @@ fn same_mounts(a: &[Mount], b: &[Mount]) -> bool
 fn same_mount(a: &Mount, b: &Mount) -> bool
     ensures { result ≡ same_mount a.now b.now }
 {
-    same_place(&a.at, &b.at) && same_folder(&a.folder, &b.folder) && same_flag(a.write, b.write)
-}
-
-fn same_place(a: &Option<Name>, b: &Option<Name>) -> bool
-    ensures { result ≡ same_place a.now b.now }
-{
-    match (a, b) {
-        (None, None) => true,
-        (Some(x), Some(y)) => x.as_bytes() == y.as_bytes(),
-        _ => false,
-    }
+    is_same_place(&a.at, &b.at) && same_folder(&a.folder, &b.folder) && same_flag(a.write, b.write)
 }
 
 fn same_folder(a: &Folder, b: &Folder) -> bool

@@ -10,6 +10,7 @@ use Rattle.sn_text.specs.Folders.{FolderPath}
 use Rattle.mount_file.specs.declared.mounts.Mounts.{Mounts}
 use Rattle.mount_file.specs.declared.mounts.Mount.{Mount}
 use Rattle.mount_file.specs.declared.mounts.Program.{Program}
+use Rattle.mount_file.specs.Rules.{is_same_place}
 use Rattle.kernel_model.specs.declared.opening.Opening.{Opening}
 use Rattle.kernel_model.specs.declared.opening.Opened.{Opened}
 use Rattle.kernel_model.specs.files.Numbers.{IsGapless, numbers_opened, count_up}
@@ -17,7 +18,7 @@ use Rattle.kernel_model.specs.opening.Opening.{Misfits, bare, opening_of}
 use Rattle.kernel_model.specs.opening.Records.{begins, is_of, same_flag, same_folder}
 use lib.Pointwise.{pointwise}
 use Rattle.kernel_model.specs.opening.Opening.{tasks_begun}
-use Rattle.kernel_model.specs.opening.Records.{same_mount, same_place}
+use Rattle.kernel_model.specs.opening.Records.{same_mount}
 use Rattle.run_opening.specs.Records.{IsRecorded}
 use Rattle.sentry_run.specs.Played.{first_of, nothing_opened}
 
@@ -30,7 +31,7 @@ same_flags : (b : Bool) → same_flag b b ≡ true
 same_flags true = refl
 same_flags false = refl
 
-same_places : (at : Option (List ℕ)) → same_place at at ≡ true
+same_places : (at : Option (List ℕ)) → is_same_place at at ≡ true
 same_places None = refl
 same_places (Some name) = same_bytes name
 

@@ -8,8 +8,9 @@
 //! Proved: a `Name` is always a name (`is_name`), and so is each of a `Route` (`are_names`); `name_of` and
 //! `name_fault` refuse exactly what is none, with the first fault in the order Empty, Long, Slash, Nul, Dot
 //! (`fault`, `faulty`); `parts` gives the pieces between slashes but for the empty ones; a copy is equal to
-//! what it copies; `same_names` tells whether two routes have the same names; a call that is refused for want of
-//! memory leaves its object as it was (`err`), and is refused only where there is something to keep (`some`).
+//! what it copies; `is_same_name` tells whether two names are the same, and `same_names` whether two routes have the
+//! same ones; a call that is refused for want of memory leaves its object as it was (`err`), and is refused only where
+//! there is something to keep (`some`).
 //!
 //! Not said: whether bytes are text in some encoding, and how much memory is taken.
 //!
@@ -28,7 +29,7 @@ mod text;
 
 pub use fault::{NAME_MAX, NameFault, name_fault};
 pub use folder::Folder;
-pub use name::{Name, name_of, same_names};
+pub use name::{Name, is_same_name, name_of, same_names};
 pub use path::parts;
 pub use pieces::Parts;
 pub use route::Route;

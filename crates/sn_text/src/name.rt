@@ -76,6 +76,13 @@ pub fn name_of(alloc: Global, bytes: &[u8]) -> Result<Name, NameFault>
     }
 }
 
+/// Whether these are the same name.
+pub fn is_same_name(name: &Name, other: &Name) -> bool
+    ensures { result ≡ bytes_eq name.now other.now }
+{
+    name.as_bytes() == other.as_bytes()
+}
+
 /// Whether these are the same names, in the same order.
 pub fn same_names(names: &[Name], others: &[Name]) -> bool
     ensures { result ≡ pointwise bytes_eq names.now others.now }
@@ -83,7 +90,7 @@ pub fn same_names(names: &[Name], others: &[Name]) -> bool
     match (names, others) {
         ([], []) => true,
         ([name, rest @ ..], [other, more @ ..]) => {
-            name.as_bytes() == other.as_bytes() && same_names(rest, more)
+            is_same_name(name, other) && same_names(rest, more)
         }
         _ => false,
     }

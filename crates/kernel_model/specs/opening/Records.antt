@@ -1,11 +1,12 @@
 -- Whether the record of an opening is of a mount file.
-use Rattle.std.specs.Prelude.{ℕ, nat_eq, List, [], ◌∷◌, length, map, Bool, true, false, ◌&&◌, not, Option, Some, None}
+use Rattle.std.specs.Prelude.{nat_eq, List, [], ◌∷◌, length, map, Bool, true, false, ◌&&◌, not}
 use Rattle.std.specs.Str.{bytes_eq}
 use lib.Pointwise.{pointwise}
 use Rattle.sn_text.specs.Folders.{FolderPath}
 use Rattle.mount_file.specs.declared.mounts.Mount.{Mount}
 use Rattle.mount_file.specs.declared.mounts.Mounts.{Mounts}
 use Rattle.mount_file.specs.declared.mounts.Program.{Program}
+use Rattle.mount_file.specs.Rules.{is_same_place}
 use Rattle.kernel_model.specs.declared.opening.Opened.{Opened}
 use Rattle.kernel_model.specs.declared.opening.Opening.{Opening}
 use Rattle.kernel_model.specs.files.Numbers.{count_up}
@@ -21,16 +22,11 @@ abbrev pub same_flag : Bool → Bool → Bool
 same_flag true b = b
 same_flag false b = not b
 
-abbrev pub same_place : Option (List ℕ) → Option (List ℕ) → Bool
-same_place None None = true
-same_place (Some a) (Some b) = bytes_eq a b
-same_place _ _ = false
-
 abbrev pub same_folder : FolderPath → FolderPath → Bool
 same_folder a b = same_flag a.rooted b.rooted && pointwise bytes_eq a.names b.names
 
 abbrev pub same_mount : Mount → Mount → Bool
-same_mount a b = same_place a.at b.at && same_folder a.folder b.folder && same_flag a.write b.write
+same_mount a b = is_same_place a.at b.at && same_folder a.folder b.folder && same_flag a.write b.write
 
 -- the record is of these mounts and tasks, with the roots numbered 1 up
 -- profile
