@@ -1,10 +1,11 @@
 -- A pipe that a call makes.
 use Rattle.std.specs.Prelude.{◌≡◌, ℕ, List, Some}
-use Rattle.fd_table.specs.Flags.{has_flag, nonblock_flag}
+use Rattle.fd_table.specs.Flags.{has_flag}
 use Rattle.fd_table.specs.Tables.{Table}
 use Rattle.fd_table.specs.declared.description.Object.TheVariants.{PipeEnd}
 use Rattle.fd_table.specs.declared.description.PipeSide.TheVariants as side
 use Rattle.fd_table.specs.declared.flags.Access.TheVariants.{Read, Write}
+use Rattle.fd_table.specs.declared.flags.TheConstants.{O_NONBLOCK}
 use Rattle.pipe_core.specs.Pipes.{new_pipe}
 use Rattle.mm_space.specs.Accesses.{writable}
 use Rattle.mm_space.specs.Handing.{AreaState, InHand}
@@ -28,10 +29,10 @@ use Rattle.call_fs.specs.declared.pipes.PipeCall.TheVariants.{Refused, Makes}
 -- the open file description of an end of the pipe that the entry of a place makes
 -- pipe(2), DESCRIPTION, O_NONBLOCK
 abbrev pub read_file : (place flags : ℕ) → OpenFile
-read_file place flags = new_file (PipeEnd (read_end_at place) side.Read) Read (has_flag flags nonblock_flag)
+read_file place flags = new_file (PipeEnd (read_end_at place) side.Read) Read (has_flag flags O_NONBLOCK)
 
 abbrev pub write_file : (place flags : ℕ) → OpenFile
-write_file place flags = new_file (PipeEnd (read_end_at place) side.Write) Write (has_flag flags nonblock_flag)
+write_file place flags = new_file (PipeEnd (read_end_at place) side.Write) Write (has_flag flags O_NONBLOCK)
 
 -- a row comes to a pipe that is made: the caller's table has two free numbers, and the buffer may be written
 -- pipe(2), RETURN VALUE

@@ -14,14 +14,11 @@ ghost use Rattle.call_fs.specs.Prepared.{AnswersFiles};
 
 use crate::lookups::{Looked, descriptor, file_of, look, lowest_free};
 use crate::prepared::{FilePrepared, refused, replied};
-use fd_table::{Descriptor, OPEN_MAX};
+use fd_table::{Descriptor, O_CLOEXEC, OPEN_MAX};
 use file_changes::FileChange;
 use kernel_model::OpenFiles;
 use sn_base::Made;
 use sn_errno::Errno;
-
-/// O_CLOEXEC.
-const CLOEXEC: u32 = 0o2000000;
 
 /// dup(fd): the lowest free number gets what the descriptor stands for, and is the reply. execve(2) doesn't close it.
 ///
@@ -108,7 +105,7 @@ pub fn close(table: Made, fd: u64, files: &OpenFiles) -> FilePrepared
 fn is_cloexec_or_none(flags: u32) -> bool
     ensures { result ≡ is_cloexec_or_none flags }
 {
-    flags == 0 || flags == CLOEXEC
+    flags == 0 || flags == O_CLOEXEC
 }
 
 /// A number that a table may have.
@@ -151,7 +148,7 @@ fn gives_at(looked: &Looked<'_>, number: u32, flags: u32) -> FilePrepared
         AnswersFiles (gives_at c number flags looked.now.numbers.now looked.now.descriptor) result c k }
 {
     if is_possible(number) {
-        gives(looked, number, flags == CLOEXEC)
+        gives(looked, number, flags == O_CLOEXEC)
     } else {
         refused(Errno::EBADF)
     }

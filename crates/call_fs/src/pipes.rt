@@ -2,14 +2,13 @@
 
 ghost use Rattle.std.specs.Prelude.{◌≡◌, ℕ, ◌<◌, None, Some, IfOk, OnOk, OnErr};
 ghost use Rattle.std.specs.FinMap as map;
-ghost use Rattle.fd_table.specs.Flags.{has_flag, nonblock_flag};
+ghost use Rattle.fd_table.specs.Flags.{has_flag};
 ghost use Rattle.fd_table.specs.Tables.{Table};
 ghost use Rattle.kernel_model.specs.Names.{get_named, with_named};
 ghost use Rattle.kernel_model.specs.declared.caller.Caller.{Caller as ACaller};
 ghost use Rattle.kernel_model.specs.declared.kernel.Kernel.{Kernel as AKernel};
 ghost use Rattle.kernel_model.specs.calls.Answers.{Answer};
 ghost use Rattle.kernel_model.specs.calls.Callers.{Context as RowContext};
-ghost use Rattle.kernel_model.specs.calls.Descriptors.{cloexec_flag};
 ghost use Rattle.fd_table.specs.declared.description.Object.TheVariants.{PipeEnd};
 ghost use Rattle.kernel_model.specs.descriptors.OpenFiles.{new_file};
 ghost use Rattle.kernel_model.specs.calls.Pipes.{are_pipe_flags, pipe2_row, pipe_made, read_end_at, two_free, two_ints};
@@ -20,7 +19,9 @@ ghost use Rattle.call_fs.specs.NewPipes.{MakesPipe, Prepares, PutsInts, read_fil
 ghost use Rattle.call_fs.specs.Transfers.{IsMoving};
 
 use crate::lookups::lowest_free;
-use fd_table::{Access, Description, Descriptor, FdTable, OPEN_MAX, Object, PipeSide};
+use fd_table::{
+    Access, Description, Descriptor, FdTable, O_CLOEXEC, O_NONBLOCK, OPEN_MAX, Object, PipeSide,
+};
 use guest_access::{is_accessible, write};
 use kernel_calls::Context;
 use kernel_model::{GuestArea, GuestSpace, Named, OpenFile, OpenFiles};
@@ -30,11 +31,8 @@ use sn_base::{Made, Memory};
 use sn_errno::Errno;
 use std::alloc::Global;
 
-/// O_NONBLOCK.
-const NONBLOCK: u32 = 0o4000;
-
-/// O_CLOEXEC.
-const CLOEXEC: u32 = 0o2000000;
+/// The flags that pipe2 takes.
+const PIPE_FLAGS: u32 = O_NONBLOCK + O_CLOEXEC;
 
 /// The ends of a pipe that a call makes: their numbers, the flags of the call, and the buffer that gets the numbers.
 #[derive(Clone, Copy, Debug, Drop, PartialEq, Eq)]
@@ -109,7 +107,7 @@ pub fn pipe2(
 fn are_pipe_flags(flags: u32) -> bool
     ensures { result ≡ are_pipe_flags flags }
 {
-    flags & 0o2004000 == flags
+    flags & PIPE_FLAGS == flags
 }
 
 /// The two lowest free numbers.
@@ -248,7 +246,7 @@ fn make_write_end(
 
 /// The open file description of an end of the pipe of a place.
 fn end_file(place: u64, flags: u32, end: PipeSide, access: Access) -> OpenFile
-    ensures { result ≡ new_file (PipeEnd (read_end_at place) end) access (has_flag flags nonblock_flag) }
+    ensures { result ≡ new_file (PipeEnd (read_end_at place) end) access (has_flag flags O_NONBLOCK) }
 {
     OpenFile {
         description: Description {
@@ -258,7 +256,7 @@ fn end_file(place: u64, flags: u32, end: PipeSide, access: Access) -> OpenFile
             },
             access,
             append: false,
-            nonblock: flags & NONBLOCK == NONBLOCK,
+            nonblock: flags & O_NONBLOCK == O_NONBLOCK,
             position: 0,
         },
         descriptors: 1,
@@ -304,7 +302,7 @@ fn open_ends(place: u64, table: Made, ends: &Ends, tables: &mut Named<FdTable>)
         (with_ends_of place ends.now.flags (ends.now.first, ends.now.second) open_numbers) }
 {
     if let Some(numbers) = tables.get_mut(table.place, table.index) {
-        let cloexec = ends.flags & CLOEXEC == CLOEXEC;
+        let cloexec = ends.flags & O_CLOEXEC == O_CLOEXEC;
         open_number(numbers, ends.first, Made { place, index: 0 }, cloexec);
         open_number(numbers, ends.second, Made { place, index: 1 }, cloexec);
     }

@@ -3,6 +3,7 @@ use Rattle.std.specs.Prelude.{ℕ, ◌%◌, ◌==◌, Bool, true, false, if◌th
 use Rattle.std.specs.Int.RustNames.{bit_and}
 use Rattle.fd_table.specs.declared.flags.Access.{Access}
 use Rattle.fd_table.specs.declared.flags.Access.TheVariants.{Read, Write, Both}
+use Rattle.fd_table.specs.declared.flags.TheConstants.{O_APPEND, O_CLOEXEC, O_NONBLOCK}
 
 -- each flag's name and bit, in the order of the bits: octal 1, 2, 100, 200, 1000, 2000, 4000, 100000, 200000, 400000
 -- and 2000000
@@ -14,12 +15,12 @@ open_flags =
     ∷ (codes "CREAT", 64)
     ∷ (codes "EXCL", 128)
     ∷ (codes "TRUNC", 512)
-    ∷ (codes "APPEND", 1024)
-    ∷ (codes "NONBLOCK", 2048)
+    ∷ (codes "APPEND", O_APPEND)
+    ∷ (codes "NONBLOCK", O_NONBLOCK)
     ∷ (codes "LARGEFILE", 32768)
     ∷ (codes "DIRECTORY", 65536)
     ∷ (codes "NOFOLLOW", 131072)
-    ∷ (codes "CLOEXEC", 524288)
+    ∷ (codes "CLOEXEC", O_CLOEXEC)
     ∷ []
 
 -- the access that the low two bits of flags stand for: 0, 1 and 2 are access modes, and 3 is none
@@ -51,16 +52,6 @@ abbrev pub may_write : Access → Bool
 may_write Read = false
 may_write Write = true
 may_write Both = true
-
--- O_APPEND, octal 2000
--- open(2); Linux's asm-generic/fcntl.h
-abbrev pub append_flag : ℕ
-append_flag = 1024
-
--- O_NONBLOCK, octal 4000
--- open(2); Linux's asm-generic/fcntl.h
-abbrev pub nonblock_flag : ℕ
-nonblock_flag = 2048
 
 -- whether flags have one of them
 -- open(2)

@@ -4,6 +4,15 @@ ghost use Rattle.std.specs.Prelude.{⊤, ◌≡◌};
 
 use bitflags::{Flag, Flags, bitflag_items};
 
+/// O_APPEND: a write goes behind the last byte. open(2); Linux's asm-generic/fcntl.h, which riscv64 has.
+pub const O_APPEND: u32 = 0o2000;
+
+/// O_NONBLOCK: no call waits. open(2); Linux's asm-generic/fcntl.h, which riscv64 has.
+pub const O_NONBLOCK: u32 = 0o4000;
+
+/// O_CLOEXEC: execve(2) closes the descriptor. open(2); Linux's asm-generic/fcntl.h, which riscv64 has.
+pub const O_CLOEXEC: u32 = 0o2000000;
+
 /// What an open file may be used for.
 #[derive(Clone, Copy, Debug, PartialEq, Eq)]
 pub enum Access {
@@ -58,12 +67,12 @@ bitflag_items! {
         const CREAT = 0o100;
         const EXCL = 0o200;
         const TRUNC = 0o1000;
-        const APPEND = 0o2000;
-        const NONBLOCK = 0o4000;
+        const APPEND = O_APPEND;
+        const NONBLOCK = O_NONBLOCK;
         const LARGEFILE = 0o100000;
         const DIRECTORY = 0o200000;
         const NOFOLLOW = 0o400000;
-        const CLOEXEC = 0o2000000;
+        const CLOEXEC = O_CLOEXEC;
     }
 }
 

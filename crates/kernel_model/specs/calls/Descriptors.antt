@@ -6,6 +6,7 @@ use Rattle.std.specs.FinMap as map
 use Rattle.sn_errno.specs.declared.errno.Errno.TheVariants.{EBADF, EINVAL, EMFILE, ENOTTY}
 use Rattle.fd_table.specs.Descriptions.{status_flags, with_status}
 use Rattle.fd_table.specs.Tables.{Table, marked, with_mark}
+use Rattle.fd_table.specs.declared.flags.TheConstants.{O_CLOEXEC}
 use Rattle.fd_table.specs.declared.table.TheConstants.{OPEN_MAX}
 use Rattle.fd_table.specs.declared.descriptor.Descriptor.{Descriptor}
 use Rattle.kernel_model.specs.declared.caller.Caller.{Caller}
@@ -46,13 +47,10 @@ opens_from c from cloexec table d = or_refuse EMFILE (gives c cloexec table d) (
 abbrev pub dup_row : (fd : ℕ) → Caller → Prog Answer
 dup_row fd c = with_descriptor c fd (opens_from c 0 false)
 
--- O_CLOEXEC, octal 2000000, or no flag
--- open(2), dup(2); Linux's asm-generic/fcntl.h
-abbrev pub cloexec_flag : ℕ
-cloexec_flag = 524288
-
+-- O_CLOEXEC, or no flag
+-- open(2), dup(2)
 abbrev pub is_cloexec_or_none : (flags : ℕ) → Bool
-is_cloexec_or_none flags = (flags == 0) || (flags == cloexec_flag)
+is_cloexec_or_none flags = (flags == 0) || (flags == O_CLOEXEC)
 
 -- a number that a table may have
 -- getrlimit(2), RLIMIT_NOFILE
@@ -63,7 +61,7 @@ is_possible number = nat_lt number OPEN_MAX
 -- dup(2), ERRORS: EINVAL, EBADF; their order: profile
 abbrev pub gives_at : Caller → (number flags : ℕ) → Table → Descriptor → Prog Answer
 gives_at c number flags table d =
-    if is_possible number then gives c (flags == cloexec_flag) table d number else done (refuses EBADF)
+    if is_possible number then gives c (flags == O_CLOEXEC) table d number else done (refuses EBADF)
 
 abbrev pub dup3_row : (fd number flags : ℕ) → Caller → Prog Answer
 dup3_row fd number flags c =

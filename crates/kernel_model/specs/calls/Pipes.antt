@@ -5,11 +5,12 @@ use Rattle.std.specs.FinMap as map
 use Rattle.std.specs.Int.{to_le_bytes, w32}
 use Rattle.std.specs.Int.RustNames.{bit_and}
 use Rattle.sn_errno.specs.declared.errno.Errno.TheVariants.{EFAULT, EINVAL, EMFILE}
-use Rattle.fd_table.specs.Flags.{has_flag, nonblock_flag}
+use Rattle.fd_table.specs.Flags.{has_flag}
 use Rattle.fd_table.specs.Tables.{Table}
 use Rattle.fd_table.specs.declared.description.Object.TheVariants.{PipeEnd}
 use Rattle.fd_table.specs.declared.description.PipeSide.TheVariants as side
 use Rattle.fd_table.specs.declared.flags.Access.TheVariants.{Read, Write}
+use Rattle.fd_table.specs.declared.flags.TheConstants.{O_CLOEXEC, O_NONBLOCK}
 use Rattle.pipe_core.specs.Pipes.{new_pipe}
 use Rattle.sn_base.specs.declared.made.Made.{Made}
 use Rattle.mm_space.specs.Accesses.{writable}
@@ -19,7 +20,6 @@ use Rattle.kernel_model.specs.declared.kernel.Part.TheVariants.{OfTable, OfDescr
 use Rattle.kernel_model.specs.descriptors.OpenFiles.{descriptor_of, new_file}
 use Rattle.kernel_model.specs.calls.Answers.{Answer, replies, refuses}
 use Rattle.kernel_model.specs.calls.Callers.{Context}
-use Rattle.kernel_model.specs.calls.Descriptors.{cloexec_flag}
 use Rattle.kernel_model.specs.calls.Lookups.{lowest_free, or_refuse, with_table}
 use Rattle.kernel_model.specs.entries.Areas.{access_row, reach_changes, written_with}
 use Rattle.kernel_model.specs.entries.Parts.{Change, Prog, done, ◌>>=◌}
@@ -27,7 +27,7 @@ use Rattle.kernel_model.specs.entries.Parts.{Change, Prog, done, ◌>>=◌}
 -- flags of no other bits than O_NONBLOCK and O_CLOEXEC
 -- pipe(2), EINVAL; that O_DIRECT is refused: profile
 abbrev pub are_pipe_flags : (flags : ℕ) → Bool
-are_pipe_flags flags = bit_and flags (nonblock_flag + cloexec_flag) == flags
+are_pipe_flags flags = bit_and flags (O_NONBLOCK + O_CLOEXEC) == flags
 
 -- the two lowest free numbers: of the read end, and of the write end
 -- pipe(2), DESCRIPTION; open(2), DESCRIPTION: the lowest-numbered; EMFILE
@@ -48,7 +48,7 @@ write_end_at place = record { place = place; index = 1 }
 -- pipe(2), O_CLOEXEC; pipefd
 abbrev pub with_ends_of : (place flags : ℕ) → ℕ × ℕ → Table → Table
 with_ends_of place flags fds table =
-    let cloexec = has_flag flags cloexec_flag in
+    let cloexec = has_flag flags O_CLOEXEC in
     map.insert (map.insert table fds.0 (descriptor_of (read_end_at place) cloexec)) fds.1
     (descriptor_of (write_end_at place) cloexec)
 
@@ -59,7 +59,7 @@ two_ints fds = to_le_bytes w32 fds.0 ++ to_le_bytes w32 fds.1
 -- pipe(2), DESCRIPTION, O_NONBLOCK; the names: profile
 abbrev pub ends_made : (place flags : ℕ) → List Change
 ends_made place flags =
-    let nonblock = has_flag flags nonblock_flag in
+    let nonblock = has_flag flags O_NONBLOCK in
     (OfPipe (read_end_at place), Some new_pipe)
     ∷ (OfDescription (read_end_at place), Some (new_file (PipeEnd (read_end_at place) side.Read) Read nonblock))
     ∷ (OfDescription (write_end_at place), Some (new_file (PipeEnd (read_end_at place) side.Write) Write nonblock))
