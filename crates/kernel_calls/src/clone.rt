@@ -23,7 +23,7 @@ use rv_table::{Reg, Regs};
 use sn_base::{Boxed, Memory};
 use sn_errno::Errno;
 use std::alloc::Global;
-use task_table::Tasks;
+use task_table::{LAST_TASK, Tasks};
 
 /// The register of the stack's end: sp, which is x2.
 const SP: u8 = 2;
@@ -36,9 +36,6 @@ const PROCESS_FLAGS: u32 = 17;
 
 /// The flags of a new thread: CLONE_VM, CLONE_FS, CLONE_FILES, CLONE_SIGHAND and CLONE_THREAD.
 const THREAD_FLAGS: u32 = (1 << 8) + (1 << 9) + (1 << 10) + (1 << 11) + (1 << 16);
-
-/// The greatest number that a task may have.
-const LAST_TASK: u32 = (1 << 31) - 1;
 
 /// A task that a call makes: its registers, its clear word's address (or 0), its memory, where it is a process of its
 /// own, and the memory that the words leave which got its number, where some did.

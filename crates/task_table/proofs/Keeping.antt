@@ -1,5 +1,5 @@
 -- What holds of the table at all times holds after each change.
-use Rattle.std.proofs.Common.{◌≡◌, ℕ, ◌+◌, ◌-◌, ◌<◌, ◌≤◌, ◌^◌, map, lit<, lit≤, Bool, true}
+use Rattle.std.proofs.Common.{◌≡◌, ℕ, ◌+◌, ◌<◌, ◌≤◌, map, lit≤, Bool, true}
 use Rattle.std.proofs.Common.{false, cond, not, eqb, ◌&&◌, List, [], ◌∷◌, ◌++◌, length}
 use Rattle.std.proofs.Common.{refl, ap, sym, ◌∙◌, subst, arith, length-append}
 use Rattle.std.specs.Prelude.{Option, Some, None, is_some, filter}
@@ -9,6 +9,7 @@ use Rattle.std.specs.FinMap.{FinMap, get, entries, empty, insert, contains_key, 
 use Rattle.std.proofs.lemmas.Bool.{eqb-true, eq-eqb, ne_eqb, and_from, not-true}
 use Rattle.std.proofs.lemmas.List.{append-nil, nil_from_length}
 use Rattle.std.proofs.lemmas.List.Sums.{length-filter, count_by-le-length}
+use Rattle.task_table.specs.declared.table.TheConstants.{LAST_TASK}
 use Rattle.task_table.specs.declared.task.Task.{Task}
 use Rattle.task_table.specs.declared.task.Group.{Group}
 use Rattle.task_table.specs.declared.task.Status.{Status}
@@ -288,7 +289,7 @@ next_of m last v known n h =
     (λ there. ((known n there).0, let b : n ≤ last = (known n there).1 in omega arith)) h
 
 -- a new task with a group that lives, which is there, among groups that keep all others
-kept_new : (t : TaskTable) (c : Task) (groups : FinMap nat_cmp Group) → IsKept t → t.last + 1 < 2 ^ 31
+kept_new : (t : TaskTable) (c : Task) (groups : FinMap nat_cmp Group) → IsKept t → t.last + 1 ≤ LAST_TASK
     → length (live_numbers t.tasks) < 256
     → ((g : ℕ) → contains_key groups g ≡ true → (0 < g) × (g ≤ t.last + 1))
     → ((g : ℕ) → contains_key t.groups g ≡ true → (contains_key groups g ≡ true)
@@ -334,7 +335,7 @@ kept_new t c groups kept small few group_numbers stay there lives = record {
 
 -- a task in a new group
 pub sound_with_group : (t : TaskTable) (live children : List ℕ) (group : Group) (clear : ℕ) → IsSound t live children
-    → t.last < 2 ^ 31 - 1 → group.ended ≡ None → length live < 256
+    → t.last < LAST_TASK → group.ended ≡ None → length live < 256
     → IsSound (with_group t group clear) (live ++ (t.last + 1) ∷ [])
     (cond (has_parent group) (children ++ (t.last + 1) ∷ []) children)
 sound_with_group t live children group clear sound small lives few = record {
@@ -365,7 +366,7 @@ sound_with_group t live children group clear sound small lives few = record {
 
 -- a task in the group of one that lives
 pub sound_threaded : (t : TaskTable) (live children : List ℕ) (task clear : ℕ) → IsSound t live children
-    → is_live t.tasks task ≡ true → t.last < 2 ^ 31 - 1 → length live < 256
+    → is_live t.tasks task ≡ true → t.last < LAST_TASK → length live < 256
     → IsSound (threaded t task clear) (live ++ (t.last + 1) ∷ []) children
 sound_threaded t live children task clear sound lives small few = record {
   kept = kept_new t (record { group = group_of t.tasks task; clear = clear; live = true }) t.groups sound.kept
@@ -395,7 +396,7 @@ sound_empty = record {
   kept = record {
     task_numbers = λ n h. absurd (cc (h, ap is_some (get-empty {X = Task} nat_cmp n)));
     group_numbers = λ g h. absurd (cc (h, ap is_some (get-empty {X = Group} nat_cmp g)));
-    last_small = lit< tt;
+    last_small = lit≤ tt;
     task_groups = λ n h. absurd (cc (h, ap is_some (get-empty {X = Task} nat_cmp n)));
     live_groups =
         λ n h. absurd (cc (h, ap (λ o. option_map_or (λ (x : Task). x.live) o false) (get-empty {X = Task} nat_cmp n)));

@@ -30,5 +30,5 @@ mod reaps;
 mod table;
 mod task;
 
-pub use table::{MOST_LIVE, Tasks};
+pub use table::{LAST_TASK, MOST_LIVE, Tasks};
 pub use task::{CloneErr, Ended, EndedTask, Group, ReapEnd, Status, Task};

@@ -1,6 +1,6 @@
 //! The table of tasks and thread groups, and its calls.
 
-ghost use Rattle.std.specs.Prelude.{◌≡◌, ℕ, ◌+◌, ◌-◌, ◌^◌, ◌<◌, ◌≤◌, ◌↔◌, find, nat_le, nat_lt};
+ghost use Rattle.std.specs.Prelude.{◌≡◌, ℕ, ◌+◌, ◌<◌, ◌≤◌, ◌↔◌, find, nat_le, nat_lt};
 ghost use Rattle.std.specs.Prelude.{IsTrue, IsFalse, IfOk, OnOk, OnErr, None, option_copied};
 ghost use Rattle.std.specs.FinMap as map;
 ghost use Rattle.task_table.specs.Clones.{MadeFrom, WasMade, forked, opened, threaded, with_group};
@@ -23,6 +23,9 @@ use std::marker::Model;
 
 /// How many tasks may live at once.
 pub const MOST_LIVE: usize = 256;
+
+/// The greatest number that a task may have, which is the greatest pid_t: credentials(7), Process ID (PID).
+pub const LAST_TASK: u32 = 2_147_483_647;
 
 /// The tasks and thread groups. Contracts see the table of them.
 #[derive(Debug, Drop)]
@@ -77,7 +80,7 @@ impl Tasks {
 
     /// Makes an opening task, in a thread group of its own without a parent, and answers its number.
     pub fn open(&mut self, memory: Made, table: Made, cwd: u64) -> Result<u32, CloneErr>
-        requires { self.old.last < 2 ^ 31 - 1 }
+        requires { self.old.last < LAST_TASK }
         ensures number { IfOk result (λ n. n ≡ self.old.last + 1) }
         ensures ok { OnOk result (self.new ≡ opened self.old memory table cwd) }
         ensures full { (result ≡ Err CloneErr.Full) ↔ (live_count self.old ≡ MOST_LIVE) }
@@ -104,7 +107,7 @@ impl Tasks {
         clear: u64,
     ) -> Result<u32, CloneErr>
         requires lives { IsTrue (is_live self.old.tasks task) }
-        requires next { self.old.last < 2 ^ 31 - 1 }
+        requires next { self.old.last < LAST_TASK }
         ensures number { IfOk result (λ n. n ≡ self.old.last + 1) }
         ensures ok { OnOk result (self.new ≡ forked self.old task memory table clear) }
         ensures full { (result ≡ Err CloneErr.Full) ↔ (live_count self.old ≡ MOST_LIVE) }
@@ -126,7 +129,7 @@ impl Tasks {
     /// Makes a task in the caller's thread group.
     pub fn thread(&mut self, task: u32, clear: u64) -> Result<u32, CloneErr>
         requires lives { IsTrue (is_live self.old.tasks task) }
-        requires next { self.old.last < 2 ^ 31 - 1 }
+        requires next { self.old.last < LAST_TASK }
         ensures number { IfOk result (λ n. n ≡ self.old.last + 1) }
         ensures ok { OnOk result (self.new ≡ threaded self.old task clear) }
         ensures full { (result ≡ Err CloneErr.Full) ↔ (live_count self.old ≡ MOST_LIVE) }
@@ -365,7 +368,7 @@ impl Tasks {
     /// Makes a task in a thread group of its own.
     #[tactic(auto, using(crate::proofs::Keeping::next_absent))]
     fn add_group(&mut self, group: Group, clear: u64) -> Result<u32, CloneErr>
-        requires next { self.old.last < 2 ^ 31 - 1 }
+        requires next { self.old.last < LAST_TASK }
         requires lives { group.ended ≡ None }
         ensures number { IfOk result (λ n. n ≡ self.old.last + 1) }
         ensures ok { OnOk result (self.new ≡ with_group self.old group clear) }

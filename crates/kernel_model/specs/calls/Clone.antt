@@ -1,5 +1,5 @@
 -- clone: a new process, or a new thread in the caller's thread group.
-use Rattle.std.specs.Prelude.{ℕ, ◌+◌, ◌-◌, ◌*◌, ◌/◌, ◌%◌, ◌^◌, ◌==◌, ◌||◌, nat_le, List, [], ◌∷◌, ◌++◌, Bool}
+use Rattle.std.specs.Prelude.{ℕ, ◌+◌, ◌*◌, ◌/◌, ◌%◌, ◌^◌, ◌==◌, ◌||◌, nat_le, List, [], ◌∷◌, ◌++◌, Bool}
 use Rattle.std.specs.Prelude.{Option, Some, None, pos, if◌then◌else◌}
 use Rattle.std.specs.Int.{to_le_bytes, w32}
 use Rattle.sn_errno.specs.declared.errno.Errno.TheVariants.{EAGAIN, EFAULT, EINVAL}
@@ -8,7 +8,7 @@ use Rattle.rv_table.specs.Registers.{with_reg}
 use Rattle.mm_space.specs.Handing.{InHand}
 use Rattle.mm_space.specs.Spaces.{AddressSpace, Reach, unreserved}
 use Rattle.sn_base.specs.declared.made.Made.{Made}
-use Rattle.task_table.specs.declared.table.TheConstants.{MOST_LIVE}
+use Rattle.task_table.specs.declared.table.TheConstants.{LAST_TASK, MOST_LIVE}
 use Rattle.task_table.specs.Clones.{forked, threaded}
 use Rattle.task_table.specs.Table.{TaskTable, live_count}
 use Rattle.kernel_model.specs.declared.caller.Caller.{Caller}
@@ -74,7 +74,7 @@ is_thread flags = flags == thread_flags + free_flags flags
 -- no task more may be made: as many live as may live at once, or there is no number left
 -- clone(2), EAGAIN; the number of tasks: profile
 abbrev pub is_full : TaskTable → Bool
-is_full list = nat_le MOST_LIVE (live_count list) || nat_le (2 ^ 31 - 1) list.last
+is_full list = nat_le MOST_LIVE (live_count list) || nat_le LAST_TASK list.last
 
 -- the child's registers: those of the caller behind its call, where the call replied 0; with a stack of its own, where
 -- one is given, and with a thread pointer, with CLONE_SETTLS

@@ -3,7 +3,7 @@ use Rattle.std.specs.Prelude.{◌≡◌, ◌<◌, ◌-◌, ◌^◌, Bool, true, 
 use Rattle.sn_errno.specs.declared.errno.Errno.{Errno}
 use Rattle.elf_image.specs.declared.image.Image.{Image as AnImage}
 use Rattle.mount_file.specs.declared.rules.TheConstants.{MOST_TASKS}
-use Rattle.task_table.specs.declared.table.TheConstants.{MOST_LIVE}
+use Rattle.task_table.specs.declared.table.TheConstants.{LAST_TASK, MOST_LIVE}
 use Rattle.task_table.specs.Table.{TaskTable, live_count}
 use Rattle.kernel_model.specs.opening.Opening.{has_room}
 
@@ -20,7 +20,7 @@ fits (Err errno) = true
 -- profile
 pub record IsRoomFor (list : TaskTable) : Type 0 where
   pub few : live_count list < MOST_LIVE
-  pub next : list.last < 2 ^ 31 - 1
+  pub next : list.last < LAST_TASK
 
 -- an opening task more may be made: there is room for it, and fewer were made than a mount file may have
 -- profile

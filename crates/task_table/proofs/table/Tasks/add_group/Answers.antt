@@ -1,4 +1,5 @@
-use Rattle.std.proofs.Common.{refl, ap, sym, subst, ◌∙◌, ◌<◌, ◌+◌, ◌-◌, ◌^◌, ◌++◌, ◌∷◌, [], cond, length, inl, arith}
+use Rattle.std.proofs.Common.{refl, ap, sym, subst, ◌∙◌, ◌<◌, ◌+◌, ◌++◌, ◌∷◌, [], cond, length, inl, arith}
+use Rattle.task_table.specs.declared.table.TheConstants.{LAST_TASK}
 use Rattle.task_table.specs.Clones.{with_group}
 use Rattle.task_table.specs.Table.{has_parent}
 use Rattle.task_table.specs.Table.{TaskTable}
@@ -19,7 +20,7 @@ invariant_of-self-2 c =
     ∙ ap (λ xs. cond (has_parent c.args.group) (xs ++ next ∷ []) xs) c.in_ok-reserve-2.ensures.items)
     (sound_with_group old c.self.inside.live.items c.self.inside.children.items c.args.group
     c.args.clear c.self.invariant
-    (subst (λ (t : TaskTable). t.last < 2 ^ 31 - 1) (sym c.self.view_is) c.requires.next) c.requires.lives few)
+    (subst (λ (t : TaskTable). t.last < LAST_TASK) (sym c.self.view_is) c.requires.next) c.requires.lives few)
 
 pub returns-clause-made : goal.returns-clause-made
 returns-clause-made c =

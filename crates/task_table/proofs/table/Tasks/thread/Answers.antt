@@ -1,6 +1,7 @@
-use Rattle.std.proofs.Common.{refl, ap, sym, subst, ◌∙◌, ◌≡◌, ◌<◌, ◌+◌, ◌-◌, ◌^◌}
+use Rattle.std.proofs.Common.{refl, ap, sym, subst, ◌∙◌, ◌≡◌, ◌<◌, ◌+◌}
 use Rattle.std.proofs.Common.{◌++◌, ◌∷◌, [], true, length, inr, arith}
 use Rattle.std.specs.FinMap.{insert}
+use Rattle.task_table.specs.declared.table.TheConstants.{LAST_TASK}
 use Rattle.task_table.specs.Clones.{threaded}
 use Rattle.task_table.specs.Table.{is_live}
 use Rattle.task_table.specs.Table.{TaskTable}
@@ -25,7 +26,7 @@ invariant_of-self-2 c =
     refl
     (sound_threaded old c.self.inside.live.items c.self.inside.children.items c.args.task c.args.clear c.self.invariant
     (subst (λ (t : TaskTable). is_live t.tasks c.args.task ≡ true) (sym c.self.view_is) c.requires.lives)
-    (subst (λ (t : TaskTable). t.last < 2 ^ 31 - 1) (sym c.self.view_is) c.requires.next) few)
+    (subst (λ (t : TaskTable). t.last < LAST_TASK) (sym c.self.view_is) c.requires.next) few)
 
 pub returns-clause-made : goal.returns-clause-made
 returns-clause-made c =
