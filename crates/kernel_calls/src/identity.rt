@@ -17,11 +17,9 @@ use crate::memory::replied;
 use crate::{Context, Prepared};
 use kernel_model::{GuestArea, GuestSpace, Named};
 use sn_base::{List, Memory};
+use stat_layout::OWNER;
 use std::alloc::Global;
 use task_table::Tasks;
-
-/// The number of the user, and of the group of users, of every task.
-const OWNER: i64 = 1_000;
 
 /// The bytes of a field of struct utsname.
 const FIELD: usize = 65;
@@ -73,7 +71,7 @@ pub(crate) fn owner() -> Prepared
         Answers owner_row result c k own k.areas }
     ensures effect { result.effect ≡ Nothing }
 {
-    replied(OWNER)
+    replied(i64::from(OWNER))
 }
 
 /// uname(buffer): six fields that say which system this is.

@@ -24,6 +24,7 @@ use Rattle.sn_errno.specs.Calls.{call_of}
 use Rattle.sn_errno.specs.Errors.{reply_of}
 use Rattle.host_node.specs.Tree.{Shape}
 use Rattle.sn_base.specs.declared.made.Made.{Made}
+use Rattle.stat_layout.specs.declared.stat.TheConstants.{OWNER}
 use Rattle.task_table.specs.declared.task.EndedTask.{EndedTask}
 use Rattle.task_table.specs.declared.task.ReapEnd.{ReapEnd}
 use Rattle.task_table.specs.declared.task.ReapEnd.TheVariants.{Reaped, NotYet, NoChild}
@@ -61,7 +62,7 @@ use Rattle.kernel_model.specs.calls.Clone.{sets_child_word, thread_by, thread_ma
 use Rattle.kernel_model.specs.calls.Ending.{closed_if, end_changes, ends_as, ends_with, exit_row, exit_group_row}
 use Rattle.kernel_model.specs.calls.Ending.{group_end, set_tid_address_row, task_end}
 use Rattle.kernel_model.specs.calls.Futex.{by_word, futex_of, is_wait, is_wake, sleeps_on, wakes_on}
-use Rattle.kernel_model.specs.calls.Identity.{owner, parent_of, utsname}
+use Rattle.kernel_model.specs.calls.Identity.{parent_of, utsname}
 use Rattle.kernel_model.specs.calls.Memory.{mmap_row}
 use Rattle.kernel_model.specs.calls.Memory.{remaps, unless_refused, fault_errno, file_refusal, map_refusal, maps}
 use Rattle.kernel_model.specs.calls.Memory.{protect_refusal}
@@ -355,10 +356,10 @@ module _ (s : Parts) where
   row_leaves context c args Uname = fill_leaves c args.a0 utsname 0
   row_leaves context c args Getpid = told_leaves s (pos c.group)
   row_leaves context c args Getppid = told_leaves s (pos (parent_of (s OfTasks).groups c.group))
-  row_leaves context c args Getuid = told_leaves s (pos owner)
-  row_leaves context c args Geteuid = told_leaves s (pos owner)
-  row_leaves context c args Getgid = told_leaves s (pos owner)
-  row_leaves context c args Getegid = told_leaves s (pos owner)
+  row_leaves context c args Getuid = told_leaves s (pos OWNER)
+  row_leaves context c args Geteuid = told_leaves s (pos OWNER)
+  row_leaves context c args Getgid = told_leaves s (pos OWNER)
+  row_leaves context c args Getegid = told_leaves s (pos OWNER)
   row_leaves context c args Gettid = told_leaves s (pos c.task)
   row_leaves context c args Brk =
       remaps_leave c (broken_in c.space args.a0) (address_reply (broken_in c.space args.a0).mapping.program_break) []

@@ -2,6 +2,7 @@
 use Rattle.std.specs.Prelude.{◌≡◌, ℕ, ◌+◌, ◌/◌, List, ◌++◌, replicate, slice_range}
 use Rattle.sn_bytes.specs.Fields.{field, little_bytes}
 use Rattle.stat_layout.specs.declared.stat.Stat.{Stat}
+use Rattle.stat_layout.specs.declared.stat.TheConstants.{OWNER}
 use Rattle.stat_layout.specs.Kinds.{type_bits}
 
 -- a node's type and its permissions in one number
@@ -22,8 +23,8 @@ stat_record stat =
     ++ little_bytes 8 stat.ino  -- st_ino, at 8
     ++ little_bytes 4 (mode_of stat)  -- st_mode, at 16
     ++ little_bytes 4 stat.nlink  -- st_nlink, at 20
-    ++ little_bytes 4 1000  -- st_uid, at 24
-    ++ little_bytes 4 1000  -- st_gid, at 28
+    ++ little_bytes 4 OWNER  -- st_uid, at 24
+    ++ little_bytes 4 OWNER  -- st_gid, at 28
     ++ little_bytes 8 0  -- st_rdev, at 32
     ++ replicate 8 0  -- padding, at 40
     ++ little_bytes 8 stat.size  -- st_size, at 48
@@ -39,8 +40,8 @@ pub record HasStatFields (stat : Stat) (bytes : List ℕ) : Type 0 where
   pub st_ino : field 8 8 bytes ≡ stat.ino
   pub st_mode : field 4 16 bytes ≡ mode_of stat
   pub st_nlink : field 4 20 bytes ≡ stat.nlink
-  pub st_uid : field 4 24 bytes ≡ 1000
-  pub st_gid : field 4 28 bytes ≡ 1000
+  pub st_uid : field 4 24 bytes ≡ OWNER
+  pub st_gid : field 4 28 bytes ≡ OWNER
   pub st_rdev : field 8 32 bytes ≡ 0
   pub st_size : field 8 48 bytes ≡ stat.size
   pub st_blksize : field 4 56 bytes ≡ 4096

@@ -30,4 +30,4 @@ mod stat;
 pub use dirent::{Dirent, dirent_length, put_dirent};
 pub use iovec::{IOV_MAX, IoVec, IoVecErr, iovec_bytes, iovecs, total};
 pub use kind::FileKind;
-pub use stat::{STAT_SIZE, Stat, put_stat, stat_bytes};
+pub use stat::{OWNER, STAT_SIZE, Stat, put_stat, stat_bytes};

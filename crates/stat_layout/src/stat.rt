@@ -29,8 +29,9 @@ pub struct Stat {
 /// The size of struct stat, in bytes.
 pub const STAT_SIZE: usize = 128;
 
-/// Owner and group of each node: what getuid(2) and getgid(2) answer.
-const OWNER: u32 = 1_000;
+/// The number of the user and of the group of every node and of every task, the effective ones too: credentials(7),
+/// User and group identifiers. The number is profile.
+pub const OWNER: u32 = 1_000;
 
 /// The block size of each node: `st_blksize`.
 const BLOCK_SIZE: u32 = 4_096;

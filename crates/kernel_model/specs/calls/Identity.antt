@@ -3,6 +3,7 @@ use Rattle.std.specs.Prelude.{ℕ, ◌-◌, List, [], ◌++◌, length, replicat
 use Rattle.std.specs.FinMap as map
 use Rattle.std.specs.Option.{option_map_or}
 use Rattle.std.specs.Ordering.{nat_cmp}
+use Rattle.stat_layout.specs.declared.stat.TheConstants.{OWNER}
 use Rattle.task_table.specs.declared.task.Group.{Group}
 use Rattle.kernel_model.specs.declared.caller.Caller.{Caller}
 use Rattle.kernel_model.specs.declared.kernel.Part.TheVariants.{OfTasks}
@@ -32,15 +33,10 @@ getppid_row c = look OfTasks (λ list. done (replies (pos (parent_of list.groups
 abbrev pub gettid_row : Caller → Prog Answer
 gettid_row c = done (replies (pos c.task) [])
 
--- the user and the group of every task, the effective ones too
--- credentials(7), User and group identifiers; the number: profile
-abbrev pub owner : ℕ
-owner = 1000
-
--- getuid(), geteuid(), getgid(), getegid()
--- getuid(2), getgid(2)
+-- getuid(), geteuid(), getgid(), getegid(): the user and the group of every task, the effective ones too
+-- getuid(2), getgid(2); the number: profile
 abbrev pub owner_row : Prog Answer
-owner_row = done (replies (pos owner) [])
+owner_row = done (replies (pos OWNER) [])
 
 -- ---- the system's name
 
