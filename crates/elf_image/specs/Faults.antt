@@ -8,12 +8,13 @@ use Rattle.elf_image.specs.declared.fault.ImageFault.TheVariants.{Short, Magic, 
 use Rattle.elf_image.specs.declared.fault.ImageFault.TheVariants.{Interp, Range, Overlap, Entry, Memory}
 use Rattle.elf_image.specs.declared.header.FileHeader.{FileHeader}
 use Rattle.elf_image.specs.declared.header.ProgramHeader.{ProgramHeader}
+use Rattle.elf_image.specs.declared.header.TheConstants.{FILE_HEADER_SIZE, MOST_HEADERS, PROGRAM_HEADER_SIZE}
 use Rattle.elf_image.specs.Headers.{file_header, program_headers, is_interpreter, is_load, is_loaded}
 
 -- there is no room for the file's own header
--- ELF-64 Object File Format, File Header: 64 bytes
+-- ELF-64 Object File Format, File Header
 abbrev pub is_short : List ℕ → Bool
-is_short bytes = nat_lt (length bytes) 64
+is_short bytes = nat_lt (length bytes) FILE_HEADER_SIZE
 
 -- the file doesn't begin with 7f and 'ELF'
 -- ELF-64 Object File Format, ELF Identification, EI_MAG0 to EI_MAG3
@@ -40,12 +41,12 @@ has_other_kind file = not (file.e_type == 2)
 abbrev pub has_other_flags : FileHeader → Bool
 has_other_flags file = not (file.e_flags % 16 == 0)
 
--- the program header table has headers of another size, none, more than 64, or isn't inside the file
--- ELF-64 Object File Format, e_phentsize, e_phnum, e_phoff; at most 64: profile
+-- the program header table has headers of another size, none, more than a file may have, or isn't inside the file
+-- ELF-64 Object File Format, e_phentsize, e_phnum, e_phoff; how many: profile
 abbrev pub has_no_table : ℕ → FileHeader → Bool
 has_no_table size file =
-    not (file.e_phentsize == 56) || (file.e_phnum == 0) || nat_lt 64 file.e_phnum
-    || nat_lt size (file.e_phoff + 56 * file.e_phnum)
+    not (file.e_phentsize == PROGRAM_HEADER_SIZE) || (file.e_phnum == 0) || nat_lt MOST_HEADERS file.e_phnum
+    || nat_lt size (file.e_phoff + PROGRAM_HEADER_SIZE * file.e_phnum)
 
 -- the file wants an interpreter
 -- ELF-64 Object File Format, PT_INTERP

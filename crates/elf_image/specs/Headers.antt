@@ -4,6 +4,7 @@ use Rattle.std.specs.List.{range_with_len}
 use Rattle.sn_bytes.specs.Fields.{field}
 use Rattle.elf_image.specs.declared.header.FileHeader.{FileHeader}
 use Rattle.elf_image.specs.declared.header.ProgramHeader.{ProgramHeader}
+use Rattle.elf_image.specs.declared.header.TheConstants.{PROGRAM_HEADER_SIZE}
 
 -- what stands in the file's own header
 -- ELF-64 Object File Format, File Header
@@ -31,9 +32,10 @@ program_header bytes offset = record {
 }
 
 -- so many program headers of the table at an offset, from the one with a number on
--- ELF-64 Object File Format, Program Header Table; a header has 56 bytes
+-- ELF-64 Object File Format, Program Header Table
 abbrev pub headers_from : List ℕ → ℕ → ℕ → ℕ → List ProgramHeader
-headers_from bytes offset first count = map (λ k. program_header bytes (offset + 56 * k)) (range_with_len first count)
+headers_from bytes offset first count =
+    map (λ k. program_header bytes (offset + PROGRAM_HEADER_SIZE * k)) (range_with_len first count)
 
 -- the program headers, in the file's order
 -- ELF-64 Object File Format, e_phoff, e_phnum

@@ -3,6 +3,7 @@ use Rattle.std.specs.Prelude.{ℕ, ◌+◌, ◌-◌, ◌*◌, ◌/◌, ◌%◌, 
 use Rattle.std.specs.Prelude.{nat_le, if◌then◌else◌}
 use Rattle.elf_image.specs.declared.header.FileHeader.{FileHeader}
 use Rattle.elf_image.specs.declared.header.ProgramHeader.{ProgramHeader}
+use Rattle.elf_image.specs.declared.header.TheConstants.{PROGRAM_HEADER_SIZE}
 use Rattle.elf_image.specs.declared.image.Image.{Image}
 use Rattle.elf_image.specs.declared.image.Rights.{Rights}
 use Rattle.elf_image.specs.declared.image.Segment.{Segment}
@@ -29,11 +30,11 @@ abbrev pub segments_of : List ℕ → List ProgramHeader → List Segment
 segments_of bytes headers = map (segment_of bytes) (filter is_loaded headers)
 
 -- what a loadable segment has of the file holds the whole program header table
--- ELF-64 Object File Format, PT_LOAD, p_offset, p_filesz; e_phoff, e_phnum; a header has 56 bytes
+-- ELF-64 Object File Format, PT_LOAD, p_offset, p_filesz; e_phoff, e_phnum
 abbrev pub holds_table : FileHeader → ProgramHeader → Bool
 holds_table file header =
     is_load header && nat_le header.p_offset file.e_phoff
-    && nat_le (file.e_phoff + 56 * file.e_phnum) (header.p_offset + header.p_filesz)
+    && nat_le (file.e_phoff + PROGRAM_HEADER_SIZE * file.e_phnum) (header.p_offset + header.p_filesz)
 
 -- where a segment has the byte at an offset of the file
 -- ELF-64 Object File Format, p_offset, p_vaddr

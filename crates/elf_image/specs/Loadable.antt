@@ -1,5 +1,6 @@
 -- What an executable image is seen as.
 use Rattle.std.specs.Prelude.{◌≡◌, ℕ, ◌+◌, ◌-◌, ◌/◌, ◌%◌, ◌^◌, ◌<◌, ◌≤◌, List, length, All, Any, IsTrue, sum_by}
+use Rattle.elf_image.specs.declared.header.TheConstants.{MOST_HEADERS}
 use Rattle.elf_image.specs.declared.image.Segment.{Segment}
 
 -- where the image starts, its loadable segments in the file's order, and where in memory the table of its program
@@ -35,7 +36,7 @@ pub record IsPlaced (segment : Segment) : Type 0 where
 -- the segments are those of an image: few, each placed, and with 64 pages of stack fewer than 2^64 pages
 -- ELF-64 Object File Format, Program Loading; getrlimit(2), RLIMIT_STACK; the numbers: profile
 pub record AreLoadable (segments : List Segment) : Type 0 where
-  pub few : length segments ≤ 64
+  pub few : length segments ≤ MOST_HEADERS
   pub placed : All IsPlaced segments
   pub pages : sum_by page_count segments + 64 < 2 ^ 64
 

@@ -8,7 +8,9 @@ ghost use Rattle.elf_image.specs.Faults.{image_fault};
 ghost use Rattle.elf_image.specs.Headers.{is_load, is_loaded};
 ghost use Rattle.elf_image.specs.declared.fault.ImageFault.TheVariants.{Memory as WantOfMemory};
 
-use crate::header::{FileHeader, HEADER_SIZE, ProgramHeader, file_header};
+use crate::header::{
+    FILE_HEADER_SIZE, FileHeader, MOST_HEADERS, PROGRAM_HEADER_SIZE, ProgramHeader, file_header,
+};
 use crate::table::Headers;
 use sn_base::Memory;
 
@@ -49,17 +51,11 @@ impl From<Memory> for ImageFault {
     }
 }
 
-/// The size of the file header, in bytes.
-const FILE_HEADER_SIZE: usize = 64;
-
 /// The first bytes of every ELF file.
 const MAGIC: [u8; 4] = [0x7f, b'E', b'L', b'F'];
 
 /// The bytes behind them: of 64 bits, little-endian, version 1.
 const CLASS: [u8; 3] = [2, 1, 1];
-
-/// The most program headers that a file may have.
-const MOST_HEADERS: u16 = 64;
 
 /// `e_machine` of RISC-V.
 const EM_RISCV: u16 = 243;
@@ -103,14 +99,14 @@ pub fn image_fault(bytes: &[u8]) -> Option<ImageFault>
 }
 
 fn has_other_magic(bytes: &[u8]) -> bool
-    requires { 64 ≤ length bytes.now }
+    requires { FILE_HEADER_SIZE ≤ length bytes.now }
     ensures { result ≡ has_other_magic bytes.now }
 {
     bytes[..4] != MAGIC[..]
 }
 
 fn has_other_class(bytes: &[u8]) -> bool
-    requires { 64 ≤ length bytes.now }
+    requires { FILE_HEADER_SIZE ≤ length bytes.now }
     ensures { result ≡ has_other_class bytes.now }
 {
     bytes[4..7] != CLASS[..]
@@ -119,8 +115,8 @@ fn has_other_class(bytes: &[u8]) -> bool
 fn has_no_table(size: usize, file: &FileHeader) -> bool
     ensures { result ≡ has_no_table size file.now }
 {
-    let table_size = HEADER_SIZE * usize::from(file.e_phnum);
-    usize::from(file.e_phentsize) != HEADER_SIZE
+    let table_size = PROGRAM_HEADER_SIZE * usize::from(file.e_phnum);
+    usize::from(file.e_phentsize) != PROGRAM_HEADER_SIZE
         || file.e_phnum == 0
         || MOST_HEADERS < file.e_phnum
         || (size as u128) < u128::from(file.e_phoff) + table_size as u128

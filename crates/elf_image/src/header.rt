@@ -34,8 +34,14 @@ pub struct ProgramHeader {
     pub p_memsz: u64,
 }
 
-/// The size of a program header, in bytes.
-pub(crate) const HEADER_SIZE: usize = 56;
+/// The size of the file header, in bytes: ELF-64 Object File Format, File Header.
+pub const FILE_HEADER_SIZE: usize = 64;
+
+/// The size of a program header, in bytes: ELF-64 Object File Format, Program Header Table.
+pub const PROGRAM_HEADER_SIZE: usize = 56;
+
+/// The most program headers that a file may have: profile.
+pub const MOST_HEADERS: u16 = 64;
 
 /// The type of a loadable segment.
 const PT_LOAD: u32 = 1;
@@ -52,7 +58,7 @@ const HIGHEST: u128 = 1 << 37;
 /// The header of a file with room for one.
 #[tactic(auto, unfolding(crate::specs::Headers::file_header))]
 pub(crate) fn file_header(bytes: &[u8]) -> FileHeader
-    requires { 64 ≤ length bytes.now }
+    requires { FILE_HEADER_SIZE ≤ length bytes.now }
     ensures { result ≡ file_header bytes.now }
 {
     FileHeader {
@@ -69,7 +75,7 @@ pub(crate) fn file_header(bytes: &[u8]) -> FileHeader
 /// The program header at an offset.
 #[tactic(auto, unfolding(crate::specs::Headers::program_header))]
 pub(crate) fn program_header(bytes: &[u8], offset: usize) -> ProgramHeader
-    requires { offset + 56 ≤ length bytes.now }
+    requires { offset + PROGRAM_HEADER_SIZE ≤ length bytes.now }
     ensures { result ≡ program_header bytes.now offset }
 {
     ProgramHeader {
@@ -85,9 +91,9 @@ pub(crate) fn program_header(bytes: &[u8], offset: usize) -> ProgramHeader
 impl FileHeader {
     /// The offset behind the program header table.
     fn table_end(&self) -> u128
-        ensures { result ≡ self.now.e_phoff + 56 * self.now.e_phnum }
+        ensures { result ≡ self.now.e_phoff + PROGRAM_HEADER_SIZE * self.now.e_phnum }
     {
-        u128::from(self.e_phoff) + HEADER_SIZE as u128 * u128::from(self.e_phnum)
+        u128::from(self.e_phoff) + PROGRAM_HEADER_SIZE as u128 * u128::from(self.e_phnum)
     }
 }
 

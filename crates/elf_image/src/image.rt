@@ -7,6 +7,7 @@ ghost use Rattle.elf_image.specs.Loadable.{AreApart, StartsInCode};
 ghost use Rattle.elf_image.specs.Headers.{file_header, program_headers};
 ghost use Rattle.elf_image.specs.Images.{rights_of, segment_of, segments_of, headers_in_memory, image_in};
 ghost use Rattle.elf_image.specs.declared.fault.ImageFault.{ImageFault as Fault};
+ghost use Rattle.elf_image.specs.declared.header.TheConstants.{PROGRAM_HEADER_SIZE};
 
 use crate::fault::{ImageFault, image_fault};
 use crate::header::{FileHeader, ProgramHeader, file_header};
@@ -100,7 +101,7 @@ pub fn read_image(alloc: Global, bytes: &[u8]) -> Result<Image, ImageFault>
 /// where none does.
 fn headers_in_memory(bytes: &[u8], file: &FileHeader) -> u64
     requires same { file.now ≡ file_header bytes.now }
-    requires inside { file.now.e_phoff + 56 * file.now.e_phnum ≤ length bytes.now }
+    requires inside { file.now.e_phoff + PROGRAM_HEADER_SIZE * file.now.e_phnum ≤ length bytes.now }
     requires placed { list_any (is_misplaced (length bytes.now)) (program_headers bytes.now) ≡ false }
     ensures { result ≡ headers_in_memory file.now (program_headers bytes.now) }
 {

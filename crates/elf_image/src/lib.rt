@@ -27,4 +27,5 @@ mod image;
 mod table;
 
 pub use fault::{ImageFault, image_fault};
+pub use header::{FILE_HEADER_SIZE, MOST_HEADERS, PROGRAM_HEADER_SIZE};
 pub use image::{Image, Rights, Segment, read_image};

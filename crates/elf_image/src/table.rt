@@ -4,7 +4,7 @@ ghost use Rattle.std.specs.Prelude.{◌≡◌, ◌+◌, ◌*◌, ◌≤◌, leng
 ghost use Rattle.std.specs.Iterator.{YieldsFirst, item_count};
 ghost use Rattle.elf_image.specs.Headers.{file_header, program_headers};
 
-use crate::header::{FileHeader, HEADER_SIZE, ProgramHeader, program_header};
+use crate::header::{FileHeader, PROGRAM_HEADER_SIZE, ProgramHeader, program_header};
 use std::marker::Model;
 
 /// The program headers that are left to look at, in the file's order. Contracts see it as the list of them.
@@ -22,6 +22,7 @@ pub(crate) struct Headers<'a> {
 impl<'a> Model for Headers<'a> {
     ghost use Rattle.std.specs.Prelude.{◌+◌, ◌*◌, ◌≤◌, List, length};
     ghost use Rattle.elf_image.specs.declared.header.ProgramHeader.{ProgramHeader};
+    ghost use Rattle.elf_image.specs.declared.header.TheConstants.{PROGRAM_HEADER_SIZE};
 
     ghost Value = { List ProgramHeader };
 
@@ -29,7 +30,7 @@ impl<'a> Model for Headers<'a> {
 
     ghost view = { λ a. headers_from a.bytes.now a.offset a.first a.count };
 
-    ghost invariant = { λ a. a.offset + 56 * (a.first + a.count) ≤ length a.bytes.now };
+    ghost invariant = { λ a. a.offset + PROGRAM_HEADER_SIZE * (a.first + a.count) ≤ length a.bytes.now };
 }
 
 impl<'a> Headers<'a> {
@@ -37,7 +38,7 @@ impl<'a> Headers<'a> {
     #[tactic(auto, unfolding(crate::specs::Headers::program_headers))]
     pub(crate) fn new(bytes: &'a [u8], file: &FileHeader) -> Self
         requires same { file.now ≡ file_header bytes.now }
-        requires inside { file.now.e_phoff + 56 * file.now.e_phnum ≤ length bytes.now }
+        requires inside { file.now.e_phoff + PROGRAM_HEADER_SIZE * file.now.e_phnum ≤ length bytes.now }
         ensures { result ≡ program_headers bytes.now }
     {
         Headers {
@@ -72,7 +73,7 @@ impl<'a> Iterator for Headers<'a> {
         if self.count == 0 {
             return None;
         }
-        let header = program_header(self.bytes, self.offset + HEADER_SIZE * self.first);
+        let header = program_header(self.bytes, self.offset + PROGRAM_HEADER_SIZE * self.first);
         self.first += 1;
         self.count -= 1;
         Some(header)

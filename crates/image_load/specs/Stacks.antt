@@ -3,6 +3,7 @@ use Rattle.std.specs.Prelude.{◌≡◌, ◌⊎◌, ℕ, ◌+◌, ◌-◌, ◌*�
 use Rattle.std.specs.Prelude.{replicate, sum_by, slice_get, slice_index, slice_range, Some}
 use Rattle.std.specs.List.{flat_map, range_with_len}
 use Rattle.sn_bytes.specs.Fields.{field, little_bytes}
+use Rattle.elf_image.specs.declared.header.TheConstants.{PROGRAM_HEADER_SIZE}
 use Rattle.image_load.specs.declared.stack.Auxiliary.{Auxiliary}
 use Rattle.image_load.specs.declared.stack.OpeningStack.{OpeningStack}
 use Rattle.image_load.specs.declared.stack.LoadErr.{LoadErr}
@@ -99,7 +100,7 @@ addresses first strings = first_addresses first strings (length strings)
 abbrev pub auxiliary_vector : Auxiliary → List ℕ
 auxiliary_vector auxiliary =
     (3 ∷ auxiliary.headers ∷ [])  -- AT_PHDR
-    ++ (4 ∷ 56 ∷ [])  -- AT_PHENT
+    ++ (4 ∷ PROGRAM_HEADER_SIZE ∷ [])  -- AT_PHENT
     ++ (5 ∷ auxiliary.header_count ∷ [])  -- AT_PHNUM
     ++ (6 ∷ 4096 ∷ [])  -- AT_PAGESZ
     ++ (9 ∷ auxiliary.entry ∷ [])  -- AT_ENTRY

@@ -6,12 +6,13 @@ ghost use Rattle.sn_bytes.specs.Fields.{little_bytes};
 ghost use Rattle.image_load.specs.Stacks.{addresses, auxiliary_vector, pointer_words, strings_length};
 
 use crate::stack::{Auxiliary, STACK_TOP};
+use elf_image::PROGRAM_HEADER_SIZE;
 use sn_base::{List, Memory};
 use sn_bytes::put_u64;
 use sn_text::Text;
 
 /// The size of a program header: `AT_PHENT`.
-const HEADER_SIZE: u64 = 56;
+const HEADER_SIZE: u64 = PROGRAM_HEADER_SIZE as u64;
 
 /// The size of a page: `AT_PAGESZ`.
 const PAGE_SIZE: u64 = 4_096;
