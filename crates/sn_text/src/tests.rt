@@ -74,6 +74,23 @@ fn a_text_grows_and_is_cleared(rt: HostRuntime) -> Result<(), Fail> {
 }
 
 #[test]
+fn a_name_is_the_same_as_one_with_its_bytes(rt: HostRuntime) -> Result<(), Fail> {
+    let name = name_of(rt.alloc(), b"lib")?;
+    for (bytes, same) in [
+        (b"lib".as_slice(), true),
+        (b"lit".as_slice(), false),
+        (b"li".as_slice(), false),
+        (b"libc".as_slice(), false),
+        (b"LIB".as_slice(), false),
+    ] {
+        let other = name_of(rt.alloc(), bytes)?;
+        assert_eq!(rt; is_same_name(&name, &other), same);
+        assert_eq!(rt; is_same_name(&other, &name), same);
+    }
+    Ok(())
+}
+
+#[test]
 fn the_same_names_are_as_many_with_the_same_bytes(rt: HostRuntime) -> Result<(), Fail> {
     let mut route = Route::new(rt.alloc());
     for part in parts(b"usr/lib") {
