@@ -15,7 +15,7 @@ use Rattle.kernel_model.specs.calls.Answers.{Answer, refuses}
 use Rattle.kernel_model.specs.calls.Lookups.{descriptor}
 use Rattle.kernel_model.specs.calls.Lookups.{or_refuse, with_descriptor, with_file}
 use Rattle.kernel_model.specs.entries.Parts.{Prog, done, outcome_in, parts}
-use Rattle.call_fs.specs.Looked.{IsOpen, descriptor_in, file_at, file_in}
+use Rattle.call_fs.specs.Lookups.{IsOpen, descriptor_in, file_at, file_in}
 use Rattle.call_fs.specs.Prepared.{AnswersFiles}
 use Rattle.call_fs.specs.declared.lookups.Looked.{Looked}
 use Rattle.call_fs.specs.declared.prepared.FilePrepared.{FilePrepared}

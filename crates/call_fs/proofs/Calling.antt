@@ -2,9 +2,9 @@
 use Rattle.std.proofs.Common.{◌≡◌, ℕ, Some, ap, refl, ◌∙◌}
 use Rattle.sn_errno.specs.Calls.{call_of}
 use Rattle.sn_base.specs.declared.made.Made.{Made}
-use Rattle.mm_space.specs.Handing.{AreaState}
+use Rattle.mm_space.specs.Handed.{AreaState}
 use Rattle.mm_space.specs.Spaces.{AddressSpace}
-use Rattle.futex_core.specs.FutexLists.{FutexList}
+use Rattle.futex_core.specs.Waiters.{FutexList}
 use Rattle.task_table.specs.Table.{TaskTable}
 use Rattle.kernel_model.specs.Names.{NamedMap}
 use Rattle.kernel_model.specs.declared.caller.Caller.{Caller}

@@ -27,7 +27,7 @@ use Rattle.kernel_model.proofs.Trees.{outcome-bind}
 use Rattle.kernel_model.proofs.Turns.{done_followed, outcome_changed, outcome_followed}
 use Rattle.file_changes.specs.Changes.{by_descriptor, closed, freed, given, given_to, with_table}
 use Rattle.file_changes.specs.declared.change.FileChange.TheVariants.{Gives, Marks, SetsStatus, Closes}
-use Rattle.call_fs.specs.Looked.{IsOpen}
+use Rattle.call_fs.specs.Lookups.{IsOpen}
 use Rattle.call_fs.specs.Prepared.{AnswersFiles}
 use Rattle.call_fs.specs.declared.lookups.Looked.{Looked}
 

@@ -10,7 +10,7 @@ use Rattle.std.proofs.lemmas.List.Sums.{sum_by-cons}
 use Rattle.std.proofs.Math.Seq.{take-append_seam}
 use Rattle.mm_space.specs.Accesses.{byte_at, readable}
 use Rattle.mm_areas.specs.declared.rights.Rights.{Rights}
-use Rattle.mm_space.specs.Handing.{AreaState, InHand}
+use Rattle.mm_space.specs.Handed.{AreaState, InHand}
 use Rattle.mm_space.specs.Spaces.{AddressSpace}
 use Rattle.pipe_core.specs.Pipes.{PipeState, after_write}
 use Rattle.stat_layout.specs.IoVecs.{total_of}

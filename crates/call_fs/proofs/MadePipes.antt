@@ -9,7 +9,7 @@ use Rattle.fd_table.specs.Tables.{Table}
 use Rattle.fd_table.specs.declared.descriptor.Descriptor.{Descriptor}
 use Rattle.pipe_core.specs.Pipes.{new_pipe}
 use Rattle.mm_space.specs.Accesses.{writable}
-use Rattle.mm_space.specs.Handing.{AreaState, InHand}
+use Rattle.mm_space.specs.Handed.{AreaState, InHand}
 use Rattle.mm_space.specs.Spaces.{AddressSpace, Reach}
 use Rattle.kernel_model.specs.Names.{NamedMap, get_named, with_named}
 use Rattle.kernel_model.specs.declared.caller.Caller.{Caller}
@@ -27,7 +27,7 @@ use Rattle.guest_access.specs.Memories.{with_memory}
 use Rattle.guest_access.specs.Trying.{Wrote}
 use Rattle.kernel_calls.specs.declared.context.Context.{Context}
 use Rattle.guest_access.proofs.KernelAreas.{are_those, areas_changed}
-use Rattle.call_fs.specs.NewPipes.{MakesPipe, PutsInts, ints_put, read_file, write_file}
+use Rattle.call_fs.specs.Pipes.{MakesPipe, PutsInts, ints_put, read_file, write_file}
 use Rattle.call_fs.specs.Transfers.{IsMoving}
 use Rattle.call_fs.specs.declared.pipes.NewPipe.{NewPipe}
 use Rattle.call_fs.proofs.Lowest.{free_there}

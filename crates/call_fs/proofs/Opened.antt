@@ -7,7 +7,7 @@ use Rattle.fd_table.specs.Tables.{Table}
 use Rattle.fd_table.specs.declared.descriptor.Descriptor.{Descriptor}
 use Rattle.sn_base.specs.declared.made.Made.{Made}
 use Rattle.mm_areas.specs.declared.rights.Rights.{Rights}
-use Rattle.mm_space.specs.Handing.{InHand}
+use Rattle.mm_space.specs.Handed.{InHand}
 use Rattle.mm_space.specs.Spaces.{AddressSpace}
 use Rattle.stat_layout.specs.declared.iovec.IoVec.{IoVec}
 use Rattle.kernel_model.specs.Names.{get_named}
@@ -21,7 +21,7 @@ use Rattle.kernel_model.specs.calls.Vectors.{are_accessible}
 use Rattle.kernel_model.specs.entries.Areas.{access_row}
 use Rattle.kernel_model.specs.entries.Parts.{Parts, Prog, done, outcome_in, parts}
 use Rattle.kernel_model.proofs.Trees.{outcome-bind}
-use Rattle.call_fs.specs.Looked.{file_at, file_in}
+use Rattle.call_fs.specs.Lookups.{file_at, file_in}
 
 -- ---- a register's open file
 

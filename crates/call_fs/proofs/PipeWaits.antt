@@ -18,7 +18,7 @@ use Rattle.fd_table.specs.declared.flags.Access.{Access}
 use Rattle.pipe_core.specs.Pipes.{PipeState, after_read}
 use Rattle.mm_areas.specs.declared.rights.Rights.{Rights}
 use Rattle.mm_space.specs.Accesses.{readable, writable}
-use Rattle.mm_space.specs.Handing.{AreaState, InHand, area_in}
+use Rattle.mm_space.specs.Handed.{AreaState, InHand, area_in}
 use Rattle.mm_space.specs.Spaces.{AddressSpace, Reach}
 use Rattle.stat_layout.specs.IoVecs.{iovecs_in, total_of}
 use Rattle.stat_layout.specs.declared.iovec.IoVec.{IoVec}
@@ -44,7 +44,7 @@ use Rattle.kernel_model.proofs.Trees.{outcome_alike, outcome-bind}
 use Rattle.kernel_calls.specs.Prepared.{AgreesOnEnd, WaitsWith}
 use Rattle.kernel_calls.specs.declared.prepared.Awaited.{Awaited}
 use Rattle.call_fs.specs.Asked.{LooksNowhereElse, read_row_by, write_row_by}
-use Rattle.call_fs.specs.Looked.{end_at, end_by, end_in, file_at}
+use Rattle.call_fs.specs.Lookups.{end_at, end_by, end_in, file_at}
 use Rattle.call_fs.specs.declared.moving.By.{By}
 use Rattle.call_fs.specs.declared.moving.By.TheVariants.{Buffer, Records}
 use Rattle.call_fs.proofs.Opened.{accessible_one}

@@ -11,7 +11,7 @@ use Rattle.fd_table.specs.declared.description.Object.TheVariants.{PipeEnd}
 use Rattle.fd_table.specs.declared.description.PipeSide.{PipeSide}
 use Rattle.pipe_core.specs.Pipes.{PipeState, after_read}
 use Rattle.mm_space.specs.Accesses.{writable}
-use Rattle.mm_space.specs.Handing.{AreaState}
+use Rattle.mm_space.specs.Handed.{AreaState}
 use Rattle.mm_space.specs.Spaces.{AddressSpace, Reach}
 use Rattle.stat_layout.specs.IoVecs.{total_of}
 use Rattle.stat_layout.specs.declared.iovec.IoVec.{IoVec}

@@ -4,7 +4,7 @@ use Rattle.std.proofs.Common.{OnOk, OnErr, ap, sym, ◌∙◌}
 use Rattle.std.specs.Option.{option_map_or}
 use Rattle.pipe_core.specs.Pipes.{PipeState, after_write}
 use Rattle.sn_base.specs.declared.made.Made.{Made}
-use Rattle.mm_space.specs.Handing.{AreaState}
+use Rattle.mm_space.specs.Handed.{AreaState}
 use Rattle.mm_space.specs.Spaces.{AddressSpace}
 use Rattle.kernel_model.specs.Names.{NamedMap, get_named, with_named}
 use Rattle.kernel_model.specs.declared.caller.Caller.{Caller}

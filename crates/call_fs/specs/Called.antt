@@ -1,6 +1,6 @@
 -- What has become of a call of any number.
 use Rattle.std.specs.Prelude.{⊤}
-use Rattle.mm_space.specs.Handing.{AreaState}
+use Rattle.mm_space.specs.Handed.{AreaState}
 use Rattle.mm_space.specs.Spaces.{AddressSpace}
 use Rattle.kernel_model.specs.Names.{NamedMap}
 use Rattle.kernel_model.specs.declared.caller.Caller.{Caller}
@@ -11,7 +11,7 @@ use Rattle.kernel_model.specs.calls.Callers.{context_of}
 use Rattle.kernel_model.specs.entries.Parts.{Prog}
 use Rattle.kernel_calls.specs.Prepared.{Comes, IsApart}
 use Rattle.kernel_calls.specs.declared.prepared.Called.{Called as ACalled}
-use Rattle.call_fs.specs.NewPipes.{MakesPipe as MakesAPipe}
+use Rattle.call_fs.specs.Pipes.{MakesPipe as MakesAPipe}
 use Rattle.call_fs.specs.Transfers.{AnswersTransfer, HasRoom}
 use Rattle.call_fs.specs.declared.called.Called.{Called}
 use Rattle.call_fs.specs.declared.called.Called.TheVariants.{Of, Moves, MakesPipe}

@@ -1,8 +1,8 @@
 -- What contracts of this crate say, by subject.
 pub mod Asked
 pub mod Called
-pub mod Looked
-pub mod NewPipes
+pub mod Lookups
+pub mod Pipes
 pub mod Prepared
 pub mod Records
 pub mod Transfers

@@ -8,7 +8,7 @@ use Rattle.pipe_core.specs.declared.ring.TheConstants.{CAPACITY}
 use Rattle.sn_base.specs.declared.made.Made.{Made}
 use Rattle.stat_layout.specs.IoVecs.{total_of}
 use Rattle.stat_layout.specs.declared.iovec.IoVec.{IoVec}
-use Rattle.mm_space.specs.Handing.{AreaState}
+use Rattle.mm_space.specs.Handed.{AreaState}
 use Rattle.mm_space.specs.Spaces.{AddressSpace}
 use Rattle.kernel_model.specs.Names.{NamedMap, get_named, with_named}
 use Rattle.kernel_model.specs.declared.caller.Caller.{Caller}

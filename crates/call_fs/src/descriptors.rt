@@ -9,7 +9,7 @@ ghost use Rattle.kernel_model.specs.calls.Descriptors.{by_command, close_row, du
 ghost use Rattle.kernel_model.specs.calls.Descriptors.{gives, gives_at, ioctl_row, is_cloexec_or_none, is_possible};
 ghost use Rattle.kernel_model.specs.calls.Descriptors.{mark_of, opens_from, sets_status, tells_status};
 ghost use Rattle.kernel_model.specs.calls.Lookups.{with_file};
-ghost use Rattle.call_fs.specs.Looked.{IsOpen};
+ghost use Rattle.call_fs.specs.Lookups.{IsOpen};
 ghost use Rattle.call_fs.specs.Prepared.{AnswersFiles};
 
 use crate::lookups::{Looked, descriptor, file_of, look, lowest_free};

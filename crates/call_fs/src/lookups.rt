@@ -7,7 +7,7 @@ ghost use Rattle.kernel_model.specs.declared.caller.Caller.{Caller as ACaller};
 ghost use Rattle.kernel_model.specs.declared.kernel.Kernel.{Kernel as AKernel};
 ghost use Rattle.kernel_model.specs.calls.Lookups.{descriptor};
 ghost use Rattle.kernel_model.specs.calls.Lookups.{lowest_free};
-ghost use Rattle.call_fs.specs.Looked.{IsOpen, descriptor_in, file_in};
+ghost use Rattle.call_fs.specs.Lookups.{IsOpen, descriptor_in, file_in};
 
 use fd_table::{Descriptor, FdTable, OPEN_MAX};
 use kernel_model::{OpenFile, OpenFiles};

@@ -11,7 +11,7 @@ ghost use Rattle.kernel_model.specs.entries.Parts.{parts};
 ghost use Rattle.kernel_calls.specs.Prepared.{EndsCaller, EndsTheirs, HasRoomFor, IfWaits, WaitsWith};
 ghost use Rattle.call_fs.specs.Asked.{LooksNowhereElse, read_row_by, write_row_by};
 ghost use Rattle.call_fs.specs.Called.{ComesTo, HasRoomIn, IfOf, IsApartBy, IsApartIn};
-ghost use Rattle.call_fs.specs.Looked.{end_in};
+ghost use Rattle.call_fs.specs.Lookups.{end_in};
 ghost use Rattle.call_fs.specs.Transfers.{IsMoving, IsSure, Moves};
 
 use crate::called::Called;

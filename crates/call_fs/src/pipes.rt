@@ -15,7 +15,7 @@ ghost use Rattle.kernel_model.specs.calls.Pipes.{are_pipe_flags, pipe2_row, pipe
 ghost use Rattle.kernel_model.specs.calls.Pipes.{with_ends_of};
 ghost use Rattle.kernel_model.specs.entries.Parts.{Prog, changed};
 ghost use Rattle.guest_access.specs.Memories.{with_memory};
-ghost use Rattle.call_fs.specs.NewPipes.{MakesPipe, Prepares, PutsInts, read_file, write_file};
+ghost use Rattle.call_fs.specs.Pipes.{MakesPipe, Prepares, PutsInts, read_file, write_file};
 ghost use Rattle.call_fs.specs.Transfers.{IsMoving};
 
 use crate::lookups::lowest_free;

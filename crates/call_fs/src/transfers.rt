@@ -3,7 +3,7 @@
 ghost use Rattle.std.specs.Prelude.{◌≡◌, ℕ, ◌+◌, ◌≤◌, length, pos, [], OnOk, OnErr};
 ghost use Rattle.kernel_model.specs.declared.caller.Caller.{Caller as ACaller};
 ghost use Rattle.kernel_model.specs.declared.kernel.Kernel.{Kernel as AKernel};
-ghost use Rattle.mm_space.specs.Handing.{AreaState};
+ghost use Rattle.mm_space.specs.Handed.{AreaState};
 ghost use Rattle.mm_space.specs.Spaces.{AddressSpace};
 ghost use Rattle.kernel_model.specs.Names.{NamedMap};
 ghost use Rattle.kernel_model.specs.calls.Answers.{refuses, replies};

@@ -4,7 +4,7 @@ ghost use Rattle.std.specs.Prelude.{◌≡◌, min, true, false, []};
 ghost use Rattle.kernel_model.specs.calls.Lookups.{descriptor};
 ghost use Rattle.kernel_model.specs.entries.Areas.{access_row};
 ghost use Rattle.kernel_model.specs.entries.Parts.{Parts, uses};
-ghost use Rattle.call_fs.specs.Looked.{end_by, end_in};
+ghost use Rattle.call_fs.specs.Lookups.{end_by, end_in};
 
 use crate::lookups::{descriptor, file_of};
 use fd_table::Object;

@@ -4,7 +4,7 @@ ghost use Rattle.std.specs.Prelude.{◌≡◌, ℕ, ◌≤◌, ◌∷◌, [], �
 ghost use Rattle.std.specs.Prelude.{if◌then◌else◌};
 ghost use Rattle.sn_errno.specs.declared.errno.Errno.TheVariants.{EBADF};
 ghost use Rattle.fd_table.specs.Flags.{may_write};
-ghost use Rattle.mm_space.specs.Handing.{AreaState};
+ghost use Rattle.mm_space.specs.Handed.{AreaState};
 ghost use Rattle.mm_space.specs.Spaces.{AddressSpace};
 ghost use Rattle.stat_layout.specs.IoVecs.{total_of};
 ghost use Rattle.kernel_model.specs.Names.{NamedMap, get_named};

@@ -12,7 +12,7 @@ use Rattle.kernel_model.specs.Names.{NamedMap, with_named}
 use Rattle.kernel_model.specs.declared.caller.Caller.{Caller}
 use Rattle.kernel_model.specs.declared.kernel.Kernel.{Kernel}
 use Rattle.kernel_model.specs.calls.Clone.{made_for_child}
-use Rattle.kernel_calls.specs.Children.{with_child, with_task, with_words}
+use Rattle.kernel_calls.specs.Making.{with_child, with_task, with_words}
 use Rattle.kernel_calls.specs.Prepared.{with_effect}
 use Rattle.kernel_calls.specs.declared.clone.Child.{Child}
 use Rattle.kernel_calls.specs.declared.clone.Words.{Words}

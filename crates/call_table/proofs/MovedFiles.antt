@@ -5,7 +5,7 @@ use Rattle.std.specs.Option.{option_map_or}
 use Rattle.fd_table.specs.Tables.{Table}
 use Rattle.pipe_core.specs.Pipes.{PipeState, after_read, after_write, new_pipe}
 use Rattle.sn_base.specs.declared.made.Made.{Made}
-use Rattle.mm_space.specs.Handing.{AreaState, InHand}
+use Rattle.mm_space.specs.Handed.{AreaState, InHand}
 use Rattle.mm_space.specs.Spaces.{AddressSpace, Reach}
 use Rattle.kernel_model.specs.Names.{NamedMap, get_named, with_named}
 use Rattle.kernel_model.specs.declared.caller.Caller.{Caller}
@@ -21,7 +21,7 @@ use Rattle.guest_access.specs.Memories.{with_memory}
 use Rattle.kernel_calls.specs.declared.context.Context.{Context}
 use Rattle.guest_access.proofs.KernelAreas.{areas_changed}
 use Rattle.call_fs.specs.Called.{MayLack}
-use Rattle.call_fs.specs.NewPipes.{MakesPipe, read_file, write_file}
+use Rattle.call_fs.specs.Pipes.{MakesPipe, read_file, write_file}
 use Rattle.call_fs.specs.Transfers.{IsMoving, after_transfer, appended_by, by_bytes, put_by, with_pipe}
 use Rattle.call_fs.specs.Records.{buffers_in}
 use Rattle.call_fs.specs.declared.pipes.NewPipe.{NewPipe}

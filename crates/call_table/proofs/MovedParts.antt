@@ -1,6 +1,6 @@
 -- What an effect of a call leaves of the task list and the futex list.
 use Rattle.std.proofs.Common.{◌≡◌, ℕ, true, false, List, refl, ap, sym, subst, ◌∙◌}
-use Rattle.futex_core.specs.FutexLists.{FutexList, after_wake}
+use Rattle.futex_core.specs.Waiters.{FutexList, after_wake}
 use Rattle.task_table.specs.declared.task.ReapEnd.{ReapEnd}
 use Rattle.task_table.specs.declared.task.ReapEnd.TheVariants.{Reaped, NotYet, NoChild}
 use Rattle.task_table.specs.Ends.{exited, group_ended, is_itself, is_member}

@@ -7,7 +7,7 @@ use Rattle.std.specs.FinMap as map
 use Rattle.std.proofs.lemmas.Bool.{eq-eqb}
 use Rattle.sn_base.proofs.Maps.{get-insert_other}
 use Rattle.futex_core.specs.declared.keys.FutexKey.{FutexKey}
-use Rattle.futex_core.specs.FutexLists.{after_leave, after_sleep}
+use Rattle.futex_core.specs.Waiters.{after_leave, after_sleep}
 use Rattle.rv_table.specs.declared.registers.Regs.{Regs}
 use Rattle.mm_space.specs.Spaces.{AddressSpace}
 use Rattle.sn_base.specs.declared.made.Made.{Made}
@@ -18,7 +18,7 @@ use Rattle.kernel_model.specs.declared.caller.Caller.{Caller}
 use Rattle.kernel_model.specs.declared.kernel.Kernel.{Kernel}
 use Rattle.kernel_model.specs.entries.Waiting.{wait_of}
 use Rattle.kernel_model.proofs.NamedMaps.{get-with_other, one_name_or_two, same_or_other}
-use Rattle.kernel_calls.specs.Children.{with_child, with_task, with_words}
+use Rattle.kernel_calls.specs.Making.{with_child, with_task, with_words}
 use Rattle.kernel_calls.specs.Prepared.{EndsEach, EndsOnly}
 use Rattle.kernel_calls.specs.declared.clone.Child.{Child}
 use Rattle.kernel_calls.specs.declared.clone.Words.{Words}

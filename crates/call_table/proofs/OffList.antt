@@ -6,7 +6,7 @@ use Rattle.std.specs.Option.{option_map, option_map_or}
 use Rattle.std.specs.Ordering.{nat_cmp}
 use Rattle.std.specs.FinMap.{FinMap, get}
 use Rattle.futex_core.specs.declared.keys.FutexKey.{FutexKey}
-use Rattle.futex_core.specs.FutexLists.{FutexList, is_asleep, is_woken, after_leave, after_sleep, after_wake}
+use Rattle.futex_core.specs.Waiters.{FutexList, is_asleep, is_woken, after_leave, after_sleep, after_wake}
 use Rattle.futex_core.proofs.OnList.{times_on, off_list, not_asleep, not_woken, slept_other, slept_itself, left_other}
 use Rattle.futex_core.proofs.OnList.{left_itself, woken_before, woken_after}
 use Rattle.task_table.specs.declared.task.EndedTask.{EndedTask}

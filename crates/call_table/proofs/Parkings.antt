@@ -2,7 +2,7 @@
 use Rattle.std.proofs.Common.{◌≡◌, ℕ, Bool, true, false, cond, refl, ap, sym, ◌∙◌}
 use Rattle.std.specs.Prelude.{Option, Some, None, is_some, ◌&&◌, ◌||◌, not}
 use Rattle.std.specs.FinMap as map
-use Rattle.futex_core.specs.FutexLists.{FutexList, is_asleep, is_woken}
+use Rattle.futex_core.specs.Waiters.{FutexList, is_asleep, is_woken}
 use Rattle.task_table.specs.Table.{group_of, is_live}
 use Rattle.kernel_model.specs.declared.caller.Caller.{Caller}
 use Rattle.kernel_model.specs.declared.kernel.Kernel.{Kernel}

@@ -9,14 +9,14 @@ use Rattle.std.proofs.lemmas.Bool.Decides.{Decides-int_eq, Decides-eqb}
 use Rattle.sn_base.proofs.Maps.{get-insert_same, insert_same}
 use Rattle.rv_table.specs.declared.registers.Regs.{Regs}
 use Rattle.rv_table.specs.declared.error.Area.{Area}
-use Rattle.mm_space.specs.Handing.{AreaState}
+use Rattle.mm_space.specs.Handed.{AreaState}
 use Rattle.mm_space.specs.Spaces.{AddressSpace}
 use Rattle.quantum.specs.Instructions.{Going, ran}
 use Rattle.task_table.specs.declared.task.Group.{Group}
 use Rattle.sn_base.specs.declared.made.Made.{Made}
 use Rattle.task_table.specs.declared.task.Status.TheVariants.{Killed}
 use Rattle.futex_core.specs.declared.keys.FutexKey.{FutexKey}
-use Rattle.futex_core.specs.FutexLists.{FutexList, after_leave, after_sleep}
+use Rattle.futex_core.specs.Waiters.{FutexList, after_leave, after_sleep}
 use Rattle.task_table.specs.Table.{is_live, group_of}
 use Rattle.kernel_model.specs.Names.{NamedMap, get_named, with_named}
 use Rattle.kernel_model.specs.declared.caller.Caller.{Caller}

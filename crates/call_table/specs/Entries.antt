@@ -2,7 +2,7 @@
 use Rattle.std.specs.Prelude.{◌≡◌, ℕ, ◌+◌, ◌<◌, ⊤, Bool, true, List, Option, Some, None, Result, IfOk, IfSome, IfNone}
 use Rattle.sn_base.specs.declared.memory.Memory.{Memory}
 use Rattle.rv_table.specs.declared.registers.Regs.{Regs}
-use Rattle.mm_space.specs.Handing.{AreaState}
+use Rattle.mm_space.specs.Handed.{AreaState}
 use Rattle.mm_space.specs.Spaces.{AddressSpace}
 use Rattle.sn_base.specs.declared.made.Made.{Made}
 use Rattle.quantum.specs.declared.run.TheConstants.{QUANTUM}

@@ -2,7 +2,7 @@
 use Rattle.std.specs.Prelude.{◌≡◌, ◌≢◌, ◌<◌, ◌==◌, ◌&&◌, ◌||◌, not, nat_lt, ℕ, Bool, true, false, Option, Some, None}
 use Rattle.std.specs.Prelude.{is_some}
 use Rattle.std.specs.FinMap as map
-use Rattle.futex_core.specs.FutexLists.{FutexList, is_asleep, is_woken}
+use Rattle.futex_core.specs.Waiters.{FutexList, is_asleep, is_woken}
 use Rattle.task_table.specs.Table.{is_live}
 use Rattle.kernel_model.specs.entries.Waiting.{Woken, wait_of}
 use Rattle.proc_cells.specs.declared.cells.Cells.{Cells}

@@ -3,7 +3,7 @@
 ghost use Rattle.std.specs.Prelude.{◌≡◌, ◌+◌, [], true, IsTrue, IfOk, OnErr, pos};
 ghost use Rattle.std.specs.FinMap as map;
 ghost use Rattle.std.specs.Ordering.{nat_cmp};
-ghost use Rattle.futex_core.specs.FutexLists.{after_sleep};
+ghost use Rattle.futex_core.specs.Waiters.{after_sleep};
 ghost use Rattle.rv_table.specs.declared.registers.Regs.{Regs as ARegs};
 ghost use Rattle.task_table.specs.Table.{is_live};
 ghost use Rattle.kernel_model.specs.Names.{has_named};
@@ -12,7 +12,7 @@ ghost use Rattle.kernel_model.specs.declared.entry.Entry.TheVariants.{Call as AC
 ghost use Rattle.kernel_model.specs.declared.kernel.Kernel.{Kernel as AKernel};
 ghost use Rattle.kernel_model.specs.laws.Room.{IsRoomFor};
 ghost use Rattle.kernel_model.specs.machine.Registers.{args_of, call_of, replied};
-ghost use Rattle.kernel_calls.specs.Children.{with_child};
+ghost use Rattle.kernel_calls.specs.Making.{with_child};
 ghost use Rattle.kernel_calls.specs.Prepared.{EndsEach, EndsLive, EndsOnly, with_effect};
 ghost use Rattle.proc_cells.specs.Cells.{AreKept, IsAwake};
 ghost use Rattle.parked_tasks.specs.Untouched.{changes_list};

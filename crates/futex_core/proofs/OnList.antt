@@ -7,8 +7,8 @@ use Rattle.std.proofs.lemmas.Bool.{eqb-true, eq-eqb, ne_eqb}
 use Rattle.std.proofs.lemmas.List.{map-append}
 use Rattle.futex_core.specs.declared.keys.FutexKey.{FutexKey}
 use Rattle.futex_core.specs.declared.waiters.Sleeper.{Sleeper}
-use Rattle.futex_core.specs.FutexLists.{EachOnce, FutexList, tasks_in, is_asleep, is_woken, after_sleep, first_waiters}
-use Rattle.futex_core.specs.FutexLists.{sleepers_without, after_wake, after_leave}
+use Rattle.futex_core.specs.Waiters.{EachOnce, FutexList, tasks_in, is_asleep, is_woken, after_sleep, first_waiters}
+use Rattle.futex_core.specs.Waiters.{sleepers_without, after_wake, after_leave}
 use Rattle.futex_core.proofs.Counts.{times, weight, times-append, times-cons, none_times, not_found, found_by_task}
 use Rattle.futex_core.proofs.Once.{tasks_of, moved}
 

@@ -6,9 +6,9 @@ use Rattle.std.proofs.lemmas.Bool.{eqb-true, both_ways}
 use Rattle.std.proofs.lemmas.List.{map-append, map-id}
 use Rattle.futex_core.specs.declared.keys.FutexKey.{FutexKey}
 use Rattle.futex_core.specs.declared.waiters.Sleeper.{Sleeper}
-use Rattle.futex_core.specs.FutexKeys.{same_word}
-use Rattle.futex_core.specs.FutexLists.{FutexList, EachOnce, tasks_in, is_asleep, is_woken, after_sleep, waiters_on}
-use Rattle.futex_core.specs.FutexLists.{first_waiters, sleepers_without, after_wake, after_leave}
+use Rattle.futex_core.specs.Keys.{same_word}
+use Rattle.futex_core.specs.Waiters.{FutexList, EachOnce, tasks_in, is_asleep, is_woken, after_sleep, waiters_on}
+use Rattle.futex_core.specs.Waiters.{first_waiters, sleepers_without, after_wake, after_leave}
 use Rattle.futex_core.proofs.Counts.{times, weight, times-append, times-cons, times-take, times-filter, none_times}
 use Rattle.futex_core.proofs.Counts.{found_by_task}
 

@@ -11,8 +11,8 @@ use Rattle.std.proofs.lemmas.List.Elements.{filter-append}
 use Rattle.std.proofs.lemmas.List.Folds.{list_any-append}
 use Rattle.futex_core.specs.declared.keys.FutexKey.{FutexKey}
 use Rattle.futex_core.specs.declared.waiters.Sleeper.{Sleeper}
-use Rattle.futex_core.specs.FutexKeys.{same_word}
-use Rattle.futex_core.specs.FutexLists.{FutexList, EachOnce, waiters_on, first_waiters, sleepers_without}
+use Rattle.futex_core.specs.Keys.{same_word}
+use Rattle.futex_core.specs.Waiters.{FutexList, EachOnce, waiters_on, first_waiters, sleepers_without}
 use Rattle.futex_core.proofs.Counts.{times, weight, times-append, times-cons, times_itself, times-take, times-filter}
 use Rattle.futex_core.proofs.Counts.{not_found}
 use Rattle.futex_core.proofs.Once.{tasks_of}

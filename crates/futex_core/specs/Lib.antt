@@ -1,4 +1,4 @@
 -- What contracts of this crate say, by subject.
-pub mod FutexKeys
-pub mod FutexLists
+pub mod Keys
+pub mod Waiters
 pub mod Least

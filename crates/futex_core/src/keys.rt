@@ -1,7 +1,7 @@
 //! The names of futex words.
 
 ghost use Rattle.std.specs.Prelude.{◌≡◌, ◌↔◌, IsTrue};
-ghost use Rattle.futex_core.specs.FutexKeys.{same_word};
+ghost use Rattle.futex_core.specs.Keys.{same_word};
 
 /// What a futex word lies in. The place of the entry that made it, and its index among those that this entry made, name
 /// a memory, and an area likewise. A memory and an area of the same place and index are different owners.

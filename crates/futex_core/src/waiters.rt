@@ -2,8 +2,8 @@
 
 ghost use Rattle.std.specs.Prelude.{◌≡◌, ◌≢◌, ◌+◌, ◌≤◌, ◌↔◌, [], ◌++◌, length, min};
 ghost use Rattle.std.specs.Prelude.{take, IsFalse, OnErr, vec_len, vec_capacity};
-ghost use Rattle.futex_core.specs.FutexLists.{EachOnce, after_leave, after_sleep, after_wake, first_waiters};
-ghost use Rattle.futex_core.specs.FutexLists.{is_asleep, is_woken, sleepers_without, waiters_on};
+ghost use Rattle.futex_core.specs.Waiters.{EachOnce, after_leave, after_sleep, after_wake, first_waiters};
+ghost use Rattle.futex_core.specs.Waiters.{is_asleep, is_woken, sleepers_without, waiters_on};
 ghost use Rattle.futex_core.specs.Least.{IsLeastAbove, is_below};
 
 use crate::FutexKey;
@@ -38,7 +38,7 @@ pub struct Waiters {
 
 impl Model for Waiters {
     ghost use Rattle.std.specs.Prelude.{◌+◌, ◌≤◌, vec_len, vec_capacity};
-    ghost use Rattle.futex_core.specs.FutexLists.{FutexList, EachOnce};
+    ghost use Rattle.futex_core.specs.Waiters.{FutexList, EachOnce};
 
     ghost Value = { FutexList };
 

@@ -8,7 +8,7 @@ use Rattle.rv_table.specs.declared.error.MemErr.TheVariants as refusals
 use Rattle.rv_table.specs.Bytes.{Accessed, AllowsAs, Value, Fault, Shared, loaded}
 use Rattle.mm_areas.specs.declared.rights.Rights.{Rights}
 use Rattle.mm_space.specs.Accesses.{byte_at, readable, writable}
-use Rattle.mm_space.specs.Handing.{AreaState, InHand, area_in}
+use Rattle.mm_space.specs.Handed.{AreaState, InHand, area_in}
 use Rattle.mm_space.specs.Puts.{after_run_stored}
 use Rattle.mm_space.specs.Spaces.{AddressSpace, Reach}
 use Rattle.kernel_model.specs.Names.{NamedMap, get_named}

@@ -4,7 +4,7 @@ use Rattle.std.proofs.Common.{Option, None, Result, Ok, Err, refl, ap, sym, subs
 use Rattle.std.specs.Prelude.{⊤}
 use Rattle.std.proofs.Math.Seq.{take-length}
 use Rattle.mm_space.specs.Accesses.{writable}
-use Rattle.mm_space.specs.Handing.{AreaState, InHand}
+use Rattle.mm_space.specs.Handed.{AreaState, InHand}
 use Rattle.mm_space.specs.Places.{AreAsReady, is_ready}
 use Rattle.mm_space.specs.Puts.{after_run_stored}
 use Rattle.mm_space.specs.Spaces.{AddressSpace, Reach}

@@ -7,7 +7,7 @@ use Rattle.rv_table.specs.declared.error.Area.{Area}
 use Rattle.rv_table.specs.declared.registers.Regs.{Regs}
 use Rattle.rv_exec.specs.Execution.{Done, exec}
 use Rattle.rv_exec.specs.Execution as done
-use Rattle.mm_space.specs.Handing.{AreaState, InHand, area_in}
+use Rattle.mm_space.specs.Handed.{AreaState, InHand, area_in}
 use Rattle.mm_space.specs.Spaces.{AddressSpace}
 use Rattle.quantum.specs.Acting.{Acting, memory_of}
 use Rattle.quantum.specs.declared.run.QuantumEnd.{QuantumEnd}

@@ -1,7 +1,7 @@
 -- Shared areas that are handed in, and taken back.
 use Rattle.std.specs.Prelude.{◌≡◌, ⊤, ℕ, List, [], ◌∷◌, ◌++◌, map, Some, None, IsTrue}
 use Rattle.rv_table.specs.declared.error.Area.{Area}
-use Rattle.mm_space.specs.Handing.{AreaState, InHand, area_in, zero_area}
+use Rattle.mm_space.specs.Handed.{AreaState, InHand, area_in, zero_area}
 use Rattle.kernel_model.specs.Names.{NamedMap, get_named, has_named, with_named}
 use Rattle.kernel_model.specs.declared.kernel.Part.TheVariants.{OfArea}
 use Rattle.kernel_model.specs.entries.Parts.{Parts}

@@ -4,7 +4,7 @@ use Rattle.rv_table.specs.Bytes.{Value, loaded}
 use Rattle.rv_table.specs.declared.registers.Regs.{Regs}
 use Rattle.mm_areas.specs.declared.rights.Rights.{Rights}
 use Rattle.mm_space.specs.Accesses.{byte_at}
-use Rattle.mm_space.specs.Handing.{AreaState, InHand}
+use Rattle.mm_space.specs.Handed.{AreaState, InHand}
 use Rattle.mm_space.specs.Spaces.{AddressSpace, Reach}
 use Rattle.quantum.specs.declared.run.QuantumEnd.{QuantumEnd}
 use Rattle.quantum.specs.declared.run.QuantumEnd.TheVariants as ends

@@ -2,7 +2,7 @@
 
 ghost use Rattle.std.specs.Prelude.{◌≡◌, false, [], length, is_some, IfOk, IfSome, OnErr};
 ghost use Rattle.std.specs.Bool.{OnTrue};
-ghost use Rattle.mm_space.specs.Handing.{hand_of};
+ghost use Rattle.mm_space.specs.Handed.{hand_of};
 ghost use Rattle.kernel_model.specs.entries.Areas.{access_row, bytes_read, bytes_written};
 ghost use Rattle.kernel_model.specs.entries.Parts.{Parts, outcome_in, uses};
 ghost use Rattle.guest_access.specs.Lending.{AreThere, AreThose, with_hand};

@@ -2,7 +2,7 @@
 
 ghost use Rattle.std.specs.Prelude.{◌≡◌, ◌⊎◌, true, None, IfOk, OnErr, is_some};
 ghost use Rattle.std.specs.Bool.{OnTrue, OnFalse};
-ghost use Rattle.mm_space.specs.Handing.{area_in, hand_of};
+ghost use Rattle.mm_space.specs.Handed.{area_in, hand_of};
 ghost use Rattle.kernel_model.specs.Names.{get_named};
 ghost use Rattle.guest_access.specs.Lending.{AreThere, IsLent, with_hand};
 

@@ -2,7 +2,7 @@
 
 ghost use Rattle.std.specs.Prelude.{◌≡◌, ℕ, ◌+◌, ◌^◌, ◌<◌, true, [], ◌++◌, length, IfOk, OnOk, OnErr};
 ghost use Rattle.mm_space.specs.Accesses.{writable};
-ghost use Rattle.mm_space.specs.Handing.{hand_of};
+ghost use Rattle.mm_space.specs.Handed.{hand_of};
 ghost use Rattle.mm_space.specs.Places.{is_ready_at};
 ghost use Rattle.mm_space.specs.Spaces.{reach};
 ghost use Rattle.kernel_model.specs.calls.Vectors.{accessed, cut, filled, scattered};

@@ -2,7 +2,7 @@
 
 ghost use Rattle.std.specs.Prelude.{◌≡◌, ℕ, ◌+◌, ◌≤◌, [], length, IfOk, OnErr};
 ghost use Rattle.mm_space.specs.Accesses.{byte_at, readable};
-ghost use Rattle.mm_space.specs.Handing.{hand_of};
+ghost use Rattle.mm_space.specs.Handed.{hand_of};
 ghost use Rattle.mm_space.specs.Runs.{bytes_from};
 ghost use Rattle.pipe_core.specs.Pipes.{after_write};
 ghost use Rattle.kernel_model.specs.machine.Spaces.{reach_with};

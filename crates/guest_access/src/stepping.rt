@@ -1,7 +1,7 @@
 //! An instruction that touches shared areas, which are handed in as it asks for them.
 
 ghost use Rattle.std.specs.Prelude.{◌≡◌, Some, None, false, IfOk, OnErr};
-ghost use Rattle.mm_space.specs.Handing.{hand_of};
+ghost use Rattle.mm_space.specs.Handed.{hand_of};
 ghost use Rattle.quantum.specs.Instructions.{ran};
 ghost use Rattle.kernel_model.specs.declared.caller.Caller.{Caller as ACaller};
 ghost use Rattle.kernel_model.specs.declared.kernel.Kernel.{Kernel as AKernel};

@@ -6,9 +6,9 @@ use Rattle.mm_areas.specs.declared.fault.AreaErr.{AreaErr}
 use Rattle.sn_errno.specs.declared.errno.Errno.{Errno}
 use Rattle.sn_errno.specs.declared.errno.Errno.TheVariants.{ENOSYS}
 use Rattle.sn_errno.specs.Errors.{reply_of}
-use Rattle.mm_space.specs.Handing.{AreaState}
+use Rattle.mm_space.specs.Handed.{AreaState}
 use Rattle.mm_space.specs.Spaces.{AddressSpace}
-use Rattle.futex_core.specs.FutexLists.{FutexList, after_wake, waiters_on}
+use Rattle.futex_core.specs.Waiters.{FutexList, after_wake, waiters_on}
 use Rattle.futex_core.specs.declared.keys.FutexKey.{FutexKey}
 use Rattle.task_table.specs.Table.{TaskTable}
 use Rattle.kernel_model.specs.Names.{NamedMap, get_named, with_named}

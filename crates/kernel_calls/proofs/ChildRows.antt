@@ -5,14 +5,14 @@ use Rattle.std.specs.Int.{to_le_bytes, w32}
 use Rattle.std.proofs.lemmas.Bool.{eq-eqb, ne_eqb}
 use Rattle.sn_errno.specs.declared.errno.Errno.TheVariants.{EFAULT, EINVAL}
 use Rattle.sn_errno.specs.Errors.{reply_of}
-use Rattle.futex_core.specs.FutexLists.{FutexList}
+use Rattle.futex_core.specs.Waiters.{FutexList}
 use Rattle.task_table.specs.declared.task.ReapEnd.{ReapEnd}
 use Rattle.task_table.specs.declared.task.ReapEnd.TheVariants.{Reaped}
 use Rattle.task_table.specs.declared.task.Status.{Status}
 use Rattle.task_table.specs.Reaps.{after_reap, reap_end}
 use Rattle.task_table.specs.Status.{status_number}
 use Rattle.task_table.specs.Table.{TaskTable}
-use Rattle.mm_space.specs.Handing.{AreaState}
+use Rattle.mm_space.specs.Handed.{AreaState}
 use Rattle.mm_space.specs.Spaces.{AddressSpace, Reach}
 use Rattle.kernel_model.specs.Names.{NamedMap}
 use Rattle.kernel_model.specs.declared.caller.Caller.{Caller}

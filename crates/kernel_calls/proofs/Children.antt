@@ -5,7 +5,7 @@ use Rattle.std.specs.FinMap.{FinMap, get, insert, empty}
 use Rattle.std.specs.Ordering.{nat_cmp}
 use Rattle.std.proofs.lemmas.Bool.Decides.{nat_tests}
 use Rattle.sn_base.proofs.Maps.{same_by_get, get-insert_same, get-insert_other}
-use Rattle.mm_space.specs.Handing.{AreaState}
+use Rattle.mm_space.specs.Handed.{AreaState}
 use Rattle.mm_space.specs.Spaces.{AddressSpace}
 use Rattle.task_table.specs.Clones.{forked}
 use Rattle.task_table.specs.Table.{TaskTable}
@@ -16,7 +16,7 @@ use Rattle.kernel_model.specs.declared.kernel.Kernel.{Kernel}
 use Rattle.kernel_model.specs.declared.open_files.OpenFiles.{OpenFiles}
 use Rattle.kernel_model.specs.laws.Files.{with_copy}
 use Rattle.kernel_model.proofs.NamedMaps.{same_or_other, get-with, both_set, with-with}
-use Rattle.kernel_calls.specs.Children.{with_task, with_words}
+use Rattle.kernel_calls.specs.Making.{with_task, with_words}
 use Rattle.kernel_calls.specs.declared.clone.Words.{Words}
 
 -- ---- two changes of a map

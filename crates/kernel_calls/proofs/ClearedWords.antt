@@ -4,7 +4,7 @@ use Rattle.std.proofs.Common.{◌++◌, Option, Some, None, refl, ap, sym}
 use Rattle.std.proofs.Common.{◌∙◌, ◌-◌, ◌≤◌, arith, drop, get_or, length, option_map, subst, take}
 use Rattle.std.proofs.Math.Seq.{take-length}
 use Rattle.futex_core.specs.declared.keys.FutexKey.{FutexKey}
-use Rattle.mm_space.specs.Handing.{AreaState}
+use Rattle.mm_space.specs.Handed.{AreaState}
 use Rattle.mm_space.specs.Spaces.{AddressSpace, Reach}
 use Rattle.task_table.specs.declared.task.EndedTask.{EndedTask}
 use Rattle.sn_base.specs.declared.made.Made.{Made}

@@ -2,7 +2,7 @@
 use Rattle.std.proofs.Common.{◌≡◌, ℕ, ◌+◌, Bool, true, false, List, Option, Some, None, refl, ap, sym}
 use Rattle.std.proofs.Common.{◌∙◌, option_map, subst}
 use Rattle.std.specs.Int.{to_le_bytes, w32}
-use Rattle.mm_space.specs.Handing.{AreaState, InHand}
+use Rattle.mm_space.specs.Handed.{AreaState, InHand}
 use Rattle.mm_space.specs.Spaces.{AddressSpace, Reach}
 use Rattle.kernel_model.specs.Names.{NamedMap}
 use Rattle.kernel_model.specs.declared.caller.Caller.{Caller}
@@ -11,7 +11,7 @@ use Rattle.kernel_model.specs.calls.Clone.{word_set}
 use Rattle.kernel_model.specs.entries.Areas.{bytes_written, bytes_written_over, over, reach_over}
 use Rattle.kernel_model.specs.entries.Parts.{Parts, parts, done, outcome_in, ◌>>=◌}
 use Rattle.kernel_model.proofs.Trees.{outcome-bind}
-use Rattle.kernel_calls.specs.Cloning.{HasSet, LeavesWords, SetsWord}
+use Rattle.kernel_calls.specs.Clones.{HasSet, LeavesWords, SetsWord}
 use Rattle.guest_access.specs.Lending.{with_hand, AreThose}
 use Rattle.kernel_calls.specs.declared.clone.Words.{Words}
 use Rattle.guest_access.specs.Trying.{Wrote}

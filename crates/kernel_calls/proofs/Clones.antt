@@ -5,9 +5,9 @@ use Rattle.std.specs.Prelude.{◌||◌}
 use Rattle.std.specs.FinMap as map
 use Rattle.sn_errno.specs.declared.errno.Errno.TheVariants.{EAGAIN, EFAULT, EINVAL}
 use Rattle.rv_table.specs.declared.registers.Regs.{Regs}
-use Rattle.mm_space.specs.Handing.{AreaState, InHand}
+use Rattle.mm_space.specs.Handed.{AreaState, InHand}
 use Rattle.mm_space.specs.Spaces.{AddressSpace, Reach, unreserved}
-use Rattle.futex_core.specs.FutexLists.{FutexList}
+use Rattle.futex_core.specs.Waiters.{FutexList}
 use Rattle.task_table.specs.Clones.{forked, threaded}
 use Rattle.task_table.specs.Table.{TaskTable}
 use Rattle.sn_base.specs.declared.made.Made.{Made}
@@ -28,8 +28,8 @@ use Rattle.kernel_model.specs.entries.Parts.{Parts, parts, Prog, done, look, out
 use Rattle.kernel_model.proofs.ChildLaws.{changed-append}
 use Rattle.kernel_model.proofs.FileChanges.{copied_behind}
 use Rattle.kernel_model.proofs.Trees.{outcome-bind}
-use Rattle.kernel_calls.specs.Children.{with_child, with_task, with_words}
-use Rattle.kernel_calls.specs.Cloning.{HasSet, MakesIf, SetsWord, is_shape}
+use Rattle.kernel_calls.specs.Making.{with_child, with_task, with_words}
+use Rattle.kernel_calls.specs.Clones.{HasSet, MakesIf, SetsWord, is_shape}
 use Rattle.guest_access.specs.Lending.{with_hand}
 use Rattle.guest_access.specs.Memories.{with_memory}
 use Rattle.kernel_calls.specs.Prepared.{IsCalling, MakesChild}

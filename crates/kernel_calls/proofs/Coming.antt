@@ -1,6 +1,6 @@
 -- What becomes of a call, by what its row comes to.
 use Rattle.std.proofs.Common.{◌≡◌, ◌∙◌}
-use Rattle.mm_space.specs.Handing.{AreaState}
+use Rattle.mm_space.specs.Handed.{AreaState}
 use Rattle.mm_space.specs.Spaces.{AddressSpace}
 use Rattle.kernel_model.specs.Names.{NamedMap}
 use Rattle.kernel_model.specs.declared.caller.Caller.{Caller}

@@ -1,6 +1,6 @@
 -- What a call leaves of a kernel, by its effect.
 use Rattle.std.proofs.Common.{◌≡◌, ℕ, ap, sym, ◌∙◌}
-use Rattle.futex_core.specs.FutexLists.{FutexList}
+use Rattle.futex_core.specs.Waiters.{FutexList}
 use Rattle.task_table.specs.Ends.{exited, group_ended}
 use Rattle.task_table.specs.Table.{TaskTable}
 use Rattle.kernel_model.specs.declared.kernel.Kernel.{Kernel}

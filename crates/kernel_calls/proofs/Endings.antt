@@ -1,7 +1,7 @@
 -- What the ends of tasks come to, as they were prepared.
 use Rattle.std.proofs.Common.{◌≡◌, ℕ, refl, pos, Bool, true, false, cond, List, ◌++◌, Some, None, ap, sym, ◌∙◌}
-use Rattle.futex_core.specs.FutexLists.{FutexList}
-use Rattle.mm_space.specs.Handing.{AreaState}
+use Rattle.futex_core.specs.Waiters.{FutexList}
+use Rattle.mm_space.specs.Handed.{AreaState}
 use Rattle.mm_space.specs.Spaces.{AddressSpace}
 use Rattle.task_table.specs.declared.task.EndedTask.{EndedTask}
 use Rattle.task_table.specs.declared.task.Status.{Status}

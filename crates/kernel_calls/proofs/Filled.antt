@@ -2,9 +2,9 @@
 use Rattle.std.proofs.Common.{◌≡◌, ℕ, pos, Bool, true, false, List, Option, Some, None, refl, ap, sym, ◌∙◌}
 use Rattle.sn_errno.specs.declared.errno.Errno.TheVariants.{EFAULT}
 use Rattle.sn_errno.specs.Errors.{reply_of}
-use Rattle.futex_core.specs.FutexLists.{FutexList}
+use Rattle.futex_core.specs.Waiters.{FutexList}
 use Rattle.task_table.specs.Table.{TaskTable}
-use Rattle.mm_space.specs.Handing.{AreaState}
+use Rattle.mm_space.specs.Handed.{AreaState}
 use Rattle.mm_space.specs.Spaces.{AddressSpace, Reach}
 use Rattle.kernel_model.specs.Names.{NamedMap}
 use Rattle.kernel_model.specs.declared.caller.Caller.{Caller}

@@ -3,9 +3,9 @@ use Rattle.std.proofs.Common.{◌≡◌, ℕ, ◌+◌, ◌<◌, ◌≤◌, ◌%�
 use Rattle.std.proofs.Common.{subst}
 use Rattle.std.proofs.lemmas.Bool.{lt-ltb, le-ltb}
 use Rattle.sn_errno.specs.declared.errno.Errno.TheVariants.{EINVAL}
-use Rattle.futex_core.specs.FutexLists.{FutexList}
+use Rattle.futex_core.specs.Waiters.{FutexList}
 use Rattle.task_table.specs.Table.{TaskTable}
-use Rattle.mm_space.specs.Handing.{AreaState}
+use Rattle.mm_space.specs.Handed.{AreaState}
 use Rattle.mm_space.specs.Spaces.{AddressSpace}
 use Rattle.kernel_model.specs.Names.{NamedMap}
 use Rattle.kernel_model.specs.declared.caller.Caller.{Caller}

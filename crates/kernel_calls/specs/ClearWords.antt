@@ -1,7 +1,7 @@
 -- Clear words of tasks that end, as they are cleared one after another.
 use Rattle.std.specs.Prelude.{◌≡◌, ◌==◌, Bool, true, false, not, List, [], ◌∷◌, if◌then◌else◌}
 use Rattle.futex_core.specs.declared.keys.FutexKey.{FutexKey}
-use Rattle.mm_space.specs.Handing.{AreaState}
+use Rattle.mm_space.specs.Handed.{AreaState}
 use Rattle.mm_space.specs.Spaces.{AddressSpace}
 use Rattle.task_table.specs.declared.task.EndedTask.{EndedTask}
 use Rattle.kernel_model.specs.Names.{NamedMap}

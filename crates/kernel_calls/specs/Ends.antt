@@ -1,6 +1,6 @@
 -- Ends of tasks, as they were prepared.
 use Rattle.std.specs.Prelude.{◌≡◌, List, [], ◌∷◌}
-use Rattle.mm_space.specs.Handing.{AreaState}
+use Rattle.mm_space.specs.Handed.{AreaState}
 use Rattle.mm_space.specs.Spaces.{AddressSpace}
 use Rattle.task_table.specs.declared.task.EndedTask.{EndedTask}
 use Rattle.task_table.specs.Table.{TaskTable}

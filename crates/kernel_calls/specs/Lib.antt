@@ -1,7 +1,7 @@
 -- What contracts of this crate say, by subject.
-pub mod Children
+pub mod Making
 pub mod ClearWords
-pub mod Cloning
+pub mod Clones
 pub mod Ends
 pub mod Families
 pub mod Prepared

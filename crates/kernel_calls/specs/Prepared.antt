@@ -3,9 +3,9 @@ use Rattle.std.specs.Prelude.{◌≡◌, ℕ, ◌+◌, ⊤, Option, Some, None, 
 use Rattle.std.specs.Prelude.{length, pos}
 use Rattle.std.specs.FinMap as map
 use Rattle.rv_table.specs.declared.error.Area.{Area}
-use Rattle.mm_space.specs.Handing.{AreaState}
+use Rattle.mm_space.specs.Handed.{AreaState}
 use Rattle.mm_space.specs.Spaces.{AddressSpace}
-use Rattle.futex_core.specs.FutexLists.{FutexList, after_sleep, after_wake}
+use Rattle.futex_core.specs.Waiters.{FutexList, after_sleep, after_wake}
 use Rattle.task_table.specs.declared.task.Status.{Status}
 use Rattle.task_table.specs.Ends.{ended_tasks, exited, group_ended, is_itself, is_member}
 use Rattle.task_table.specs.Reaps.{after_reap, reap_end}
@@ -24,7 +24,7 @@ use Rattle.kernel_model.specs.laws.Room.{IsRoomFor}
 use Rattle.kernel_model.specs.laws.Files.{without_table}
 use Rattle.kernel_model.specs.entries.Parts.{Parts, parts, Prog, outcome_in, Change, changed}
 use Rattle.file_changes.specs.Changes.{files_after}
-use Rattle.kernel_calls.specs.Children.{with_child}
+use Rattle.kernel_calls.specs.Making.{with_child}
 use Rattle.guest_access.specs.Memories.{with_memory}
 use Rattle.kernel_calls.specs.declared.context.Context.{Context}
 use Rattle.kernel_calls.specs.declared.clone.Child.{Child}

@@ -1,7 +1,7 @@
 //! What system calls come to: the table of the calls that the kernel has.
 
 ghost use Rattle.std.specs.Prelude.{◌≡◌, ℕ, false, true, IfOk, IsTrue, OnErr};
-ghost use Rattle.futex_core.specs.FutexLists.{FutexList};
+ghost use Rattle.futex_core.specs.Waiters.{FutexList};
 ghost use Rattle.sn_errno.specs.Calls.{call_of};
 ghost use Rattle.sn_errno.specs.Errors.{reply_of};
 ghost use Rattle.sn_errno.specs.declared.errno.Errno.TheVariants.{ENOSYS};

@@ -1,7 +1,7 @@
 //! clone: what a new task begins with.
 
 ghost use Rattle.std.specs.Prelude.{◌≡◌, ℕ, ◌+◌, ◌<◌, ◌^◌, false, true, IfOk};
-ghost use Rattle.futex_core.specs.FutexLists.{FutexList};
+ghost use Rattle.futex_core.specs.Waiters.{FutexList};
 ghost use Rattle.mm_space.specs.Spaces.{unreserved};
 ghost use Rattle.task_table.specs.Table.{TaskTable};
 ghost use Rattle.kernel_model.specs.declared.caller.Caller.{Caller as ACaller};
@@ -10,7 +10,7 @@ ghost use Rattle.kernel_model.specs.calls.Callers.{context_of};
 ghost use Rattle.kernel_model.specs.calls.Clone.{bit, child_clear, child_registers, clears_child_word, clone_row};
 ghost use Rattle.kernel_model.specs.calls.Clone.{cloning_of, free_flags, is_full, is_process, is_set, is_thread};
 ghost use Rattle.kernel_model.specs.calls.Clone.{process_row, sets_child_word, sets_parent_word, sets_tls, thread_row};
-ghost use Rattle.kernel_calls.specs.Cloning.{LeavesWords, MakesIf, SetsWord, is_shape};
+ghost use Rattle.kernel_calls.specs.Clones.{LeavesWords, MakesIf, SetsWord, is_shape};
 ghost use Rattle.kernel_calls.specs.Prepared.{Comes, EndsCaller, EndsTheirs, HasRoomFor, IfWaits, IsCalling};
 
 use crate::Context;

@@ -1,7 +1,7 @@
 //! exit and exit_group, the end of a thread group by a signal, set_tid_address and set_robust_list.
 
 ghost use Rattle.std.specs.Prelude.{◌≡◌, ◌%◌, ℕ, IfOk, IsTrue, None, OnErr, Some, if◌then◌else◌};
-ghost use Rattle.futex_core.specs.FutexLists.{FutexList};
+ghost use Rattle.futex_core.specs.Waiters.{FutexList};
 ghost use Rattle.mm_space.specs.Spaces.{AddressSpace};
 ghost use Rattle.task_table.specs.declared.task.Status.TheVariants.{Exited};
 ghost use Rattle.task_table.specs.Ends.{ended_tasks, is_last, is_member};

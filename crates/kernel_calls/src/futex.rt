@@ -2,7 +2,7 @@
 
 ghost use Rattle.std.specs.Prelude.{◌≡◌, ◌==◌, ◌&&◌, ◌||◌, not, ℕ, option_map, if◌then◌else◌, IfOk};
 ghost use Rattle.std.specs.Int.{from_le_bytes, w32};
-ghost use Rattle.mm_space.specs.Handing.{AreaState};
+ghost use Rattle.mm_space.specs.Handed.{AreaState};
 ghost use Rattle.mm_space.specs.Spaces.{AddressSpace};
 ghost use Rattle.task_table.specs.Table.{TaskTable};
 ghost use Rattle.kernel_model.specs.Names.{NamedMap};

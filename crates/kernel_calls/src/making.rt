@@ -11,7 +11,7 @@ ghost use Rattle.kernel_model.specs.declared.caller.Caller.{Caller as ACaller};
 ghost use Rattle.kernel_model.specs.declared.kernel.Kernel.{Kernel as AKernel};
 ghost use Rattle.kernel_model.specs.laws.Room.{IsRoomFor};
 ghost use Rattle.kernel_model.specs.laws.Files.{with_copy};
-ghost use Rattle.kernel_calls.specs.Children.{with_child, with_task, with_words};
+ghost use Rattle.kernel_calls.specs.Making.{with_child, with_task, with_words};
 
 use crate::Context;
 use crate::clone::{Child, Words};

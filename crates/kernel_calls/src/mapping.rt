@@ -3,7 +3,7 @@
 ghost use Rattle.std.specs.Prelude.{◌≡◌, ◌+◌, None, Some, IfOk, OnOk, OnErr};
 ghost use Rattle.mm_areas.specs.Mappings.{map_fault, pages_in};
 ghost use Rattle.mm_space.specs.Changes.{mapped_in};
-ghost use Rattle.mm_space.specs.Handing.{zero_area};
+ghost use Rattle.mm_space.specs.Handed.{zero_area};
 ghost use Rattle.kernel_model.specs.Names.{get_named, with_named};
 ghost use Rattle.kernel_model.specs.declared.caller.Caller.{Caller as ACaller};
 ghost use Rattle.kernel_model.specs.declared.kernel.Kernel.{Kernel as AKernel};

@@ -1,7 +1,7 @@
 //! What a call comes to, before it is done, and the doing of it.
 
 ghost use Rattle.std.specs.Prelude.{◌≡◌, IsFalse, OnOk, OnErr};
-ghost use Rattle.futex_core.specs.FutexLists.{after_sleep, is_asleep, is_woken};
+ghost use Rattle.futex_core.specs.Waiters.{after_sleep, is_asleep, is_woken};
 ghost use Rattle.kernel_model.specs.declared.kernel.Kernel.{Kernel as AKernel};
 ghost use Rattle.kernel_model.specs.calls.Ending.{clear_set, left_by, woken_on};
 ghost use Rattle.kernel_calls.specs.Prepared.{EndsLive, with_closed, with_effect};

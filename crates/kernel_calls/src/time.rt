@@ -1,7 +1,7 @@
 //! clock_gettime and sched_yield.
 
 ghost use Rattle.std.specs.Prelude.{◌≡◌, ℕ, IfOk, OnErr};
-ghost use Rattle.futex_core.specs.FutexLists.{FutexList};
+ghost use Rattle.futex_core.specs.Waiters.{FutexList};
 ghost use Rattle.task_table.specs.Table.{TaskTable};
 ghost use Rattle.mm_space.specs.Spaces.{AddressSpace};
 ghost use Rattle.kernel_model.specs.declared.caller.Caller.{Caller as ACaller};

@@ -1,8 +1,8 @@
 //! wait4.
 
 ghost use Rattle.std.specs.Prelude.{◌≡◌, ◌==◌, ◌&&◌, ℕ, [], pos, if◌then◌else◌, IfOk, IsFalse, OnErr};
-ghost use Rattle.futex_core.specs.FutexLists.{FutexList};
-ghost use Rattle.mm_space.specs.Handing.{AreaState};
+ghost use Rattle.futex_core.specs.Waiters.{FutexList};
+ghost use Rattle.mm_space.specs.Handed.{AreaState};
 ghost use Rattle.mm_space.specs.Spaces.{AddressSpace};
 ghost use Rattle.task_table.specs.Reaps.{reap_end};
 ghost use Rattle.task_table.specs.Table.{TaskTable};

@@ -19,7 +19,7 @@ use Rattle.sn_errno.specs.declared.calls.CallNo.TheVariants.{Getgid, Getegid, Ge
 use Rattle.sn_errno.specs.declared.calls.CallNo.TheVariants.{Getrandom}
 use Rattle.mm_areas.specs.Mappings.{unmap_fault, pages_in}
 use Rattle.mm_space.specs.Changes.{broken_in, unmapped_in, righted_in}
-use Rattle.mm_space.specs.Handing.{zero_area}
+use Rattle.mm_space.specs.Handed.{zero_area}
 use Rattle.sn_errno.specs.Calls.{call_of}
 use Rattle.sn_errno.specs.Errors.{reply_of}
 use Rattle.host_node.specs.Tree.{Shape}
@@ -37,7 +37,7 @@ use Rattle.task_table.specs.Table.{TaskTable}
 use Rattle.quantum.specs.Instructions.{Going, ran}
 use Rattle.mm_space.specs.Spaces.{AddressSpace, Reach, unreserved}
 use Rattle.futex_core.specs.declared.keys.FutexKey.{FutexKey}
-use Rattle.futex_core.specs.FutexLists.{FutexList, after_leave, after_sleep}
+use Rattle.futex_core.specs.Waiters.{FutexList, after_leave, after_sleep}
 use Rattle.kernel_model.specs.declared.caller.Caller.{Caller}
 use Rattle.kernel_model.specs.declared.entry.Args.{Args}
 use Rattle.kernel_model.specs.declared.entry.Entry.{Entry}

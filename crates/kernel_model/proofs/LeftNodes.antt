@@ -2,7 +2,7 @@
 use Rattle.std.proofs.Common.{ℤ, ℕ, Bool, true, false, cond, List, [], ◌∷◌, ◌++◌, Option, Some, None}
 use Rattle.std.proofs.Common.{sym, inl, inr, subst}
 use Rattle.sn_errno.specs.declared.errno.Errno.{Errno}
-use Rattle.mm_space.specs.Handing.{InHand}
+use Rattle.mm_space.specs.Handed.{InHand}
 use Rattle.mm_space.specs.Spaces.{Reach}
 use Rattle.sn_base.specs.declared.made.Made.{Made}
 use Rattle.kernel_model.specs.declared.kernel.Part.TheVariants.{OfArea, OfNode}

@@ -9,7 +9,7 @@ use Rattle.sn_errno.specs.declared.errno.Errno.{Errno}
 use Rattle.sn_errno.specs.declared.errno.Errno.TheVariants.{EBADF, EFAULT, EMFILE}
 use Rattle.fd_table.specs.Tables.{Table}
 use Rattle.mm_space.specs.Accesses.{writable}
-use Rattle.mm_space.specs.Handing.{InHand}
+use Rattle.mm_space.specs.Handed.{InHand}
 use Rattle.mm_space.specs.Spaces.{AddressSpace, Reach, unreserved}
 use Rattle.sn_errno.specs.Calls.{call_of}
 use Rattle.task_table.specs.Table.{TaskTable}

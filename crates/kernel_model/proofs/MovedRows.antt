@@ -12,7 +12,7 @@ use Rattle.fd_table.specs.declared.description.Object.{Object}
 use Rattle.fd_table.specs.declared.description.Object.TheVariants as object
 use Rattle.fd_table.specs.declared.flags.Access.{Access}
 use Rattle.mm_space.specs.Accesses.{writable}
-use Rattle.mm_space.specs.Handing.{InHand}
+use Rattle.mm_space.specs.Handed.{InHand}
 use Rattle.mm_space.specs.Spaces.{Reach}
 use Rattle.pipe_core.specs.Pipes.{PipeState, after_read, after_write, room_in, room_wanted}
 use Rattle.sn_base.specs.declared.made.Made.{Made}

@@ -21,7 +21,7 @@ impl Drop for GuestArea {
 }
 
 impl Model for GuestArea {
-    ghost use Rattle.mm_space.specs.Handing.{AreaState, area_state};
+    ghost use Rattle.mm_space.specs.Handed.{AreaState, area_state};
     ghost use Rattle.kernel_model.specs.laws.AreaCodes.{coded_area};
 
     ghost Value = { AreaState };
@@ -32,7 +32,7 @@ impl Model for GuestArea {
 }
 
 impl GuestArea {
-    ghost use Rattle.mm_space.specs.Handing.{zero_area};
+    ghost use Rattle.mm_space.specs.Handed.{zero_area};
 
     /// So many pages that nobody has written, in which nothing is reserved.
     ///

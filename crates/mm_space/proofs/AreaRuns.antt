@@ -14,7 +14,7 @@ use Rattle.rv_atomic.specs.AreaReservations.{after_run_here}
 use Rattle.rv_atomic.specs.Reservations.{granule, lies_over, meets}
 use Rattle.mm_frames.specs.Frames.{page_at, with_change}
 use Rattle.mm_frames.specs.Numbers.{with_run}
-use Rattle.mm_space.specs.Handing.{AreaState, InHand}
+use Rattle.mm_space.specs.Handed.{AreaState, InHand}
 use Rattle.mm_space.specs.Puts.{changed_in_hand, put_in_area, with_area}
 use Rattle.mm_space.specs.Runs.{put_run_in_area}
 use Rattle.mm_space.specs.Sight.{is_area}

@@ -11,7 +11,7 @@ use Rattle.mm_areas.specs.Own.{owns}
 use Rattle.mm_areas.specs.Pages.{Mapped, Pages}
 use Rattle.mm_space.specs.Accesses.{page_number, page_offset}
 use Rattle.mm_space.specs.Conditionals.{ConditionalNear}
-use Rattle.mm_space.specs.Handing.{InHand}
+use Rattle.mm_space.specs.Handed.{InHand}
 use Rattle.mm_space.specs.Puts.{AllowsNear, StoresNear, after_stored}
 use Rattle.mm_space.specs.Reserves.{after_taken, counts_mapped, is_held_at, leave_mapped}
 use Rattle.mm_space.specs.Spaces.{AddressSpace, Reach}

@@ -25,7 +25,7 @@ use Rattle.mm_areas.specs.Pages.{Bytes, Mapped, Pages, held_in, mapped_by}
 use Rattle.mm_areas.proofs.ChangeLaws.{get_page}
 use Rattle.mm_areas.proofs.RegionLaws.{order_from_test}
 use Rattle.mm_space.specs.Accesses.{LoadsNear, byte_at, page_number, page_offset, writable}
-use Rattle.mm_space.specs.Handing.{InHand}
+use Rattle.mm_space.specs.Handed.{InHand}
 use Rattle.mm_space.specs.Puts.{StoresNear, after_stored, ended_by_store, put_byte, put_bytes, put_mapped}
 use Rattle.mm_space.specs.Spaces.{Reach}
 use Rattle.mm_space.proofs.Accessed.{room_there}

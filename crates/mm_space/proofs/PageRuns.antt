@@ -10,7 +10,7 @@ use Rattle.mm_areas.specs.declared.rights.Rights.{Rights}
 use Rattle.mm_areas.specs.Mappings.{with_pages}
 use Rattle.mm_areas.specs.Pages.{Bytes, PageOf, Mapped}
 use Rattle.mm_space.specs.Accesses.{page_number, page_offset}
-use Rattle.mm_space.specs.Handing.{InHand}
+use Rattle.mm_space.specs.Handed.{InHand}
 use Rattle.mm_space.specs.Puts.{put_byte, put_mapped, put_in_area, put_run, with_area}
 use Rattle.mm_space.specs.Runs.{put_run_in_area}
 use Rattle.mm_space.specs.Spaces.{AddressSpace, Reach}

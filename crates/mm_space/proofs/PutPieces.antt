@@ -16,7 +16,7 @@ use Rattle.mm_areas.specs.Pages.{Held, Bytes, PageOf, Mapped}
 use Rattle.mm_space.specs.declared.handed.Handed.{Handed}
 use Rattle.mm_space.specs.declared.space.Space.{Space}
 use Rattle.mm_space.specs.Accesses.{page_number}
-use Rattle.mm_space.specs.Handing.{InHand, hand_of}
+use Rattle.mm_space.specs.Handed.{InHand, hand_of}
 use Rattle.mm_space.specs.Places.{is_ready_at, is_ready_held, is_ready_mapped, shared_at, shared_held}
 use Rattle.mm_space.specs.Puts.{put_run, with_area}
 use Rattle.mm_space.specs.Runs.{put_run_in_area}

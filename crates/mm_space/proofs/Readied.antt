@@ -21,7 +21,7 @@ use Rattle.mm_space.specs.declared.hints.Hints.{Hints}
 use Rattle.mm_space.specs.declared.handed.Handed.{Handed}
 use Rattle.mm_space.specs.declared.space.Space.{Space}
 use Rattle.mm_space.specs.Accesses.{page_number, page_offset}
-use Rattle.mm_space.specs.Handing.{hand_of}
+use Rattle.mm_space.specs.Handed.{hand_of}
 use Rattle.mm_space.specs.Places.{AreAsReady, is_ready, is_ready_at, is_ready_held, is_ready_mapped, shared_at}
 use Rattle.mm_space.specs.Places.{shared_held}
 use Rattle.mm_space.specs.Puts.{put_byte, put_mapped}

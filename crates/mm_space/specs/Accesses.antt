@@ -7,7 +7,7 @@ use Rattle.mm_frames.specs.Frames as frames
 use Rattle.mm_areas.specs.declared.rights.Rights.{Rights}
 use Rattle.mm_areas.specs.Pages.{Held, Bytes, PageOf, Mapped}
 use Rattle.mm_areas.specs.Rights.{has}
-use Rattle.mm_space.specs.Handing.{AreaState, InHand, area_in}
+use Rattle.mm_space.specs.Handed.{AreaState, InHand, area_in}
 use Rattle.mm_space.specs.Sight.{as_byte}
 use Rattle.mm_space.specs.Spaces.{AddressSpace, Reach}
 

@@ -5,7 +5,7 @@ use Rattle.mm_areas.specs.Hints.{allows_at, is_hint}
 use Rattle.mm_areas.specs.Mappings.{mapping}
 use Rattle.mm_areas.specs.Own.{owns}
 use Rattle.mm_space.specs.Accesses.{writable}
-use Rattle.mm_space.specs.Handing.{InHand}
+use Rattle.mm_space.specs.Handed.{InHand}
 use Rattle.mm_space.specs.Puts.{AllowsNear, after_stored}
 use Rattle.mm_space.specs.Reserves.{after_taken, is_held_at}
 use Rattle.mm_space.specs.Spaces.{AddressSpace, Reach}

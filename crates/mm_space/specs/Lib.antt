@@ -3,7 +3,7 @@ pub mod Accesses
 pub mod AreaBytes
 pub mod Changes
 pub mod Conditionals
-pub mod Handing
+pub mod Handed
 pub mod PageSights
 pub mod Places
 pub mod Puts

@@ -11,7 +11,7 @@ use Rattle.mm_areas.specs.Contents as contents
 use Rattle.mm_areas.specs.Mappings.{with_pages}
 use Rattle.mm_areas.specs.Pages.{Held, Bytes, PageOf, Mapped}
 use Rattle.mm_space.specs.Accesses.{byte_at, page_number, page_offset, writable}
-use Rattle.mm_space.specs.Handing.{AreaState, InHand}
+use Rattle.mm_space.specs.Handed.{AreaState, InHand}
 use Rattle.mm_space.specs.Sight.{is_area}
 use Rattle.mm_space.specs.Spaces.{AddressSpace, Reach}
 

@@ -6,7 +6,7 @@ use Rattle.rv_atomic.specs.Reservations.{granule, is_held, reserved, without}
 use Rattle.rv_atomic.specs.AreaReservations.{is_held_here, reserved_here, without_here}
 use Rattle.mm_areas.specs.Pages.{Held, Bytes, PageOf, Mapped}
 use Rattle.mm_space.specs.Accesses.{page_number, page_offset}
-use Rattle.mm_space.specs.Handing.{AreaState, InHand, area_in}
+use Rattle.mm_space.specs.Handed.{AreaState, InHand, area_in}
 use Rattle.mm_space.specs.Puts.{with_area}
 use Rattle.mm_space.specs.Spaces.{Reach}
 

@@ -1,7 +1,7 @@
 -- Runs of bytes: what lies from an address on, one byte behind another, and what is put so into a page of an area.
 use Rattle.std.specs.Prelude.{ℕ, zero, suc, ◌+◌, List, [], ◌∷◌}
 use Rattle.rv_table.specs.Bytes.{Byte, behind, value_in}
-use Rattle.mm_space.specs.Handing.{AreaState}
+use Rattle.mm_space.specs.Handed.{AreaState}
 use Rattle.mm_space.specs.Puts.{put_in_area}
 
 -- the bytes at so many addresses from one on, and 0 for each that may not be accessed

@@ -2,7 +2,7 @@
 use Rattle.std.specs.Prelude.{List, []}
 use Rattle.rv_atomic.specs.declared.reservations.Reservation.{Reservation}
 use Rattle.mm_areas.specs.Mappings.{Mapping, mapping}
-use Rattle.mm_space.specs.Handing.{InHand, hand_of}
+use Rattle.mm_space.specs.Handed.{InHand, hand_of}
 use Rattle.mm_space.specs.declared.handed.Handed.{Handed}
 use Rattle.mm_space.specs.declared.space.Space.{Space}
 

@@ -2,7 +2,7 @@
 
 ghost use Rattle.std.specs.Prelude.{◌≡◌, ℕ, ◌+◌, ◌<◌, ◌≤◌, true, length};
 ghost use Rattle.rv_table.specs.declared.error.Area.{Area};
-ghost use Rattle.mm_space.specs.Handing.{area_state, hand_of};
+ghost use Rattle.mm_space.specs.Handed.{area_state, hand_of};
 ghost use Rattle.mm_space.specs.Places.{owns_shared, page_owned};
 ghost use Rattle.mm_space.specs.Puts.{with_area};
 ghost use Rattle.mm_space.specs.Runs.{put_run_in_area};

@@ -4,7 +4,7 @@ ghost use Rattle.std.specs.Prelude.{◌≡◌, ℕ, ◌+◌, ◌≤◌, length, 
 ghost use Rattle.std.specs.FinMap as map_of;
 ghost use Rattle.mm_areas.specs.Pages.{mapped_by};
 ghost use Rattle.mm_space.specs.Accesses.{area_byte, mapped_byte, page_byte};
-ghost use Rattle.mm_space.specs.Handing.{area_in, hand_of};
+ghost use Rattle.mm_space.specs.Handed.{area_in, hand_of};
 ghost use Rattle.mm_space.specs.PageSights.{IsWhole, sight_area, sight_byte, sight_bytes};
 ghost use Rattle.mm_space.specs.Spaces.{space_of};
 

@@ -4,7 +4,7 @@ ghost use Rattle.std.specs.Prelude.{◌≡◌, ◌≤◌, ◌<◌, ◌^◌};
 ghost use Rattle.rv_table.specs.Bytes.{first_area, first_barred, number_from, value_in};
 ghost use Rattle.mm_areas.specs.Pages.{mapped_by};
 ghost use Rattle.mm_space.specs.Accesses.{byte_at, page_byte};
-ghost use Rattle.mm_space.specs.Handing.{hand_of};
+ghost use Rattle.mm_space.specs.Handed.{hand_of};
 ghost use Rattle.mm_space.specs.Sight.{seen_byte};
 ghost use Rattle.mm_space.specs.Spaces.{reach};
 

@@ -3,7 +3,7 @@ use Rattle.std.proofs.Common.{◌≡◌, ℕ, ◌+◌, Bool, true, false, cond, 
 use Rattle.std.proofs.Common.{sym, ◌∙◌, subst, option_map, is_some, unwrap_or}
 use Rattle.std.specs.Prelude.{Result, Ok}
 use Rattle.sn_base.specs.declared.memory.Memory.{Memory}
-use Rattle.futex_core.specs.FutexLists.{FutexList, is_asleep, is_woken}
+use Rattle.futex_core.specs.Waiters.{FutexList, is_asleep, is_woken}
 use Rattle.kernel_model.specs.declared.caller.Caller.{Caller}
 use Rattle.kernel_model.specs.declared.entry.Entry.{Entry}
 use Rattle.kernel_model.specs.declared.kernel.Kernel.{Kernel}

@@ -10,7 +10,7 @@ use Rattle.sn_base.specs.declared.memory.Memory.{Memory}
 use Rattle.sn_base.proofs.Maps.{get-insert_same, get-insert_other}
 use Rattle.sn_errno.specs.declared.errno.Errno.TheVariants.{EIO}
 use Rattle.sn_errno.specs.Errors.{reply_of}
-use Rattle.mm_space.specs.Handing.{AreaState}
+use Rattle.mm_space.specs.Handed.{AreaState}
 use Rattle.mm_space.specs.Spaces.{AddressSpace}
 use Rattle.kernel_model.specs.Names.{NamedMap, get_named}
 use Rattle.kernel_model.specs.declared.caller.Caller.{Caller}
@@ -35,7 +35,7 @@ use Rattle.kernel_model.proofs.CallLemmas.{call_disordered, call_failing}
 use Rattle.kernel_model.proofs.Failing.{faulted_is}
 use Rattle.kernel_model.proofs.NamedMaps.{same_or_other}
 use Rattle.kernel_model.proofs.Trees.{outcome-bind}
-use Rattle.kernel_calls.specs.Children.{with_child, with_registers, with_task, with_words}
+use Rattle.kernel_calls.specs.Making.{with_child, with_registers, with_task, with_words}
 use Rattle.guest_access.specs.Memories.{with_memory}
 use Rattle.kernel_calls.specs.Prepared.{Comes, with_effect}
 use Rattle.kernel_calls.specs.declared.clone.Child.{Child}
@@ -44,7 +44,7 @@ use Rattle.kernel_calls.specs.declared.prepared.Prepared.{Prepared}
 use Rattle.kernel_calls.specs.declared.prepared.Called.{Called as ACalled}
 use Rattle.kernel_calls.specs.declared.prepared.Called.TheVariants as called
 use Rattle.call_fs.specs.Called.{ComesTo, IsApartIn}
-use Rattle.call_fs.specs.NewPipes.{MakesPipe as MakesAPipe}
+use Rattle.call_fs.specs.Pipes.{MakesPipe as MakesAPipe}
 use Rattle.call_fs.specs.Transfers.{after_transfer}
 use Rattle.call_fs.specs.declared.called.Called.{Called}
 use Rattle.call_fs.specs.declared.called.Called.TheVariants.{Of, Moves, MakesPipe}

@@ -11,7 +11,7 @@ use Rattle.kernel_model.specs.entries.Parts.{Change, Prog, changed, put}
 use Rattle.kernel_model.specs.entries.Steps.{going_on, replied_by}
 use Rattle.kernel_model.specs.laws.InPlace.{changed_by}
 use Rattle.kernel_model.specs.machine.Registers.{replied}
-use Rattle.call_fs.specs.NewPipes.{MakesPipe}
+use Rattle.call_fs.specs.Pipes.{MakesPipe}
 use Rattle.call_fs.specs.declared.pipes.NewPipe.{NewPipe}
 use Rattle.plain_steps.proofs.CallLemmas.{call_done}
 

@@ -3,7 +3,7 @@ use Rattle.std.proofs.Common.{◌≡◌, ℕ, Bool, true, false, cond, List, Opt
 use Rattle.std.proofs.Common.{sym, ◌∙◌, subst}
 use Rattle.std.specs.Prelude.{Result}
 use Rattle.sn_base.specs.declared.memory.Memory.{Memory}
-use Rattle.futex_core.specs.FutexLists.{FutexList, is_asleep, is_woken}
+use Rattle.futex_core.specs.Waiters.{FutexList, is_asleep, is_woken}
 use Rattle.kernel_model.specs.declared.caller.Caller.{Caller}
 use Rattle.kernel_model.specs.declared.entry.Entry.{Entry}
 use Rattle.kernel_model.specs.declared.kernel.Kernel.{Kernel}

@@ -7,7 +7,7 @@ use Rattle.std.proofs.lemmas.Bool.{ne_eqb}
 use Rattle.sn_base.specs.declared.memory.Memory.{Memory}
 use Rattle.rv_table.specs.declared.registers.Regs.{Regs}
 use Rattle.task_table.specs.declared.task.Status.TheVariants.{Killed}
-use Rattle.mm_space.specs.Handing.{AreaState}
+use Rattle.mm_space.specs.Handed.{AreaState}
 use Rattle.mm_space.specs.Spaces.{AddressSpace}
 use Rattle.guest_access.proofs.Runs.{step_none}
 use Rattle.guest_access.specs.Memories.{with_memory}

@@ -2,9 +2,9 @@
 use Rattle.std.proofs.Common.{◌≡◌, ℕ, Bool, List, [], ◌∷◌, Option, ap, sym, ◌∙◌, subst, option_map}
 use Rattle.std.specs.Prelude.{Result}
 use Rattle.sn_base.specs.declared.memory.Memory.{Memory}
-use Rattle.futex_core.specs.FutexLists.{after_sleep}
+use Rattle.futex_core.specs.Waiters.{after_sleep}
 use Rattle.futex_core.specs.declared.keys.FutexKey.{FutexKey}
-use Rattle.mm_space.specs.Handing.{AreaState}
+use Rattle.mm_space.specs.Handed.{AreaState}
 use Rattle.mm_space.specs.Spaces.{AddressSpace}
 use Rattle.kernel_model.specs.Names.{NamedMap}
 use Rattle.kernel_model.specs.declared.caller.Caller.{Caller}

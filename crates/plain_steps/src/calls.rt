@@ -4,7 +4,7 @@ ghost use Rattle.std.specs.Prelude.{◌≡◌, ◌+◌, ◌<◌, true, [], Some,
 ghost use Rattle.std.specs.Ordering.{int_eq};
 ghost use Rattle.sn_errno.specs.Errors.{reply_of};
 ghost use Rattle.sn_errno.specs.declared.errno.Errno.TheVariants.{EIO};
-ghost use Rattle.kernel_calls.specs.Children.{with_child};
+ghost use Rattle.kernel_calls.specs.Making.{with_child};
 ghost use Rattle.guest_access.specs.Memories.{with_memory};
 ghost use Rattle.kernel_calls.specs.Prepared.{EndsCaller, EndsOnly, HasRoomFor, with_effect};
 ghost use Rattle.kernel_model.specs.Names.{get_named};

@@ -9,7 +9,7 @@ ghost use Rattle.kernel_model.specs.calls.Callers.{context_of};
 ghost use Rattle.kernel_model.specs.calls.Pipes.{pipe_made};
 ghost use Rattle.kernel_model.specs.entries.Parts.{Change, Prog, changed};
 ghost use Rattle.kernel_model.specs.entries.Steps.{replied_by};
-ghost use Rattle.call_fs.specs.NewPipes.{MakesPipe};
+ghost use Rattle.call_fs.specs.Pipes.{MakesPipe};
 ghost use Rattle.call_fs.specs.Transfers.{HasRoom, after_transfer};
 ghost use Rattle.plain_steps.specs.Doing.{Does, IsThere};
 

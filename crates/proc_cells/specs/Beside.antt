@@ -3,9 +3,9 @@ use Rattle.std.specs.Prelude.{ℕ, List, [], Option, IsTrue, is_some}
 use Rattle.std.specs.Ordering.{nat_cmp}
 use Rattle.std.specs.FinMap as map
 use Rattle.mount_file.specs.declared.mounts.Mount.{Mount}
-use Rattle.futex_core.specs.FutexLists.{FutexList}
+use Rattle.futex_core.specs.Waiters.{FutexList}
 use Rattle.rv_table.specs.declared.registers.Regs.{Regs}
-use Rattle.mm_space.specs.Handing.{AreaState}
+use Rattle.mm_space.specs.Handed.{AreaState}
 use Rattle.mm_space.specs.Spaces.{AddressSpace}
 use Rattle.task_table.specs.Table.{TaskTable, is_live, no_tasks}
 use Rattle.kernel_model.specs.Names.{NamedMap}

@@ -3,7 +3,7 @@ use Rattle.std.proofs.Common.{◌≡◌, ℕ, Bool, true, false, List, Option, S
 use Rattle.std.specs.Prelude.{IfSome}
 use Rattle.rv_exec.specs.Writes.{all_after, conditional_writes}
 use Rattle.mm_space.specs.Conditionals.{ConditionalNear, after_conditional}
-use Rattle.mm_space.specs.Handing.{InHand}
+use Rattle.mm_space.specs.Handed.{InHand}
 use Rattle.mm_space.specs.Spaces.{AddressSpace, Reach}
 use Rattle.quantum.specs.Acting.{acting_on, after_write}
 

@@ -1,4 +1,4 @@
 -- What contracts of this crate say, by subject.
 pub mod AreaReservations
-pub mod Atomics
+pub mod Operations
 pub mod Reservations

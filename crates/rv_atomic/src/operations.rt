@@ -1,7 +1,7 @@
 //! What an atomic memory operation stores.
 
 ghost use Rattle.std.specs.Prelude.{◌≡◌};
-ghost use Rattle.rv_atomic.specs.Atomics.{stored_by};
+ghost use Rattle.rv_atomic.specs.Operations.{stored_by};
 
 use crate::words::{greater, greater_word, lesser, lesser_word};
 use rv_table::{Instr, low_word};
@@ -9,7 +9,7 @@ use rv_table::{Instr, low_word};
 /// The value that an atomic memory operation stores: `old` is what memory held, as the instruction loads it, and `b`
 /// what rs2 holds. A W instruction reads the low 32 bits of both alone, and its value is the number that the word's
 /// bits are. An instruction that is no atomic memory operation has 0.
-#[tactic(auto, unfolding(crate::specs::Atomics::stored_by))]
+#[tactic(auto, unfolding(crate::specs::Operations::stored_by))]
 pub fn amo(instr: &Instr, old: u64, b: u64) -> u64
     ensures { result ≡ stored_by instr.now old b }
 {

@@ -1,7 +1,7 @@
 //! The lesser and the greater of two words, and of two double words, as signed numbers.
 
 ghost use Rattle.std.specs.Prelude.{◌≡◌};
-ghost use Rattle.rv_atomic.specs.Atomics.{lesser, greater, lesser_word, greater_word};
+ghost use Rattle.rv_atomic.specs.Operations.{lesser, greater, lesser_word, greater_word};
 
 use rv_table::{low_word, signed_word};
 

@@ -10,7 +10,7 @@ use Rattle.rv_table.specs.Table.{instr_of}
 use Rattle.rv_table.specs.Words.{sum}
 use Rattle.rv_alu.specs.Branches.{is_taken}
 use Rattle.rv_alu.specs.Values.{value_of}
-use Rattle.rv_atomic.specs.Atomics.{stored_by}
+use Rattle.rv_atomic.specs.Operations.{stored_by}
 use Rattle.rv_table.specs.Bytes.{Memory, Accessed, Value, Fault, Shared, loaded}
 use Rattle.rv_exec.specs.Writes.{Write, Stores, Reserves, Releases, all_after}
 use Rattle.rv_exec.specs.declared.outcome.Step.{Step}

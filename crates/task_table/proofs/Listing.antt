@@ -9,7 +9,7 @@ use Rattle.std.proofs.lemmas.List.Elements.{filter_more}
 use Rattle.task_table.specs.declared.task.Task.{Task}
 use Rattle.task_table.specs.declared.task.EndedTask.{EndedTask}
 use Rattle.task_table.specs.declared.ends.Leaving.{Leaving}
-use Rattle.task_table.specs.Leaving.{leaves}
+use Rattle.task_table.specs.Exits.{leaves}
 use Rattle.task_table.specs.Table.{clear_of}
 
 -- a task as it is answered

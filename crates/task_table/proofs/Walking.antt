@@ -14,7 +14,7 @@ use Rattle.task_table.specs.declared.ends.Leaving.{Leaving}
 use Rattle.task_table.specs.declared.ends.Leaving.TheVariants.{Members, OtherMembers}
 use Rattle.task_table.specs.Ends.{ended_if, ended_where}
 use Rattle.task_table.specs.Entries.{changed_at}
-use Rattle.task_table.specs.Leaving.{is_leaving, leaves}
+use Rattle.task_table.specs.Exits.{is_leaving, leaves}
 use Rattle.task_table.specs.Table.{live_numbers}
 use Rattle.task_table.proofs.Changes.{alike, changed_along, changed_along_more, get-changed_along}
 use Rattle.task_table.proofs.Endings.{ended_along_live, ended_twice, live_stays}

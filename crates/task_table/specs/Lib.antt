@@ -3,7 +3,7 @@ pub mod Clones
 pub mod Ends
 pub mod Entries
 pub mod Kept
-pub mod Leaving
+pub mod Exits
 pub mod Reaps
 pub mod Status
 pub mod Table

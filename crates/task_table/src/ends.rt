@@ -3,7 +3,7 @@
 ghost use Rattle.std.specs.Prelude.{◌≡◌, if◌then◌else◌, IfOk, None, Some};
 ghost use Rattle.task_table.specs.Ends.{ended_if, ended_tasks, ended_where, groups_closed};
 ghost use Rattle.task_table.specs.Entries.{changed_at, numbers_where};
-ghost use Rattle.task_table.specs.Leaving.{is_leaving, leaves};
+ghost use Rattle.task_table.specs.Exits.{is_leaving, leaves};
 ghost use Rattle.task_table.specs.Table.{clear_of, has_parent, live_numbers};
 
 use crate::reaps::orphan_children;

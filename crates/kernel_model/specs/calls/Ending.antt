@@ -2,7 +2,7 @@
 -- set_robust_list.
 use Rattle.std.specs.Prelude.{ℕ, ◌%◌, List, [], ◌∷◌, ◌++◌, Bool, if◌then◌else◌, pos}
 use Rattle.futex_core.specs.declared.keys.FutexKey.{FutexKey}
-use Rattle.futex_core.specs.FutexLists.{FutexList, after_leave, after_wake}
+use Rattle.futex_core.specs.Waiters.{FutexList, after_leave, after_wake}
 use Rattle.task_table.specs.declared.task.EndedTask.{EndedTask}
 use Rattle.task_table.specs.declared.task.Status.{Status}
 use Rattle.task_table.specs.declared.task.Status.TheVariants.{Exited}

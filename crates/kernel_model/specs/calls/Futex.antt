@@ -3,7 +3,7 @@ use Rattle.std.specs.Prelude.{ℕ, ◌%◌, ◌^◌, ◌==◌, ◌&&◌, ◌||�
 use Rattle.std.specs.Prelude.{pos, if◌then◌else◌}
 use Rattle.std.specs.Int.{from_le_bytes, w32}
 use Rattle.futex_core.specs.declared.keys.FutexKey.{FutexKey}
-use Rattle.futex_core.specs.FutexLists.{after_sleep, after_wake, waiters_on}
+use Rattle.futex_core.specs.Waiters.{after_sleep, after_wake, waiters_on}
 use Rattle.sn_errno.specs.declared.errno.Errno.TheVariants.{EAGAIN, EFAULT, EINVAL, ENOSYS}
 use Rattle.kernel_model.specs.declared.caller.Caller.{Caller}
 use Rattle.kernel_model.specs.declared.kernel.Part.TheVariants.{OfSleepers}

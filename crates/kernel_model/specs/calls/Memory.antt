@@ -13,7 +13,7 @@ use Rattle.mm_areas.specs.declared.page.Backing.TheVariants.{Zeros, Of}
 use Rattle.mm_areas.specs.declared.rights.Rights.{Rights}
 use Rattle.mm_areas.specs.Mappings.{pages_in, is_no_place, place_in, address_of, map_fault, unmap_fault, protect_fault}
 use Rattle.mm_space.specs.Changes.{broken_in, mapped_in, unmapped_in, righted_in}
-use Rattle.mm_space.specs.Handing.{zero_area}
+use Rattle.mm_space.specs.Handed.{zero_area}
 use Rattle.mm_space.specs.Spaces.{AddressSpace}
 use Rattle.kernel_model.specs.declared.caller.Caller.{Caller}
 use Rattle.kernel_model.specs.declared.kernel.Part.TheVariants.{OfSpace, OfArea, OfTable}

@@ -14,7 +14,7 @@ use Rattle.fd_table.specs.declared.flags.TheConstants.{O_CLOEXEC, O_NONBLOCK}
 use Rattle.pipe_core.specs.Pipes.{new_pipe}
 use Rattle.sn_base.specs.declared.made.Made.{Made}
 use Rattle.mm_space.specs.Accesses.{writable}
-use Rattle.mm_space.specs.Handing.{InHand}
+use Rattle.mm_space.specs.Handed.{InHand}
 use Rattle.kernel_model.specs.declared.caller.Caller.{Caller}
 use Rattle.kernel_model.specs.declared.kernel.Part.TheVariants.{OfTable, OfDescription, OfPipe}
 use Rattle.kernel_model.specs.descriptors.OpenFiles.{descriptor_of, new_file}

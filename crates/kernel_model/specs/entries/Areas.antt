@@ -6,7 +6,7 @@ use Rattle.rv_table.specs.Bytes.{Accessed, Value, Fault, Shared, loaded}
 use Rattle.sn_base.specs.declared.made.Made.{Made}
 use Rattle.mm_areas.specs.declared.rights.Rights.{Rights}
 use Rattle.mm_space.specs.Accesses.{byte_at, readable, writable}
-use Rattle.mm_space.specs.Handing.{AreaState, InHand, area_in}
+use Rattle.mm_space.specs.Handed.{AreaState, InHand, area_in}
 use Rattle.mm_space.specs.Puts.{after_run_stored}
 use Rattle.mm_space.specs.Runs.{bytes_from}
 use Rattle.mm_space.specs.Spaces.{AddressSpace, Reach}

@@ -8,8 +8,8 @@ use Rattle.rv_table.specs.declared.error.Area.{Area}
 use Rattle.rv_table.specs.declared.registers.Regs.{Regs}
 use Rattle.sn_base.specs.declared.made.Made.{Made}
 use Rattle.task_table.specs.Table.{TaskTable}
-use Rattle.mm_space.specs.Handing.{AreaState}
-use Rattle.futex_core.specs.FutexLists.{FutexList}
+use Rattle.mm_space.specs.Handed.{AreaState}
+use Rattle.futex_core.specs.Waiters.{FutexList}
 use Rattle.mm_space.specs.Spaces.{AddressSpace}
 use Rattle.pipe_core.specs.Pipes.{PipeState}
 use Rattle.kernel_model.specs.declared.kernel.Kernel.{Kernel}

@@ -10,8 +10,8 @@ use Rattle.sn_errno.specs.declared.errno.Errno.{Errno}
 use Rattle.sn_errno.specs.declared.errno.Errno.TheVariants.{EIO, ENFILE}
 use Rattle.sn_errno.specs.Errors.{reply_of}
 use Rattle.rv_table.specs.declared.registers.Regs.{Regs}
-use Rattle.futex_core.specs.FutexLists.{after_leave}
-use Rattle.mm_space.specs.Handing.{InHand}
+use Rattle.futex_core.specs.Waiters.{after_leave}
+use Rattle.mm_space.specs.Handed.{InHand}
 use Rattle.task_table.specs.declared.task.Status.TheVariants.{Killed}
 use Rattle.quantum.specs.declared.run.TheConstants.{QUANTUM}
 use Rattle.quantum.specs.Instructions.{Going, ran}

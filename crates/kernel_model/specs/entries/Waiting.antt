@@ -1,6 +1,6 @@
 -- How a task stands to the futex list.
 use Rattle.std.specs.Prelude.{ℕ, if◌then◌else◌}
-use Rattle.futex_core.specs.FutexLists.{FutexList, is_asleep, is_woken}
+use Rattle.futex_core.specs.Waiters.{FutexList, is_asleep, is_woken}
 
 -- a task that is not on the futex list, one that sleeps, and one that was woken and whose call has no entry yet
 -- futex(2), FUTEX_WAIT; that a woken task stands on the list until its call has replied: profile

@@ -3,7 +3,7 @@ use Rattle.std.specs.Prelude.{ℕ, List, refl}
 use Rattle.std.specs.Coded.{Coded, code_by, coded×, coded_ℕ, coded_list}
 use Rattle.rv_atomic.specs.declared.area_reservations.AreaReservation.{AreaReservation}
 use Rattle.rv_atomic.specs.contracts.area_reservations.AreaReservation as of_reservation
-use Rattle.mm_space.specs.Handing.{AreaState}
+use Rattle.mm_space.specs.Handed.{AreaState}
 
 -- a shared area, as a tuple of its parts
 -- profile

@@ -1,7 +1,7 @@
 -- A task at work in an address space, with shared areas in hand.
 use Rattle.std.specs.Prelude.{ℕ, List, []}
 use Rattle.rv_table.specs.declared.registers.Regs.{Regs}
-use Rattle.mm_space.specs.Handing.{InHand}
+use Rattle.mm_space.specs.Handed.{InHand}
 use Rattle.mm_space.specs.Spaces.{AddressSpace, Reach}
 use Rattle.quantum.specs.Acting.{Acting, acting_on}
 use Rattle.quantum.specs.Instructions.{Going}

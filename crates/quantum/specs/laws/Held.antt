@@ -9,7 +9,7 @@ use Rattle.rv_atomic.specs.Reservations.{is_held}
 use Rattle.mm_areas.specs.declared.page.SharedPage.{SharedPage}
 use Rattle.mm_areas.specs.Pages.{Held, Bytes, PageOf, Mapped}
 use Rattle.mm_space.specs.Accesses.{page_number, page_offset}
-use Rattle.mm_space.specs.Handing.{AreaState, InHand, area_in}
+use Rattle.mm_space.specs.Handed.{AreaState, InHand, area_in}
 use Rattle.mm_space.specs.Places.{shared_at, shared_held}
 use Rattle.mm_space.specs.Puts.{after_stored, put_byte, put_bytes, put_held, put_in_area, put_mapped}
 use Rattle.mm_space.specs.Reserves.{area_granule, counts_held, counts_mapped, is_held_at, is_held_in_area}

@@ -11,7 +11,7 @@ use Rattle.mm_areas.specs.Contents.{changed, with_change}
 use Rattle.mm_areas.specs.Pages.{Held, Bytes, PageOf, Mapped, Pages}
 use Rattle.mm_areas.specs.Rights.{has}
 use Rattle.mm_space.specs.Accesses.{area_byte, byte_at, mapped_byte, page_number, page_offset}
-use Rattle.mm_space.specs.Handing.{AreaState, InHand, area_in}
+use Rattle.mm_space.specs.Handed.{AreaState, InHand, area_in}
 use Rattle.mm_space.specs.Places.{shared_at}
 use Rattle.mm_space.specs.Puts.{put_byte, put_in_area, put_mapped, with_area}
 use Rattle.mm_space.specs.Sight.{is_area}

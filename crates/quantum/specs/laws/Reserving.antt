@@ -12,7 +12,7 @@ use Rattle.mm_areas.specs.declared.rights.Rights.{Rights}
 use Rattle.mm_areas.specs.Pages.{Held, Bytes, PageOf, Mapped}
 use Rattle.mm_areas.specs.Rights.{has}
 use Rattle.mm_space.specs.Accesses.{area_byte, byte_at, held_byte, mapped_byte, page_number, page_offset}
-use Rattle.mm_space.specs.Handing.{AreaState, InHand, area_in}
+use Rattle.mm_space.specs.Handed.{AreaState, InHand, area_in}
 use Rattle.mm_space.specs.Puts.{with_area}
 use Rattle.mm_space.specs.Reserves.{after_reserved, after_taken, area_granule, counts_held, counts_mapped, is_held_at}
 use Rattle.mm_space.specs.Reserves.{is_held_in_area, leave_held, leave_in_area, leave_mapped, reserve_held}

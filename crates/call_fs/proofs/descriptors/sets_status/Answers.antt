@@ -1,7 +1,7 @@
 -- An open file description that is there, or none.
 use Rattle.std.proofs.Common.{Some, None, ap, sym, ◌∙◌}
 use Rattle.kernel_model.specs.calls.Descriptors.{sets_status}
-use Rattle.call_fs.specs.Looked.{file_at}
+use Rattle.call_fs.specs.Lookups.{file_at}
 use Rattle.call_fs.proofs.Answering.{answers_at_file}
 use Rattle.call_fs.proofs.Changes.{answers_status}
 use Rattle.call_fs.proofs.descriptors.sets_status.Goals as goal

@@ -4,7 +4,7 @@ use Rattle.std.specs.Prelude.{pos}
 use Rattle.kernel_model.specs.calls.Answers.{replies}
 use Rattle.kernel_model.specs.calls.Descriptors.{tells_status}
 use Rattle.kernel_model.specs.entries.Parts.{done}
-use Rattle.call_fs.specs.Looked.{file_at}
+use Rattle.call_fs.specs.Lookups.{file_at}
 use Rattle.call_fs.specs.Prepared.{AnswersFiles}
 use Rattle.call_fs.proofs.Answering.{answers_at_file}
 use Rattle.call_fs.proofs.descriptors.tells_status.Goals as goal

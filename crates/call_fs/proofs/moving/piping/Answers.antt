@@ -3,7 +3,7 @@ use Rattle.std.proofs.Common.{refl, ap, sym, subst, ◌∙◌}
 use Rattle.kernel_model.specs.calls.Callers.{context_of}
 use Rattle.kernel_model.specs.calls.Pipes.{pipe2_row}
 use Rattle.kernel_calls.proofs.Answering.{answers_refused}
-use Rattle.call_fs.specs.NewPipes.{Prepares}
+use Rattle.call_fs.specs.Pipes.{Prepares}
 use Rattle.call_fs.specs.declared.pipes.PipeCall.TheVariants.{Makes}
 use Rattle.call_fs.proofs.moving.piping.Goals as goal
 

@@ -7,7 +7,7 @@ use Rattle.kernel_model.specs.declared.open_files.OpenFiles.{OpenFiles}
 use Rattle.kernel_model.specs.calls.Lookups.{descriptor}
 use Rattle.call_fs.specs.Asked.{read_row_by}
 use Rattle.call_fs.specs.Called.{IsApartBy}
-use Rattle.call_fs.specs.Looked.{end_in}
+use Rattle.call_fs.specs.Lookups.{end_in}
 use Rattle.call_fs.specs.Transfers.{AnswersTransfer, IsSure, Moves}
 use Rattle.call_fs.proofs.PipeWaits.{reading_waits}
 use Rattle.call_fs.proofs.moving.reading.Goals as goal

@@ -1,7 +1,7 @@
 -- Records that are refused, or whose buffers are found.
 use Rattle.std.proofs.Common.{◌≡◌, ap, subst, ◌∙◌, rules}
 use Rattle.std.proofs.lemmas.Result.{IfOk-weaker}
-use Rattle.mm_space.specs.Handing.{AreaState}
+use Rattle.mm_space.specs.Handed.{AreaState}
 use Rattle.kernel_model.specs.Names.{NamedMap}
 use Rattle.kernel_model.specs.calls.Answers.{refuses}
 use Rattle.kernel_model.specs.calls.ReadWrite.{writes}

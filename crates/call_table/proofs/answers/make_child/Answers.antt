@@ -8,7 +8,7 @@ use Rattle.std.specs.FinMap as map
 use Rattle.task_table.specs.Table.{TaskTable}
 use Rattle.kernel_model.specs.declared.caller.Caller.{Caller}
 use Rattle.kernel_model.specs.declared.kernel.Kernel.{Kernel}
-use Rattle.kernel_calls.specs.Children.{with_child}
+use Rattle.kernel_calls.specs.Making.{with_child}
 use Rattle.proc_cells.specs.Beside.{AreAtHome, nothing_beside}
 use Rattle.proc_cells.specs.Cells.{kernel_of}
 use Rattle.proc_cells.proofs.Homes.{at_home}

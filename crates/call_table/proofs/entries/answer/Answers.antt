@@ -4,7 +4,7 @@ use mir.Syntax.{w64}
 use Rattle.std.proofs.Math.Facts.{to_z-of_z}
 use Rattle.std.proofs.Common.{rules, ◌≡◌, ◌+◌, ◌-◌, ap, sym, ◌∙◌, refl, subst, pos, [], arith}
 use Rattle.std.specs.Prelude.{Some}
-use Rattle.mm_space.specs.Handing.{AreaState}
+use Rattle.mm_space.specs.Handed.{AreaState}
 use Rattle.sn_base.specs.declared.made.Made.{Made}
 use Rattle.kernel_model.specs.declared.entry.Entry.{Entry}
 use Rattle.kernel_model.specs.declared.kernel.Kernel.{Kernel}
@@ -16,7 +16,7 @@ use Rattle.kernel_model.specs.calls.Pipes.{pipe_made}
 use Rattle.kernel_model.specs.calls.Table.{call_row}
 use Rattle.kernel_model.specs.entries.Steps.{step}
 use Rattle.kernel_model.proofs.NamedMaps.{get-with_same}
-use Rattle.kernel_calls.specs.Children.{with_child}
+use Rattle.kernel_calls.specs.Making.{with_child}
 use Rattle.kernel_calls.specs.Prepared.{with_effect}
 use Rattle.kernel_calls.specs.declared.prepared.Called.TheVariants.{Replies, Makes, Sleeps, Waits}
 use Rattle.call_fs.specs.Called.{IsApartIn}

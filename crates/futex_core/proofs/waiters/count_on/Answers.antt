@@ -5,7 +5,7 @@ use Rattle.std.proofs.lemmas.Iterator.{YieldsList-from_slice}
 use Rattle.std.proofs.lemmas.Iterator.Consumers.{YieldsList-from_filter, count_from_yields_List}
 use Rattle.std.proofs.lemmas.List.{length-map}
 use Rattle.futex_core.specs.declared.waiters.Sleeper.{Sleeper}
-use Rattle.futex_core.specs.FutexKeys.{same_word}
+use Rattle.futex_core.specs.Keys.{same_word}
 use Rattle.futex_core.proofs.waiters.count_on.Goals as goal
 
 pub returns : goal.returns

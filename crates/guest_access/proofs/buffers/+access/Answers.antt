@@ -2,7 +2,7 @@
 use Rattle.std.proofs.Common.{refl, ◌∙◌, ◌-◌, arith}
 use Rattle.std.proofs.lemmas.Bool.{OnTrue_at, OnFalse_at}
 use Rattle.std.proofs.lemmas.Result.{IfOk-weaker}
-use Rattle.mm_space.specs.Handing.{hand_of}
+use Rattle.mm_space.specs.Handed.{hand_of}
 use Rattle.guest_access.specs.Lending.{with_hand}
 use Rattle.guest_access.specs.Trying.{Accesses}
 use Rattle.guest_access.proofs.AccessLaws.{is_allowed, access_comes, access_bars, access_full, access_lacks}

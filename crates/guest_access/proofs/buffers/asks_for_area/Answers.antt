@@ -1,5 +1,5 @@
 -- An access that comes to something at once looks at no area.
-use Rattle.mm_space.specs.Handing.{hand_of}
+use Rattle.mm_space.specs.Handed.{hand_of}
 use Rattle.guest_access.proofs.AccessLaws.{asks_not, bars_at_once}
 use Rattle.guest_access.proofs.buffers.asks_for_area.Goals as goal
 

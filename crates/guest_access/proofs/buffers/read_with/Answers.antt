@@ -1,7 +1,7 @@
 -- What is read are the bytes that may be accessed, or none.
 use Rattle.std.proofs.Common.{◌≡◌, ◌∙◌, length, arith}
 use Rattle.std.proofs.lemmas.Grind.{common_steps}
-use Rattle.mm_space.specs.Handing.{hand_of}
+use Rattle.mm_space.specs.Handed.{hand_of}
 use Rattle.guest_access.proofs.AccessLaws.{none_read, all_read}
 use Rattle.guest_access.proofs.buffers.read_with.Goals as goal
 

@@ -1,5 +1,5 @@
 -- The bytes are put where each of them may be written, or nothing changes.
-use Rattle.mm_space.specs.Handing.{hand_of}
+use Rattle.mm_space.specs.Handed.{hand_of}
 use Rattle.guest_access.proofs.AccessLaws.{none_written, all_written, there_behind}
 use Rattle.guest_access.proofs.buffers.write_with.Goals.{in-Ok, in-Err-Memory}
 use Rattle.guest_access.proofs.buffers.write_with.Goals as goal

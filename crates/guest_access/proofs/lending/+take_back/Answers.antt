@@ -1,6 +1,6 @@
 -- The last area in hand goes back into its place, and then the others.
 use Rattle.std.proofs.Common.{◌≡◌, ◌+◌, length, length-append, [], ◌∷◌, sym, ◌∙◌, ap, subst, arith}
-use Rattle.mm_space.specs.Handing.{hand_of, in_hand}
+use Rattle.mm_space.specs.Handed.{hand_of, in_hand}
 use Rattle.guest_access.specs.Lending.{AreThere, with_hand}
 use Rattle.guest_access.proofs.Lendings.{there_rest, back_last}
 use Rattle.guest_access.proofs.lending.+take_back.Goals as goal

@@ -1,7 +1,7 @@
 -- The first buffer's bytes are asked for, and then those of the others.
 use Rattle.std.proofs.Common.{◌-◌, arith}
 use Rattle.std.proofs.lemmas.Result.{IfOk-weaker}
-use Rattle.mm_space.specs.Handing.{hand_of}
+use Rattle.mm_space.specs.Handed.{hand_of}
 use Rattle.guest_access.specs.Lending.{with_hand}
 use Rattle.guest_access.proofs.Scattered.{asked_by, asked_on, asked_refused}
 use Rattle.guest_access.proofs.Tries.{those_same}

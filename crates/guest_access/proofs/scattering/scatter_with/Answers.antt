@@ -1,6 +1,6 @@
 -- The bytes are put where each of them may be, or nothing changes.
 use Rattle.std.proofs.Common.{◌++◌, ap, ◌∙◌, length-append}
-use Rattle.mm_space.specs.Handing.{hand_of}
+use Rattle.mm_space.specs.Handed.{hand_of}
 use Rattle.mm_space.specs.Spaces.{space_of}
 use Rattle.kernel_model.specs.calls.Vectors.{filled}
 use Rattle.guest_access.proofs.Scattered.{all_scattered, asked_all, none_scattered, there_filled}

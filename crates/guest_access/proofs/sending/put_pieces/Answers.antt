@@ -1,7 +1,7 @@
 -- A piece more is put behind those before it.
 use Rattle.std.proofs.Common.{◌≡◌, ◌+◌, ◌%◌, ◌^◌, length, ap, ◌∙◌, arith}
 use Rattle.mm_space.specs.Accesses.{byte_at, readable}
-use Rattle.mm_space.specs.Handing.{hand_of}
+use Rattle.mm_space.specs.Handed.{hand_of}
 use Rattle.mm_space.specs.Runs.{bytes_from}
 use Rattle.kernel_model.specs.machine.Spaces.{reach_with}
 use Rattle.guest_access.proofs.Sendings.{length_put, put_more, put_none}

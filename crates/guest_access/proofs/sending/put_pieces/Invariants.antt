@@ -1,6 +1,6 @@
 use Rattle.std.proofs.Common.{◌≡◌, ◌-◌, ◌≤◌}
 use Rattle.mm_space.specs.Accesses.{byte_at, readable}
-use Rattle.mm_space.specs.Handing.{hand_of}
+use Rattle.mm_space.specs.Handed.{hand_of}
 use Rattle.mm_space.specs.Runs.{bytes_from}
 use Rattle.pipe_core.specs.Pipes.{after_write}
 use Rattle.kernel_model.specs.machine.Spaces.{reach_with}

@@ -1,7 +1,7 @@
 -- The bytes go into the pipe where each of the buffer may be read, or nothing changes.
 use Rattle.std.proofs.Common.{refl}
 use Rattle.mm_space.specs.Accesses.{byte_at, readable}
-use Rattle.mm_space.specs.Handing.{hand_of}
+use Rattle.mm_space.specs.Handed.{hand_of}
 use Rattle.kernel_model.specs.machine.Spaces.{reach_with}
 use Rattle.kernel_model.specs.entries.Areas.{bytes_read, bytes_with}
 use Rattle.kernel_model.specs.entries.Parts.{outcome_in}

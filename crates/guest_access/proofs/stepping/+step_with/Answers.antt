@@ -2,7 +2,7 @@
 use Rattle.std.proofs.Common.{◌≡◌, ℕ, ◌-◌, ◌<◌, suc, Bool, true, false, List, refl, ap, sym, ◌∙◌, ◌⊎◌, subst, arith}
 use Rattle.std.specs.Prelude.{Result, Ok, Err, IfOk, OnErr, None, is_some}
 use Rattle.std.specs.Bool.{OnTrue, OnFalse}
-use Rattle.mm_space.specs.Handing.{InHand, area_in, hand_of}
+use Rattle.mm_space.specs.Handed.{InHand, area_in, hand_of}
 use Rattle.kernel_model.specs.Names.{get_named}
 use Rattle.kernel_model.specs.declared.traps.Next.TheVariants.{Touches}
 use Rattle.kernel_model.specs.machine.Instructions.{goes_on}

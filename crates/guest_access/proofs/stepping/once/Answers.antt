@@ -1,6 +1,6 @@
 -- A run of at most one tells what the next instruction does.
 use Rattle.std.specs.Prelude.{Result, Ok, Err, IfOk, OnErr}
-use Rattle.mm_space.specs.Handing.{hand_of}
+use Rattle.mm_space.specs.Handed.{hand_of}
 use Rattle.mm_space.specs.Spaces.{space_of}
 use Rattle.guest_access.proofs.SteppedLaws.{end_next, end_goes, end_kept, end_lacking}
 use Rattle.guest_access.proofs.stepping.once.Goals as goal

@@ -1,7 +1,7 @@
 -- An instruction is tried with nothing in hand first, and what it had in hand at last is put back.
 use Rattle.std.proofs.Common.{List, refl, subst}
 use Rattle.std.specs.Prelude.{Result, Ok, Err, IfOk}
-use Rattle.mm_space.specs.Handing.{InHand, hand_of}
+use Rattle.mm_space.specs.Handed.{InHand, hand_of}
 use Rattle.kernel_model.specs.declared.caller.Caller.{Caller}
 use Rattle.guest_access.specs.Lending.{with_hand}
 use Rattle.guest_access.specs.Trying.{Stepped}

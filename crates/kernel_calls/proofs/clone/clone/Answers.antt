@@ -4,7 +4,7 @@ use Rattle.sn_errno.specs.declared.errno.Errno.TheVariants.{EAGAIN, EFAULT, EINV
 use Rattle.task_table.specs.Table.{TaskTable}
 use Rattle.kernel_model.specs.calls.Callers.{context_of}
 use Rattle.kernel_model.specs.calls.Clone.{clone_row, is_full}
-use Rattle.kernel_calls.specs.Cloning.{MakesIf, is_shape}
+use Rattle.kernel_calls.specs.Clones.{MakesIf, is_shape}
 use Rattle.kernel_calls.proofs.Answering.{answers_refused, has_space}
 use Rattle.kernel_calls.proofs.Clones.{row_full, row_invalid}
 use Rattle.kernel_calls.proofs.clone.clone.Goals as goal

@@ -7,7 +7,7 @@ use Rattle.kernel_model.specs.Names.{has_named, with_named}
 use Rattle.kernel_model.specs.calls.Clone.{made_for_child}
 use Rattle.kernel_model.specs.declared.open_files.OpenFiles.{OpenFiles}
 use Rattle.kernel_model.specs.laws.Files.{with_copy}
-use Rattle.kernel_calls.specs.Children.{with_task, with_words}
+use Rattle.kernel_calls.specs.Making.{with_task, with_words}
 use Rattle.kernel_calls.proofs.Children.{has_still, other_name, same_name, words_behind, words_hidden}
 use Rattle.kernel_calls.proofs.making.make_task.Goals as goal
 

@@ -4,7 +4,7 @@ use mir.Syntax.{w64}
 use Rattle.std.proofs.Common.{◌+◌, pos, Some, refl, ap, sym, ◌∙◌, rules}
 use Rattle.std.proofs.Math.Facts.{to_z-of_z}
 use Rattle.std.proofs.lemmas.Bool.Decides.{Decides-int_eq}
-use Rattle.kernel_calls.specs.Children.{with_child}
+use Rattle.kernel_calls.specs.Making.{with_child}
 use Rattle.kernel_model.specs.declared.kernel.Kernel.{Kernel}
 use Rattle.kernel_model.specs.declared.kernel.Part.TheVariants.{OfTask}
 use Rattle.kernel_model.specs.entries.Parts.{put}

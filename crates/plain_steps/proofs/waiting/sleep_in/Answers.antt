@@ -1,6 +1,6 @@
 -- A task at a call sleeps where the call puts it to sleep.
 use Rattle.std.proofs.Common.{Some, refl, ap, sym, ◌∙◌}
-use Rattle.futex_core.specs.FutexLists.{after_sleep}
+use Rattle.futex_core.specs.Waiters.{after_sleep}
 use Rattle.kernel_model.specs.declared.caller.Caller.{Caller}
 use Rattle.kernel_model.specs.declared.kernel.Kernel.{Kernel}
 use Rattle.kernel_model.specs.laws.InPlace.{changed_by}

@@ -3,7 +3,7 @@ use Rattle.std.proofs.Common.{◌≡◌, ℕ, true, false, cond, ap, subst, ◌�
 use Rattle.std.specs.Prelude.{None, is_some}
 use Rattle.std.specs.FinMap as map
 use Rattle.sn_base.specs.MapKeys as keys
-use Rattle.futex_core.specs.FutexLists.{EachOnce, FutexList, is_woken}
+use Rattle.futex_core.specs.Waiters.{EachOnce, FutexList, is_woken}
 use Rattle.futex_core.specs.Least as least
 use Rattle.futex_core.proofs.OnList.{woken_once}
 use Rattle.kernel_model.specs.entries.Waiting.{Asleep, Awake, Woken, wait_of}

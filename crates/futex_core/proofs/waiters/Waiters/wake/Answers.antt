@@ -1,6 +1,6 @@
 use Rattle.std.proofs.Common.{arith, ◌≡◌, ◌∙◌, ap, length, take}
 use Rattle.std.proofs.lemmas.List.{take_at}
-use Rattle.futex_core.specs.FutexLists.{sleepers_without, first_waiters}
+use Rattle.futex_core.specs.Waiters.{sleepers_without, first_waiters}
 use Rattle.futex_core.proofs.Once.{once_of_same, once_after_wake}
 use Rattle.futex_core.proofs.waiters.Waiters.wake.Goals as goal
 

@@ -1,5 +1,5 @@
 use Rattle.std.proofs.Common.{◌≡◌, drop, map}
-use Rattle.mm_space.specs.Handing.{area_in, in_hand}
+use Rattle.mm_space.specs.Handed.{area_in, in_hand}
 use Rattle.mm_space.proofs.handed.Handed.get.Given as goal
 
 abbrev pub invariant-loop-handed : goal.invariant-loop-handed

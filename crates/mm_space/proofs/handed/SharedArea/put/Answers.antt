@@ -3,7 +3,7 @@ use Rattle.std.proofs.lemmas.List.{length-map}
 use Rattle.rv_atomic.specs.AreaReservations.{after_store_here}
 use Rattle.rv_atomic.specs.declared.area_reservations.AreaReservation.{AreaReservation}
 use Rattle.mm_frames.specs.Frames.{bytes_of, is_own, pages_of, owned_of, with_change}
-use Rattle.mm_space.specs.Handing.{AreaState}
+use Rattle.mm_space.specs.Handed.{AreaState}
 use Rattle.std.specs.Prelude.{slice_set}
 use Rattle.mm_space.proofs.AreaPuts.{put_done, place_is}
 use Rattle.mm_space.proofs.handed.SharedArea.put.Goals as goal

@@ -1,7 +1,7 @@
 use Rattle.std.proofs.Common.{sym, ◌∙◌}
 use Rattle.std.proofs.lemmas.List.{length-map}
 use Rattle.mm_frames.specs.Frames.{bytes_of, is_own, pages_of, owned_of}
-use Rattle.mm_space.specs.Handing.{area_state}
+use Rattle.mm_space.specs.Handed.{area_state}
 use Rattle.mm_space.proofs.AreaRuns.{area_put, run_done}
 use Rattle.mm_space.proofs.WholePages.{page_there_whole}
 use Rattle.mm_space.proofs.handed.SharedArea.put_run.Goals as goal

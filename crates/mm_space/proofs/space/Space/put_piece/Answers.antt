@@ -1,7 +1,7 @@
 use Rattle.std.proofs.Common.{◌%◌, sym, refl, ◌∙◌}
 use Rattle.mm_frames.specs.Numbers.{with_run}
 use Rattle.mm_areas.specs.Mappings.{mapping}
-use Rattle.mm_space.specs.Handing.{hand_of}
+use Rattle.mm_space.specs.Handed.{hand_of}
 use Rattle.mm_space.proofs.PutPieces.{Lies, put_nowhere, put_own, put_shared}
 use Rattle.mm_space.proofs.Readied.{ready_alike}
 use Rattle.mm_space.proofs.space.Space.put_piece.Goals as goal

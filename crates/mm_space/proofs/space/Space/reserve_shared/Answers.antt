@@ -2,7 +2,7 @@ use Rattle.std.proofs.Common.{List, ap, sym, ◌∙◌}
 use Rattle.rv_atomic.specs.declared.reservations.Reservation.{Reservation}
 use Rattle.rv_atomic.specs.Reservations.{without}
 use Rattle.mm_areas.specs.Mappings.{mapping}
-use Rattle.mm_space.specs.Handing.{InHand, hand_of}
+use Rattle.mm_space.specs.Handed.{InHand, hand_of}
 use Rattle.mm_space.specs.Spaces.{Reach}
 use Rattle.mm_space.proofs.Undone.{undone}
 use Rattle.mm_space.proofs.space.Space.reserve_shared.Goals as goal

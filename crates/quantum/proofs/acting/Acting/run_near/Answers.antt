@@ -2,7 +2,7 @@ use Rattle.std.proofs.Common.{ℕ, Some, refl, ap, sym, ◌∙◌}
 use Rattle.mm_frames.specs.Rows.{words_of}
 use Rattle.mm_areas.specs.Hints.{allows_at}
 use Rattle.mm_space.specs.Accesses.{executable}
-use Rattle.mm_space.specs.Handing.{hand_of}
+use Rattle.mm_space.specs.Handed.{hand_of}
 use Rattle.mm_space.specs.Spaces.{AddressSpace, reach}
 use Rattle.quantum.specs.Acting.{acting_on, instrs_of}
 use Rattle.quantum.specs.Turns.{acting_of}

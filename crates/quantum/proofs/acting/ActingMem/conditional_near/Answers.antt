@@ -1,5 +1,5 @@
 -- A store-conditional by hints leaves what its writes leave.
-use Rattle.mm_space.specs.Handing.{hand_of}
+use Rattle.mm_space.specs.Handed.{hand_of}
 use Rattle.mm_space.specs.Spaces.{space_of}
 use Rattle.quantum.proofs.Conditional.{near_done}
 use Rattle.quantum.proofs.acting.ActingMem.conditional_near.Goals as goal

@@ -8,7 +8,7 @@ use Rattle.fd_table.specs.declared.flags.Access.TheVariants.{Read, Write}
 use Rattle.fd_table.specs.declared.flags.TheConstants.{O_NONBLOCK}
 use Rattle.pipe_core.specs.Pipes.{new_pipe}
 use Rattle.mm_space.specs.Accesses.{writable}
-use Rattle.mm_space.specs.Handing.{AreaState, InHand}
+use Rattle.mm_space.specs.Handed.{AreaState, InHand}
 use Rattle.mm_space.specs.Spaces.{AddressSpace, Reach}
 use Rattle.kernel_model.specs.Names.{NamedMap, get_named}
 use Rattle.kernel_model.specs.declared.caller.Caller.{Caller}

@@ -4,7 +4,7 @@ use Rattle.std.specs.Prelude.{ℕ, ◌==◌, ◌≤◌, not, Bool, List, [], ◌
 use Rattle.std.specs.List.{list_any}
 use Rattle.futex_core.specs.declared.keys.FutexKey.{FutexKey}
 use Rattle.futex_core.specs.declared.waiters.Sleeper.{Sleeper}
-use Rattle.futex_core.specs.FutexKeys.{same_word}
+use Rattle.futex_core.specs.Keys.{same_word}
 
 -- the sleepers in order of sleeping, and the tasks that were woken and whose call isn't entered yet, in order of waking
 -- futex(2), FUTEX_WAIT; that a woken task stands here until its call has answered: profile
