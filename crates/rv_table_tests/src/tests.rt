@@ -3,8 +3,8 @@ use rv_table::{Instr, Reg, decode};
 use std::process::Abort;
 
 mod atomics;
+mod computations;
 mod flow;
-mod registers;
 mod words;
 
 /// A row's name, and the number of rd, that of rs1, and the immediate or the shift that it takes from a word.
