@@ -11,11 +11,11 @@ ghost use Rattle.image_load.specs.Loading.{IsLoadFaultOf, auxiliary_of, highest_
 
 use crate::counts::has_too_many_pages;
 use crate::pages::{STACK_FIRST, laid_segments, stack_pages};
-use crate::places::{PAGE, highest_end};
+use crate::places::highest_end;
 use crate::stack::{Auxiliary, LoadErr, Program, laid_out};
 use crate::strings::{MOST_STRING_BYTES, MOST_STRINGS, is_too_big};
 use elf_image::{Image, Segment};
-use mm_areas::MOST_PAGES;
+use mm_areas::{MOST_PAGES, PAGE_SIZE};
 use mm_space::Space;
 use rv_table::Regs;
 use sn_base::Memory;
@@ -104,7 +104,7 @@ fn opening_break(segments: &[Segment]) -> u64
     requires { All IsPlaced segments.now }
     ensures { result ≡ 4096 * pages_in (highest_end segments.now) }
 {
-    PAGE * ((highest_end(segments) + PAGE - 1) / PAGE)
+    PAGE_SIZE * ((highest_end(segments) + PAGE_SIZE - 1) / PAGE_SIZE)
 }
 
 /// The registers with a program counter and a stack pointer, and 0 in the others.

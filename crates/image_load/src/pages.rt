@@ -14,13 +14,13 @@ use crate::places::{first_page, page_count, rights_at};
 use crate::rights::page_rights;
 use crate::stack::OpeningStack;
 use elf_image::Segment;
-use mm_areas::{Areas, Content, Page, Rights};
+use mm_areas::{Areas, Content, PAGE_SIZE, Page, Rights};
 use mm_frames::Frame;
 use sn_base::Memory;
 use std::alloc::Global;
 
-/// The size of a page, in bytes.
-const PAGE: u128 = 4_096;
+/// The size of a page, in bytes, as a number of the 128 bits that ends of addresses take.
+const PAGE: u128 = PAGE_SIZE as u128;
 
 /// How many pages the stack has.
 pub(crate) const STACK_COUNT: u64 = 64;

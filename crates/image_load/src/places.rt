@@ -7,16 +7,14 @@ ghost use Rattle.image_load.specs.Loading.{highest_end};
 
 use crate::rights::joined;
 use elf_image::{Rights, Segment};
-
-/// The size of a page, in bytes.
-pub(crate) const PAGE: u64 = 4_096;
+use mm_areas::PAGE_SIZE;
 
 /// The number of the first page of a segment.
 pub(crate) fn first_page(segment: &Segment) -> u64
     ensures value { result ≡ first_page segment.now }
     ensures small { result ≤ 2 ^ 52 }
 {
-    segment.address / PAGE
+    segment.address / PAGE_SIZE
 }
 
 /// How many pages a segment meets.
@@ -25,7 +23,7 @@ pub(crate) fn page_count(segment: &Segment) -> u64
     ensures small { result ≤ 2 ^ 53 }
 {
     let end = u128::from(segment.address) + u128::from(segment.size);
-    let last_page = (end.saturating_sub(1) / u128::from(PAGE)) as u64;
+    let last_page = (end.saturating_sub(1) / u128::from(PAGE_SIZE)) as u64;
     last_page + 1 - first_page(segment)
 }
 

@@ -7,15 +7,13 @@ ghost use Rattle.image_load.specs.Stacks.{addresses, auxiliary_vector, pointer_w
 
 use crate::stack::{Auxiliary, STACK_TOP};
 use elf_image::PROGRAM_HEADER_SIZE;
+use mm_areas::PAGE_SIZE;
 use sn_base::{List, Memory};
 use sn_bytes::put_u64;
 use sn_text::Text;
 
 /// The size of a program header: `AT_PHENT`.
 const HEADER_SIZE: u64 = PROGRAM_HEADER_SIZE as u64;
-
-/// The size of a page: `AT_PAGESZ`.
-const PAGE_SIZE: u64 = 4_096;
 
 /// Adds the number of arguments, where they stand and a 0, and where the environment stands and a 0.
 #[tactic(auto, using(crate::proofs::Stacks::pointers_put))]

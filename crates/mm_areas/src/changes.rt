@@ -8,7 +8,7 @@ ghost use Rattle.mm_areas.specs.DecodedWords.{has_row_at};
 ghost use Rattle.mm_areas.specs.Mappings.{mapping, pages_in, place_in, address_of, map_fault, mapped_at, unmap_fault};
 ghost use Rattle.mm_areas.specs.Mappings.{unmapped_at, is_break, broken_at, after_brk};
 
-use crate::lengths::{PAGE, is_misplaced, pages_in};
+use crate::lengths::{PAGE_SIZE, is_misplaced, pages_in};
 use crate::new_pages::new_pages;
 use crate::places::{is_break, place};
 use crate::{AreaErr, Areas, Backing, Rights};
@@ -53,7 +53,7 @@ impl Areas {
         let first = place(self, at, length)?;
         let pages = new_pages(alloc, backing, rights, pages_in(length))?;
         self.lay(first, pages)?;
-        Ok(PAGE * first)
+        Ok(PAGE_SIZE * first)
     }
 
     /// Unmaps the pages of so many bytes from an address on; pages that aren't mapped stay so. The other pages keep
@@ -73,7 +73,7 @@ impl Areas {
         if length == 0 || is_misplaced(address, length) {
             return Err(AreaErr::Invalid);
         }
-        self.take(address / PAGE, pages_in(length))?;
+        self.take(address / PAGE_SIZE, pages_in(length))?;
         Ok(())
     }
 

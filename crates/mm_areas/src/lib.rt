@@ -43,6 +43,7 @@ mod runs;
 
 pub use areas::Areas;
 pub use fault::AreaErr;
+pub use lengths::PAGE_SIZE;
 pub use page::{Backing, Content, Page, SharedPage};
 pub use places::MOST_PAGES;
 pub use rights::Rights;

@@ -6,7 +6,7 @@ ghost use Rattle.mm_areas.specs.Mappings.{mapping, taken_from, pages_in, pages_a
 ghost use Rattle.mm_areas.specs.Mappings.{is_break};
 
 use crate::free::{highest_free, is_free, mapped_within};
-use crate::lengths::{PAGE, is_misplaced, is_no_length, pages_in};
+use crate::lengths::{PAGE_SIZE, is_misplaced, is_no_length, pages_in};
 use crate::{AreaErr, Areas};
 
 /// The most pages that are mapped at once: getrlimit(2), `RLIMIT_AS`.
@@ -18,7 +18,9 @@ fn is_no_place(at: Option<u64>, length: u64) -> bool
 {
     match at {
         None => is_no_length(length),
-        Some(address) => is_no_length(length) || is_misplaced(address, length) || address < PAGE,
+        Some(address) => is_no_length(length)
+            || is_misplaced(address, length)
+            || address < PAGE_SIZE,
     }
 }
 
@@ -31,7 +33,7 @@ fn pages_after(areas: &Areas, at: Option<u64>, count: u64) -> u64
     match at {
         None => areas.count + count,
         Some(address) => areas.count
-            - mapped_within(areas.regions.as_slice(), address / PAGE, count)
+            - mapped_within(areas.regions.as_slice(), address / PAGE_SIZE, count)
             + count,
     }
 }
@@ -58,7 +60,7 @@ pub(crate) fn place(areas: &Areas, at: Option<u64>, length: u64) -> Result<u64, 
     }
     match at {
         None => highest_free(areas.regions.as_slice(), count).ok_or(AreaErr::NoRange),
-        Some(address) => Ok(address / PAGE),
+        Some(address) => Ok(address / PAGE_SIZE),
     }
 }
 

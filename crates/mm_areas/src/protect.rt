@@ -11,7 +11,7 @@ ghost use Rattle.mm_areas.specs.Mappings.{mapping, protect_fault, protected_in};
 
 use crate::areas::Region;
 use crate::free::is_covered;
-use crate::lengths::{PAGE, is_misplaced, pages_in};
+use crate::lengths::{PAGE_SIZE, is_misplaced, pages_in};
 use crate::regions::first_behind;
 use crate::{AreaErr, Areas, Page, Rights};
 
@@ -77,7 +77,7 @@ impl Areas {
         if is_misplaced(address, length) {
             return Err(AreaErr::Invalid);
         }
-        let first = address / PAGE;
+        let first = address / PAGE_SIZE;
         let count = pages_in(length);
         if !is_covered(self.regions.as_slice(), first, count) {
             return Err(AreaErr::Hole);
