@@ -34,7 +34,7 @@ pub enum Call {
     Locked,
     /// A file or a directory is opened, for which there is no memory.
     FullOpen,
-    /// A file is opened for reading alone, and there is no memory for its second read.
+    /// A file is opened, and there is no memory for its second read.
     FullRead,
 }
 
@@ -103,7 +103,7 @@ impl Files for Scripted<'_> {
         match self.next(path) {
             Some(Call::Read) if leaves_it(how) && !how.asks_write() => Ok(OneByte::new()),
             Some(Call::Write) if leaves_it(how) && how.asks_write() => Ok(OneByte::new()),
-            Some(Call::FullRead) if leaves_it(how) && !how.asks_write() => Ok(OneByte::exhausted()),
+            Some(Call::FullRead) if leaves_it(how) => Ok(OneByte::exhausted()),
             Some(Call::Locked) => refused(),
             Some(Call::FullOpen) => exhausted(),
             _ => self.astray(),

@@ -151,7 +151,8 @@ const ANY: Line = (Call::Directory, "./any");
 const FILE: Line = (Call::File, "./any/file");
 
 /// A call of the system for which there is no memory, and the same call refused: the look at a stat, at a loan, at an
-/// opening and at a listing, the listing itself, the look at an entry of it, the opening of a file, and a read of it.
+/// opening and at a listing, the listing itself, the look at an entry of it, the opening of a file, and a read of one
+/// that is open for reading, or for writing too.
 #[rattlefmt::skip]
 const REFUSED: &[Trial] = &[
     (&[ANY, (Call::Full, "./any")], &[(None, &[Ask::Stats(Err(HostErr::Memory)), Ask::Faults(0)])]),
@@ -183,6 +184,11 @@ const REFUSED: &[Trial] = &[
         &[(Some("file"), &[Ask::Opens(false, Ok(())), Ask::Reads(0, 2, Err(HostErr::Memory)), Ask::Faults(0)])]),
     (&[ANY, FILE, FILE, (Call::Read, "./any/file")],
         &[(Some("file"), &[Ask::Opens(false, Ok(())), Ask::Reads(0, 2, Err(HostErr::Failed)), Ask::Faults(1)])]),
+
+    (&[ANY, FILE, FILE, (Call::FullRead, "./any/file")],
+        &[(Some("file"), &[Ask::Opens(true, Ok(())), Ask::Reads(0, 2, Err(HostErr::Memory)), Ask::Faults(0)])]),
+    (&[ANY, FILE, FILE, (Call::Write, "./any/file")],
+        &[(Some("file"), &[Ask::Opens(true, Ok(())), Ask::Reads(0, 2, Err(HostErr::Failed)), Ask::Faults(1)])]),
 ];
 
 #[test]
