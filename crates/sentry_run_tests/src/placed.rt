@@ -1,18 +1,16 @@
-//! A host that knows where its nodes are, and a run over it: each call names the place of its node.
+//! A host that knows where its nodes are, and runs over it: each call names the place of its node.
 
-ghost use Rattle.std.specs.Prelude.{◌≡◌, Some, refl, true};
-ghost use Rattle.host_node.specs.Tree.{faults_of, kind_of, none_lent};
-ghost use Rattle.host_memory.specs.Access.{opened_as};
+ghost use Rattle.std.specs.Prelude.{◌≡◌, true, false, IfOk};
+ghost use Rattle.host_node.specs.Tree.{is_lent, none_lent};
 
 use host_memory::{MemoryNode, Plan, World};
 use host_node::{Attr, HostErr, HostNode, HostWorld, Kind, Listing, Tree};
 use sentry_run::Fault;
-use sentry_run_for_tests::{QUIET, QUIET_TEXT, run, source_of, words_of, world_of};
-use sn_base::Memory;
+use sentry_run_for_tests::{MountFile, QUIET, QUIET_TEXT, run, source_of, words_of, world_of};
+use sn_base::{List, Memory};
 use sn_edge::{MemSink, MemSource};
 use sn_text::{Folder, Name, Route, name_of};
 use std::alloc::Global;
-use std::process::Abort;
 use std::test::Fail;
 
 /// Whether a route leads to a place.
@@ -28,22 +26,23 @@ fn leads_to(route: &Route, place: &Route) -> bool {
     true
 }
 
-/// A host in memory whose nodes answer want of memory where a route doesn't lead to them.
+/// A host around another, whose nodes answer want of memory where a route doesn't lead to them, and to an open that
+/// isn't for reading alone.
 #[derive(Drop)]
-struct PlacedWorld {
+struct PlacedWorld<W> {
     alloc: Global,
-    inner: World,
+    inner: W,
 }
 
 /// A node of it, and where that is below the granted folder.
 #[derive(Drop)]
-struct PlacedNode {
+struct PlacedNode<N> {
     alloc: Global,
-    inner: MemoryNode,
+    inner: N,
     place: Route,
 }
 
-impl PlacedNode {
+impl<N> PlacedNode<N> {
     /// The place of what stands under a name.
     fn place_below(&self, name: &Name) -> Result<Route, Memory> {
         let mut place = self.place.copy(self.alloc)?;
@@ -52,18 +51,14 @@ impl PlacedNode {
     }
 }
 
-impl HostNode for PlacedNode {
-    ghost use Rattle.std.specs.Prelude.{Some, refl};
-    ghost use Rattle.host_node.specs.Tree.{faults_of, kind_of};
-    ghost use Rattle.host_memory.specs.Access.{opened_as};
+impl<N: HostNode> HostNode for PlacedNode<N> {
+    ghost count = { λ n. N.count n.inner };
 
-    ghost count = { λ n. faults_of n.inner.tree };
+    ghost told = { λ n. N.told n.inner };
 
-    ghost told = { λ n. Some n.inner.tree };
+    ghost what = { λ n. N.what n.inner };
 
-    ghost what = { λ n. kind_of n.inner.tree };
-
-    ghost opened = { λ n. opened_as n.inner.access };
+    ghost opened = { λ n. N.opened n.inner };
 
     fn faults(&self) -> u64 {
         self.inner.faults()
@@ -104,7 +99,7 @@ impl HostNode for PlacedNode {
     }
 
     fn open(&mut self, route: &Route, write: bool) -> Result<(), HostErr> {
-        if !leads_to(route, &self.place) {
+        if write || !leads_to(route, &self.place) {
             return Err(HostErr::Memory);
         }
         self.inner.open(route, write)
@@ -119,25 +114,23 @@ impl HostNode for PlacedNode {
         self.inner.take_back(name, inner);
     }
 
-    ghost tells_itself = { λ n. (refl, refl) };
+    ghost tells_itself = { λ n. N.tells_itself n.inner };
 }
 
-impl HostWorld for PlacedWorld {
-    type Node = PlacedNode;
+impl<W: HostWorld> HostWorld for PlacedWorld<W> {
+    type Node = PlacedNode<W::Node>;
 
-    ghost use Rattle.std.specs.Prelude.{Some};
+    ghost count = { λ w. W.count w.inner };
 
-    ghost count = { λ w. w.inner.failed };
+    ghost told = { λ w. W.told w.inner };
 
-    ghost told = { λ w. Some w.inner.tree };
-
-    ghost buried = { λ w. w.inner.dead };
+    ghost buried = { λ w. W.buried w.inner };
 
     fn faults(&self) -> u64 {
         self.inner.faults()
     }
 
-    fn grant(&mut self, folder: &Folder) -> Result<Option<PlacedNode>, HostErr> {
+    fn grant(&mut self, folder: &Folder) -> Result<Option<PlacedNode<W::Node>>, HostErr> {
         match self.inner.grant(folder) {
             Ok(Some(inner)) => Ok(Some(PlacedNode {
                 alloc: self.alloc,
@@ -149,12 +142,12 @@ impl HostWorld for PlacedWorld {
         }
     }
 
-    fn settle(&mut self, folder: &Folder, node: PlacedNode) {
+    fn settle(&mut self, folder: &Folder, node: PlacedNode<W::Node>) {
         let PlacedNode { inner, .. } = node;
         self.inner.settle(folder, inner);
     }
 
-    fn bury(&mut self, node: PlacedNode) -> Result<(), Memory> {
+    fn bury(&mut self, node: PlacedNode<W::Node>) -> Result<(), Memory> {
         let PlacedNode { inner, .. } = node;
         self.inner.bury(inner)
     }
@@ -165,7 +158,7 @@ fn ran(
     alloc: Global,
     words: &[String],
     files: &mut MemSource,
-    world: &mut PlacedWorld,
+    world: &mut PlacedWorld<World>,
     out: &mut MemSink,
 ) -> Fault
     requires { none_lent world.old.inner.tree ≡ true }
@@ -174,10 +167,10 @@ fn ran(
     outcome.fault
 }
 
-/// What a run over a host in memory comes to that answers so, into that sink.
-fn run_placed(alloc: Global, out: &mut MemSink) -> Result<Fault, Fail> {
+/// What a run of that mount file comes to, over a host in memory that answers so, into that sink.
+fn run_placed(alloc: Global, mounts: MountFile, out: &mut MemSink) -> Result<Fault, Fail> {
     let words = words_of(alloc, QUIET.words)?;
-    let mut files = source_of(alloc, QUIET.mounts)?;
+    let mut files = source_of(alloc, mounts)?;
     let inner = world_of(alloc, QUIET.host)?;
     let mut world = PlacedWorld { alloc, inner };
     Ok(ran(alloc, words.as_slice(), &mut files, &mut world, out))
@@ -186,9 +179,30 @@ fn run_placed(alloc: Global, out: &mut MemSink) -> Result<Fault, Fail> {
 #[test]
 fn each_call_of_a_run_names_the_place_of_its_node(rt: HostRuntime) -> Result<(), Fail> {
     let mut out = MemSink::new(rt.alloc());
-    let fault = run_placed(rt.alloc(), &mut out)?;
+    let fault = run_placed(rt.alloc(), QUIET.mounts, &mut out)?;
     assert_eq!(rt; fault, Fault::Done);
     assert_eq!(rt; out.bytes(), QUIET_TEXT);
+    Ok(())
+}
+
+/// The text of two tasks of that program, by hand: they take turns, and there is a run of instructions before each
+/// call.
+const TWICE_TEXT: &[u8] = b"group 1 exit 0
+group 2 exit 0
+3 1 write 1 0 0 0 0 0 = 0
+4 2 write 1 0 0 0 0 0 = 0
+7 1 exit_group 0 0 0 0 0 0 = ?
+8 2 exit_group 0 0 0 0 0 0 = ?
+";
+
+#[test]
+fn a_program_that_was_lent_for_another_task_is_named_by_its_place_too(
+    rt: HostRuntime,
+) -> Result<(), Fail> {
+    let mut out = MemSink::new(rt.alloc());
+    let fault = run_placed(rt.alloc(), MountFile::Tasks(2), &mut out)?;
+    assert_eq!(rt; fault, Fault::Done);
+    assert_eq!(rt; out.bytes(), TWICE_TEXT);
     Ok(())
 }
 
@@ -200,10 +214,12 @@ fn route_to(alloc: Global, name: &[u8]) -> Result<Route, Fail> {
     Ok(route)
 }
 
-/// A directory at a place.
-fn directory_at(alloc: Global, place: &Route) -> Result<PlacedNode, Memory> {
+/// A node of that tree at a place.
+fn node_at(alloc: Global, tree: Tree, place: &Route) -> Result<PlacedNode<MemoryNode>, Memory>
+    requires { is_lent tree ≡ false }
+    ensures { IfOk result (λ node. node.inner.tree ≡ tree) }
+{
     let place = place.copy(alloc)?;
-    let tree = Tree::directory(alloc, 0o755);
     Ok(PlacedNode {
         alloc,
         inner: MemoryNode::new(alloc, tree, Route::new(alloc), Plan::new()),
@@ -211,18 +227,60 @@ fn directory_at(alloc: Global, place: &Route) -> Result<PlacedNode, Memory> {
     })
 }
 
-/// That a directory at a place answers to the route of it, and not to another.
-fn expect_met(rt: &impl Abort, alloc: Global, place: &Route, other: &Route) -> Result<(), Fail> {
-    let mut node = directory_at(alloc, place)?;
-    assert!(rt; node.stat(place).is_ok());
-    assert_eq!(rt; node.stat(other), Err(HostErr::Memory));
-    assert_eq!(rt; node.stat(&Route::new(alloc)), Err(HostErr::Memory));
-    Ok(())
+/// What an empty directory at a place answers to each call that takes a route, by that one: whether it tells of itself,
+/// whether it lists, and whether it lends.
+fn answers_at(
+    alloc: Global,
+    place: &Route,
+    route: &Route,
+) -> Result<[Result<(), HostErr>; 3], Fail> {
+    let mut told = node_at(alloc, Tree::directory(alloc, 0o755), place)?;
+    let mut listed = node_at(alloc, Tree::directory(alloc, 0o755), place)?;
+    let mut lending = node_at(alloc, Tree::directory(alloc, 0o755), place)?;
+    let mut listing = Listing::new(alloc);
+    let name = name_of(alloc, b"n")?;
+    Ok([
+        told.stat(route).map(|_| ()),
+        listed.list(route, &mut listing),
+        lending.lend(route, &name).map(|_| ()),
+    ])
 }
 
 #[test]
 fn a_route_that_leads_elsewhere_is_met(rt: HostRuntime) -> Result<(), Fail> {
-    let place = route_to(rt.alloc(), b"f")?;
-    let other = route_to(rt.alloc(), b"g")?;
-    expect_met(&rt, rt.alloc(), &place, &other)
+    let alloc = rt.alloc();
+    let place = route_to(alloc, b"f")?;
+    let met = [Err(HostErr::Memory); 3];
+    assert_eq!(rt; answers_at(alloc, &place, &place)?, [Ok(()); 3]);
+    assert_eq!(rt; answers_at(alloc, &place, &route_to(alloc, b"g")?)?, met);
+    assert_eq!(rt; answers_at(alloc, &place, &Route::new(alloc))?, met);
+    Ok(())
+}
+
+/// What a file at a place answers to an open by that route.
+fn opens_at(
+    alloc: Global,
+    place: &Route,
+    route: &Route,
+    write: bool,
+) -> Result<Result<(), HostErr>, Fail> {
+    let mut node = node_at(alloc, Tree::file(0o755, List::new(alloc)), place)?;
+    Ok(node.open(route, write))
+}
+
+#[test]
+fn an_open_that_is_not_for_reading_alone_is_met(rt: HostRuntime) -> Result<(), Fail> {
+    let alloc = rt.alloc();
+    let place = route_to(alloc, b"f")?;
+    let other = Route::new(alloc);
+    assert_eq!(rt; opens_at(alloc, &place, &place, false)?, Ok(()));
+    assert_eq!(rt;
+        opens_at(alloc, &place, &place, true)?,
+        Err(HostErr::Memory)
+    );
+    assert_eq!(rt;
+        opens_at(alloc, &place, &other, false)?,
+        Err(HostErr::Memory)
+    );
+    Ok(())
 }
