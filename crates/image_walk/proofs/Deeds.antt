@@ -1,7 +1,7 @@
 -- What an opening execve came to, from how its walk went.
 use Rattle.std.proofs.Common.{◌≡◌, ℕ, suc, ◌+◌, ◌<◌, ◌^◌, Bool, true, false, List, [], ◌∷◌, ◌++◌, length, refl, ap}
 use Rattle.std.proofs.Common.{sym, ◌∙◌, subst, arith, length-append, inl, inr}
-use Rattle.std.specs.Prelude.{Option, Some, None, Ok, Err, Result, OnErr, if◌then◌else◌, slice_get, slice_set}
+use Rattle.std.specs.Prelude.{Option, Some, None, Ok, Err, if◌then◌else◌, slice_get, slice_set}
 use Rattle.std.proofs.lemmas.Option.{same_Some, get_or_from_slice_get, slice_get_within}
 use Rattle.std.proofs.lemmas.List.{set-get_or}
 use Rattle.host_node.specs.Tree.{Shape, faults_of, child_of, lend_child}
@@ -17,7 +17,6 @@ use Rattle.image_walk.specs.declared.loading.Answer.TheVariants.{Starts, Refuses
 use Rattle.image_walk.specs.declared.walk.Step.{Step}
 use Rattle.image_walk.specs.Executing.{walked_by, walked_to, walked_among, fresh_for, fresh_by, rises_by, named_then}
 use Rattle.image_walk.specs.Executing.{HasNumber, AnswersBy, Executes}
-use Rattle.image_walk.specs.Executing.{LeavesStanding}
 use Rattle.image_walk.specs.Granted.{Child, place_of}
 use Rattle.image_walk.specs.Loading.{Loads, LoadsWhere, faulted_by}
 use Rattle.image_walk.specs.Standing.{IsNumbering, Stands, lend_all, lent_from, numbers_from}
@@ -353,14 +352,3 @@ module _ (num : Numbering) (is : IsNumbering num) (t : Shape) (names : List (Lis
               subst (λ (rs : List Rise). AnswersBy num (walked_among num t names name) step.drawn
               (length (named_then step.drawn names name)) rs step.loaded.answer) (sym rises) d.answers;
         }
-
-    pub leaves_by : (after : Option Shape) (children' : List Child) (step : Step)
-        → WalksWhere num root name children children' after step → LeavesStanding num t names name after children'
-    leaves_by after children' step walks =
-        let d = did after children' step walks in
-        record { drawn = step.drawn; rises = rises_by step.ino step.loaded.risen; stands = d.stands }
-
--- what holds in any case holds on an `Err`
-pub err_leaves : {A E P : Type 0} (result : Result A E) → P → OnErr result P
-err_leaves (Ok x) p = tt
-err_leaves (Err e) p = p

@@ -14,7 +14,6 @@ pub mod KernelWalk
 pub mod KernelNumbers
 pub mod KernelNodes
 pub mod KernelAnswers
-pub mod Counts
 pub mod Commuting
-pub mod Risen
+pub mod Back
 pub mod Roots

@@ -95,11 +95,3 @@ fresh_by root false ino name = []
 abbrev pub rises_by : (ino : ℕ) → (risen : Option ℕ) → List Rise
 rises_by ino None = []
 rises_by ino (Some d) = record { ino = ino; count = d } ∷ []
-
--- a granted tree of which one child more may have been lent, and one count may have risen
--- profile
-pub record LeavesStanding (num : Numbering) (t : Shape) (names : List (List ℕ)) (name : List ℕ) (root : Option Shape)
-    (children : List Child) : Type 0 where
-  pub drawn : Bool
-  pub rises : List Rise
-  pub stands : Stands num t (named_then drawn names name) rises root children

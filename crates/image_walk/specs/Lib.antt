@@ -4,4 +4,3 @@ pub mod Loading
 pub mod Standing
 pub mod Executing
 pub mod Walking
-pub mod Counts

@@ -1,11 +1,12 @@
 //! The opening execve of a program, over a granted folder.
 
-ghost use Rattle.std.specs.Prelude.{◌≡◌, ℕ, List as Items, [], length, None, true, IfOk, OnErr};
+ghost use Rattle.std.specs.Prelude.{◌≡◌, ◌<◌, ℕ, List as Items, [], length, None, true, IfOk, OnErr};
+ghost use Rattle.std.specs.Prelude.{vec_len, vec_capacity};
 ghost use Rattle.host_node.specs.Tree.{Shape};
 ghost use Rattle.sn_errno.specs.declared.errno.Errno.TheVariants.{E2BIG};
 ghost use Rattle.kernel_model.specs.entries.Given.{numbers_of};
 ghost use Rattle.kernel_model.specs.opening.Arguments.{is_too_long};
-ghost use Rattle.image_walk.specs.Executing.{Executes, LeavesStanding, fresh_by, rises_by};
+ghost use Rattle.image_walk.specs.Executing.{Executes, fresh_by, rises_by};
 ghost use Rattle.image_walk.specs.Granted.{told_of};
 ghost use Rattle.image_walk.specs.Loading.{is_roomy};
 ghost use Rattle.image_walk.specs.Standing.{IsNumbering, Stands};
@@ -31,37 +32,59 @@ pub struct Executed {
     ghost pages: { is_roomy answer ≡ true },
 }
 
-/// What a walk from the root of that number drew and met: the number of the node that it came to, where that is new,
-/// and by how much that node's count of faults rose.
-fn gathered(
-    alloc: Global,
-    root: u64,
-    name: &Name,
-    drawn: bool,
-    ino: u64,
-    risen: Option<u64>,
-) -> Result<Given, Memory>
-    ensures fresh { IfOk result (λ g. g.fresh ≡ fresh_by root drawn ino name.now) }
-    ensures rises { IfOk result (λ g. g.rises ≡ rises_by ino risen) }
+/// Room to tell what a walk to a name draws and meets. It is taken before the walk, so that nothing is met that can't
+/// be told.
+#[derive(Drop)]
+struct Room {
+    name: Name,
+    fresh: Vec<Fresh>,
+    rises: Vec<Rise>,
+}
+
+/// Room for one number of a child of that name, and for one rise.
+fn make_room(alloc: Global, name: &Name) -> Result<Room, Memory>
+    ensures name { IfOk result (λ room. room.name ≡ name.now) }
+    ensures fresh { IfOk result (λ room. (room.fresh.items ≡ []) × (vec_len room.fresh < vec_capacity room.fresh)) }
+    ensures rises { IfOk result (λ room. (room.rises.items ≡ []) × (vec_len room.rises < vec_capacity room.rises)) }
 {
-    let mut fresh = List::new(alloc);
+    Ok(Room {
+        name: name.copy(alloc)?,
+        fresh: Vec::with_capacity(alloc, 1)?,
+        rises: Vec::with_capacity(alloc, 1)?,
+    })
+}
+
+/// What a walk from the root of that number drew and met: the number of the node that it came to, where that is new,
+/// and by how much that node's count of faults rose. It takes no memory.
+fn gathered(room: Room, root: u64, drawn: bool, ino: u64, risen: Option<u64>) -> Given
+    requires fresh { (room.fresh.items ≡ []) × (vec_len room.fresh < vec_capacity room.fresh) }
+    requires rises { (room.rises.items ≡ []) × (vec_len room.rises < vec_capacity room.rises) }
+    ensures fresh { result.fresh ≡ fresh_by root drawn ino room.name }
+    ensures rises { result.rises ≡ rises_by ino risen }
+{
+    let Room {
+        name,
+        mut fresh,
+        mut rises,
+    } = room;
     if drawn {
-        fresh.push(Fresh {
+        fresh.push_reserved(Fresh {
             dir: root,
-            name: name.copy(alloc)?,
+            name,
             ino,
-        })?;
+        });
     }
-    let mut rises = List::new(alloc);
     if let Some(count) = risen {
-        rises.push(Rise { ino, count })?;
+        rises.push_reserved(Rise { ino, count });
     }
-    Ok(Given { fresh, rises })
+    Given {
+        fresh: List::from_vec(fresh),
+        rises: List::from_vec(rises),
+    }
 }
 
 /// Does the opening execve of a program of that name over a granted folder: where its strings are too long it walks to
-/// nothing, else it walks to the name, and loads the image. On an `Err`, want of memory, the children that were lent
-/// can go back all the same.
+/// nothing, else it walks to the name, and loads the image. An `Err`, want of memory, leaves the folder as it was.
 ///
 /// execve(2). E2BIG; EACCES: a root that its owner may not search; ENOENT: no such name; then what the node is.
 pub fn execve<N: HostNode>(
@@ -83,10 +106,8 @@ pub fn execve<N: HostNode>(
         IsSilent (N.told granted.new.root) (told_of N.told granted.new.lent.items) }
     ensures long { IfOk result (λ e. is_too_long program.now.args program.now.env ≡ true →
         e.answer ≡ Answer.Refuses E2BIG) }
-    ensures err { OnErr result ((t : Shape) (names : Items (Items ℕ)) →
-        Stands granted.old.numbers t names [] (N.told granted.old.root) (told_of N.told granted.old.lent.items) →
-        LeavesStanding granted.old.numbers t names name.now
-        (N.told granted.new.root) (told_of N.told granted.new.lent.items)) }
+    ensures err { OnErr result (N.told granted.new.root ≡ N.told granted.old.root) }
+    ensures err_lent { OnErr result (told_of N.told granted.new.lent.items ≡ told_of N.told granted.old.lent.items) }
 {
     if is_too_long(program) {
         return Ok(Executed {
@@ -98,8 +119,9 @@ pub fn execve<N: HostNode>(
         });
     }
     let root = granted.numbers.root;
+    let room = make_room(alloc, name)?;
     let Step { drawn, ino, loaded } = walk(alloc, granted, name)?;
     let Loaded { risen, answer } = loaded;
-    let given = gathered(alloc, root, name, drawn, ino, risen)?;
+    let given = gathered(room, root, drawn, ino, risen);
     Ok(Executed { given, answer })
 }

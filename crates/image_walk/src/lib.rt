@@ -8,11 +8,12 @@
 //!
 //! Proved, where the root tells its tree: what was drawn, met and answered is what the definitions say of that tree,
 //! of which then a child more may be lent and the count of a node that failed has risen (`executes`); want of memory
-//! leaves it so too (`err`); and the root that comes back tells the tree with the children in their places (`tells`).
+//! leaves all as it was (`err`, `err_lent`); and the root that comes back tells the tree with the children in their
+//! places (`tells`). A program's node is opened for reading alone (`unwritten`, of `load`).
 //! Whatever the root tells: a number that is drawn is the next (`numbers`), strings that are too long are `E2BIG`
 //! (`long`), and nodes that tell nothing go on so (`silent`).
 //!
-//! Not said: which folder was granted, how often a node is asked, and when memory runs out.
+//! Not said: which folder was granted, by which route and how often a node is asked, and when memory runs out.
 //!
 //! Standard: Linux man-pages, execve(2), path_resolution(7), inode(7).
 #![tactic(auto)]

@@ -1,8 +1,8 @@
 //! The image of a program's node.
 
-ghost use Rattle.std.specs.Prelude.{◌≡◌, ◌+◌, ◌<◌, true, None, Some, IfOk};
+ghost use Rattle.std.specs.Prelude.{◌≡◌, ◌≢◌, ◌+◌, ◌<◌, true, None, Some, IfOk, OnOk};
 ghost use Rattle.host_node.specs.Faults.{has_failed};
-ghost use Rattle.host_node.specs.Told.{kept};
+ghost use Rattle.host_node.specs.Told.{kept, Reading, Writing};
 ghost use Rattle.sn_base.specs.Faults.{HasCause, Rose};
 ghost use Rattle.sn_base.specs.Sums.{capped};
 ghost use Rattle.image_walk.specs.Loading.{Classified, FileRefusal, IsFileOf, IsHere, LoadsWhere, ReadsFile, Refusal};
@@ -88,6 +88,8 @@ fn read_file<N: HostNode>(
     requires { IsFileOf size (N.told node.old) }
     ensures bytes { IfOk result (λ v. ReadsFile (N.told node.old) v.items) }
     ensures tells { N.told node.new ≡ kept (N.count node.new) (N.told node.old) }
+    ensures opened { OnOk result (N.opened node.new ≡ Reading) }
+    ensures unwritten { N.opened node.old ≢ Writing → N.opened node.new ≢ Writing }
     ensures faults { HasCause (has_failed result) (N.count node.old) (N.count node.new) }
 {
     let mut bytes = vec![in alloc; 0u8; size as usize]?;
@@ -120,10 +122,11 @@ pub(crate) fn answered(answer: Answer) -> Loaded
     }
 }
 
-/// Loads the image of a program's node.
+/// Loads the image of a program's node, which is opened for reading alone.
 pub(crate) fn load<N: HostNode>(alloc: Global, node: &mut N, route: &Route) -> Loaded
     requires { IsHere (N.told node.old) }
-    ensures { LoadsWhere (N.told node.old) (N.told node.new) result.risen result.answer }
+    ensures loads { LoadsWhere (N.told node.old) (N.told node.new) result.risen result.answer }
+    ensures unwritten { N.opened node.old ≢ Writing → N.opened node.new ≢ Writing }
 {
     let before = node.faults();
     let attr = match node.stat(route) {

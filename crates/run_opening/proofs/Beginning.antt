@@ -2,7 +2,7 @@
 use Rattle.std.proofs.Common.{◌≡◌, ℕ, suc, ◌+◌, ◌<◌, ◌≤◌, Bool, true, false, List, [], ◌∷◌, ◌++◌, length, drop, refl}
 use Rattle.std.proofs.Common.{ap, sym, ◌∙◌, ◌⊎◌, inl, inr}
 use Rattle.std.proofs.Common.{subst, arith, length-append}
-use Rattle.std.specs.Prelude.{Option, Some, None, Result, Ok, Err, IfOk, IfErr, IsErrAnd, OnErr, slice_get, ⊤}
+use Rattle.std.specs.Prelude.{Option, Some, None, Result, Ok, Err, IfOk, IfErr, IsErrAnd, slice_get, ⊤}
 use Rattle.std.specs.Prelude.{IfSome, IsSomeAnd, if◌then◌else◌, option_map}
 use Rattle.std.proofs.lemmas.List.{drop_more}
 use Rattle.std.proofs.lemmas.Option.{get_or_from_slice_get, slice_get_within}
@@ -23,14 +23,14 @@ use Rattle.kernel_model.specs.entries.Given.{may_meet}
 use Rattle.kernel_model.specs.entries.Parts.{parts, outcome_in, changed}
 use Rattle.kernel_model.specs.files.FileTree.{Nodes}
 use Rattle.kernel_model.specs.opening.Arguments.{is_too_long}
-use Rattle.kernel_model.specs.opening.Opening.{Misfits, Refuses, execve_of}
+use Rattle.kernel_model.specs.opening.Opening.{Misfits, Refuses, Walked, execve_of}
 use Rattle.kernel_model.specs.opening.Opening.{made_by, root_of}
 use Rattle.kernel_model.specs.opening.Opening.{task_begun, tasks_begun, with_task}
 use Rattle.kernel_model.proofs.OpenedTasks.{AreOpened, opened_more}
 use Rattle.image_walk.specs.declared.granted.Numbering.{Numbering}
 use Rattle.image_walk.specs.declared.loading.Answer.{Answer}
 use Rattle.image_walk.specs.declared.loading.Answer.TheVariants as answers
-use Rattle.image_walk.specs.Executing.{Executes, named_then}
+use Rattle.image_walk.specs.Executing.{Answers, Executes, named_then, walked_among}
 use Rattle.image_walk.specs.Granted.{Child}
 use Rattle.image_walk.specs.Standing.{IsNumbering, Stands, lent_from}
 use Rattle.image_walk.specs.Walking.{IsGrant}
@@ -41,7 +41,7 @@ use Rattle.call_table.specs.Processes.{kernel_of}
 use Rattle.run_opening.specs.declared.opening.OpenErr.{OpenErr}
 use Rattle.run_opening.specs.declared.opening.OpenErr.TheVariants.{Image, Memory}
 use Rattle.run_opening.specs.Begun.{GoesOn, HasBegun, IsRefused, Stops}
-use Rattle.run_opening.specs.Openings.{Begins, IsStanding, StandsStill, beside_of, numbering_of}
+use Rattle.run_opening.specs.Openings.{Begins, IsStanding, MayLack, StandsAfter, StandsStill, beside_of, numbering_of}
 use Rattle.run_opening.specs.Told.{kernel_told, trees_told}
 use Rattle.run_opening.specs.Trees.{AreOthers, Others}
 use Rattle.run_opening.proofs.Roots.{have_trees, root_within}
@@ -227,7 +227,7 @@ pub standing : (num : Numbering) (long : Bool) (t : Shape) (names : List (List �
 standing num long t names name given answer root children e =
     record { names = named_then e.drawn names name; rises = given.rises; stands = e.stands }
 
--- and no count has risen where an image begins
+-- and no count has risen where an image begins,
 stands_then : (num : Numbering) (long : Bool) (t : Shape) (names : List (List ℕ)) (name : List ℕ) (given : Given)
     (image : Executable) (answer : Answer) (root : Option Shape) (children : List Child)
     → answer ≡ answers.Starts image
@@ -237,6 +237,31 @@ stands_then num long t names name given image answer root children is e =
     record {
       names = named_then started.drawn names name;
       stands = stands_on num long t names name given image root children started;
+    }
+
+-- or where memory is wanting
+still_by : (num : Numbering) (long : Bool) (walked : Walked) (drawn : Bool) (count : ℕ) (t : Shape)
+    (names : List (List ℕ)) (rises : List Rise) (root : Option Shape) (children : List Child)
+    → Stands num t names rises root children → Answers num long walked drawn count rises answers.Memory
+    → Stands num t names [] root children
+still_by num true walked drawn count t names rises root children s a = absurd (cc a.2)
+still_by num false walked drawn count t names [] root children s a = s
+still_by num false walked drawn count t names (rise ∷ []) root children s a = absurd (cc a.0)
+still_by num false walked drawn count t names (rise ∷ other ∷ rises) root children s a = absurd a
+
+lacks_then : (num : Numbering) (long : Bool) (t : Shape) (names : List (List ℕ)) (name : List ℕ) (given : Given)
+    (answer : Answer) (root : Option Shape) (children : List Child) → MayLack answer
+    → Executes num long t names name given answer root children → StandsStill num t root children
+lacks_then num long t names name given answer root children (inl starts) e =
+    stands_then num long t names name given starts.0 answer root children starts.1 e
+lacks_then num long t names name given answer root children (inr lacks) e =
+    let lacking = subst (λ (x : Answer). Executes num long t names name given x root children) lacks e in
+    record {
+      names = named_then lacking.drawn names name;
+      stands =
+          still_by num long (walked_among num t names name) lacking.drawn
+          (length (named_then lacking.drawn names name)) t (named_then lacking.drawn names name) given.rises root
+          children lacking.stands lacking.answers;
     }
 
 -- ---- what comes of the answer
@@ -325,17 +350,32 @@ module _ (m : Mounts) (i : ℕ) (tasks tasks' : List Opened) (p : Processes) (ro
       stands_then numbers (is_too_long d.program.args d.program.env) t s.names d.name d.opened.given d.begins.0 d.answer
       root' children' d.begins.1 (d.executes t s.names s.stands)
 
--- whatever an execve answers, the folder can be put together again
-pub stands_err : (m : Mounts) (program : Program) (name : List ℕ) (given : Given) (answer : Answer)
-    (root root' : Option Shape) (children children' : List Child)
+-- what an execve that did not begin leaves of the folder
+pub stands_err : (m : Mounts) (seed : List ℕ) (at : ℕ) (program : Program) (name : List ℕ) (given : Given)
+    (answer : Answer) (p : Processes) (root root' : Option Shape) (children children' : List Child)
     → ExecutesFor (numbering_of m.mounts) program name given answer root root' children children'
-    → (result : Result Processes OpenErr)
-    → OnErr result ((t : Shape) → StandsStill (numbering_of m.mounts) t root children
-    → IsStanding (numbering_of m.mounts) t root' children')
-stands_err m program name given answer root root' children children' executes (Ok q) = tt
-stands_err m program name given answer root root' children children' executes (Err e) = λ t s.
+    → (result : Result Processes OpenErr) → Begins seed at program answer p result
+    → IfErr result (λ e. (t : Shape) → StandsStill (numbering_of m.mounts) t root children
+    → StandsAfter e (numbering_of m.mounts) t root' children')
+stands_err m seed at program name given answer p root root' children children' executes (Ok q) b = tt
+stands_err m seed at program name given answer p root root' children children' executes (Err (Image task errno)) b =
+    λ t s.
     standing (numbering_of m.mounts) (is_too_long program.args program.env) t s.names name given answer root' children'
     (executes t s.names s.stands)
+stands_err m seed at program name given answer p root root' children children' executes (Err Memory) b = λ t s.
+    lacks_then (numbering_of m.mounts) (is_too_long program.args program.env) t s.names name given answer root'
+    children' b (executes t s.names s.stands)
+
+-- a folder that is as it was stands as it did
+pub stands_kept : (num : Numbering) (root root' : Option Shape) (children children' : List Child)
+    (result : Result Processes OpenErr) → root' ≡ root → children' ≡ children
+    → IsErrAnd result (λ e. e ≡ Memory)
+    → IfErr result (λ e. (t : Shape) → StandsStill num t root children → StandsAfter e num t root' children')
+stands_kept num root root' children children' (Ok q) same alike is = tt
+stands_kept num root root' children children' (Err e) same alike is = λ t s.
+    subst (λ (x : OpenErr). StandsAfter x num t root' children') (sym is)
+    (subst (λ (o : Option Shape). StandsStill num t o children') (sym same)
+    (subst (λ (cs : List Child). StandsStill num t root cs) (sym alike) s))
 
 -- so many tasks live, and there is room for more
 pub opened_then : (seed : List ℕ) (root : ℕ) (program : Program) (answer : Answer) (i : ℕ) (p : Processes)
@@ -345,15 +385,3 @@ opened_then seed root program answer i p (Err e) o few b = tt
 opened_then seed root program answer i p (Ok q) o few b =
     subst (λ (list : TaskTable). AreOpened (i + 1) list) (sym b.2)
     (opened_more i p.cells.tasks (made_by (p.cells.tasks.last + 1)) (made_by (p.cells.tasks.last + 1)) root few o)
-
--- want of memory in the record
-pub err_stops : (m : Mounts) (i : ℕ) (tasks tasks' : List Opened) (p : Processes) (root root' : Option Shape)
-    (children children' : List Child) (result : Result Processes OpenErr)
-    → IsErrAnd result (λ e. e ≡ Memory)
-    → IfErr result (λ e. (others : Others) → AreOthers m.mounts others
-    → IfSome (kernel_told m (trees_told others root children) p 0)
-    (Stops m i tasks tasks' e (trees_told others root' children')))
-err_stops m i tasks tasks' p root root' children children' (Ok q) is = tt
-err_stops m i tasks tasks' p root root' children children' (Err e) is = λ others _.
-    subst (λ (x : OpenErr). IfSome (kernel_told m (trees_told others root children) p 0)
-    (Stops m i tasks tasks' x (trees_told others root' children'))) (sym is) (if_any _)

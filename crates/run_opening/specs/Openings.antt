@@ -1,6 +1,6 @@
 -- The folder that is mounted at `/` during an opening, and what comes of an execve's answer.
 use Rattle.std.specs.Prelude.{◌≡◌, ℕ, ◌+◌, List, [], length, Option, Result, Ok, Err}
-use Rattle.std.specs.Prelude.{⊤}
+use Rattle.std.specs.Prelude.{◌⊎◌}
 use Rattle.std.specs.FinMap as map
 use Rattle.host_node.specs.Tree.{Shape}
 use Rattle.elf_image.specs.declared.image.Image.{Image as Executable}
@@ -45,6 +45,18 @@ pub record IsStanding (num : Numbering) (t : Shape) (root : Option Shape) (child
   pub rises : List Rise
   pub stands : Stands num t names rises root children
 
+-- the folder's tree as an opening leaves it that ended before all tasks had begun: where memory ran out, no count has
+-- risen
+-- profile
+abbrev pub StandsAfter : OpenErr → Numbering → (t : Shape) → (root : Option Shape) → List Child → Type 0
+StandsAfter (Image task errno) num t root children = IsStanding num t root children
+StandsAfter Memory num t root children = StandsStill num t root children
+
+-- an answer that is no error: an image that may lack memory to begin, or want of memory
+-- execve(2)
+abbrev pub MayLack : Answer → Type 0
+MayLack answer = ((image : Executable) × (answer ≡ answers.Starts image)) ⊎ (answer ≡ answers.Memory)
+
 -- what comes of an opening execve's answer: the task of the next number begins its image, or why not
 -- execve(2)
 abbrev pub Begins : (seed : List ℕ) → (root : ℕ) → Program → Answer → Processes
@@ -57,4 +69,4 @@ Begins seed root program answer p (Ok next) =
     → kernel_of next beside n ≡ with_task (p.cells.tasks.last + 1) program image (kernel_of p beside n))
 Begins seed root program answer p (Err (Image task errno)) =
     (task ≡ p.cells.tasks.last + 1) × (answer ≡ answers.Refuses errno)
-Begins seed root program answer p (Err Memory) = ⊤
+Begins seed root program answer p (Err Memory) = MayLack answer

@@ -11,7 +11,6 @@ ghost use Rattle.image_walk.specs.Granted.{told_of};
 ghost use Rattle.image_walk.specs.Loading.{is_roomy};
 ghost use Rattle.image_walk.specs.Standing.{IsNumbering, Stands};
 ghost use Rattle.image_walk.specs.Walking.{IsGrant, IsSilent, NumbersNext};
-ghost use Rattle.run_opening.specs.Openings.{IsStanding};
 
 use host_node::HostNode;
 use image_walk::{Answer, Executed, Granted, execve};
@@ -51,7 +50,7 @@ fn copied_words(alloc: Global, words: &[Text]) -> Result<List<Text>, Memory>
     Ok(copies)
 }
 
-/// Does the opening execve of a program over a granted folder. On an `Err` the folder can be put together again.
+/// Does the opening execve of a program over a granted folder. An `Err` leaves the folder as it was.
 pub(crate) fn execute<N: HostNode>(
     alloc: Global,
     granted: &mut Granted<N>,
@@ -73,9 +72,8 @@ pub(crate) fn execute<N: HostNode>(
         IsSilent (N.told granted.new.root) (told_of N.told granted.new.lent.items) }
     ensures long { IfOk result (λ d. is_too_long program.now.args program.now.env ≡ true →
         d.answer ≡ Answer.Refuses E2BIG) }
-    ensures err { OnErr result ((t : Shape) (names : Items (Items ℕ)) →
-        Stands granted.old.numbers t names [] (N.told granted.old.root) (told_of N.told granted.old.lent.items) →
-        IsStanding granted.old.numbers t (N.told granted.new.root) (told_of N.told granted.new.lent.items)) }
+    ensures err { OnErr result (N.told granted.new.root ≡ N.told granted.old.root) }
+    ensures err_lent { OnErr result (told_of N.told granted.new.lent.items ≡ told_of N.told granted.old.lent.items) }
 {
     let name = program_name(alloc, program)?;
     let words = copied_words(alloc, program.args.as_slice())?;

@@ -8,7 +8,8 @@
 //! Proved, where the folder's root tells its tree, whatever trees the other mounts have: the kernel that the state then
 //! tells, its processes with the nodes that the folders tell, is the one that the definitions open over all the trees
 //! (`begun`); a refusal is that of the first execve that fails, and leaves the trees that the nodes have then
-//! (`stopped`); the folder can be put together again, and at most counts of failed calls rose (`stands`, `standing`).
+//! (`stopped`); the folder can be put together again, and counts of failed calls rose at most where an execve was
+//! refused, and not where memory ran out (`stands`, `standing`).
 //! Whatever the root tells, the record is of the programs in order, and its inode numbers run up without a gap
 //! (`recorded`).
 //!

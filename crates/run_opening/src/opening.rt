@@ -1,8 +1,7 @@
 //! The tasks of a mount file, opened in order.
 
 ghost use Rattle.std.specs.Prelude.{◌≡◌, ◌+◌, ◌<◌, ◌≤◌, ℕ, [], length, None, Some, true, IfOk, IfErr, IfSome};
-ghost use Rattle.std.specs.Prelude.{IsSomeAnd};
-ghost use Rattle.std.specs.Prelude.{OnErr};
+ghost use Rattle.std.specs.Prelude.{IsSomeAnd, OnOk, vec_capacity, vec_len};
 ghost use Rattle.host_node.specs.Tree.{Shape};
 ghost use Rattle.sn_errno.specs.declared.errno.Errno.TheVariants.{E2BIG};
 ghost use Rattle.kernel_model.proofs.OpenedTasks.{AreOpened};
@@ -16,7 +15,7 @@ ghost use Rattle.image_walk.specs.Loading.{is_roomy};
 ghost use Rattle.image_walk.specs.Standing.{IsNumbering, Stands};
 ghost use Rattle.image_walk.specs.Walking.{IsGrant, IsRoot, IsSilent};
 ghost use Rattle.run_opening.specs.Begun.{GoesOn, HasBegun, Stops};
-ghost use Rattle.run_opening.specs.Openings.{Begins, IsStanding, StandsStill, numbering_of};
+ghost use Rattle.run_opening.specs.Openings.{Begins, StandsAfter, StandsStill, numbering_of};
 ghost use Rattle.run_opening.specs.Records.{IsRecord, IsRecorded};
 ghost use Rattle.run_opening.specs.Told.{kernel_told, trees_told};
 ghost use Rattle.run_opening.specs.Trees.{AreOthers, Others, trees_with};
@@ -27,7 +26,7 @@ use host_node::HostNode;
 use image_walk::{Answer, Granted};
 use kernel_model::Opened;
 use mount_file::{Mounts, Program};
-use sn_base::{List, Memory};
+use sn_base::Memory;
 use sn_errno::Errno;
 use std::alloc::Global;
 
@@ -78,6 +77,15 @@ fn begin(
     }
 }
 
+/// Makes room for the record of one task more.
+fn make_room(tasks: &mut Vec<Opened>) -> Result<(), Memory>
+    ensures same { tasks.new.items ≡ tasks.old.items }
+    ensures ok { OnOk result (vec_len tasks.new < vec_capacity tasks.new) }
+{
+    tasks.reserve(1)?;
+    Ok(())
+}
+
 /// Opens the task of an index, behind those before it, and puts it into the record.
 fn open_task<N: HostNode>(
     alloc: Global,
@@ -85,7 +93,7 @@ fn open_task<N: HostNode>(
     index: usize,
     granted: &mut Granted<N>,
     processes: Processes,
-    tasks: &mut List<Opened>,
+    tasks: &mut Vec<Opened>,
 ) -> Result<Processes, OpenErr>
     requires within { index < length mounts.now.tasks }
     requires few { length mounts.now.tasks ≤ MOST_TASKS }
@@ -94,12 +102,12 @@ fn open_task<N: HostNode>(
     requires known { IsNumbering granted.old.numbers }
     requires grant { IsGrant granted.old.numbers (N.told granted.old.root) (told_of N.told granted.old.lent.items) }
     requires opened { AreOpened index processes.cells.tasks }
-    requires record { IsRecord mounts.now tasks.old index (length granted.old.lent.items) }
+    requires record { IsRecord mounts.now tasks.old.items index (length granted.old.lent.items) }
     ensures same { granted.new.numbers ≡ granted.old.numbers }
     ensures opened { IfOk result (λ p. AreOpened (index + 1) p.cells.tasks) }
-    ensures record { IfOk result (λ p. IsRecord mounts.now tasks.new (index + 1)
+    ensures record { IfOk result (λ p. IsRecord mounts.now tasks.new.items (index + 1)
         (length granted.new.lent.items)) }
-    ensures recorded { IsRecorded mounts.now tasks.new }
+    ensures recorded { IsRecorded mounts.now tasks.new.items }
     ensures silent { IsSilent (N.told granted.old.root) (told_of N.told granted.old.lent.items) →
         IsSilent (N.told granted.new.root) (told_of N.told granted.new.lent.items) }
     ensures stands { IfOk result (λ p. (t : Shape) →
@@ -108,7 +116,7 @@ fn open_task<N: HostNode>(
         StandsStill (numbering_of mounts.now.mounts) t (N.told granted.new.root)
         (told_of N.told granted.new.lent.items)) }
     ensures begun { IfOk result (λ p. (others : Others) → AreOthers mounts.now.mounts others →
-        GoesOn mounts.now index (index + 1) tasks.old tasks.new
+        GoesOn mounts.now index (index + 1) tasks.old.items tasks.new.items
         (kernel_told mounts.now (trees_told others (N.told granted.old.root) (told_of N.told granted.old.lent.items))
         processes 0)
         (kernel_told mounts.now (trees_told others (N.told granted.new.root) (told_of N.told granted.new.lent.items))
@@ -116,18 +124,20 @@ fn open_task<N: HostNode>(
     ensures stopped { IfErr result (λ e. (others : Others) → AreOthers mounts.now.mounts others →
         IfSome (kernel_told mounts.now
         (trees_told others (N.told granted.old.root) (told_of N.told granted.old.lent.items)) processes 0)
-        (Stops mounts.now index tasks.old tasks.new e
+        (Stops mounts.now index tasks.old.items tasks.new.items e
         (trees_told others (N.told granted.new.root) (told_of N.told granted.new.lent.items)))) }
-    ensures standing { OnErr result ((t : Shape) →
+    ensures standing { IfErr result (λ e. (t : Shape) →
         StandsStill (numbering_of mounts.now.mounts) t (N.told granted.old.root)
         (told_of N.told granted.old.lent.items) →
-        IsStanding (numbering_of mounts.now.mounts) t (N.told granted.new.root)
+        StandsAfter e (numbering_of mounts.now.mounts) t (N.told granted.new.root)
         (told_of N.told granted.new.lent.items)) }
 {
     let root = granted.numbers.root;
     let program = mounts.tasks.at(index);
+    // Room for its record first, so that nothing is met that can't be told.
+    make_room(tasks)?;
     let Done { opened, answer } = execute(alloc, granted, program)?;
-    tasks.push(opened)?;
+    tasks.push_reserved(opened);
     begin(
         alloc,
         mounts.seed.as_slice(),
@@ -139,14 +149,15 @@ fn open_task<N: HostNode>(
 }
 
 /// Opens the tasks of a mount file in order, over the granted folder of the mount at `/`, and records what each execve
-/// drew and met. On an `Err` no task is left, and the children that were lent can go back.
+/// drew and met. On an `Err` no task is left, and the children that were lent can go back; where that is want of memory,
+/// no call of a node has failed.
 ///
 /// execve(2).
 pub fn open_tasks<N: HostNode>(
     alloc: Global,
     mounts: &Mounts,
     granted: &mut Granted<N>,
-    tasks: &mut List<Opened>,
+    tasks: &mut Vec<Opened>,
 ) -> Result<Processes, OpenErr>
     requires form { HasForm mounts.now }
     requires numbers { granted.old.numbers ≡ numbering_of mounts.now.mounts }
@@ -154,9 +165,9 @@ pub fn open_tasks<N: HostNode>(
     requires stands { (t : Shape) → N.told granted.old.root ≡ Some t →
         Stands granted.old.numbers t [] [] (N.told granted.old.root) (told_of N.told granted.old.lent.items) }
     requires lent { granted.old.lent.items ≡ [] }
-    requires none { tasks.old ≡ [] }
-    ensures recorded { IsRecorded mounts.now tasks.new }
-    ensures all { IfOk result (λ p. IsRecord mounts.now tasks.new (length mounts.now.tasks)
+    requires none { tasks.old.items ≡ [] }
+    ensures recorded { IsRecorded mounts.now tasks.new.items }
+    ensures all { IfOk result (λ p. IsRecord mounts.now tasks.new.items (length mounts.now.tasks)
         (length granted.new.lent.items)) }
     ensures silent { N.told granted.old.root ≡ None →
         IsSilent (N.told granted.new.root) (told_of N.told granted.new.lent.items) }
@@ -167,15 +178,15 @@ pub fn open_tasks<N: HostNode>(
         N.told granted.old.root ≡ Some t →
         IsSomeAnd (kernel_told mounts.now
         (trees_told others (N.told granted.new.root) (told_of N.told granted.new.lent.items)) p 0)
-        (HasBegun mounts.now 0 (length mounts.now.tasks) tasks.old tasks.new
+        (HasBegun mounts.now 0 (length mounts.now.tasks) tasks.old.items tasks.new.items
         (bare mounts.now (trees_with others t)))) }
     ensures stopped { IfErr result (λ e. (others : Others) (t : Shape) → AreOthers mounts.now.mounts others →
         N.told granted.old.root ≡ Some t →
-        Stops mounts.now 0 tasks.old tasks.new e
+        Stops mounts.now 0 tasks.old.items tasks.new.items e
         (trees_told others (N.told granted.new.root) (told_of N.told granted.new.lent.items))
         (bare mounts.now (trees_with others t))) }
-    ensures standing { OnErr result ((t : Shape) → N.told granted.old.root ≡ Some t →
-        IsStanding (numbering_of mounts.now.mounts) t (N.told granted.new.root)
+    ensures standing { IfErr result (λ e. (t : Shape) → N.told granted.old.root ≡ Some t →
+        StandsAfter e (numbering_of mounts.now.mounts) t (N.told granted.new.root)
         (told_of N.told granted.new.lent.items)) }
 {
     let mut processes = Processes::new(alloc);

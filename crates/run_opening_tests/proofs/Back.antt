@@ -7,7 +7,9 @@ use Rattle.image_walk.specs.Granted.{Child, CanGiveBack}
 use Rattle.image_walk.specs.Standing.{Stands}
 use Rattle.image_walk.specs.Walking.{IsGrant, IsSilent}
 use Rattle.image_walk.proofs.OutAgain.{can_give_back}
-use Rattle.run_opening.specs.Openings.{IsStanding}
+use Rattle.run_opening.specs.declared.opening.OpenErr.{OpenErr}
+use Rattle.run_opening.specs.declared.opening.OpenErr.TheVariants.{Image, Memory}
+use Rattle.run_opening.specs.Openings.{StandsAfter}
 
 -- whether the root tells its tree or nothing, behind an execve
 pub can_then : (num : Numbering) (root root' : Option Shape) (children children' : List Child)
@@ -26,7 +28,8 @@ can_where None root children silent tells =
     subst (λ (o : Option Shape). CanGiveBack o children) (sym (silent refl).0) tt
 can_where (Some t) root children silent tells = tells t refl
 
--- of a folder that stands
-pub back : (num : Numbering) (t : Shape) (root : Option Shape) (children : List Child)
-    → IsStanding num t root children → CanGiveBack root children
-back num t root children s = can_give_back num t s.names s.rises root children s.stands
+-- of a folder as an opening leaves it
+pub back : (num : Numbering) (t : Shape) (root : Option Shape) (children : List Child) (why : OpenErr)
+    → StandsAfter why num t root children → CanGiveBack root children
+back num t root children (Image task errno) s = can_give_back num t s.names s.rises root children s.stands
+back num t root children Memory s = can_give_back num t s.names [] root children s.stands

@@ -15,7 +15,7 @@ use image_walk::{Executed, Granted, Numbering, execve};
 use kernel_model::Opened;
 use mount_file::{Mounts, Program};
 use run_opening::{OpenErr, numbering, open_tasks};
-use sn_base::{List, Memory};
+use sn_base::Memory;
 use sn_text::Name;
 use std::alloc::Global;
 use std::test::Fail;
@@ -77,7 +77,7 @@ fn opened<N: HostNode>(
     alloc: Global,
     mounts: &Mounts,
     granted: &mut Granted<N>,
-    tasks: &mut List<Opened>,
+    tasks: &mut Vec<Opened>,
 ) -> Result<usize, OpenErr>
     requires form { HasForm mounts.now }
     requires numbers { granted.old.numbers ≡ numbering_of mounts.now.mounts }
@@ -85,7 +85,7 @@ fn opened<N: HostNode>(
     requires stands { (t : Shape) → N.told granted.old.root ≡ Some t →
         Stands granted.old.numbers t [] [] (N.told granted.old.root) (told_of N.told granted.old.lent.items) }
     requires lent { granted.old.lent.items ≡ [] }
-    requires none { tasks.old ≡ [] }
+    requires none { tasks.old.items ≡ [] }
     ensures { CanGiveBack (N.told granted.new.root) (told_of N.told granted.new.lent.items) }
 {
     match open_tasks(alloc, mounts, granted, tasks) {
@@ -98,7 +98,7 @@ fn opened<N: HostNode>(
 #[derive(Drop)]
 pub struct Begun {
     pub answer: Result<usize, OpenErr>,
-    pub tasks: List<Opened>,
+    pub tasks: Vec<Opened>,
 }
 
 /// An opening over a root, with all nodes back then.
@@ -108,7 +108,7 @@ fn open<N: HostNode>(alloc: Global, root: N, mounts: &Mounts) -> (N, Begun)
 {
     let numbers = numbering(mounts.mounts.as_slice());
     let mut granted = Granted::new(alloc, root, numbers);
-    let mut tasks = List::new(alloc);
+    let mut tasks = Vec::new(alloc);
     let answer = opened(alloc, mounts, &mut granted, &mut tasks);
     (granted.give_back(), Begun { answer, tasks })
 }

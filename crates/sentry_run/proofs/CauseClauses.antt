@@ -19,9 +19,9 @@ use Rattle.sentry_run.specs.declared.outcome.Fault.{Fault}
 use Rattle.sentry_run.specs.declared.outcome.Fault.TheVariants as faults
 use Rattle.sentry_run.specs.declared.outcome.Outcome.{Outcome}
 use Rattle.sentry_run.specs.Causes.{is_source_fault, is_sink_fault, is_host_fault, MayFailToOpen}
-use Rattle.sentry_run.specs.Concluded.{StopsShort}
+use Rattle.sentry_run.specs.Concluded.{IsCutOff, StopsShort}
 use Rattle.sentry_run.specs.Ran.{FailsToRead}
-use Rattle.sentry_run.specs.Outcome.{NamesMountFile, NamesFaulty, LacksFile, ComesTo, WhereRead, WhereState, begun}
+use Rattle.sentry_run.specs.Outcome.{NamesMountFile, NamesFaulty, LacksFile, ComesTo, WhereRead, WhereState, begun, most_read}
 use Rattle.sentry_run.specs.Outcome.{started_kernel, state_after, text_of, asks_trace}
 use Rattle.sentry_run.specs.Sides.{Side, Sides}
 use Rattle.sentry_run.proofs.Courses.{Session, Output, text_with, state_left, Began, state_of}
@@ -87,7 +87,7 @@ lacks_by s (Some command) None e f lacks = absurd lacks
 lacks_by s (Some command) (Some shelf) e f lacks =
     record { command = command; shelf = shelf; words_are = e; shelf_is = f; none = lacks }
 
-none_there : (o : Option (List ℕ)) (P : List ℕ → Type 0) → o ≡ None → IsSomeAnd (option_map (take 65537) o) P → ⊥
+none_there : (o : Option (List ℕ)) (P : List ℕ → Type 0) → o ≡ None → IsSomeAnd (option_map (take most_read) o) P → ⊥
 none_there None P e h = h
 none_there (Some content) P e h = cc
 
@@ -192,7 +192,8 @@ over_by x p whole faults.Stuck form t k e h =
 over_by x p whole faults.SinkFault form t k e h =
     subst (λ (state : Kernel). StopsShort p.before.told p.after.told (text_with x p state))
     (same_state x t.0 k t.1 e) t.3
-over_by x p whole faults.Memory form t k e h = tt
+over_by x p whole faults.Memory form t k e h =
+    subst (λ (o : Option Kernel). IsCutOff p.before.told p.after.told (text_of o x.outcome.trace p.flag)) e t.cut
 over_by x p whole (faults.Image task errno) form t k e h =
     stateless x (Refuses t.left task errno) k t.refuses refl e
 over_by x p whole faults.HostFault form t k e h = stateless x (Misfits 0) k (unopened x form t.opened) refl e

@@ -19,7 +19,7 @@ use Rattle.sentry_run.specs.declared.outcome.Fault.TheVariants as faults
 use Rattle.sentry_run.specs.declared.outcome.Outcome.{Outcome}
 use Rattle.sentry_run.specs.Ran.{ReadsAs, FailsToRead}
 use Rattle.sentry_run.specs.Causes.{status_of, IsUnread}
-use Rattle.sentry_run.specs.Outcome.{ReadsMounts, HasMountFault, first_lacking, granted, begun, state_after}
+use Rattle.sentry_run.specs.Outcome.{ReadsMounts, HasMountFault, first_lacking, granted, begun, state_after, most_read}
 use Rattle.sentry_run.specs.Outcome.{world_after, WhereRead}
 use Rattle.sentry_run.specs.Outcome.{WhereState, RefusesAs, refused_kernel}
 use Rattle.sentry_run.specs.Sides.{Side, Sides}
@@ -107,13 +107,13 @@ usage_exact s r (Misused e n) h = n.refused.fault
 usage_exact s r (Unread command e w u) h = let f : None ≡ Some command = sym h ∙ e in cc
 usage_exact s r (Over_file command e w m d o) h = let f : None ≡ Some command = sym h ∙ e in cc
 
-no_reads : (shelf : Option Shelf) → ReadsWithin shelf shelf 65537
+no_reads : (shelf : Option Shelf) → ReadsWithin shelf shelf most_read
 no_reads shelf =
     record { files = refl; taken = omega arith; within = omega arith; read = omega arith; reads = omega arith }
 
-pub source_read : (s : Call) (r : Outcome) → Way s r → ReadsWithin s.before.source.told s.after.source.told 65537
+pub source_read : (s : Call) (r : Outcome) → Way s r → ReadsWithin s.before.source.told s.after.source.told most_read
 source_read s r (Misused e n) =
-    subst (λ (x : Sides). ReadsWithin s.before.source.told x.source.told 65537) (sym n.same)
+    subst (λ (x : Sides). ReadsWithin s.before.source.told x.source.told most_read) (sym n.same)
     (no_reads s.before.source.told)
 source_read s r (Unread command e w u) = w
 source_read s r (Over_file command e w m d o) = w

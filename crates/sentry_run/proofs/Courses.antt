@@ -6,7 +6,7 @@ use Rattle.std.proofs.lemmas.Bool.{eqb-true, and_parts}
 use Rattle.std.specs.FinMap as map
 use Rattle.host_node.specs.Tree.{Shape}
 use Rattle.host_node.specs.Routes.{put_subtree, subtree}
-use Rattle.host_node.proofs.RouteLemmas.{subtree-directory_at}
+use Rattle.host_node.proofs.RouteLemmas.{put_subtree_found, subtree-directory_at}
 use Rattle.sn_errno.specs.declared.errno.Errno.{Errno}
 use Rattle.task_table.specs.Table.{TaskTable}
 use Rattle.kernel_model.specs.declared.entry.Entry.{Entry}
@@ -31,10 +31,8 @@ use Rattle.sentry_run.specs.Played.{SameText, Runs, Failed, IsStuck, nothing_ope
 use Rattle.image_walk.specs.Standing.{no_left}
 use Rattle.sentry_run.specs.Granted.{PlaysFrom, PlaysOver, root_names}
 use Rattle.sentry_run.specs.Concluded.{Writes, Concludes}
-use Rattle.image_walk.specs.Counts.{HasRisen}
 use Rattle.sentry_run.specs.Ran.{played_by}
 use Rattle.sentry_run.specs.Sides.{Side}
-use Rattle.sentry_run.proofs.Counts.{risen_subtree}
 use Rattle.sentry_run.specs.Outcome.{begun, begun_over, first_lacking, granted, started_kernel, state_after}
 use Rattle.sentry_run.specs.Outcome.{world_after}
 use Rattle.sentry_run.proofs.Folders.{root_found, settled_root}
@@ -173,8 +171,10 @@ module _ (x : Session) (end : End) (form : HasForm x.mounts) (q : WentOver x end
         failed.settles;
   }
 
-  pub risen_all : HasRisen q.tree q.tree_then → HasRisen x.world (world_with x q.tree_then)
-  risen_all risen = risen_subtree (root_names x.mounts.mounts) x.world q.tree q.tree_then there risen
+  pub as_before : q.tree_then ≡ q.tree → x.after ≡ Some x.world
+  as_before same =
+      q.put
+      ∙ ap Some (ap (world_with x) same ∙ put_subtree_found (root_names x.mounts.mounts) q.tree x.world there)
 
 pub state_of : (x : Session) (state : Kernel) → Began x state → state_left x ≡ Some state
 state_of x state b =
@@ -212,10 +212,8 @@ pub data Course (x : Session) (p : Output) (fault : Fault) : Type 0 where
       → fault ≡ faults.Image task errno → p.after.told ≡ p.before.told → Course x p fault
   Starved : (state : Kernel) → Began x state → fault ≡ faults.Memory → p.after.told ≡ p.before.told
       → Course x p fault
-  Emptied : (tree : Shape) → x.after ≡ Some (world_with x tree) → HasRisen x.world (world_with x tree)
-      → x.outcome.trace ≡ [] → fault ≡ faults.Memory → p.after.told ≡ p.before.told → Course x p fault
-  Untaken : x.after ≡ Some x.world → x.outcome.opening ≡ nothing_opened → x.outcome.trace ≡ []
-      → fault ≡ faults.Memory → p.after.told ≡ p.before.told → Course x p fault
+  Untaken : x.after ≡ Some x.world → x.outcome.trace ≡ [] → fault ≡ faults.Memory
+      → p.after.told ≡ p.before.told → Course x p fault
   Failing : x.after ≡ Some x.world → x.outcome.opening ≡ nothing_opened → x.outcome.trace ≡ []
       → fault ≡ faults.HostFault → p.after.told ≡ p.before.told → Course x p fault
   Missing : x.after ≡ Some x.world → x.outcome.opening ≡ nothing_opened → x.outcome.trace ≡ []
@@ -239,11 +237,11 @@ course x p fault (ends.Image task errno) form q c =
     Stopped task errno (refused x (ends.Image task errno) form q task errno e.0) e.1 c.0 c.1
 course x p fault ends.HostFault form q c = Failing q.0 q.1.0 q.1.1 c.0 c.1
 course x p fault (ends.Grant mount) form q c = Missing q.0.0 q.0.1.0 q.0.1.1 mount q.1 c.0 c.1
-course x p fault ends.Memory form (inl q) c = Untaken q.0 q.1.0 q.1.1 c.0 c.1
+course x p fault ends.Memory form (inl q) c = Untaken q.0 q.1.1 c.0 c.1
 course x p fault ends.Memory form (inr q) c = by q.ended
   where
-    by : (((x.outcome.trace ≡ []) × HasRisen q.tree q.tree_then)
+    by : (((x.outcome.trace ≡ []) × (q.tree_then ≡ q.tree))
         ⊎ ((state : Kernel) × Runs x.mounts q.others q.tree q.tree_then x.outcome.opening x.outcome.trace state))
         → Course x p fault
-    by (inl h) = Emptied q.tree_then q.put (risen_all x ends.Memory form q h.1) h.0 c.0 c.1
+    by (inl h) = Untaken (as_before x ends.Memory form q h.1) h.0 c.0 c.1
     by (inr h) = Starved h.0 (began x ends.Memory form q h.0 h.1) c.0 c.1

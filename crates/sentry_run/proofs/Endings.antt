@@ -17,18 +17,17 @@ use Rattle.kernel_model.specs.files.FileTree.{Nodes}
 use Rattle.kernel_model.specs.files.Settled.{tree_now}
 use Rattle.kernel_model.specs.opening.Opening.{bare, opening_of, root_of, rooted, tasks_begun, Opens}
 use Rattle.image_walk.specs.declared.granted.Numbering.{Numbering}
-use Rattle.image_walk.specs.Counts.{HasRisen}
 use Rattle.image_walk.specs.Granted.{Child, CanGiveBack, GivesBack, put_all}
 use Rattle.image_walk.specs.Standing.{AreNodes, KeepsRoots, no_left}
 use Rattle.image_walk.proofs.OutAgain.{can_give_back}
-use Rattle.image_walk.proofs.Risen.{risen}
+use Rattle.image_walk.proofs.Back.{back_same}
 use Rattle.image_walk.proofs.Settling.{settles}
 use Rattle.call_table.specs.declared.processes.Processes.{Processes}
 use Rattle.call_table.specs.Processes.{kernel_of}
 use Rattle.run_opening.specs.declared.opening.OpenErr.{OpenErr}
 use Rattle.run_opening.specs.declared.opening.OpenErr.TheVariants as openings
 use Rattle.run_opening.specs.Begun.{HasBegun, Stops}
-use Rattle.run_opening.specs.Openings.{IsStanding, StandsStill, beside_of, numbering_of}
+use Rattle.run_opening.specs.Openings.{IsStanding, StandsAfter, StandsStill, beside_of, numbering_of}
 use Rattle.run_opening.specs.Records.{IsRecorded}
 use Rattle.run_opening.specs.Told.{TreesTold, kernel_told, nodes_told, trees_told}
 use Rattle.run_opening.specs.Trees.{AreOthers, Others, trees_with}
@@ -48,23 +47,27 @@ gives_same root children r told after e a b =
     subst (λ (o : Option Shape). GivesBack o children told) e a
     ∙ sym (subst (λ (o : Option Shape). GivesBack o children (Some after)) e b)
 
--- a folder that stands can be put together again,
+-- what an opening leaves of a folder stands, whatever it ended with,
+pub standing_after : (num : Numbering) (t : Shape) (root : Option Shape) (children : List Child) (why : OpenErr)
+    → StandsAfter why num t root children → IsStanding num t root children
+standing_after num t root children (openings.Image task errno) s = s
+standing_after num t root children openings.Memory s = record { names = s.names; rises = []; stands = s.stands }
+
+-- and can be put together again,
 pub can_back : (num : Numbering) (t : Shape) (root : Option Shape) (children : List Child)
     → IsStanding num t root children
     → CanGiveBack root children
 can_back num t root children s = can_give_back num t s.names s.rises root children s.stands
 
--- and then counts of failed calls rose at most
+-- and where no count has risen it is as it was
 pub ended_lacking : (m : Mounts) (others : Others) (t : Shape) (root : Option Shape) (children : List Child)
     (opening : Opening) (trace : List Entry) (after : Shape)
-    → IsStanding (numbering_of m.mounts) t root children → trace ≡ []
+    → StandsStill (numbering_of m.mounts) t root children → trace ≡ []
     → GivesBack root children (Some after)
     → EndsTold m (trees_told others root children) t after opening trace ends.Memory
 ended_lacking m others t root children opening trace after s none gives =
-    let rose = risen (numbering_of m.mounts) t s.names s.rises root children s.stands in
-    let is : put_all children rose.0 ≡ after =
-    same_Some _ _ (sym (subst (λ (o : Option Shape). GivesBack o children (Some after)) rose.1 gives)) in
-    inl (none, subst (λ (x : Shape). HasRisen t x) is rose.2)
+    let back = back_same (numbering_of m.mounts) t s.names root children s.stands in
+    inl (none, sym (same_Some t after (gives_same root children _ (Some t) after s.stands.root_tells back gives)))
 
 -- ---- an opening that did not begin all tasks
 
@@ -72,7 +75,7 @@ pub ended_stopped : (m : Mounts) (others : Others) (t : Shape) (why : OpenErr) (
     (root : Option Shape) (children : List Child) (opening : Opening) (trace : List Entry) → IsRecorded m tasks
     → opening ≡ record_with m tasks → trace ≡ []
     → Stops m 0 [] tasks why (trees_told others root children) (bare m (trees_with others t))
-    → IsStanding (numbering_of m.mounts) t root children → (after : Shape)
+    → StandsAfter why (numbering_of m.mounts) t root children → (after : Shape)
     → GivesBack root children (Some after)
     → EndsTold m (trees_told others root children) t after opening trace (end_of why)
 ended_stopped m others t openings.Memory tasks root children opening trace r o none stops stands after gives =

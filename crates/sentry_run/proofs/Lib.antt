@@ -4,7 +4,6 @@ pub mod Closed
 pub mod Groups
 pub mod Lines
 pub mod RunsOfTurns
-pub mod Counts
 pub mod Endings
 pub mod GivenBack
 pub mod Folders

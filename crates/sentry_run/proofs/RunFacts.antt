@@ -17,14 +17,13 @@ use Rattle.sentry_run.specs.declared.play.End.{End}
 use Rattle.sentry_run.specs.declared.play.End.TheVariants as ends
 use Rattle.sentry_run.specs.Played.{IsStuck, nothing_opened, TraceOf}
 use Rattle.image_walk.specs.Standing.{no_left}
-use Rattle.image_walk.proofs.Counts.{risen_same}
 use Rattle.sentry_run.specs.Causes.{is_host_fault, is_grant_failed}
-use Rattle.sentry_run.specs.Concluded.{Writes, Fronts, StopsShort, Concludes}
+use Rattle.sentry_run.specs.Concluded.{Writes, Fronts, IsCutOff, StopsShort, Concludes}
 use Rattle.sentry_run.specs.Outcome.{first_lacking, IsHistory, IsOver, text_of, KeepsOutside, LeavesInside}
 use Rattle.sentry_run.specs.Granted.{IsOfMounts}
 use Rattle.sentry_run.specs.Sides.{Side, Sides}
 use Rattle.sentry_run.proofs.Courses.{Session, Output, text_with, state_left, world_with, Began, Refused, Course}
-use Rattle.sentry_run.proofs.Courses.{Finished, Filled, Halted, Stopped, Starved, Emptied, Untaken, Failing, Missing}
+use Rattle.sentry_run.proofs.Courses.{Finished, Filled, Halted, Stopped, Starved, Untaken, Failing, Missing}
 use Rattle.sentry_run.proofs.Courses.{state_of}
 use Rattle.sentry_run.proofs.Folders.{outside_root}
 
@@ -98,6 +97,10 @@ grant_told text before after fault ends.Memory c = sym (ap is_host_fault c.0)
 
 -- ---- where the host tells
 
+-- the sink took nothing of the text, or not all of it
+abbrev pub CutOf : Session → Output → Type 0
+CutOf x p = IsCutOff p.before.told p.after.told (text_of (state_left x) x.outcome.trace p.flag)
+
 -- the front of the text that the sink took
 abbrev pub FrontOf : Session → Output → Type 0
 FrontOf x p = Fronts p.before.told p.after.told (text_of (state_left x) x.outcome.trace p.flag)
@@ -107,7 +110,7 @@ pub record Short (x : Session) (p : Output) : Type 0 where
   pub kept : KeepsOutside x.mounts x.world x.after
   pub inside : LeavesInside x.mounts x.world (record x.outcome { left = no_left }) x.after
   pub history : (x.outcome.trace ≡ []) ⊎ IsHistory x.mounts x.world x.outcome.opening x.outcome.trace
-  pub front : FrontOf x p
+  pub cut : CutOf x p
 
 pub record Unopened (x : Session) : Type 0 where
   pub same : x.after ≡ Some x.world
@@ -137,8 +140,11 @@ nothing_taken : (sink : Option (List ℕ)) → with_taken sink [] ≡ sink
 nothing_taken None = refl
 nothing_taken (Some taken) = ap Some (append-nil taken)
 
-no_front : (before after : Option (List ℕ)) (text : List ℕ) → after ≡ before → Fronts before after text
-no_front before after text e = (0, e ∙ sym (nothing_taken before))
+-- what is cut off is a front
+pub front_of_cut : (before after : Option (List ℕ)) (text : List ℕ) → IsCutOff before after text
+    → Fronts before after text
+front_of_cut before after text (inl same) = (0, same ∙ sym (nothing_taken before))
+front_of_cut before after text (inr short) = (short.0, short.2)
 
 is_some : (k : Option Kernel) (state : Kernel) → k ≡ Some state → IsSome k
 is_some k state e = subst (λ (o : Option Kernel). IsSome o) (sym e) refl
@@ -154,18 +160,24 @@ front_of x p state b f =
     subst (λ (k : Option Kernel). Fronts p.before.told p.after.told (text_of k x.outcome.trace p.flag))
     (sym (state_of x state b)) f
 
+cut_of : (x : Session) (p : Output) (state : Kernel) → Began x state
+    → IsCutOff p.before.told p.after.told (text_with x p state) → CutOf x p
+cut_of x p state b f =
+    subst (λ (k : Option Kernel). IsCutOff p.before.told p.after.told (text_of k x.outcome.trace p.flag))
+    (sym (state_of x state b)) f
+
 kept_of : (x : Session) (tree : Shape) → HasForm x.mounts → x.after ≡ Some (world_with x tree)
     → KeepsOutside x.mounts x.world x.after
 kept_of x tree form put =
     (world_with x tree, put, outside_root x.mounts.mounts tree x.world form.rooted form.apart)
 
 short_began : (x : Session) (p : Output) (state : Kernel) → HasForm x.mounts → Began x state
-    → Fronts p.before.told p.after.told (text_with x p state) → Short x p
+    → IsCutOff p.before.told p.after.told (text_with x p state) → Short x p
 short_began x p state e b f = record {
   kept = kept_of x b.tree e b.put;
   inside = inr (state, state_of x state b, b.settles);
   history = inr (history_of x state b);
-  front = front_of x p state b f;
+  cut = cut_of x p state b f;
 }
 
 -- a run that is over: its text was taken, or the sink failed before its end, or memory ran out
@@ -189,22 +201,14 @@ told_facts x p fault e (Halted state b stuck w) =
     told_written x p faults.Stuck fault state e b (inr (inr stuck)) (λ taken. (state, b, stuck, taken)) w
 told_facts x p fault e (Stopped task errno r empty f same) = subst (ToldFacts x p) (sym f) r
 told_facts x p fault e (Starved state b f same) =
-    subst (ToldFacts x p) (sym f) (short_began x p state e b (no_front p.before.told p.after.told _ same))
-told_facts x p fault e (Emptied tree put risen empty f same) =
-    subst (ToldFacts x p) (sym f)
-    (record {
-      kept = kept_of x tree e put;
-      inside = inl (empty, world_with x tree, put, risen);
-      history = inl empty;
-      front = no_front p.before.told p.after.told _ same;
-    })
-told_facts x p fault e (Untaken stands opened empty f same) =
+    subst (ToldFacts x p) (sym f) (short_began x p state e b (inl same))
+told_facts x p fault e (Untaken stands empty f same) =
     subst (ToldFacts x p) (sym f)
     (record {
       kept = (x.world, stands, refl);
-      inside = inl (empty, x.world, stands, risen_same x.world);
+      inside = inl (empty, stands);
       history = inl empty;
-      front = no_front p.before.told p.after.told _ same;
+      cut = inl same;
     })
 told_facts x p fault e (Failing stands opened empty f same) =
     subst (ToldFacts x p) (sym f) (record { same = stands; opened = opened })

@@ -28,7 +28,7 @@ use Rattle.sentry_run.specs.Outcome.{KeepsOutside, IsLeftOver, AreLeft, LeavesIn
 use Rattle.sentry_run.specs.LeftTasks.{MayBeLeft}
 use Rattle.sentry_run.specs.Sides.{Side, Sides}
 use Rattle.sentry_run.proofs.Courses.{Session, Output, text_with, Began}
-use Rattle.sentry_run.proofs.RunFacts.{AnyFacts, Silent, ToldFacts, FrontOf, front_of, history_of}
+use Rattle.sentry_run.proofs.RunFacts.{AnyFacts, Silent, ToldFacts, FrontOf, front_of, front_of_cut, history_of}
 use Rattle.sentry_run.proofs.Ways.{Call, session, output, Way, Misused, Unread, Over_file}
 use Rattle.sentry_run.proofs.Clauses.{any_as, told_as, if_read, where_read, where_state}
 
@@ -137,7 +137,7 @@ text s r way h =
 
 front_by : (x : Session) (p : Output) (f : Fault) → HasFront f → ToldFacts x p f → FrontOf x p
 front_by x p faults.SinkFault h t = front_of x p t.0 t.1 (t.3.0, t.3.2)
-front_by x p faults.Memory h t = t.front
+front_by x p faults.Memory h t = front_of_cut p.before.told p.after.told _ t.cut
 front_by x p _ h t = cc
 
 pub text_front : (s : Call) (r : Outcome) → Way s r → HasFront r.fault

@@ -16,7 +16,7 @@ use Rattle.image_walk.specs.Standing.{no_left}
 use Rattle.sentry_run.specs.Granted.{PlaysIn}
 use Rattle.sentry_run.specs.Causes.{status_of, is_host_fault, is_sink_fault}
 use Rattle.sentry_run.specs.Ran.{ReadsAs, NoCommand, NotRead, Read, RanOver, RanCommand, RanWords, played_by}
-use Rattle.sentry_run.specs.Outcome.{asks_trace}
+use Rattle.sentry_run.specs.Outcome.{asks_trace, most_read}
 use Rattle.sentry_run.specs.Sides.{Sides}
 use Rattle.sentry_run.proofs.Courses.{Session, Output, course}
 use Rattle.sentry_run.proofs.RunFacts.{AnyFacts, any_facts, grant_told, ToldFacts, told_facts}
@@ -53,9 +53,9 @@ pub record Over (s : Call) (m : Mounts) (r : Outcome) : Type 0 where
 pub data Way (s : Call) (r : Outcome) : Type 0 where
   Misused : s.words ≡ None → NoCommand s.before s.after r → Way s r
   Unread : (command : Command) → s.words ≡ Some command
-      → ReadsWithin s.before.source.told s.after.source.told 65537 → NotRead command s.before s.after r → Way s r
+      → ReadsWithin s.before.source.told s.after.source.told most_read → NotRead command s.before s.after r → Way s r
   Over_file : (command : Command) → s.words ≡ Some command
-      → ReadsWithin s.before.source.told s.after.source.told 65537 → (m : Mounts)
+      → ReadsWithin s.before.source.told s.after.source.told most_read → (m : Mounts)
       → ReadsAs command s.before.source.told m → Over s m r → Way s r
 
 over_of : (s : Call) (m : Mounts) (r : Outcome) → s.after.source.count ≡ s.before.source.count

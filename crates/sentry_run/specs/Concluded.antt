@@ -19,13 +19,18 @@ Fronts before after text = (n : ℕ) × (after ≡ with_taken before (take n tex
 abbrev pub StopsShort : (before after : Option (List ℕ)) → List ℕ → Type 0
 StopsShort before after text = (n : ℕ) × (n < length text) × (after ≡ with_taken before (take n text))
 
--- the text was taken and the run came out so, or the sink failed before its end, or memory ran out after a front of it
+-- the sink took nothing, or not all of the text
+-- write(2): a write may take a part
+abbrev pub IsCutOff : (before after : Option (List ℕ)) → List ℕ → Type 0
+IsCutOff before after text = (after ≡ before) ⊎ StopsShort before after text
+
+-- the text was taken and the run came out so, or the sink failed before its end, or memory ran out before it
 -- profile
 abbrev pub Writes : (text : List ℕ) → (whole : Fault) → (before after : Side (List ℕ)) → Fault → Type 0
 Writes text whole before after fault =
     ((fault ≡ whole) × (after.told ≡ with_taken before.told text))
     ⊎ ((fault ≡ faults.SinkFault) × Rose before.count after.count × StopsShort before.told after.told text)
-    ⊎ ((fault ≡ faults.Memory) × Fronts before.told after.told text)
+    ⊎ ((fault ≡ faults.Memory) × IsCutOff before.told after.told text)
 
 -- how a run comes out that ended so, from the text of each state
 -- profile

@@ -8,6 +8,7 @@ use Rattle.sn_edge.specs.Shelf.{Shelf, content_at}
 use Rattle.sn_errno.specs.declared.errno.Errno.{Errno}
 use Rattle.kernel_model.specs.declared.entry.Entry.{Entry}
 use Rattle.kernel_model.specs.declared.kernel.Kernel.{Kernel}
+use Rattle.mount_file.specs.declared.read.TheConstants.{LONGEST_MOUNT_FILE}
 use Rattle.mount_file.specs.declared.mounts.Mounts.{Mounts}
 use Rattle.mount_file.specs.declared.mounts.Mount.{Mount}
 use Rattle.kernel_model.specs.declared.opening.Opening.{Opening}
@@ -24,8 +25,7 @@ use Rattle.kernel_model.specs.declared.opening.Fresh.{Fresh}
 use Rattle.kernel_model.specs.files.FileTree.{Child, Missing, child_at}
 use Rattle.kernel_model.specs.files.Numbers.{IsUnnumbered, left_fresh}
 use Rattle.kernel_model.specs.files.Settled.{tree_now, settled, outside}
-use Rattle.sentry_run.specs.Concluded.{StopsShort}
-use Rattle.image_walk.specs.Counts.{HasRisen}
+use Rattle.sentry_run.specs.Concluded.{IsCutOff, StopsShort}
 use Rattle.sentry_run.specs.LeftTasks.{MayBeLeft}
 use Rattle.sentry_run.specs.Played.{IsStuck}
 use Rattle.sentry_run.specs.declared.outcome.Fault.{Fault}
@@ -40,10 +40,15 @@ WhereTold (Some a) fact = fact a
 
 -- ---- the mount file
 
+-- how many bytes of a mount file are read at most: one more than it may have
+-- profile
+abbrev pub most_read : ℕ
+most_read = LONGEST_MOUNT_FILE + 1
+
 -- the bytes that are read of the file that a command names, where it is there: all, or the first 65,537
 -- open(2), ENOENT; the number: profile
 abbrev pub bytes_read : Command → Shelf → Option (List ℕ)
-bytes_read command shelf = option_map (take 65537) (content_at shelf.files command.mounts)
+bytes_read command shelf = option_map (take most_read) (content_at shelf.files command.mounts)
 
 -- the file that a command names is there, and what is read of it is a mount file that says this
 -- profile
@@ -165,11 +170,11 @@ abbrev pub asks_trace : Option Command → Bool
 asks_trace None = false
 asks_trace (Some command) = command.trace
 
--- an answer of a run that is over: it came out so, or the sink failed before the text's end, or memory ran out
+-- an answer of a run that is over: it came out so, or the sink failed before the text's end, or memory ran out before it
 -- profile
 abbrev pub ComesTo : (whole : Fault) → (sink after : Option (List ℕ)) → (text : List ℕ) → Fault → Type 0
 ComesTo whole sink after text SinkFault = StopsShort sink after text
-ComesTo whole sink after text Memory = ⊤
+ComesTo whole sink after text Memory = IsCutOff sink after text
 ComesTo whole sink after text fault = fault ≡ whole
 
 -- the text of a state, or nothing where there is none
@@ -238,11 +243,10 @@ abbrev pub KeepsOutside : Mounts → Shape → Option Shape → Type 0
 KeepsOutside mounts world after =
     (w : Shape) × (after ≡ Some w) × (outside mounts.mounts w ≡ outside mounts.mounts world)
 
--- no entry was made, and counts of failed calls rose at most; or the world has each grant as the state of the trace has
--- it
+-- no entry was made, and the world is as it was; or it has each grant as the state of the trace has it
 -- profile
 abbrev pub LeavesInside : Mounts → Shape → Outcome → (after : Option Shape) → Type 0
 LeavesInside mounts world r after =
-    ((r.trace ≡ []) × (w : Shape) × (after ≡ Some w) × HasRisen world w)
+    ((r.trace ≡ []) × (after ≡ Some world))
     ⊎ ((k : Kernel) × (state_after mounts world r.opening r.trace ≡ Some k)
     × (after ≡ Some (world_after mounts r.opening r.left k world)))

@@ -14,7 +14,6 @@ use Rattle.kernel_model.specs.opening.Opening.{opening_of, Opens, Refuses}
 use Rattle.kernel_model.specs.entries.Given.{has_any}
 use Rattle.kernel_model.specs.entries.History.{replay, each_whole, any_live}
 use Rattle.kernel_model.specs.entries.Ready.{ready_numbers}
-use Rattle.image_walk.specs.Counts.{HasRisen}
 use Rattle.image_walk.specs.Granted.{GivesBack}
 use Rattle.run_opening.specs.declared.opening.OpenErr.{OpenErr}
 use Rattle.run_opening.specs.declared.opening.OpenErr.TheVariants as openings
@@ -82,7 +81,7 @@ Ended mounts others tree after opening trace (ends.Stuck kernel) =
 Ended mounts others tree after opening trace (ends.Image task errno) =
     Failed mounts others tree after opening task errno × (trace ≡ [])
 Ended mounts others tree after opening trace ends.Memory =
-    ((trace ≡ []) × HasRisen tree after) ⊎ ((state : Kernel) × Runs mounts others tree after opening trace state)
+    ((trace ≡ []) × (after ≡ tree)) ⊎ ((state : Kernel) × Runs mounts others tree after opening trace state)
 Ended mounts others tree after opening trace ends.HostFault = ⊥
 Ended mounts others tree after opening trace (ends.Grant mount) = ⊥
 
@@ -133,7 +132,7 @@ EndsTold m f tree after opening trace (ends.Stuck kernel) =
 EndsTold m f tree after opening trace (ends.Image task errno) =
     Failed m f.others tree after opening task errno × (trace ≡ [])
 EndsTold m f tree after opening trace ends.Memory =
-    ((trace ≡ []) × HasRisen tree after)
+    ((trace ≡ []) × (after ≡ tree))
     ⊎ ((state : Kernel) × Runs m f.others tree after opening trace state × (over_told m f state ≡ Some state))
 EndsTold m f tree after opening trace _ = ⊥
 

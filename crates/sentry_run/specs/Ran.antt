@@ -18,7 +18,7 @@ use Rattle.image_walk.specs.Standing.{no_left}
 use Rattle.sentry_run.specs.Granted.{IsPlayed, PlaysIn}
 use Rattle.sentry_run.specs.Concluded.{Concludes}
 use Rattle.sentry_run.specs.Causes.{status_of, is_source_fault, is_sink_fault}
-use Rattle.sentry_run.specs.Outcome.{WhereTold, NamesMountFile, NamesFaulty}
+use Rattle.sentry_run.specs.Outcome.{WhereTold, NamesMountFile, NamesFaulty, most_read}
 use Rattle.sentry_run.specs.Sides.{Side, Sides}
 
 -- a run that did not begin
@@ -84,7 +84,7 @@ pub record Read (command : Command) (before after : Sides) (r : Outcome) : Type 
 -- profile
 abbrev pub RanBy : Command → (before after : Sides) → Outcome → Type 0
 RanBy command before after r =
-    ReadsWithin before.source.told after.source.told 65537
+    ReadsWithin before.source.told after.source.told most_read
     × (NotRead command before after r ⊎ Read command before after r)
 
 -- words that are no command: all three sides are as they were

@@ -198,7 +198,10 @@ pub fn play_granted<N: HostNode>(alloc: Global, mounts: &Mounts, granted: &mut G
         Ok(opening) => opening,
         Err(Memory) => return stopped(alloc, End::Memory),
     };
-    match open_tasks(alloc, mounts, granted, &mut opening.tasks) {
+    let mut tasks = Vec::new(alloc);
+    let opened = open_tasks(alloc, mounts, granted, &mut tasks);
+    opening.tasks = List::from_vec(tasks);
+    match opened {
         Ok(processes) => run_processes(alloc, mounts, granted, processes, opening),
         Err(why) => unbegun(alloc, why, opening),
     }

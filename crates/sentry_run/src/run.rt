@@ -17,7 +17,7 @@ ghost use Rattle.sentry_run.specs.Causes.{MayFailToStart};
 ghost use Rattle.sentry_run.specs.Concluded.{Fronts, StopsShort};
 ghost use Rattle.sentry_run.specs.Granted.{IsUngranted};
 ghost use Rattle.mount_file.specs.Form.{HasForm};
-ghost use Rattle.sentry_run.specs.Outcome.{ReadsMounts, HasMountFault, MeetsFault, first_lacking, granted, begun};
+ghost use Rattle.sentry_run.specs.Outcome.{ReadsMounts, HasMountFault, MeetsFault, first_lacking, granted, begun, most_read};
 ghost use Rattle.sentry_run.specs.Outcome.{state_after};
 ghost use Rattle.sentry_run.specs.Outcome.{WhereRead, WhereState, IsHistory, RefusesAs, refused_kernel, IsOver};
 ghost use Rattle.sentry_run.specs.Outcome.{asks_trace, text_of, LacksFile, ComesTo, AreLeft, LeavesInside};
@@ -53,7 +53,7 @@ pub fn load_mounts<S: Source>(
     command: &Command<'_>,
     files: &mut S,
 ) -> Result<Mounts, Fault>
-    ensures read { ReadsWithin (S.told files.old) (S.told files.new) 65537 }
+    ensures read { ReadsWithin (S.told files.old) (S.told files.new) most_read }
     ensures ok { IfOk result (ReadsAs (command_of command.now) (S.told files.old)) }
     ensures form { IfOk result HasForm }
     ensures err { IfErr result (FailsToRead (command_of command.now)
@@ -142,7 +142,7 @@ pub fn run_sentry<S: Source, W: HostWorld, K: Sink>(
     ensures source_lacking { LacksFile (accepted (map string_bytes words.now)) (S.told files.old) →
         MayFailToOpen result.fault }
     // The source is read at most to its 65,537th byte, and each read takes a byte or is the last.
-    ensures source_read { ReadsWithin (S.told files.old) (S.told files.new) 65537 }
+    ensures source_read { ReadsWithin (S.told files.old) (S.told files.new) most_read }
     ensures mounts { (fault : MountFault) → result.fault ≡ Fault.Mounts fault →
         HasMountFault (accepted (map string_bytes words.now)) (S.told files.old) fault }
     ensures mounts_exact { (fault : MountFault) →

@@ -3,8 +3,8 @@ use Rattle.std.proofs.Common.{refl, subst, ◌<◌, ℕ, ◌^◌}
 use Rattle.image_walk.proofs.Nodes.{load_refused}
 use Rattle.image_walk.proofs.loading.load.Goals as goal
 
-pub returns-in-Some : goal.returns-in-Some
-returns-in-Some g c =
+pub returns-in-Some-clause-loads : goal.returns-in-Some-clause-loads
+returns-in-Some-clause-loads g c =
     let laws = g.met.N.HostNode g.world.𝓛 g.world.𝓜 g.world.𝓡 ((λ s x. x), (λ x. x), (λ x. x), λ x. x) in
     load_refused _ _ (g.N.HostNode.count c.args.node.now) (g.N.HostNode.count c.stat.new.self)
     (g.N.HostNode.what c.args.node.now) c.in-Ok.attr c.in-Some.errno _ _

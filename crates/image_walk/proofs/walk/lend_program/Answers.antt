@@ -15,7 +15,7 @@ returns-in-Ok-Some-clause-lends g c =
     (told c.load-loaded.new.node) c.args.name.now (g.N.HostNode.count c.in-Ok-Some.child)
     (g.N.HostNode.what c.in-Ok-Some.child) (c.args.granted.now.numbers.first + c.len.result) c.load-loaded.result
     (told_of told c.args.granted.now.lent.items) (told_of told c.push_reserved.new.self.items) node tells
-    c.load-loaded.ensures
+    c.load-loaded.ensures.loads
     (told_more told c.args.granted.now.lent.items c.reserve.new.self.items c.push_reserved.new.self.items
     c.args.name.now c.in_ok-kept.kept c.load-loaded.new.node c.reserve.ensures.items c.in_ok-kept.ensures
     c.push_reserved.ensures.items)

@@ -18,5 +18,5 @@ returns-clause-loads g c =
           ∙ ap Some (sym c.index_mut-child.ensures.value));
       told = told c.load.new.node;
       set = map-set (λ l. (l.name, told l.node)) c.args.lent.now.items c.args.place _;
-      loads = c.load.ensures;
+      loads = c.load.ensures.loads;
     }

@@ -26,13 +26,13 @@ loop-index-init g c =
       same = refl;
       opened = subst (λ (list : TaskTable). AreOpened 0 list) (sym c.new-processes.ensures.none) opened_none;
       record_so_far =
-          record_none c.args.mounts.now c.args.tasks.now (length c.args.granted.now.lent.items) c.requires.none
+          record_none c.args.mounts.now c.args.tasks.now.items (length c.args.granted.now.lent.items) c.requires.none
           (ap length c.requires.lent);
       silent = λ e. (e, subst (λ ls. TellNothing (told_of told ls)) (sym c.requires.lent) tt);
       stands = λ t e. record { names = []; stands = stands t e };
       begun = λ others t are e.
           begun_none c.args.mounts.now others t c.new-processes.result (told c.args.granted.now.root)
-          (told_of told c.args.granted.now.lent.items) c.args.tasks.now are (stands t e)
+          (told_of told c.args.granted.now.lent.items) c.args.tasks.now.items are (stands t e)
           (λ nodes. c.new-processes.ensures.begun (beside_of c.args.mounts.now nodes) 0);
     }
 
@@ -68,15 +68,17 @@ loop-index-preserved g c =
       silent = λ n. e.silent (before.silent n);
       stands = λ t tells. e.stands t (before.stands t tells);
       begun = λ others t are tells.
-          goes_on c.args.mounts.now c.loop-index.index (c.loop-index.index + 1) c.args.tasks.now c.loop-index.tasks
-          c.open_task.new.tasks (bare c.args.mounts.now (trees_with others t)) _ _ (before.begun others t are tells)
+          goes_on c.args.mounts.now c.loop-index.index (c.loop-index.index + 1) c.args.tasks.now.items
+          c.loop-index.tasks.items c.open_task.new.tasks.items (bare c.args.mounts.now (trees_with others t)) _ _
+          (before.begun others t are tells)
           (e.begun others are);
     }
 
 pub returns-in_err-more-clause-stopped : goal.returns-in_err-more-clause-stopped
 returns-in_err-more-clause-stopped g c =
     let told = g.N.HostNode.told in
-    stops_then c.args.mounts.now c.loop-index.index c.args.tasks.now c.loop-index.tasks c.open_task.new.tasks
+    stops_then c.args.mounts.now c.loop-index.index c.args.tasks.now.items c.loop-index.tasks.items
+    c.open_task.new.tasks.items
     c.loop-index.processes (told c.args.granted.now.root) (told c.loop-index.granted.root)
     (told c.open_task.new.granted.root) (told_of told c.loop-index.granted.lent.items)
     (told_of told c.open_task.new.granted.lent.items) c.from_residual.result c.in_err-more.field-0.0

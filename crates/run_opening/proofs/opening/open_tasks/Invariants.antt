@@ -19,12 +19,12 @@ invariant-loop-index g l =
     record {
       same : l.granted.numbers ≡ l.fn.granted.numbers;
       opened : AreOpened l.index l.processes.cells.tasks;
-      record_so_far : IsRecord l.mounts l.tasks l.index (length l.granted.lent.items);
+      record_so_far : IsRecord l.mounts l.tasks.items l.index (length l.granted.lent.items);
       silent : told l.fn.granted.root ≡ None → IsSilent (told l.granted.root) (told_of told l.granted.lent.items);
       stands : (t : Shape) → told l.fn.granted.root ≡ Some t
           → StandsStill (numbering_of l.mounts.mounts) t (told l.granted.root) (told_of told l.granted.lent.items);
       begun : (others : Others) (t : Shape) → AreOthers l.mounts.mounts others → told l.fn.granted.root ≡ Some t
           → IsSomeAnd (kernel_told l.mounts
           (trees_told others (told l.granted.root) (told_of told l.granted.lent.items)) l.processes 0)
-          (HasBegun l.mounts 0 l.index l.fn.tasks l.tasks (bare l.mounts (trees_with others t)));
+          (HasBegun l.mounts 0 l.index l.fn.tasks.items l.tasks.items (bare l.mounts (trees_with others t)));
     }

@@ -21,4 +21,5 @@ returns-in-Err g c =
     let root = told c.open_tasks.new.granted.root in
     let children = told_of told c.open_tasks.new.granted.lent.items in
     can_where (told c.args.granted.now.root) root children c.open_tasks.ensures.silent
-    (λ t e. back (numbering_of c.args.mounts.now.mounts) t root children (c.in-Err.ensures.standing t e))
+    (λ t e. back (numbering_of c.args.mounts.now.mounts) t root children c.in-Err.why
+    (c.in-Err.ensures.standing t e))
