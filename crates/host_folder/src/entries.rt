@@ -54,6 +54,8 @@ fn listing_of(alloc: Global, seen: &[Seen]) -> Result<Listing, HostErr>
 fn entries_from(alloc: Global, seen: &[Seen]) -> Result<Vec<Listed>, HostErr>
     ensures entries { IfOk result (λ entries. entries.items ≡ entries_of seen.now) }
     ensures names { IfOk result (λ entries. All (λ entry. IsName entry.name) entries.items) }
+    ensures memory { All (λ one. IfSome (listed_as one) (λ entry. IsName entry.name)) seen.now →
+        IsOkUnless result HostErr.Memory }
 {
     let mut entries = Vec::new(alloc);
     for one in seen {
