@@ -1,6 +1,6 @@
 -- Calls on what is open, as the table of all calls has them.
 use Rattle.std.proofs.Common.{◌≡◌, ℕ, Some, ap, refl, ◌∙◌}
-use Rattle.sn_errno.specs.Calls.{call_of}
+use Rattle.sn_errno.specs.Calls.{call_numbered}
 use Rattle.sn_base.specs.declared.made.Made.{Made}
 use Rattle.mm_space.specs.Handed.{AreaState}
 use Rattle.mm_space.specs.Spaces.{AddressSpace}
@@ -75,11 +75,12 @@ write_is context c args Buffer = refl
 write_is context c args Records = refl
 
 pub called_read : (context : RowContext) (c : Caller) (number : ℕ) (args : Args) (by : By)
-    → call_of number ≡ Some (read_call by) → call_row context c number args ≡ read_row_by by args.a0 args.a1 args.a2 c
+    → call_numbered number ≡ Some (read_call by) → call_row context c number args
+    ≡ read_row_by by args.a0 args.a1 args.a2 c
 called_read context c number args by is = ap (row_if_known context c args) is ∙ read_is context c args by
 
 pub called_write : (context : RowContext) (c : Caller) (number : ℕ) (args : Args) (by : By)
-    → call_of number ≡ Some (write_call by)
+    → call_numbered number ≡ Some (write_call by)
     → call_row context c number args ≡ write_row_by by args.a0 args.a1 args.a2 c
 called_write context c number args by is = ap (row_if_known context c args) is ∙ write_is context c args by
 

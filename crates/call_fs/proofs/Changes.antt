@@ -16,11 +16,11 @@ use Rattle.kernel_model.specs.declared.kernel.Kernel.{Kernel}
 use Rattle.kernel_model.specs.declared.kernel.Part.TheVariants.{OfTable, OfDescription}
 use Rattle.kernel_model.specs.declared.open_files.OpenFile.{OpenFile}
 use Rattle.kernel_model.specs.calls.Answers.{replies}
-use Rattle.kernel_model.specs.calls.Descriptors.{gives, leaves, replaced, sets_status}
+use Rattle.kernel_model.specs.calls.Descriptors.{gives, leaves_table, replaced, sets_status}
 use Rattle.kernel_model.specs.descriptors.Counts.{counted, dropped, file_dropped, object_closed}
 use Rattle.kernel_model.specs.entries.InTurn.{followed}
 use Rattle.kernel_model.specs.entries.Parts.{Change, Prog, done, ◌>>=◌, changed, outcome_in, parts}
-use Rattle.kernel_model.specs.laws.InPlace.{done_by}
+use Rattle.kernel_model.specs.laws.InPlace.{kernel_left}
 use Rattle.kernel_model.specs.laws.Files.{with_one_fewer, with_one_more}
 use Rattle.kernel_model.proofs.FileChanges.{dropped_one}
 use Rattle.kernel_model.proofs.Trees.{outcome-bind}
@@ -94,11 +94,12 @@ counts_alike name before k tables =
 
 -- ---- what they leave
 
-replaced_leaves : (d : Option Descriptor) (k : Kernel) → done_by (replaced d) k ≡ record k { files = freed d k.files }
+replaced_leaves : (d : Option Descriptor) (k : Kernel) → kernel_left (replaced d) k
+    ≡ record k { files = freed d k.files }
 replaced_leaves None k = refl
 replaced_leaves (Some d) k = dropped_one d.description k
 
-counts_leave : (name : Made) (before : Option Descriptor) (k : Kernel) → done_by (counts name before) k
+counts_leave : (name : Made) (before : Option Descriptor) (k : Kernel) → kernel_left (counts name before) k
     ≡ record k { files = freed before (record k.files { descriptions = with_one_more name k.files.descriptions }) }
 counts_leave name before k =
     done_followed k (counted name) (replaced before)
@@ -122,7 +123,7 @@ module _ (l : Looked) (c : Caller) (k : Kernel) (is : IsOpen l c k) where
       record {
         changes = (OfTable c.table, Some after) ∷ outcome_in (parts k) (counts d.description before);
         row_is =
-            outcome-bind (parts k) (counts d.description before) (λ changes. done (leaves c number after changes))
+            outcome-bind (parts k) (counts d.description before) (λ changes. done (leaves_table c number after changes))
             ∙ ap (λ v. replies v ((OfTable c.table, Some after) ∷ outcome_in (parts k) (counts d.description before)))
             (sym told);
         done_is =
@@ -138,7 +139,8 @@ module _ (l : Looked) (c : Caller) (k : Kernel) (is : IsOpen l c k) where
       }
 
   -- execve(2) closes it, or does not
-  pub answers_marks : (cloexec : Bool) → AnswersFiles (done (leaves c 0 (marked l.numbers.now l.number cloexec) []))
+  pub answers_marks : (cloexec : Bool) → AnswersFiles (done (leaves_table c 0
+      (marked l.numbers.now l.number cloexec) []))
       (record { reply = pos 0; change = Marks l.number cloexec }) c k
   answers_marks cloexec = record {
     changes = (OfTable c.table, Some (marked l.numbers.now l.number cloexec)) ∷ [];
@@ -152,7 +154,7 @@ module _ (l : Looked) (c : Caller) (k : Kernel) (is : IsOpen l c k) where
   -- it is closed
   pub answers_closes : (number : ℕ) → l.number ≡ number → AnswersFiles
       (dropped l.descriptor.description
-      >>= λ changes. done (leaves c 0 (map.remove l.numbers.now number) changes))
+      >>= λ changes. done (leaves_table c 0 (map.remove l.numbers.now number) changes))
       (record { reply = pos 0; change = Closes l.number }) c k
   answers_closes number same =
       let t = l.numbers.now in
@@ -161,7 +163,7 @@ module _ (l : Looked) (c : Caller) (k : Kernel) (is : IsOpen l c k) where
       let files = with_table c.table after k.files in
       record {
         changes = (OfTable c.table, Some after) ∷ outcome_in (parts k) (dropped d.description);
-        row_is = outcome-bind (parts k) (dropped d.description) (λ changes. done (leaves c 0 after changes));
+        row_is = outcome-bind (parts k) (dropped d.description) (λ changes. done (leaves_table c 0 after changes));
         done_is =
             ap (λ changes. changed changes (record k { files = files })) (dropped_alike d.description k files.tables)
             ∙ dropped_one d.description (record k { files = files })

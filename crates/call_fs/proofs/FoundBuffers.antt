@@ -14,7 +14,7 @@ use Rattle.kernel_model.specs.calls.Vectors.{if_countable, with_buffers}
 use Rattle.kernel_model.specs.entries.Areas.{bytes_read}
 use Rattle.kernel_model.specs.entries.Parts.{Prog, done, ◌>>=◌, outcome_in, parts}
 use Rattle.kernel_model.proofs.Trees.{outcome-bind}
-use Rattle.call_fs.specs.Records.{GoesOn, IsCountable}
+use Rattle.call_fs.specs.Records.{GoesOnWith, IsCountable}
 use Rattle.call_fs.specs.declared.vectors.Vectors.{Vectors}
 use Rattle.call_fs.specs.declared.vectors.Vectors.TheVariants.{Found, Refused}
 
@@ -34,19 +34,19 @@ found_by c k own at count row records few same is =
 
 -- the same goes on, or is refused
 pub goes_alike : (whole other : Prog Answer) (k : Kernel) (row : List IoVec → Prog Answer) (v : Vectors)
-    → outcome_in (parts k) whole ≡ outcome_in (parts k) other → GoesOn other row v k → GoesOn whole row v k
+    → outcome_in (parts k) whole ≡ outcome_in (parts k) other → GoesOnWith other row v k → GoesOnWith whole row v k
 goes_alike whole other k row (Refused errno) is goes = is ∙ goes
 goes_alike whole other k row (Found buffers) is goes = is ∙ goes
 
 -- by what has become of the records
 pub goes_refused : (whole : Prog Answer) (k : Kernel) (row : List IoVec → Prog Answer) (v : Vectors) (errno : Errno)
-    → v ≡ Refused errno → GoesOn whole row v k → outcome_in (parts k) whole ≡ refuses errno
-goes_refused whole k row v errno is goes = subst (λ x. GoesOn whole row x k) is goes
+    → v ≡ Refused errno → GoesOnWith whole row v k → outcome_in (parts k) whole ≡ refuses errno
+goes_refused whole k row v errno is goes = subst (λ x. GoesOnWith whole row x k) is goes
 
 pub goes_found : (whole : Prog Answer) (k : Kernel) (row : List IoVec → Prog Answer) (v : Vectors)
-    (buffers : List IoVec) → v ≡ Found buffers → GoesOn whole row v k
+    (buffers : List IoVec) → v ≡ Found buffers → GoesOnWith whole row v k
     → outcome_in (parts k) whole ≡ outcome_in (parts k) (row buffers)
-goes_found whole k row v buffers is goes = subst (λ x. GoesOn whole row x k) is goes
+goes_found whole k row v buffers is goes = subst (λ x. GoesOnWith whole row x k) is goes
 
 pub countable_found : (v : Vectors) (buffers : List IoVec) → v ≡ Found buffers → IsCountable v
     → total_of buffers ≤ 2 ^ 63 - 1

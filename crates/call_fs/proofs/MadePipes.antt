@@ -17,7 +17,7 @@ use Rattle.kernel_model.specs.declared.kernel.Kernel.{Kernel}
 use Rattle.kernel_model.specs.declared.open_files.OpenFiles.{OpenFiles}
 use Rattle.kernel_model.specs.calls.Answers.{Answer, refuses}
 use Rattle.kernel_model.specs.calls.Callers.{Context as RowContext}
-use Rattle.kernel_model.specs.calls.Lookups.{lowest_free, or_refuse, with_table}
+use Rattle.kernel_model.specs.calls.Lookups.{lowest_free, or_refuse, with_callers_table}
 use Rattle.kernel_model.specs.calls.Pipes.{are_pipe_flags, pipe2_of, pipe_made, two_free, with_ends_of}
 use Rattle.kernel_model.specs.entries.Areas.{access_row, bytes_written, written_with}
 use Rattle.kernel_model.specs.entries.Parts.{Parts, Prog, changed, done, ◌>>=◌, outcome_in, parts}
@@ -55,7 +55,7 @@ module _ (context : RowContext) (c : Caller) (k : Kernel) (buffer flags : ℕ) w
       or_refuse EMFILE (λ fds. done (pipe_made context c buffer flags hand table fds)) (two_free table)
 
   abbrev with_hand_of : List InHand → Prog Answer
-  with_hand_of hand = with_table c (with_table_of hand)
+  with_hand_of hand = with_callers_table c (with_table_of hand)
 
   module _ (own : AddressSpace) (hand : Option (List InHand)) (allowed : are_pipe_flags flags ≡ true)
       (same : c.space ≡ own) (is : outcome_in (parts k) (access_row writable own buffer 8) ≡ hand) where

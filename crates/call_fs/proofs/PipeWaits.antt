@@ -44,7 +44,7 @@ use Rattle.kernel_model.proofs.Trees.{outcome_alike, outcome-bind}
 use Rattle.kernel_calls.specs.Prepared.{AgreesOnEnd, WaitsWith}
 use Rattle.kernel_calls.specs.declared.prepared.Awaited.{Awaited}
 use Rattle.call_fs.specs.Asked.{LooksNowhereElse, read_row_by, write_row_by}
-use Rattle.call_fs.specs.Lookups.{end_at, end_by, end_in, file_at}
+use Rattle.call_fs.specs.Lookups.{used_end_at, end_by, end_in, file_at}
 use Rattle.call_fs.specs.declared.moving.By.{By}
 use Rattle.call_fs.specs.declared.moving.By.TheVariants.{Buffer, Records}
 use Rattle.call_fs.proofs.Opened.{accessible_one}
@@ -415,14 +415,14 @@ module _ (may : Access → Bool) (body : Description → Prog Answer) (c : Calle
       (at.0, ap (λ o. outcome_in those (or_refuse EBADF (if_may may body) o)) (at.1 ∙ is) ∙ at.2)
 
   by_number : (o : Option Descriptor) → outcome_in (parts k) (or_refuse EBADF opens o) ≡ not_ready
-      → AgreesOnEnd (option_and_then (end_at k.files) o) c.table (parts k) those
+      → AgreesOnEnd (option_and_then (used_end_at k.files) o) c.table (parts k) those
       → TableStays × (outcome_in those (or_refuse EBADF opens o) ≡ not_ready)
   by_number None e agrees = absurd (replies_at_once _ _ e)
   by_number (Some d) e agrees = by_description d (file_at k.files d) refl e agrees
 
   by_table : (o : Option Table) → get_named k.files.tables c.table.place c.table.index ≡ o
       → outcome_in (parts k) (or_refuse EBADF (λ t. or_refuse EBADF opens (map.get t (descriptor fd))) o) ≡ not_ready
-      → AgreesOnEnd (option_and_then (end_at k.files) (option_and_then (λ t. map.get t (descriptor fd)) o)) c.table
+      → AgreesOnEnd (option_and_then (used_end_at k.files) (option_and_then (λ t. map.get t (descriptor fd)) o)) c.table
       (parts k) those → outcome_in those (opened_for may c fd body) ≡ not_ready
   by_table None is e agrees = absurd (replies_at_once _ _ e)
   by_table (Some t) is e agrees =

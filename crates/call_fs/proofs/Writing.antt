@@ -30,7 +30,7 @@ use Rattle.kernel_model.proofs.Trees.{outcome-bind}
 use Rattle.guest_access.specs.Memories.{with_memory}
 use Rattle.kernel_calls.proofs.Answering.{kept_memory}
 use Rattle.call_fs.specs.Records.{buffers_in}
-use Rattle.call_fs.specs.Transfers.{AnswersTransfer, HasMemory, HasRoom, IsGathered, after_transfer, appended_by}
+use Rattle.call_fs.specs.Transfers.{AnswersTransfer, HasMemory, FitsPipe, IsGathered, after_transfer, appended_by}
 use Rattle.call_fs.specs.Transfers.{by_bytes, put_by, writes_from}
 use Rattle.call_fs.specs.declared.vectors.Buffers.{Buffers}
 use Rattle.call_fs.specs.declared.transfers.Transfer.TheVariants.{Appends, Puts}
@@ -112,7 +112,7 @@ module _ (c : Caller) (k : Kernel) (own : AddressSpace) (shared : NamedMap AreaS
 -- there is room for them
 pub put_sure : (files : OpenFiles) (name : Made) (pipe : PipeState) (from : Buffers) (count taken : ℕ)
     → count ≡ total_of (buffers_in from) → get_named files.pipes name.place name.index ≡ Some pipe
-    → length pipe.bytes ≤ 65536 → taken ≡ min count (room_in pipe) → HasRoom (Puts name from taken) files
+    → length pipe.bytes ≤ 65536 → taken ≡ min count (room_in pipe) → FitsPipe (Puts name from taken) files
 put_sure files name pipe from count taken all there within so = (
   omega (arith, so, all),
   λ p is. let same : length p.bytes ≡ length pipe.bytes = cc (there, is) in

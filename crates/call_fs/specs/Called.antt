@@ -12,7 +12,7 @@ use Rattle.kernel_model.specs.entries.Parts.{Prog}
 use Rattle.kernel_calls.specs.Prepared.{Comes, IsApart}
 use Rattle.kernel_calls.specs.declared.prepared.Called.{Called as ACalled}
 use Rattle.call_fs.specs.Pipes.{MakesPipe as MakesAPipe}
-use Rattle.call_fs.specs.Transfers.{AnswersTransfer, HasRoom}
+use Rattle.call_fs.specs.Transfers.{AnswersTransfer, FitsPipe}
 use Rattle.call_fs.specs.declared.called.Called.{Called}
 use Rattle.call_fs.specs.declared.called.Called.TheVariants.{Of, Moves, MakesPipe}
 use Rattle.call_fs.specs.declared.transfers.Transfer.{Transfer}
@@ -53,7 +53,7 @@ IsApartIn (MakesPipe new) = ⊤
 -- pipe(7), Pipe capacity
 abbrev pub HasRoomIn : Called → OpenFiles → Type 0
 HasRoomIn (Of d) files = ⊤
-HasRoomIn (Moves reply transfer) files = HasRoom transfer files
+HasRoomIn (Moves reply transfer) files = FitsPipe transfer files
 HasRoomIn (MakesPipe new) files = ⊤
 
 -- a fact of what kernel_calls has

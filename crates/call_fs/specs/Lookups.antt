@@ -33,11 +33,11 @@ end_by name (PipeEnd pipe side) = Some (record { description = name; pipe = pipe
 end_by name Console = None
 end_by name EmptyInput = None
 
-abbrev pub end_at : OpenFiles → Descriptor → Option UsedEnd
-end_at files d = option_and_then (λ file. end_by d.description file.description.object) (file_at files d)
+abbrev pub used_end_at : OpenFiles → Descriptor → Option UsedEnd
+used_end_at files d = option_and_then (λ file. end_by d.description file.description.object) (file_at files d)
 
 abbrev pub end_in : OpenFiles → (table : Made) → (number : ℕ) → Option UsedEnd
-end_in files table number = option_and_then (end_at files) (descriptor_in files table number)
+end_in files table number = option_and_then (used_end_at files) (descriptor_in files table number)
 
 -- a number of the caller's table is open, and stands for that
 -- open(2), DESCRIPTION

@@ -13,9 +13,9 @@ use Rattle.call_fs.specs.declared.vectors.Vectors.TheVariants.{Refused, Found}
 
 -- a row with buffers that are looked for is refused with an error, or goes on with those that were found
 -- readv(2), ERRORS: EINVAL, EFAULT
-abbrev pub GoesOn : (whole : Prog Answer) → (List IoVec → Prog Answer) → Vectors → Kernel → Type 0
-GoesOn whole row (Refused errno) k = outcome_in (parts k) whole ≡ refuses errno
-GoesOn whole row (Found buffers) k = outcome_in (parts k) whole ≡ outcome_in (parts k) (row buffers)
+abbrev pub GoesOnWith : (whole : Prog Answer) → (List IoVec → Prog Answer) → Vectors → Kernel → Type 0
+GoesOnWith whole row (Refused errno) k = outcome_in (parts k) whole ≡ refuses errno
+GoesOnWith whole row (Found buffers) k = outcome_in (parts k) whole ≡ outcome_in (parts k) (row buffers)
 
 -- the buffers have no more bytes than a call can answer
 -- readv(2), ERRORS, EINVAL: the sum of the iov_len values overflows an ssize_t

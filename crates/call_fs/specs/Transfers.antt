@@ -58,16 +58,16 @@ after_transfer (Appends from) space k =
 
 -- bytes that are put into a pipe are no more than the buffers have, and than the pipe has room for
 -- pipe(7), Pipe capacity
-abbrev pub HasRoom : Transfer → OpenFiles → Type 0
-HasRoom Nothing files = ⊤
-HasRoom (Takes pipe count) files = ⊤
-HasRoom (Puts pipe from taken) files =
+abbrev pub FitsPipe : Transfer → OpenFiles → Type 0
+FitsPipe Nothing files = ⊤
+FitsPipe (Takes pipe count) files = ⊤
+FitsPipe (Puts pipe from taken) files =
     (taken ≤ total_of (buffers_in from)) × ((p : PipeState) → get_named files.pipes pipe.place pipe.index ≡ Some p
     → length p.bytes + taken ≤ CAPACITY)
-HasRoom (Appends from) files = ⊤
+FitsPipe (Appends from) files = ⊤
 
 abbrev pub IsSure : Transferred → OpenFiles → Type 0
-IsSure (Replies reply transfer) files = HasRoom transfer files
+IsSure (Replies reply transfer) files = FitsPipe transfer files
 IsSure (Waits pipe) files = ⊤
 
 -- a kernel has that address space of a caller, and these shared areas

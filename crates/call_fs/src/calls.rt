@@ -1,7 +1,7 @@
 //! The table of calls: those on what is open, and all others, which kernel_calls has.
 
 ghost use Rattle.std.specs.Prelude.{◌≡◌, ℕ, IfOk, IsTrue, OnErr, Some};
-ghost use Rattle.sn_errno.specs.Calls.{call_of};
+ghost use Rattle.sn_errno.specs.Calls.{call_numbered};
 ghost use Rattle.task_table.specs.Table.{TaskTable, is_live};
 ghost use Rattle.kernel_model.specs.declared.caller.Caller.{Caller as ACaller};
 ghost use Rattle.kernel_model.specs.declared.kernel.Kernel.{Kernel as AKernel};
@@ -93,7 +93,7 @@ pub fn call(
 
 /// What the call of a number asks for.
 fn asked_of(number: u64, table: Made, args: &Args, files: &OpenFiles) -> Asked
-    ensures asked { IsAsked result (call_of number) }
+    ensures asked { IsAsked result (call_numbered number) }
     ensures row { IfChanges result (λ p. (context : RowContext) (c : ACaller) (k : AKernel) → c.table ≡ table →
         k.files ≡ files.now → AnswersKept (call_row context c number args.now) p c.group k) }
     ensures own { IfChanges result (λ p. (task : ℕ) → EndsOnly p.effect task) }

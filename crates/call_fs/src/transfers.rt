@@ -11,7 +11,7 @@ ghost use Rattle.kernel_model.specs.calls.ReadWrite.{waits};
 ghost use Rattle.kernel_model.specs.entries.Parts.{done};
 ghost use Rattle.pipe_core.specs.Pipes.{after_read};
 ghost use Rattle.call_fs.specs.Called.{IsApartBy, MayLack};
-ghost use Rattle.call_fs.specs.Transfers.{HasMemory, HasRoom, IsSure, Moves, after_transfer, with_pipe};
+ghost use Rattle.call_fs.specs.Transfers.{HasMemory, FitsPipe, IsSure, Moves, after_transfer, with_pipe};
 ghost use Rattle.call_fs.specs.declared.transfers.Transfer.TheVariants as transfers;
 
 use crate::gathering::{append_all, append_one, put_from};
@@ -97,7 +97,7 @@ pub fn commit_transfer(
     files: &mut OpenFiles,
     console: &mut List<u8>,
 ) -> Result<(), Memory>
-    requires { HasRoom transfer files.old }
+    requires { FitsPipe transfer files.old }
     ensures ok { OnOk result ((k : AKernel) →
         k.areas ≡ areas.old → k.files ≡ files.old → k.console ≡ console.old →
         after_transfer transfer space.now k ≡ record k { files = files.new; console = console.new }) }
@@ -138,7 +138,7 @@ fn put_bytes(
     areas: &mut Named<GuestArea>,
     files: &mut OpenFiles,
 ) -> Result<(), Memory>
-    requires { HasRoom (transfers.Puts pipe from.now taken) files.old }
+    requires { FitsPipe (transfers.Puts pipe from.now taken) files.old }
     ensures ok { OnOk result ((k : AKernel) → k.areas ≡ areas.old → k.files ≡ files.old →
         after_transfer (transfers.Puts pipe from.now taken) space.now k ≡ record k { files = files.new }) }
     ensures err { OnErr result (files.new ≡ files.old) }

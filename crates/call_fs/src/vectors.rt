@@ -12,7 +12,7 @@ ghost use Rattle.kernel_model.specs.declared.kernel.Kernel.{Kernel as AKernel};
 ghost use Rattle.kernel_model.specs.calls.Answers.{Answer};
 ghost use Rattle.kernel_model.specs.calls.Vectors.{if_countable, with_buffers};
 ghost use Rattle.kernel_model.specs.entries.Parts.{Prog};
-ghost use Rattle.call_fs.specs.Records.{GoesOn, IsCountable, buffers_in};
+ghost use Rattle.call_fs.specs.Records.{GoesOnWith, IsCountable, buffers_in};
 ghost use Rattle.call_fs.specs.Transfers.{HasMemory};
 
 use guest_access::{is_accessible, read};
@@ -49,7 +49,7 @@ pub fn buffers_at(
     count: u64,
 ) -> Result<Vectors, Memory>
     ensures row { IfOk result (λ v. (c : ACaller) (k : AKernel) (row : List AnIoVec → Prog Answer) →
-        HasMemory c k space.now areas.old → GoesOn (with_buffers c at count row) row v k) }
+        HasMemory c k space.now areas.old → GoesOnWith (with_buffers c at count row) row v k) }
     ensures countable { IfOk result IsCountable }
     ensures kept { areas.new ≡ areas.old }
 {
@@ -65,7 +65,7 @@ pub fn buffers_at(
 /// The buffers of records.
 fn buffers_in(alloc: Global, records: &[u8]) -> Result<Vectors, Memory>
     ensures row { IfOk result (λ v. (k : AKernel) (row : List AnIoVec → Prog Answer) →
-        GoesOn (if_countable row (iovecs_in records.now)) row v k) }
+        GoesOnWith (if_countable row (iovecs_in records.now)) row v k) }
     ensures countable { IfOk result IsCountable }
 {
     match iovecs(alloc, records) {

@@ -6,7 +6,7 @@ use Rattle.kernel_model.specs.declared.kernel.Kernel.{Kernel}
 use Rattle.kernel_model.specs.entries.Steps.{step, task_of}
 use Rattle.kernel_model.specs.entries.History.{replay, each_whole, whole_then, is_whole}
 use Rattle.kernel_model.specs.entries.Ready.{ready_numbers}
-use Rattle.call_table.specs.Turns.{AreInTurn, last_turn, next_of, turns_then}
+use Rattle.call_table.specs.Turns.{AreInTurn, last_turn, next_task_of, turns_then}
 
 first_part : (a b : Bool) → (a && b) ≡ true → a ≡ true
 first_part true b h = refl
@@ -59,10 +59,10 @@ whole_more k next last (x ∷ es) e r w s h = go (step k x) r w (λ y p q. whole
 -- one more, of the task whose turn is next
 pub turns_more : (last : ℕ) (k next after : Kernel) (es : List Entry) (e : Entry) → AreInTurn last k es
     → replay k es ≡ Some next → step next e ≡ Some after
-    → next_of (last_turn last es) (ready_numbers next) ≡ Some (task_of e) → AreInTurn last k (es ++ e ∷ [])
+    → next_task_of (last_turn last es) (ready_numbers next) ≡ Some (task_of e) → AreInTurn last k (es ++ e ∷ [])
 turns_more last k next after [] e turns r s turn =
     let same : k ≡ next = cc r in (
-      ap (λ (x : Kernel). next_of last (ready_numbers x)) same ∙ turn,
+      ap (λ (x : Kernel). next_task_of last (ready_numbers x)) same ∙ turn,
       subst (λ (o : Option Kernel). turns_then o (λ (x : Kernel). AreInTurn (task_of e) x []))
           (sym (ap (λ (x : Kernel). step x e) same ∙ s)) tt,
     )

@@ -12,7 +12,7 @@ use Rattle.kernel_model.specs.Names.{NamedMap, with_named}
 use Rattle.kernel_model.specs.declared.caller.Caller.{Caller}
 use Rattle.kernel_model.specs.declared.kernel.Kernel.{Kernel}
 use Rattle.kernel_model.specs.calls.Clone.{made_for_child}
-use Rattle.kernel_calls.specs.Making.{with_child, with_task, with_words}
+use Rattle.kernel_calls.specs.Making.{with_new_child, with_new_task, with_words}
 use Rattle.kernel_calls.specs.Prepared.{with_effect}
 use Rattle.kernel_calls.specs.declared.clone.Child.{Child}
 use Rattle.kernel_calls.specs.declared.clone.Words.{Words}
@@ -54,9 +54,9 @@ module _ (child : Child) (place : ℕ) (c : Caller) (k : Kernel) (home : AreAtHo
   worded (Some words) = home_reached k.tasks k.registers k.spaces c.memory.place c.memory.index words.space home
 
   tasked : (memory : Option AddressSpace) (spaces : NamedMap AddressSpace) → AreAtHome k.tasks k.registers spaces
-      → AreAtHome (with_task place memory child.clear c (record k { spaces = spaces })).tasks
+      → AreAtHome (with_new_task place memory child.clear c (record k { spaces = spaces })).tasks
       (map.insert k.registers (k.tasks.last + 1) child.registers)
-      (with_task place memory child.clear c (record k { spaces = spaces })).spaces
+      (with_new_task place memory child.clear c (record k { spaces = spaces })).spaces
   tasked None spaces has = home_threaded k.tasks k.registers spaces has c.task child.clear child.registers live
   tasked (Some memory) spaces has =
       home_begun k.tasks k.registers spaces has (record {
@@ -71,24 +71,24 @@ module _ (child : Child) (place : ℕ) (c : Caller) (k : Kernel) (home : AreAtHo
       (with_named spaces place 0 memory) refl refl refl
 
   child_home : (words : Option Words) (memory : Option AddressSpace)
-      → AreAtHome (with_task place memory child.clear c (with_words words c k)).tasks
+      → AreAtHome (with_new_task place memory child.clear c (with_words words c k)).tasks
       (map.insert k.registers (k.tasks.last + 1) child.registers)
-      (with_task place memory child.clear c (with_words words c k)).spaces
+      (with_new_task place memory child.clear c (with_words words c k)).spaces
   child_home None None = tasked None k.spaces (worded None)
   child_home None (Some memory) = tasked (Some memory) k.spaces (worded None)
   child_home (Some words) None = tasked None (with_words (Some words) c k).spaces (worded (Some words))
   child_home (Some words) (Some memory) =
       tasked (Some memory) (with_words (Some words) c k).spaces (worded (Some words))
 
-  pub home_made : AreAtHome (with_child child place c k).tasks (with_child child place c k).registers
-      (with_child child place c k).spaces
+  pub home_made : AreAtHome (with_new_child child place c k).tasks (with_new_child child place c k).registers
+      (with_new_child child place c k).spaces
   home_made = by child.words child.memory
     where
       by : (words : Option Words) (memory : Option AddressSpace)
-          → AreAtHome (with_task place memory child.clear c (with_words words c k)).tasks
-          (map.insert (with_task place memory child.clear c (with_words words c k)).registers (k.tasks.last + 1)
+          → AreAtHome (with_new_task place memory child.clear c (with_words words c k)).tasks
+          (map.insert (with_new_task place memory child.clear c (with_words words c k)).registers (k.tasks.last + 1)
           child.registers)
-          (with_task place memory child.clear c (with_words words c k)).spaces
+          (with_new_task place memory child.clear c (with_words words c k)).spaces
       by None None = child_home None None
       by None (Some memory) = child_home None (Some memory)
       by (Some words) None = child_home (Some words) None
@@ -96,11 +96,11 @@ module _ (child : Child) (place : ℕ) (c : Caller) (k : Kernel) (home : AreAtHo
 
 -- its registers are there beside all others
 pub child_registers : (child : Child) (place : ℕ) (c : Caller) (k : Kernel)
-    → (with_child child place c k).registers ≡ map.insert k.registers (k.tasks.last + 1) child.registers
+    → (with_new_child child place c k).registers ≡ map.insert k.registers (k.tasks.last + 1) child.registers
 child_registers child place c k = by child.words child.memory
   where
     by : (words : Option Words) (memory : Option AddressSpace)
-        → map.insert (with_task place memory child.clear c (with_words words c k)).registers (k.tasks.last + 1)
+        → map.insert (with_new_task place memory child.clear c (with_words words c k)).registers (k.tasks.last + 1)
         child.registers ≡ map.insert k.registers (k.tasks.last + 1) child.registers
     by None None = refl
     by None (Some memory) = refl

@@ -18,7 +18,7 @@ use Rattle.kernel_model.specs.declared.caller.Caller.{Caller}
 use Rattle.kernel_model.specs.declared.kernel.Kernel.{Kernel}
 use Rattle.kernel_model.specs.entries.Waiting.{wait_of}
 use Rattle.kernel_model.proofs.NamedMaps.{get-with_other, one_name_or_two, same_or_other}
-use Rattle.kernel_calls.specs.Making.{with_child, with_task, with_words}
+use Rattle.kernel_calls.specs.Making.{with_new_child, with_new_task, with_words}
 use Rattle.kernel_calls.specs.Prepared.{EndsEach, EndsOnly}
 use Rattle.kernel_calls.specs.declared.clone.Child.{Child}
 use Rattle.kernel_calls.specs.declared.clone.Words.{Words}
@@ -83,11 +83,11 @@ more_with before after c is last = record {
 
 -- where a call makes a child
 pub more_by_child : (child : Child) (place : ℕ) (c : Caller) (k : Kernel)
-    → OneMore k.tasks (with_child child place c k).tasks
+    → OneMore k.tasks (with_new_child child place c k).tasks
 more_by_child child place c k = by child.words child.memory
   where
     by : (words : Option Words) (memory : Option AddressSpace)
-        → OneMore k.tasks (with_task place memory child.clear c (with_words words c k)).tasks
+        → OneMore k.tasks (with_new_task place memory child.clear c (with_words words c k)).tasks
     by None None = more_with k.tasks _ _ refl refl
     by None (Some memory) = more_with k.tasks _ _ refl refl
     by (Some words) None = more_with k.tasks _ _ refl refl

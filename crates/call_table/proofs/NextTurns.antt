@@ -20,7 +20,7 @@ use Rattle.kernel_model.specs.declared.kernel.Kernel.{Kernel}
 use Rattle.kernel_model.specs.entries.Given.{has_any}
 use Rattle.kernel_model.specs.entries.Ready.{is_ready, ready_numbers}
 use Rattle.kernel_model.proofs.NamedMaps.{same_or_other}
-use Rattle.call_table.specs.Turns.{next_of, or_first}
+use Rattle.call_table.specs.Turns.{next_task_of, or_first}
 
 -- ---- what is found in those of a list that pass a test
 
@@ -171,9 +171,9 @@ none_lives k n counted none =
 -- ---- whose turn it is
 
 pub turn_above : (k : Kernel) (last task : ℕ) → find (nat_lt last) (ready_numbers k) ≡ Some task
-    → next_of last (ready_numbers k) ≡ Some task
+    → next_task_of last (ready_numbers k) ≡ Some task
 turn_above k last task e = ap (λ o. or_first o (ready_numbers k)) e
 
 pub turn_first : (k : Kernel) (last task : ℕ) → find (nat_lt last) (ready_numbers k) ≡ None
-    → find (nat_lt 0) (ready_numbers k) ≡ Some task → next_of last (ready_numbers k) ≡ Some task
+    → find (nat_lt 0) (ready_numbers k) ≡ Some task → next_task_of last (ready_numbers k) ≡ Some task
 turn_first k last task e f = ap (λ o. or_first o (ready_numbers k)) e ∙ f

@@ -9,11 +9,11 @@ use Rattle.kernel_model.specs.entries.Waiting.{Woken, wait_of}
 use Rattle.kernel_model.proofs.NamedMaps.{same_or_other}
 use Rattle.proc_cells.specs.declared.cells.Cells.{Cells}
 use Rattle.proc_cells.specs.Cells.{AreKept, IsAwake}
-use Rattle.parked_tasks.specs.Parking.{AreAlike, IsParkedAt, parked_at}
+use Rattle.parked_tasks.specs.Parking.{AreParkedAlike, IsParkedAt, parked_at}
 use Rattle.parked_tasks.specs.declared.used.Spot.{Spot}
 use Rattle.parked_tasks.specs.declared.parking.Parking.{Parking}
 use Rattle.call_table.specs.Parks.{Parks}
-use Rattle.call_table.specs.Schedules.{AreParked, AreParkedBut, is_covered}
+use Rattle.call_table.specs.Schedules.{AreParked, AreParkedBut, is_watched}
 use Rattle.call_table.proofs.Parks.{parks_still}
 
 -- ---- where nothing of the cells has changed
@@ -55,7 +55,7 @@ module _ {V : Type 0} (m : map.FinMap nat_cmp V) (one : ℕ) where
 module _ (cells : Cells) (p q : Parking) (parked : AreParked cells p) (one : ℕ) where
   -- one that doesn't live rests
   pub parked_rest : is_live cells.tasks.tasks one ≡ false → q.awake ≡ map.remove p.awake one
-      → AreAlike p q → AreParked cells q
+      → AreParkedAlike p q → AreParked cells q
   parked_rest dead awake alike = record {
     awake = λ task among.
         parked.awake task (left_among p.awake one task (ap (λ m. map.contains_key m task) (sym awake) ∙ among)).1;
@@ -92,7 +92,7 @@ module _ (cells : Cells) (p q : Parking) (parked : AreParked cells p) (one : ℕ
       which task s is (inr apart) = parked.parked task s (sym (more.others task apart) ∙ is)
 
       covered : (task : ℕ) → is_live cells.tasks.tasks task ≡ true → IsAwake cells task
-          → (one ≡ task) ⊎ (one ≢ task) → is_covered q task ≡ true
+          → (one ≡ task) ⊎ (one ≢ task) → is_watched q task ≡ true
       covered task live off (inl same) = by (map.contains_key q.awake task)
         where
           there : is_some (parked_at q task) ≡ true
@@ -126,7 +126,7 @@ module _ (cells : Cells) (p q : Parking) (parked : AreParked cells p) (one : ℕ
         by None is = is
         by (Some spot) is = absurd (cc (woken, (parked.parked one spot is).awake))
 
-    pub parked_woken : q.awake ≡ map.insert p.awake one tt → AreAlike p q → AreParkedBut one cells q
+    pub parked_woken : q.awake ≡ map.insert p.awake one tt → AreParkedAlike p q → AreParkedBut one cells q
     parked_woken awake alike = record {
       looked_at = ap (λ m. map.contains_key m one) awake ∙ more_itself p.awake one tt;
       awake = λ task apart among. parked.awake task (was task apart among);

@@ -39,7 +39,7 @@ use Rattle.proc_cells.specs.Beside.{Beside, found_in, nothing_beside}
 use Rattle.proc_cells.specs.Cells.{AreKept, IsAwake, StandsAs, caller_in, caller_with, held_by, kernel_of}
 use Rattle.proc_cells.proofs.Found.{Parted, found_by, parted}
 use Rattle.parked_tasks.specs.Untouched.{AreUntouched, FilesMove}
-use Rattle.parked_tasks.specs.Touched.{are_named, is_name, is_touched}
+use Rattle.parked_tasks.specs.Touched.{are_named, is_that_name, is_touched}
 use Rattle.parked_tasks.specs.Used.{same_made, uses_areas}
 use Rattle.parked_tasks.specs.declared.touched.Touched.{Touched}
 use Rattle.parked_tasks.specs.declared.used.Spot.{Spot}
@@ -204,13 +204,13 @@ calls_on before after c false changed alone stays e calls = λ k areas.
 -- an entry that told nothing that a call used left it as it was
 end_left : (end : Option UsedEnd) (table : Made) (touched : Touched) (k m : Kernel)
     → AreUntouched touched k.files m.files
-    → (option_map_or (λ (e : UsedEnd). is_name touched.table table) end false
+    → (option_map_or (λ (e : UsedEnd). is_that_name touched.table table) end false
     || (option_map_or (λ (e : UsedEnd). are_named touched.descriptions e.description) end false
     || option_map_or (λ (e : UsedEnd). are_named touched.pipes e.pipe) end false)) ≡ false
     → AgreesOnEnd end table (parts k) (parts m)
 end_left None table touched k m left apart = tt
 end_left (Some e) table touched k m left apart =
-    let first = or_parts (is_name touched.table table)
+    let first = or_parts (is_that_name touched.table table)
     (are_named touched.descriptions e.description || are_named touched.pipes e.pipe) apart in
     let others = or_parts (are_named touched.descriptions e.description) (are_named touched.pipes e.pipe) first.1 in
     (left.tables table first.0, left.descriptions e.description others.0, left.pipes e.pipe others.1)

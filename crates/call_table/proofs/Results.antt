@@ -3,7 +3,7 @@ use Rattle.std.proofs.Common.{◌≡◌, subst}
 use Rattle.std.specs.Prelude.{Result, Ok, Err, Option, Some, None, IfSome, IfNone}
 use Rattle.sn_base.specs.declared.memory.Memory.{Memory}
 use Rattle.parked_tasks.specs.declared.used.Spot.{Spot}
-use Rattle.call_table.specs.Entries.{IfEntered, IfEnters, IfParked, IfWaits}
+use Rattle.call_table.specs.Entries.{IfEntered, IfEnters, IfParked, IfTurnWaits}
 use Rattle.call_table.specs.declared.entered.Entered.{Entered}
 use Rattle.call_table.specs.declared.entered.Turn.{Turn}
 use Rattle.call_table.specs.declared.entered.Turn.TheVariants.{Enters, Waits}
@@ -33,8 +33,8 @@ enters_behind (Ok (Enters made)) P Q f p = f made p
 enters_behind (Ok (Waits spot)) P Q f p = tt
 enters_behind (Err e) P Q f p = tt
 
-pub waits_behind : (r : Result Turn Memory) (P Q : Spot → Type 0) → ((spot : Spot) → P spot → Q spot) → IfWaits r P
-    → IfWaits r Q
+pub waits_behind : (r : Result Turn Memory) (P Q : Spot → Type 0) → ((spot : Spot) → P spot → Q spot) → IfTurnWaits r P
+    → IfTurnWaits r Q
 waits_behind (Ok (Enters made)) P Q f p = tt
 waits_behind (Ok (Waits spot)) P Q f p = f spot p
 waits_behind (Err e) P Q f p = tt

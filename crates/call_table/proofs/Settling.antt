@@ -10,14 +10,14 @@ use Rattle.kernel_model.specs.entries.Waiting.{wait_of}
 use Rattle.kernel_model.proofs.NamedMaps.{same_or_other}
 use Rattle.proc_cells.specs.declared.cells.Cells.{Cells}
 use Rattle.proc_cells.specs.Cells.{IsAwake}
-use Rattle.parked_tasks.specs.Parking.{AreAlike, AreWoken, parked_at}
+use Rattle.parked_tasks.specs.Parking.{AreParkedAlike, AreWoken, parked_at}
 use Rattle.parked_tasks.specs.Touched.{is_touched}
 use Rattle.parked_tasks.specs.Used.{same_made, uses_areas}
 use Rattle.parked_tasks.specs.declared.used.Spot.{Spot}
 use Rattle.parked_tasks.specs.declared.parking.Parking.{Parking}
 use Rattle.call_table.specs.Moves.{Moves, is_woken_by, puts_to_sleep}
 use Rattle.call_table.specs.Parks.{Parks}
-use Rattle.call_table.specs.Schedules.{AreParked, AreParkedBut, is_child, is_covered, is_off}
+use Rattle.call_table.specs.Schedules.{AreParked, AreParkedBut, is_last_made, is_watched, is_off}
 use Rattle.call_table.specs.declared.entered.Entered.{Entered}
 use Rattle.call_table.proofs.Parkings.{awake_off, off_awake}
 use Rattle.call_table.proofs.Parks.{parks_on}
@@ -66,7 +66,7 @@ module _ (task : ℕ) (memory : Made) (made : Entered) (before after : Cells)
     (stays : (t : ℕ) → map.contains_key p.awake t ≡ true → (puts_to_sleep made.entry ≡ false) ⊎ (task ≢ t)
     → between t ≡ true)
     (looked_at : (t : ℕ) → map.contains_key q.awake t
-    ≡ ((between t || is_child after before.tasks.last t) || woken t)) where
+    ≡ ((between t || is_last_made after before.tasks.last t) || woken t)) where
   -- the task itself isn't parked
   not_itself : (t : ℕ) (m : Spot) → parked_at p t ≡ Some m → task ≢ t
   not_itself t m is same = cc (is, ap (parked_at p) (sym same) ∙ but.apart task but.looked_at)
@@ -81,7 +81,7 @@ module _ (task : ℕ) (memory : Made) (made : Entered) (before after : Cells)
       by (inr apart) b sleeps = moves.off t apart (but.awake t apart (rests t e).0)
 
   -- a task that was made
-  child_parts : (t : ℕ) → is_child after before.tasks.last t ≡ true
+  child_parts : (t : ℕ) → is_last_made after before.tasks.last t ≡ true
       → (t ≡ after.tasks.last) × (before.tasks.last < after.tasks.last)
       × (is_off after.sleepers after.tasks.last ≡ true)
   child_parts t e =
@@ -91,13 +91,13 @@ module _ (task : ℕ) (memory : Made) (made : Entered) (before after : Cells)
       parts.0 in
       (eqb-true t after.tasks.last parts.1, ltb-true before.tasks.last after.tasks.last others.0, others.1)
 
-  child_off : (t : ℕ) → is_child after before.tasks.last t ≡ true → IsAwake after t
+  child_off : (t : ℕ) → is_last_made after before.tasks.last t ≡ true → IsAwake after t
   child_off t e =
       let child = child_parts t e in
       ap (wait_of after.sleepers) child.0 ∙ off_awake after.sleepers after.tasks.last child.2
 
   -- changes the task list
-  child_listed : (t : ℕ) → is_child after before.tasks.last t ≡ true → made.tasks ≡ true
+  child_listed : (t : ℕ) → is_last_made after before.tasks.last t ≡ true → made.tasks ≡ true
   child_listed t e = by made.tasks refl
     where
       by : (b : Bool) → made.tasks ≡ b → made.tasks ≡ true
@@ -115,9 +115,9 @@ module _ (task : ℕ) (memory : Made) (made : Entered) (before after : Cells)
   -- of those that are looked at
   settled_awake : (t : ℕ) → map.contains_key q.awake t ≡ true → IsAwake after t
   settled_awake t e =
-      elim (either (between t || is_child after before.tasks.last t) (woken t)
+      elim (either (between t || is_last_made after before.tasks.last t) (woken t)
       (sym (looked_at t) ∙ e)) [
-        | inl f ↦ elim (either (between t) (is_child after before.tasks.last t) f) [
+        | inl f ↦ elim (either (between t) (is_last_made after before.tasks.last t) f) [
           | inl g ↦ rested_off t g
           | inr g ↦ child_off t g
         ]
@@ -140,9 +140,9 @@ module _ (task : ℕ) (memory : Made) (made : Entered) (before after : Cells)
   settled_apart : (t : ℕ) → map.contains_key q.awake t ≡ true → parked_at q t ≡ None
   settled_apart t e =
       kept t
-      ∙ elim (either (between t || is_child after before.tasks.last t) (woken t)
+      ∙ elim (either (between t || is_last_made after before.tasks.last t) (woken t)
       (sym (looked_at t) ∙ e)) [
-        | inl f ↦ elim (either (between t) (is_child after before.tasks.last t) f) [
+        | inl f ↦ elim (either (between t) (is_last_made after before.tasks.last t) f) [
           | inl g ↦ stays_none (woken t) (parked_at p t) (but.apart t (rests t g).0)
           | inr g ↦ none_left (child_listed t g) t
         ]
@@ -170,61 +170,61 @@ module _ (task : ℕ) (memory : Made) (made : Entered) (before after : Cells)
       (but.parked t m was.1)
 
   -- and of all others
-  looked_at_again : (t : ℕ) → between t ≡ true → is_covered q t ≡ true
+  looked_at_again : (t : ℕ) → between t ≡ true → is_watched q t ≡ true
   looked_at_again t e =
       first_of (map.contains_key q.awake t) (is_some (parked_at q t))
       (looked_at t
-      ∙ first_of (between t || is_child after before.tasks.last t) (woken t)
-      (first_of (between t) (is_child after before.tasks.last t) e))
+      ∙ first_of (between t || is_last_made after before.tasks.last t) (woken t)
+      (first_of (between t) (is_last_made after before.tasks.last t) e))
 
-  was_parked : (t : ℕ) (m : Spot) → parked_at p t ≡ Some m → is_covered q t ≡ true
+  was_parked : (t : ℕ) (m : Spot) → parked_at p t ≡ Some m → is_watched q t ≡ true
   was_parked t m is = by (woken t) refl
     where
-      by : (b : Bool) → woken t ≡ b → is_covered q t ≡ true
+      by : (b : Bool) → woken t ≡ b → is_watched q t ≡ true
       by true e =
           first_of (map.contains_key q.awake t) (is_some (parked_at q t))
-          (looked_at t ∙ second_of (between t || is_child after before.tasks.last t) (woken t) e)
+          (looked_at t ∙ second_of (between t || is_last_made after before.tasks.last t) (woken t) e)
       by false e =
           second_of (map.contains_key q.awake t) (is_some (parked_at q t))
           (ap is_some (kept t ∙ ap (λ b. if b then None else parked_at p t) e ∙ is))
 
   covered_before : (t : ℕ) → task ≢ t → (b : Bool) (o : Option Spot) → map.contains_key p.awake t ≡ b
-      → parked_at p t ≡ o → (b || is_some o) ≡ true → is_covered q t ≡ true
+      → parked_at p t ≡ o → (b || is_some o) ≡ true → is_watched q t ≡ true
   covered_before t apart true o awake parked e = looked_at_again t (stays t awake (inr apart))
   covered_before t apart false None awake parked e = absurd (cc e)
   covered_before t apart false (Some m) awake parked e = was_parked t m parked
 
   new_covered : (t : ℕ) → is_live after.tasks.tasks t ≡ true → is_live before.tasks.tasks t ≡ false → IsAwake after t
-      → is_covered q t ≡ true
+      → is_watched q t ≡ true
   new_covered t live dead off =
       let child = moves.lives t live dead in
       let above : nat_lt before.tasks.last after.tasks.last ≡ true =
       lt-ltb before.tasks.last after.tasks.last (omega (arith, child.1)) in
-      let is : is_child after before.tasks.last t ≡ true =
+      let is : is_last_made after before.tasks.last t ≡ true =
       ap (λ b. (b && is_off after.sleepers after.tasks.last) && (t == after.tasks.last)) above
       ∙ ap (λ b. b && (t == after.tasks.last)) (ap (is_off after.sleepers) (sym child.0)
       ∙ awake_off after.sleepers t off)
       ∙ eq-eqb t after.tasks.last child.0 in
       first_of (map.contains_key q.awake t) (is_some (parked_at q t))
       (looked_at t
-      ∙ first_of (between t || is_child after before.tasks.last t) (woken t)
-      (second_of (between t) (is_child after before.tasks.last t) is))
+      ∙ first_of (between t || is_last_made after before.tasks.last t) (woken t)
+      (second_of (between t) (is_last_made after before.tasks.last t) is))
 
-  settled_covers : (t : ℕ) → is_live after.tasks.tasks t ≡ true → IsAwake after t → is_covered q t ≡ true
+  settled_covers : (t : ℕ) → is_live after.tasks.tasks t ≡ true → IsAwake after t → is_watched q t ≡ true
   settled_covers t live off = by (same_or_other task t)
     where
-      itself : task ≡ t → (b : Bool) → puts_to_sleep made.entry ≡ b → is_covered q t ≡ true
+      itself : task ≡ t → (b : Bool) → puts_to_sleep made.entry ≡ b → is_watched q t ≡ true
       itself same true sleeps = absurd (moves.asleep sleeps (ap (wait_of after.sleepers) same ∙ off))
       itself same false sleeps =
           looked_at_again t (stays t (ap (map.contains_key p.awake) (sym same) ∙ but.looked_at) (inl sleeps))
 
-      other : task ≢ t → (b : Bool) → is_live before.tasks.tasks t ≡ b → is_covered q t ≡ true
+      other : task ≢ t → (b : Bool) → is_live before.tasks.tasks t ≡ b → is_watched q t ≡ true
       other apart true lived =
           covered_before t apart (map.contains_key p.awake t) (parked_at p t) refl refl
           (but.covers t apart lived (moves.was_off t apart live off))
       other apart false dead = new_covered t live dead off
 
-      by : (task ≡ t) ⊎ (task ≢ t) → is_covered q t ≡ true
+      by : (task ≡ t) ⊎ (task ≢ t) → is_watched q t ≡ true
       by (inl same) = itself same (puts_to_sleep made.entry) refl
       by (inr apart) = other apart (is_live before.tasks.tasks t) refl
 
@@ -240,9 +240,9 @@ module _ (task : ℕ) (memory : Made) (made : Entered) (before after : Cells)
 
 module _ (task : ℕ) (memory : Made) (made : Entered) (before after : Cells)
     (moves : Moves task memory made before after) (p r s q : Parking) (but : AreParkedBut task before p) (last : ℕ)
-    (same : last ≡ before.tasks.last) (did : AreWoken (is_woken_by made memory) s q) (parked : AreAlike p s)
+    (same : last ≡ before.tasks.last) (did : AreWoken (is_woken_by made memory) s q) (parked : AreParkedAlike p s)
     (rested : r.awake ≡ (if puts_to_sleep made.entry then map.remove p.awake task else p.awake))
-    (child : (t : ℕ) → map.contains_key s.awake t ≡ (map.contains_key r.awake t || is_child after last t)) where
+    (child : (t : ℕ) → map.contains_key s.awake t ≡ (map.contains_key r.awake t || is_last_made after last t)) where
   removed : (b : Bool) → puts_to_sleep made.entry ≡ b → r.awake ≡ (if b then map.remove p.awake task else p.awake)
   removed b is = rested ∙ ap (λ x. if x then map.remove p.awake task else p.awake) is
 
@@ -285,4 +285,4 @@ module _ (task : ℕ) (memory : Made) (made : Entered) (before after : Cells)
       (map.contains_key r.awake) rests stays
       (λ t. did.looked_at t
       ∙ ap (λ b. b || did.woken t) (child t)
-      ∙ ap (λ n. (map.contains_key r.awake t || is_child after n t) || did.woken t) same)
+      ∙ ap (λ n. (map.contains_key r.awake t || is_last_made after n t) || did.woken t) same)

@@ -35,7 +35,7 @@ use Rattle.kernel_model.specs.machine.Instructions.{StopsAt, goes_on, next_of, t
 use Rattle.kernel_model.specs.machine.Registers.{args_of, call_of, replied}
 use Rattle.kernel_model.specs.machine.Spaces.{acting_in, going_in}
 use Rattle.kernel_model.specs.calls.Answers.{Answer, makes_entry, replies, sleeps}
-use Rattle.kernel_model.specs.calls.Callers.{context_of, caller_of, with_memory, in_group}
+use Rattle.kernel_model.specs.calls.Callers.{context_of, caller_of, caller_with_memory, in_group}
 use Rattle.kernel_model.specs.calls.Ending.{group_end}
 use Rattle.kernel_model.specs.calls.Table.{call_row}
 use Rattle.kernel_model.specs.entries.Areas.{Stands, next_row}
@@ -91,7 +91,7 @@ module _ (h : Held) (beside : Beside) (n task : ℕ) where
       nothing_beside 0)
 
   alike_registers : (group : ℕ) (g : Group) (o : Option Regs)
-      → outcome_in s (with_memory task group g o) ≡ outcome_in z (with_memory task group g o)
+      → outcome_in s (caller_with_memory task group g o) ≡ outcome_in z (caller_with_memory task group g o)
   unfolding s z
   alike_registers group g None = refl
   alike_registers group g (Some r) = refl

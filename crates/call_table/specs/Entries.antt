@@ -103,8 +103,8 @@ abbrev pub if_waits : (Spot → Type 0) → Turn → Type 0
 if_waits fact (Enters made) = ⊤
 if_waits fact (Waits spot) = fact spot
 
-abbrev pub IfWaits : Result Turn Memory → (Spot → Type 0) → Type 0
-IfWaits result fact = IfOk result (if_waits fact)
+abbrev pub IfTurnWaits : Result Turn Memory → (Spot → Type 0) → Type 0
+IfTurnWaits result fact = IfOk result (if_waits fact)
 
 -- an entry is the step from cells to those that it left, at a place and by a seed, whatever else stands beside them
 -- profile

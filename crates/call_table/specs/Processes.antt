@@ -7,5 +7,5 @@ use Rattle.call_table.specs.declared.processes.Processes.{Processes}
 
 -- the kernel that processes are with this beside them, after so many entries: that of their cells
 -- profile
-abbrev pub kernel_of : Processes → Beside → (entries : ℕ) → Kernel
-kernel_of p beside entries = cells.kernel_of p.cells beside entries
+abbrev pub kernel_of_processes : Processes → Beside → (entries : ℕ) → Kernel
+kernel_of_processes p beside entries = cells.kernel_of p.cells beside entries

@@ -20,8 +20,8 @@ is_off list task = not (is_asleep list task) && not (is_woken list task)
 
 -- whether a task is looked at, or parked
 -- profile
-abbrev pub is_covered : Parking → (task : ℕ) → Bool
-is_covered parking task = map.contains_key parking.awake task || is_some (parked_at parking task)
+abbrev pub is_watched : Parking → (task : ℕ) → Bool
+is_watched parking task = map.contains_key parking.awake task || is_some (parked_at parking task)
 
 -- Each task that is looked at is not on the futex list, and is not parked. Each that is parked waits. Each other live
 -- task is on the futex list.
@@ -31,7 +31,7 @@ pub record AreParked (cells : Cells) (parking : Parking) : Type 0 where
   pub apart : (task : ℕ) → map.contains_key parking.awake task ≡ true → parked_at parking task ≡ None
   pub parked : (task : ℕ) (spot : Spot) → parked_at parking task ≡ Some spot → Parks cells task spot
   pub covers : (task : ℕ) → is_live cells.tasks.tasks task ≡ true → IsAwake cells task
-      → is_covered parking task ≡ true
+      → is_watched parking task ≡ true
 
 -- the same but for one task, which is looked at and may be on the futex list
 -- profile
@@ -41,12 +41,12 @@ pub record AreParkedBut (one : ℕ) (cells : Cells) (parking : Parking) : Type 0
   pub apart : (task : ℕ) → map.contains_key parking.awake task ≡ true → parked_at parking task ≡ None
   pub parked : (task : ℕ) (spot : Spot) → parked_at parking task ≡ Some spot → Parks cells task spot
   pub covers : (task : ℕ) → one ≢ task → is_live cells.tasks.tasks task ≡ true → IsAwake cells task
-      → is_covered parking task ≡ true
+      → is_watched parking task ≡ true
 
 -- whether a task is the last, with a number above another, and not on the futex list
 -- clone(2)
-abbrev pub is_child : Cells → (last task : ℕ) → Bool
-is_child cells last task =
+abbrev pub is_last_made : Cells → (last task : ℕ) → Bool
+is_last_made cells last task =
     (nat_lt last cells.tasks.last && is_off cells.sleepers cells.tasks.last) && (task == cells.tasks.last)
 
 -- a task may have the next turn: it was woken, or is looked at

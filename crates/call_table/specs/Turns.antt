@@ -17,8 +17,8 @@ abbrev pub or_first : Option ℕ → List ℕ → Option ℕ
 or_first (Some task) ready = Some task
 or_first None ready = find (nat_lt 0) ready
 
-abbrev pub next_of : (last : ℕ) → (ready : List ℕ) → Option ℕ
-next_of last ready = or_first (find (nat_lt last) ready) ready
+abbrev pub next_task_of : (last : ℕ) → (ready : List ℕ) → Option ℕ
+next_task_of last ready = or_first (find (nat_lt last) ready) ready
 
 -- each entry of a trace is of the task whose turn it is, by the tasks whose step is ready before it and the task of the
 -- last turn
@@ -30,7 +30,7 @@ turns_then (Some after) rest = rest after
 abbrev pub AreInTurn : (last : ℕ) → Kernel → List Entry → Type 0
 AreInTurn last k [] = ⊤
 AreInTurn last k (entry ∷ entries) =
-    (next_of last (ready_numbers k) ≡ Some (task_of entry))
+    (next_task_of last (ready_numbers k) ≡ Some (task_of entry))
     × turns_then (step k entry) (λ after. AreInTurn (task_of entry) after entries)
 
 -- no task's next step is ready, whatever stands beside the cells, or the processes

@@ -12,7 +12,7 @@ ghost use Rattle.kernel_model.specs.declared.entry.Entry.TheVariants.{Call as AC
 ghost use Rattle.kernel_model.specs.declared.kernel.Kernel.{Kernel as AKernel};
 ghost use Rattle.kernel_model.specs.laws.Room.{IsRoomFor};
 ghost use Rattle.kernel_model.specs.machine.Registers.{args_of, call_of, replied};
-ghost use Rattle.kernel_calls.specs.Making.{with_child};
+ghost use Rattle.kernel_calls.specs.Making.{with_new_child};
 ghost use Rattle.kernel_calls.specs.Prepared.{EndsEach, EndsLive, EndsOnly, with_effect};
 ghost use Rattle.proc_cells.specs.Cells.{AreKept, IsAwake};
 ghost use Rattle.parked_tasks.specs.Untouched.{changes_list};
@@ -153,7 +153,7 @@ pub(crate) fn make_child(
         × ((c : ACaller) (k : AKernel) → c.task ≡ context.now.task → c.memory ≡ context.now.memory →
         c.table ≡ context.now.table → k.tasks ≡ cells.old.tasks → k.registers ≡ cells.old.registers →
         k.spaces ≡ cells.old.spaces → k.areas ≡ cells.old.areas → k.files ≡ cells.old.files →
-        with_child child context.now.place c k ≡ record k {
+        with_new_child child context.now.place c k ≡ record k {
           tasks = cells.new.tasks;
           registers = between;
           spaces = cells.new.spaces;

@@ -14,7 +14,7 @@ ghost use Rattle.kernel_model.specs.declared.kernel.Kernel.{Kernel as AKernel};
 ghost use Rattle.kernel_model.specs.entries.Waiting.{Woken, wait_of};
 ghost use Rattle.proc_cells.specs.Beside.{Beside};
 ghost use Rattle.proc_cells.specs.Cells.{AreKept, IsAwake, StandsAs, kernel_of};
-ghost use Rattle.call_table.specs.Entries.{HasRunPart, IfEnters, IfWaits, IsOf};
+ghost use Rattle.call_table.specs.Entries.{HasRunPart, IfEnters, IfTurnWaits, IsOf};
 ghost use Rattle.call_table.specs.Entries.{IsWholeTo, NextIn, ReadyIs, RunsIn, StepsTo, is_touching};
 ghost use Rattle.call_table.specs.Moves.{Moves};
 ghost use Rattle.call_table.specs.Parks.{Parks};
@@ -83,9 +83,9 @@ pub(crate) fn advance(
     ensures numbers { IfEnters result (λ made. numbers_in made.entry ≡ []) }
     ensures ready { IfEnters result (λ made. ReadyIs cells.old task true) }
     ensures moves { IfEnters result (λ made. Moves task standing.memory made cells.old cells.new) }
-    ensures waits { IfWaits result (λ _. ReadyIs cells.old task false) }
-    ensures parks { IfWaits result (Parks cells.old task) }
-    ensures kept { IfWaits result (λ _. AreKept cells.old cells.new) }
+    ensures waits { IfTurnWaits result (λ _. ReadyIs cells.old task false) }
+    ensures parks { IfTurnWaits result (Parks cells.old task) }
+    ensures kept { IfTurnWaits result (λ _. AreKept cells.old cells.new) }
     ensures memory { OnErr result (HasRunPart task cells.old cells.new) }
 {
     let ran = run_standing(alloc, cells, task, standing)?;
@@ -201,9 +201,9 @@ fn touch(
     ensures ready { IfEnters result (λ made. ReadyIs cells.old context.now.task true) }
     ensures moves { IfEnters result (λ made.
         Moves context.now.task standing.memory made cells.old cells.new) }
-    ensures waits { IfWaits result (λ _. ReadyIs cells.old context.now.task false) }
-    ensures parks { IfWaits result (Parks cells.old context.now.task) }
-    ensures kept { IfWaits result (λ _. AreKept cells.old cells.new) }
+    ensures waits { IfTurnWaits result (λ _. ReadyIs cells.old context.now.task false) }
+    ensures parks { IfTurnWaits result (Parks cells.old context.now.task) }
+    ensures kept { IfTurnWaits result (λ _. AreKept cells.old cells.new) }
     ensures memory { OnErr result (HasRunPart context.now.task cells.old cells.new) }
 {
     let task = context.task;
@@ -281,9 +281,9 @@ fn answer(
     ensures ready { IfEnters result (λ made. ReadyIs cells.old context.now.task true) }
     ensures moves { IfEnters result (λ made.
         Moves context.now.task standing.memory made cells.old cells.new) }
-    ensures waits { IfWaits result (λ _. ReadyIs cells.old context.now.task false) }
-    ensures parks { IfWaits result (Parks cells.old context.now.task) }
-    ensures kept { IfWaits result (λ _. AreKept cells.old cells.new) }
+    ensures waits { IfTurnWaits result (λ _. ReadyIs cells.old context.now.task false) }
+    ensures parks { IfTurnWaits result (Parks cells.old context.now.task) }
+    ensures kept { IfTurnWaits result (λ _. AreKept cells.old cells.new) }
     ensures memory { OnErr result (HasRunPart context.now.task cells.old cells.new) }
 {
     let registers = standing.registers;

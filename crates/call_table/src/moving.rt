@@ -14,7 +14,7 @@ ghost use Rattle.kernel_model.specs.entries.Parts.{Prog, changed};
 ghost use Rattle.kernel_model.specs.machine.Registers.{args_of, call_of, replied};
 ghost use Rattle.call_fs.specs.Called.{MayLack};
 ghost use Rattle.call_fs.specs.Pipes.{MakesPipe};
-ghost use Rattle.call_fs.specs.Transfers.{HasRoom, after_transfer};
+ghost use Rattle.call_fs.specs.Transfers.{FitsPipe, after_transfer};
 ghost use Rattle.proc_cells.specs.Cells.{AreKept, IsAwake};
 ghost use Rattle.call_table.specs.Moves.{Moves};
 ghost use Rattle.call_table.specs.Moving.{IsMaking, may_have_read, one_pipe, touched_by_pipe, touched_by_transfer};
@@ -41,7 +41,7 @@ pub(crate) fn move_bytes(
 ) -> Result<Entered, Memory>
     requires awake { IsAwake cells.old context.now.task }
     requires memory { IsTrue (has_named cells.old.spaces context.now.memory.place context.now.memory.index) }
-    requires room { HasRoom transfer cells.old.files }
+    requires room { FitsPipe transfer cells.old.files }
     requires registered { IsTrue (map.contains_key cells.old.registers context.now.task) }
     ensures does { IfOk result (λ _. (space : AddressSpace) (k : AKernel) →
         get_named cells.old.spaces context.now.memory.place context.now.memory.index ≡ Some space →

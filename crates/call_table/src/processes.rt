@@ -32,13 +32,13 @@ pub struct Processes {
 }
 
 impl Processes {
-    ghost use Rattle.call_table.specs.Processes.{kernel_of};
+    ghost use Rattle.call_table.specs.Processes.{kernel_of_processes};
 
     /// No processes. It takes no memory.
     pub fn new(alloc: Global) -> Processes
         ensures none { result.cells.tasks ≡ no_tasks }
         ensures begun { (beside : Beside) (n : ℕ) →
-            kernel_of result beside n ≡ kernel_with nothing_held beside n }
+            kernel_of_processes result beside n ≡ kernel_with nothing_held beside n }
     {
         Processes {
             cells: Cells::new(alloc),
@@ -60,8 +60,8 @@ impl Processes {
         requires pages { HasRoom image.now }
         requires room { MayOpen self.cells.tasks }
         ensures begun { IfOk result (λ p. (beside : Beside) (n : ℕ) → beside.seed ≡ seed.now →
-            root_of beside.mounts ≡ root → kernel_of p beside n ≡
-            with_task (self.cells.tasks.last + 1) program.now image.now (kernel_of self beside n)) }
+            root_of beside.mounts ≡ root → kernel_of_processes p beside n ≡
+            with_task (self.cells.tasks.last + 1) program.now image.now (kernel_of_processes self beside n)) }
         ensures tasks { IfOk result (λ p. p.cells.tasks ≡
             opened_task self.cells.tasks (made_by (self.cells.tasks.last + 1))
             (made_by (self.cells.tasks.last + 1)) root) }

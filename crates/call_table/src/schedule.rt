@@ -13,10 +13,10 @@ ghost use Rattle.kernel_model.specs.files.Numbers.{numbers_in};
 ghost use Rattle.proc_cells.specs.Beside.{Beside};
 ghost use Rattle.proc_cells.specs.declared.cells.Cells.{Cells as ACells};
 ghost use Rattle.proc_cells.specs.Cells.{AreKept, StandsAs, kernel_of};
-ghost use Rattle.parked_tasks.specs.Parking.{AreAlike, AreWoken};
+ghost use Rattle.parked_tasks.specs.Parking.{AreParkedAlike, AreWoken};
 ghost use Rattle.call_table.specs.Entries.{IfEntered, IfParked, IsWholeTo, ReadyIs, StepsTo};
 ghost use Rattle.call_table.specs.Moves.{Moves, is_woken_by, puts_to_sleep};
-ghost use Rattle.call_table.specs.Schedules.{AreParked, AreParkedBut, IsCandidate, IsNextAbove, is_child, is_off};
+ghost use Rattle.call_table.specs.Schedules.{AreParked, AreParkedBut, IsCandidate, IsNextAbove, is_last_made, is_off};
 
 use crate::entered::{Entered, Turn};
 use crate::entries::{advance, go_on_woken};
@@ -217,7 +217,7 @@ fn wake_by(alloc: Global, parking: &mut Parking, memory: Made, made: &Entered) -
 fn rest_asleep(parking: &mut Parking, task: u32, entry: &Entry)
     ensures awake { parking.new.awake
         ≡ (if puts_to_sleep entry.now then map.remove parking.old.awake task else parking.old.awake) }
-    ensures parked { AreAlike parking.old parking.new }
+    ensures parked { AreParkedAlike parking.old parking.new }
 {
     match entry {
         Entry::Sleep { .. } => parking.rest(task),
@@ -227,9 +227,9 @@ fn rest_asleep(parking: &mut Parking, task: u32, entry: &Entry)
 
 /// Has the last task be looked at, where its number is above one, and it is not on the futex list.
 fn look_at_child(parking: &mut Parking, cells: &Cells, last: u32) -> Result<(), Memory>
-    ensures parked { AreAlike parking.old parking.new }
+    ensures parked { AreParkedAlike parking.old parking.new }
     ensures awake { OnOk result ((task : ℕ) → map.contains_key parking.new.awake task ≡
-        (map.contains_key parking.old.awake task || is_child cells.now last task)) }
+        (map.contains_key parking.old.awake task || is_last_made cells.now last task)) }
 {
     let child = cells.tasks.last();
     let wanted = last < child && is_off(&cells.sleepers, child);
@@ -238,7 +238,7 @@ fn look_at_child(parking: &mut Parking, cells: &Cells, last: u32) -> Result<(), 
 
 /// Has a task be looked at, where that is wanted.
 fn wake_if(parking: &mut Parking, wanted: bool, task: u32) -> Result<(), Memory>
-    ensures parked { AreAlike parking.old parking.new }
+    ensures parked { AreParkedAlike parking.old parking.new }
     ensures awake { OnOk result ((other : ℕ) → map.contains_key parking.new.awake other ≡
         (map.contains_key parking.old.awake other || (wanted && (other == task)))) }
 {
@@ -269,7 +269,7 @@ fn is_off(sleepers: &Waiters, task: u32) -> bool
 /// Has each live task be looked at that is not on the futex list.
 fn look_at_live(cells: &Cells, parking: &mut Parking) -> Result<(), Memory>
     requires none { (task : ℕ) → map.contains_key parking.old.awake task ≡ false }
-    ensures parked { OnOk result (AreAlike parking.old parking.new) }
+    ensures parked { OnOk result (AreParkedAlike parking.old parking.new) }
     ensures off { OnOk result ((task : ℕ) → map.contains_key parking.new.awake task ≡ true →
         is_off cells.now.sleepers task ≡ true) }
     ensures live { OnOk result ((task : ℕ) → is_live cells.now.tasks.tasks task ≡ true →

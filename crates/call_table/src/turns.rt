@@ -10,9 +10,9 @@ ghost use Rattle.kernel_model.specs.files.Numbers.{numbers_in};
 ghost use Rattle.proc_cells.specs.Beside.{Beside};
 ghost use Rattle.proc_cells.specs.Cells.{AreKept, kernel_of as kernel_of_cells};
 ghost use Rattle.call_table.specs.Entries.{IfEntered, IfParked, IsWholeTo, StepsTo};
-ghost use Rattle.call_table.specs.Processes.{kernel_of};
+ghost use Rattle.call_table.specs.Processes.{kernel_of_processes};
 ghost use Rattle.call_table.specs.Schedules.{AreParked};
-ghost use Rattle.call_table.specs.Turns.{AreInTurn, AreStill, AreStillIn, Leaves, next_of};
+ghost use Rattle.call_table.specs.Turns.{AreInTurn, AreStill, AreStillIn, Leaves, next_task_of};
 
 use crate::Processes;
 use crate::schedule::Schedule;
@@ -75,7 +75,7 @@ impl Schedule {
         ensures whole { IfEntered result (IsWholeTo self.old.cells self.new.cells) }
         ensures numbers { IfEntered result (λ entry. numbers_in entry ≡ []) }
         ensures turn { IfEntered result (λ entry. (beside : Beside) (n : ℕ) →
-            next_of last (ready_numbers (kernel_of_cells self.old.cells beside n)) ≡ Some (task_of entry)) }
+            next_task_of last (ready_numbers (kernel_of_cells self.old.cells beside n)) ≡ Some (task_of entry)) }
         ensures still { IfParked result (AreStillIn self.new.cells) }
         ensures kept { IfParked result (AreKept self.old.cells self.new.cells) }
         ensures parked { OnOk result (AreParked self.new.cells self.new.parking) }
@@ -130,13 +130,14 @@ impl Schedule {
 pub fn run_turns(alloc: Global, processes: Processes, seed: &[u8], entries: u64) -> Ran
     // The trace is a history, whatever stands beside the processes and the seed.
     ensures history { (beside : Beside) → beside.seed ≡ seed.now →
-        Leaves beside (replay (kernel_of processes beside 0) result.trace) }
+        Leaves beside (replay (kernel_of_processes processes beside 0) result.trace) }
     ensures state { IfSome result.processes (λ p. (beside : Beside) → beside.seed ≡ seed.now →
-        replay (kernel_of processes beside 0) result.trace ≡ Some (kernel_of p beside (length result.trace))) }
+        replay (kernel_of_processes processes beside 0) result.trace
+        ≡ Some (kernel_of_processes p beside (length result.trace))) }
     ensures whole { (beside : Beside) → beside.seed ≡ seed.now →
-        each_whole (kernel_of processes beside 0) result.trace ≡ true }
+        each_whole (kernel_of_processes processes beside 0) result.trace ≡ true }
     ensures turns { (beside : Beside) → beside.seed ≡ seed.now →
-        AreInTurn 0 (kernel_of processes beside 0) result.trace }
+        AreInTurn 0 (kernel_of_processes processes beside 0) result.trace }
     ensures drawn { flat_map numbers_in result.trace ≡ [] }
     ensures bound { length result.trace ≤ entries }
     ensures ended { IfSome result.processes (λ p. AreStill p ⊎ (length result.trace ≡ entries)) }

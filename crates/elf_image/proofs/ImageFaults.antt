@@ -9,7 +9,7 @@ use Rattle.elf_image.specs.declared.fault.ImageFault.TheVariants.{Short, Magic, 
 use Rattle.elf_image.specs.declared.fault.ImageFault.TheVariants.{Interp, Range, Overlap, Entry, Memory}
 use Rattle.elf_image.specs.Headers.{file_header, program_headers, is_loaded}
 use Rattle.elf_image.specs.Faults.{has_no_table, is_misplaced, has_overlap, has_no_entry, first_fault, fault_rows}
-use Rattle.elf_image.specs.Faults.{image_fault, IsFaultOf}
+use Rattle.elf_image.specs.Faults.{image_fault, IsImageFaultOf}
 
 abbrev is_memory : ImageFault → Bool
 is_memory Memory = true
@@ -41,7 +41,7 @@ unfolding image_fault
 not_Memory bytes h = never_memory (fault_rows bytes) refl h
 
 -- the first fault is one that a call may tell
-pub fault_of_first : (bytes : List ℕ) (e : ImageFault) → image_fault bytes ≡ Some e → IsFaultOf bytes e
+pub fault_of_first : (bytes : List ℕ) (e : ImageFault) → image_fault bytes ≡ Some e → IsImageFaultOf bytes e
 fault_of_first bytes Short h = h
 fault_of_first bytes Magic h = h
 fault_of_first bytes Class h = h

@@ -10,7 +10,7 @@ use Rattle.elf_image.specs.declared.image.Segment.{Segment}
 use Rattle.elf_image.specs.Headers.{file_header, program_headers, is_load, is_loaded}
 use Rattle.elf_image.specs.Faults.{meet, has_overlap, is_executed, has_no_entry, image_fault}
 use Rattle.elf_image.specs.Images.{segment_of, segments_of}
-use Rattle.elf_image.specs.Loadable.{IsIn, AreApart, StartsInCode}
+use Rattle.elf_image.specs.Loadable.{IsInSegment, AreApart, StartsInCode}
 use Rattle.elf_image.proofs.HeaderPairs.{overlap_more}
 use Rattle.elf_image.proofs.ImageFaults.{split_or, without_fault}
 
@@ -76,7 +76,7 @@ Any-cons : {X : Type 0} (P : X → Type 0) (y : X) (xs : List X) → Any P xs �
 Any-cons P y xs a = (suc a.0, a.1, omega arith, a.3, a.4)
 
 abbrev IsStart : ℕ → Segment → Type 0
-IsStart entry segment = IsIn entry segment × IsTrue segment.rights.execute
+IsStart entry segment = IsInSegment entry segment × IsTrue segment.rights.execute
 
 split_and : (a b : Bool) → (a && b) ≡ true → (a ≡ true) × (b ≡ true)
 split_and true b h = (refl, h)

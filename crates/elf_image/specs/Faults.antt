@@ -127,6 +127,6 @@ image_fault bytes = first_fault (fault_rows bytes)
 
 -- what a refusal may tell of these bytes: their first fault, or want of memory where they are an image
 -- malloc(3), ENOMEM; order of the faults: profile
-abbrev pub IsFaultOf : List ℕ → ImageFault → Type 0
-IsFaultOf bytes Memory = image_fault bytes ≡ None
-IsFaultOf bytes fault = image_fault bytes ≡ Some fault
+abbrev pub IsImageFaultOf : List ℕ → ImageFault → Type 0
+IsImageFaultOf bytes Memory = image_fault bytes ≡ None
+IsImageFaultOf bytes fault = image_fault bytes ≡ Some fault

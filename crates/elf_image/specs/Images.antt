@@ -38,14 +38,15 @@ holds_table file header =
 
 -- where a segment has the byte at an offset of the file
 -- ELF-64 Object File Format, p_offset, p_vaddr
-abbrev pub address_in : ProgramHeader → (offset : ℕ) → ℕ
-address_in header offset = header.p_vaddr + (offset - header.p_offset)
+abbrev pub address_of_offset : ProgramHeader → (offset : ℕ) → ℕ
+address_of_offset header offset = header.p_vaddr + (offset - header.p_offset)
 
 -- where the program header table stands in memory: in the first segment that holds all of it, or 0 where none does
 -- getauxval(3), AT_PHDR; ELF-64 Object File Format, e_phoff; the first, and 0: profile
 abbrev pub headers_in_memory : FileHeader → List ProgramHeader → ℕ
 headers_in_memory file [] = 0
-headers_in_memory file (h ∷ hs) = if holds_table file h then address_in h file.e_phoff else headers_in_memory file hs
+headers_in_memory file (h ∷ hs) =
+    if holds_table file h then address_of_offset h file.e_phoff else headers_in_memory file hs
 
 -- the image that a file without a fault is
 -- ELF-64 Object File Format, Program Loading

@@ -42,16 +42,16 @@ pub record AreLoadable (segments : List Segment) : Type 0 where
 
 -- an address is in a segment
 -- ELF-64 Object File Format, p_vaddr, p_memsz
-abbrev pub IsIn : ℕ → Segment → Type 0
-IsIn address segment = (segment.address ≤ address) × (address < segment.address + segment.size)
+abbrev pub IsInSegment : ℕ → Segment → Type 0
+IsInSegment address segment = (segment.address ≤ address) × (address < segment.address + segment.size)
 
 -- two segments have no address in common
 -- ELF-64 Object File Format, Program Loading
 abbrev pub AreApart : Segment → Segment → Type 0
-AreApart s t = (address : ℕ) → IsIn address s → IsIn address t → ⊥
+AreApart s t = (address : ℕ) → IsInSegment address s → IsInSegment address t → ⊥
 
 -- the image starts at an instruction's place, in a segment that may be executed
 -- ELF-64 Object File Format, e_entry, PF_X; RISC-V Unprivileged ISA 20191213, Base Instruction-Length Encoding
 pub record StartsInCode (image : Loadable) : Type 0 where
   pub aligned : image.entry % 4 ≡ 0
-  pub there : Any (λ segment. IsIn image.entry segment × IsTrue segment.rights.execute) image.segments
+  pub there : Any (λ segment. IsInSegment image.entry segment × IsTrue segment.rights.execute) image.segments

@@ -2,7 +2,7 @@
 
 ghost use Rattle.std.specs.Prelude.{◌≡◌, ◌+◌, ◌*◌, ◌≤◌, IfOk, IfErr, OnOk, ◌∷◌, [], ◌++◌, false, length, AllPairs};
 ghost use Rattle.std.specs.List.{list_any};
-ghost use Rattle.elf_image.specs.Faults.{is_misplaced, image_fault, IsFaultOf};
+ghost use Rattle.elf_image.specs.Faults.{is_misplaced, image_fault, IsImageFaultOf};
 ghost use Rattle.elf_image.specs.Loadable.{AreApart, StartsInCode};
 ghost use Rattle.elf_image.specs.Headers.{file_header, program_headers};
 ghost use Rattle.elf_image.specs.Images.{rights_of, segment_of, segments_of, headers_in_memory, image_in};
@@ -79,7 +79,7 @@ impl Model for Image {
 pub fn read_image(alloc: Global, bytes: &[u8]) -> Result<Image, ImageFault>
     ensures ok { IfOk result (λ image. image ≡ image_in bytes.now) }
     ensures sound { OnOk result (image_fault bytes.now ≡ None) }
-    ensures fault { IfErr result (IsFaultOf bytes.now) }
+    ensures fault { IfErr result (IsImageFaultOf bytes.now) }
     ensures apart { IfOk result (λ image. AllPairs AreApart image.segments) }
     ensures starts { IfOk result StartsInCode }
     ensures faulty { (f : Fault) → image_fault bytes.now ≡ Some f → result ≡ Err f }

@@ -4,7 +4,7 @@ ghost use Rattle.std.specs.Prelude.{◌≡◌, ◌≢◌, ◌+◌, ◌≤◌, �
 ghost use Rattle.std.specs.Prelude.{take, IsFalse, OnErr, vec_len, vec_capacity};
 ghost use Rattle.futex_core.specs.Waiters.{EachOnce, after_leave, after_sleep, after_wake, first_waiters};
 ghost use Rattle.futex_core.specs.Waiters.{is_asleep, is_woken, sleepers_without, waiters_on};
-ghost use Rattle.futex_core.specs.Least.{IsLeastAbove, is_below};
+ghost use Rattle.futex_core.specs.Least.{IsNextAmong, is_below_other};
 
 use crate::FutexKey;
 use sn_base::Memory;
@@ -123,7 +123,7 @@ impl Waiters {
 
     /// The least number above another of a task that was woken and whose call isn't entered yet.
     pub fn woken_above(&self, after: u32) -> Option<u32>
-        ensures least { IsLeastAbove self.now.woken after result }
+        ensures least { IsNextAmong self.now.woken after result }
         ensures once { EachOnce self.now }
     {
         least_above(self.woken.as_slice(), after)
@@ -150,13 +150,13 @@ fn count_on(sleepers: &[Sleeper], key: &FutexKey) -> usize
 
 /// The least of some numbers that is above another.
 fn least_above(numbers: &[u32], after: u32) -> Option<u32>
-    ensures { IsLeastAbove numbers.now after result }
+    ensures { IsNextAmong numbers.now after result }
 {
     let [first, rest @ ..] = numbers else {
         return None;
     };
     let behind = least_above(rest, after);
-    if *first > after && is_below(*first, behind) {
+    if *first > after && is_below_other(*first, behind) {
         Some(*first)
     } else {
         behind
@@ -164,8 +164,8 @@ fn least_above(numbers: &[u32], after: u32) -> Option<u32>
 }
 
 /// Whether a number is below another, or there is no other.
-fn is_below(number: u32, other: Option<u32>) -> bool
-    ensures { result ≡ is_below number other }
+fn is_below_other(number: u32, other: Option<u32>) -> bool
+    ensures { result ≡ is_below_other number other }
 {
     match other {
         Some(other) => number < other,

@@ -20,9 +20,9 @@ use Rattle.mm_space.specs.Reserves.{reserve_in_area, reserve_held, reserve_mappe
 use Rattle.mm_space.specs.Reserves.{leave_mapped}
 use Rattle.mm_space.specs.Sight.{is_area}
 use Rattle.mm_space.specs.Spaces.{AddressSpace, Reach}
-use Rattle.quantum.specs.Acting.{Acting, acting_on, memory_of, after_write}
+use Rattle.quantum.specs.Acting.{Acting, acting_on, memory_of, acting_after_write}
 use Rattle.rv_exec.specs.Courses as courses
-use Rattle.rv_exec.specs.Courses.{ran as ran_over}
+use Rattle.rv_exec.specs.Courses.{after_instructions as ran_over}
 use Rattle.quantum.specs.Instructions.{Going, ran}
 use Rattle.kernel_model.specs.declared.caller.Caller.{Caller}
 use Rattle.kernel_model.specs.declared.kernel.Part.TheVariants.{OfSpace, OfArea}
@@ -42,10 +42,10 @@ use Rattle.guest_access.specs.Lending.{names}
 -- a task after an instruction's work, and after one instruction
 -- RISC-V Unprivileged ISA 20191213, 1.2
 abbrev pub went_by : Acting → Done → Option Going
-went_by a done = courses.went_by after_write a done
+went_by a done = courses.went_by acting_after_write a done
 
 abbrev pub one_more : Going → Option Going
-one_more g = courses.one_more memory_of after_write g
+one_more g = courses.one_instruction_more memory_of acting_after_write g
 
 -- no instruction changes nothing
 pub ran_none : (g : Going) → ran 0 g ≡ Some g
@@ -142,21 +142,22 @@ leave_names task (Some m) hand = by m.held
     by (Bytes bytes) = refl
     by (PageOf name number) = names_with name (leave_in_area task) hand
 
-write_names : (w : Write) (a : Acting) → names (after_write w a).reach.hand ≡ names a.reach.hand
+write_names : (w : Write) (a : Acting) → names (acting_after_write w a).reach.hand ≡ names a.reach.hand
 write_names (Stores at width value) a = put_bytes_names a.task at width value a.reach
 write_names (Reserves at width) a =
     reserve_names a.task (page_offset at) (map.get a.reach.space.mapping.pages (page_number at)) a.reach.hand
 write_names (Releases at) a =
     leave_names a.task (map.get a.reach.space.mapping.pages (page_number at)) a.reach.hand
 
-writes_names : (ws : List Write) (a : Acting) → names (all_after after_write ws a).reach.hand ≡ names a.reach.hand
+writes_names : (ws : List Write) (a : Acting) → names (all_after acting_after_write ws a).reach.hand
+    ≡ names a.reach.hand
 writes_names [] a = refl
-writes_names (w ∷ ws) a = writes_names ws (after_write w a) ∙ write_names w a
+writes_names (w ∷ ws) a = writes_names ws (acting_after_write w a) ∙ write_names w a
 
 one_names : (a : Acting) (done : Done) (h : Going) → went_by a done ≡ Some h
     → names h.acting.reach.hand ≡ names a.reach.hand
 one_names a (done.Goes r ws) h e =
-    let is : h ≡ record { acting = all_after after_write ws a; registers = r } = cc e in
+    let is : h ≡ record { acting = all_after acting_after_write ws a; registers = r } = cc e in
     ap (λ (g : Going). names g.acting.reach.hand) is ∙ writes_names ws a
 one_names a done.Calls h e = absurd (cc e)
 one_names a (done.Traps signal) h e = absurd (cc e)

@@ -5,7 +5,7 @@ use Rattle.std.specs.Prelude.{⊤}
 use Rattle.std.proofs.Math.Seq.{take-length}
 use Rattle.mm_space.specs.Accesses.{writable}
 use Rattle.mm_space.specs.Handed.{AreaState, InHand}
-use Rattle.mm_space.specs.Places.{AreAsReady, is_ready}
+use Rattle.mm_space.specs.Places.{AreAsReady, takes_no_memory}
 use Rattle.mm_space.specs.Puts.{after_run_stored}
 use Rattle.mm_space.specs.Spaces.{AddressSpace, Reach}
 use Rattle.mm_space.specs.declared.handed.Handed.{Handed}
@@ -104,7 +104,7 @@ module _ (space : Space) (handed : Handed) (buffers : List IoVec) (d : IoVec) (s
     (count : ℕ) where
   abbrev first_and_others : Type 0
   first_and_others =
-      (is_ready space handed (get_or buffers 0 d).base (min (get_or buffers 0 d).length count) ≡ true)
+      (takes_no_memory space handed (get_or buffers 0 d).base (min (get_or buffers 0 d).length count) ≡ true)
       × AreReady space handed (cut (count - (get_or buffers 0 d).length) (others buffers))
 
   pub all_ready : first_and_others → AreReady space handed (cut count buffers)
@@ -117,13 +117,13 @@ module _ (space : Space) (handed : Handed) (buffers : List IoVec) (d : IoVec) (s
 pub ready_on : (space : Space) (handed : Handed) (buffers : List IoVec) (d : IoVec) → 1 ≤ length buffers
     → (count piece left : ℕ) → piece ≡ min (get_or buffers 0 d).length count
     → left ≡ count - (get_or buffers 0 d).length
-    → is_ready space handed (get_or buffers 0 d).base piece ≡ true → {E : Type 0} (answer : Result ⊤ E)
+    → takes_no_memory space handed (get_or buffers 0 d).base piece ≡ true → {E : Type 0} (answer : Result ⊤ E)
     → OnOk answer (AreReady space handed (cut left (others buffers)))
     → OnOk answer (AreReady space handed (cut count buffers))
 ready_on space handed buffers d some count piece left first rest ready (Err e) then = then
 ready_on space handed buffers d some count piece left first rest ready (Ok told) then =
     all_ready space handed buffers d some count (
-      ap (is_ready space handed (get_or buffers 0 d).base) (sym first) ∙ ready,
+      ap (takes_no_memory space handed (get_or buffers 0 d).base) (sym first) ∙ ready,
       subst (λ n. AreReady space handed (cut n (others buffers))) rest then,
     )
 

@@ -6,8 +6,8 @@
 //! buffer touches shared areas. `run` does a task's instructions up to one that calls, traps or touches a shared area,
 //! and `step` one with the shared areas that it touches. Behind each of them all areas are in their places again.
 //!
-//! Proved, by the definitions of `kernel_model`: what is read is what the buffer's bytes are (`bytes`), and what was put
-//! is what they become, all of them or none (`wrote`); what is sent goes behind the pipe's bytes (`sent`); want of
+//! Proved, by the definitions of `kernel_model`: what is read is what the buffer's bytes are (`bytes`), and what was
+//! put is what they become, all of them or none (`wrote`); what is sent goes behind the pipe's bytes (`sent`); want of
 //! memory changes nothing (`err`). `run` is so many instructions one after another (`steps`), up to its limit or to one
 //! that stops it (`within`, `stopped`), or fewer (`memory`). `step` tells what the next instruction does (`next`),
 //! leaves what its row leaves where it goes on (`goes`), and else what was there (`kept`, `err`).

@@ -9,6 +9,6 @@ slashed (name ∷ names) = 47 ∷ name ++ slashed names
 
 -- where a folder's path begins: at the root, which needs no byte before the slash, or at `.`, byte 46
 -- POSIX.1-2017, Base Definitions, Absolute Pathname and Relative Pathname
-abbrev pub start_of : Bool → List ℕ
-start_of true = []
-start_of false = 46 ∷ []
+abbrev pub path_start : Bool → List ℕ
+path_start true = []
+path_start false = 46 ∷ []

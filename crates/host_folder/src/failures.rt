@@ -1,7 +1,7 @@
 //! What errors of the system are for us, and how failures are counted.
 
 ghost use Rattle.std.specs.Prelude.{◌≡◌, IfOk, IfErr, IsErrAnd};
-ghost use Rattle.host_node.specs.Faults.{has_failed};
+ghost use Rattle.host_node.specs.Faults.{host_failed};
 ghost use Rattle.sn_base.specs.Faults.{HasCause};
 ghost use Rattle.host_folder.specs.Failures.{IsRefusalOf};
 
@@ -32,7 +32,7 @@ pub(crate) fn answer_from<T>(found: io::Result<T>) -> Result<T, HostErr>
 /// Hands an answer on, and counts it where it is a failure. The count stays at the greatest one.
 pub(crate) fn counted<T>(faults: &mut u64, answer: Result<T, HostErr>) -> Result<T, HostErr>
     ensures answer { result ≡ answer }
-    ensures faults { HasCause (has_failed result) faults.old faults.new }
+    ensures faults { HasCause (host_failed result) faults.old faults.new }
 {
     if let Err(HostErr::Failed) = answer {
         *faults = capped_add(*faults, 1);

@@ -6,9 +6,9 @@ ghost use Rattle.std.specs.Prelude.{option_map, true, IsUtf8};
 ghost use Rattle.std.specs.Fs.{new_options, with_read, with_write};
 ghost use Rattle.std.specs.IoError.{error_kind};
 ghost use Rattle.sn_base.specs.Faults.{HasCause};
-ghost use Rattle.host_node.specs.Faults.{has_failed};
+ghost use Rattle.host_node.specs.Faults.{host_failed};
 ghost use Rattle.host_node.specs.Order.{IsAscending, names_of};
-ghost use Rattle.host_node.specs.Told.{after_open, opened_for};
+ghost use Rattle.host_node.specs.Told.{told_after_open, told_opened};
 ghost use Rattle.sn_text.specs.Names.{IsName};
 ghost use Rattle.host_folder.specs.Access.{file_of, opened_by};
 ghost use Rattle.host_folder.specs.Failures.{IsRefusalOf};
@@ -182,7 +182,7 @@ impl<R: Files + AllocGlobal + Clone + Drop> FolderNode<R> {
     /// How the node stands to its file once it is opened (open(2)). A link is not to be opened, and a directory
     /// not to be written.
     fn accessed(&self, route: &Route, write: bool) -> Result<Access<R::File>, HostErr>
-        ensures access { IfOk result (λ access. opened_by access ≡ opened_for write) }
+        ensures access { IfOk result (λ access. opened_by access ≡ told_opened write) }
         ensures kind { OnOk result (CanOpenKind self.now.kind write) }
         ensures text { OnOk result (All IsUtf8 route.now) }
     {
@@ -225,7 +225,7 @@ fn options(write: bool) -> OpenOptions
 
 /// Opens a file for reading, or for reading and writing.
 fn open_file<R: Files>(files: &R, path: &str, write: bool) -> Result<Access<R::File>, HostErr>
-    ensures { IfOk result (λ access. opened_by access ≡ opened_for write) }
+    ensures { IfOk result (λ access. opened_by access ≡ told_opened write) }
 {
     access_from(options(write).open(files, path), write)
 }
@@ -233,7 +233,7 @@ fn open_file<R: Files>(files: &R, path: &str, write: bool) -> Result<Access<R::F
 /// How a node stands to a file, from what opening it for reading, or for reading and writing, came to.
 fn access_from<F: Drop>(opened: io::Result<F>, write: bool) -> Result<Access<F>, HostErr>
     ensures file { IfOk opened (λ file. IsOkAnd result (λ access. file_of access ≡ Some file)) }
-    ensures access { IfOk result (λ access. opened_by access ≡ opened_for write) }
+    ensures access { IfOk result (λ access. opened_by access ≡ told_opened write) }
     ensures refused { IfErr opened (λ error. IsErrAnd result (IsRefusalOf error)) }
 {
     let file = answer_from(opened)?;
@@ -272,7 +272,7 @@ where
         ensures node { IfOk result (λ attr. attr.kind ≡ self.old.kind) }
         ensures text { OnOk result (All IsUtf8 route.now) }
         ensures access { self.new.access ≡ self.old.access }
-        ensures faults { HasCause (has_failed result) self.old.faults self.new.faults }
+        ensures faults { HasCause (host_failed result) self.old.faults self.new.faults }
         ensures folder { self.new.folder ≡ self.old.folder }
         ensures kind { self.new.kind ≡ self.old.kind }
     {
@@ -287,7 +287,7 @@ where
         ensures directory { self.old.kind ≢ Kind.Dir → result ≡ Err HostErr.Failed }
         ensures text { OnOk result (All IsUtf8 route.now) }
         ensures access { self.new.access ≡ self.old.access }
-        ensures faults { HasCause (has_failed result) self.old.faults self.new.faults }
+        ensures faults { HasCause (host_failed result) self.old.faults self.new.faults }
         ensures folder { self.new.folder ≡ self.old.folder }
         ensures kind { self.new.kind ≡ self.old.kind }
     {
@@ -304,7 +304,7 @@ where
         ensures directory { self.old.kind ≢ Kind.Dir → result ≡ Err HostErr.Failed }
         ensures text { OnOk result (All IsUtf8 (route.now ++ name.now ∷ [])) }
         ensures access { self.new.access ≡ self.old.access }
-        ensures faults { HasCause (has_failed result) self.old.faults self.new.faults }
+        ensures faults { HasCause (host_failed result) self.old.faults self.new.faults }
         ensures folder { self.new.folder ≡ self.old.folder }
         ensures kind { self.new.kind ≡ self.old.kind }
     {
@@ -313,11 +313,11 @@ where
     }
 
     fn open(&mut self, route: &Route, write: bool) -> Result<(), HostErr>
-        ensures opened { opened_by self.new.access ≡ after_open result write (opened_by self.old.access) }
+        ensures opened { opened_by self.new.access ≡ told_after_open result write (opened_by self.old.access) }
         ensures err { OnErr result (self.new.access ≡ self.old.access) }
         ensures can_open { OnOk result (CanOpenKind self.old.kind write) }
         ensures text { OnOk result (All IsUtf8 route.now) }
-        ensures faults { HasCause (has_failed result) self.old.faults self.new.faults }
+        ensures faults { HasCause (host_failed result) self.old.faults self.new.faults }
         ensures folder { self.new.folder ≡ self.old.folder }
         ensures kind { self.new.kind ≡ self.old.kind }
     {
@@ -333,7 +333,7 @@ where
             (file_of self.old.access) (file_of self.new.access) n buf.new) }
         ensures shut { IsNone (file_of self.old.access) → result ≡ Err HostErr.Failed }
         ensures opened { opened_by self.new.access ≡ opened_by self.old.access }
-        ensures faults { HasCause (has_failed result) self.old.faults self.new.faults }
+        ensures faults { HasCause (host_failed result) self.old.faults self.new.faults }
         ensures folder { self.new.folder ≡ self.old.folder }
         ensures kind { self.new.kind ≡ self.old.kind }
     {

@@ -1,7 +1,7 @@
 //! Paths of folders, and of what is below them.
 
 ghost use Rattle.std.specs.Prelude.{◌≡◌, ◌++◌, ◌∷◌, All, IfOk, OnOk, IsOkUnless, IsUtf8, string_bytes};
-ghost use Rattle.host_folder.specs.Paths.{slashed, start_of};
+ghost use Rattle.host_folder.specs.Paths.{slashed, path_start};
 
 use host_node::HostErr;
 use sn_text::{Name, Route};
@@ -9,7 +9,7 @@ use std::alloc::Global;
 
 /// Where the path of a folder begins: at the root, or at the working directory.
 pub(crate) fn start(alloc: Global, rooted: bool) -> Result<String, HostErr>
-    ensures ok { IfOk result (λ path. string_bytes path ≡ start_of rooted) }
+    ensures ok { IfOk result (λ path. string_bytes path ≡ path_start rooted) }
     ensures err { IsOkUnless result HostErr.Memory }
 {
     let start = if rooted { "" } else { "." };

@@ -2,9 +2,9 @@
 
 ghost use Rattle.std.specs.Prelude.{◌≡◌, ◌++◌, [], string_bytes, true, IfOk, IfSome};
 ghost use Rattle.sn_base.specs.Faults.{HasCause};
-ghost use Rattle.host_node.specs.Faults.{has_failed};
+ghost use Rattle.host_node.specs.Faults.{host_failed};
 ghost use Rattle.host_node.specs.declared.kind.Kind.TheVariants.{Dir as Directory};
-ghost use Rattle.host_folder.specs.Paths.{slashed, start_of};
+ghost use Rattle.host_folder.specs.Paths.{slashed, path_start};
 
 use crate::access::Access;
 use crate::failures::counted;
@@ -49,7 +49,7 @@ impl<R: Files + AllocGlobal + Clone + Drop> Folders<R> {
         ensures kind { IfOk result (λ granted. IfSome granted (λ node. node.kind ≡ Directory)) }
         ensures access { IfOk result (λ granted. IfSome granted (λ node. node.access ≡ Access.Shut)) }
         ensures folder { IfOk result (λ granted. IfSome granted (λ node.
-            string_bytes node.folder ≡ start_of folder.now.rooted ++ slashed folder.now.names)) }
+            string_bytes node.folder ≡ path_start folder.now.rooted ++ slashed folder.now.names)) }
         ensures fresh { IfOk result (λ granted. IfSome granted (λ node. node.faults ≡ 0)) }
     {
         let mut path = start(self.files.alloc(), folder.is_rooted())?;
@@ -96,9 +96,9 @@ where
         ensures directory { IfOk result (λ granted. IfSome granted (λ node. node.kind ≡ Directory)) }
         ensures shut { IfOk result (λ granted. IfSome granted (λ node. node.access ≡ Access.Shut)) }
         ensures folder { IfOk result (λ granted. IfSome granted (λ node.
-            string_bytes node.folder ≡ start_of folder.now.rooted ++ slashed folder.now.names)) }
+            string_bytes node.folder ≡ path_start folder.now.rooted ++ slashed folder.now.names)) }
         ensures fresh { IfOk result (λ granted. IfSome granted (λ node. node.faults ≡ 0)) }
-        ensures faults { HasCause (has_failed result) self.old.faults self.new.faults }
+        ensures faults { HasCause (host_failed result) self.old.faults self.new.faults }
         ensures buried { self.new.buried.items ≡ self.old.buried.items }
     {
         let answer = self.directory(folder);

@@ -5,12 +5,12 @@ use Rattle.std.specs.Option.{option_map_or}
 use Rattle.host_node.specs.declared.kind.Kind.TheVariants.{Dir}
 use Rattle.host_node.specs.Tree.{Shape, directory, file, link, lent, kind_of, is_lent, child_of, with_child, lend_child}
 use Rattle.host_node.specs.Tree.{is_directory}
-use Rattle.host_node.specs.Routes.{subtree, put_subtree, only_directory, directory_at, is_free}
+use Rattle.host_node.specs.Routes.{subtree, put_subtree, only_directory, directory_at, is_way_free}
 use Rattle.host_node.proofs.TreeLemmas.{directory_from_child, child_of-with_same, with_child_twice, with_child_found}
 use Rattle.host_node.proofs.TreeLemmas.{lend_child_found, is_lent-none_lent}
 use Rattle.host_node.proofs.RouteLemmas.{none_lent-is_free}
 use Rattle.host_memory.specs.declared.places.PutErr.{PutErr}
-use Rattle.host_memory.specs.Places.{way_of, last_of, parent_of, put_under}
+use Rattle.host_memory.specs.Places.{way_of, last_of, parent_directory, put_under}
 
 -- a child that was taken left its place,
 pub child_of-taken : (name : List ℕ) (t s : Shape) → Some s ≡ child_of name t
@@ -48,7 +48,7 @@ pub put_under-below : (name next : List ℕ) (more : List (List ℕ)) (new t s :
 put_under-below name next more new t s h =
     ap (λ o. option_map_or (λ p. put_subtree (name ∷ way_of (next ∷ more)) (with_child (last_of (next ∷ more)) new p) t)
     (option_and_then only_directory (option_and_then (subtree (way_of (next ∷ more))) o)) t) (sym h)
-    ∙ by (parent_of (next ∷ more) s)
+    ∙ by (parent_directory (next ∷ more) s)
   where
     by : (o : Option Shape)
         → option_map_or
@@ -82,7 +82,7 @@ put_under-err (Err x) name t s c h e =
     ap (λ x. with_child name x (lend_child name t)) e ∙ given-taken name t s s h ∙ with_child_found name s t (sym h)
 
 -- what stands in a place that is free stands here
-pub is_here : (names : List (List ℕ)) (t s : Shape) → is_free names t ≡ true → Some s ≡ subtree names t
+pub is_here : (names : List (List ℕ)) (t s : Shape) → is_way_free names t ≡ true → Some s ≡ subtree names t
     → is_lent s ≡ false
 is_here names t s f h = is_lent-none_lent s (none_lent-is_free names s t f (sym h))
 

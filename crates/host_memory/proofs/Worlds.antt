@@ -7,26 +7,27 @@ use Rattle.host_node.specs.declared.kind.Kind.TheVariants.{Dir}
 use Rattle.host_node.specs.Told.{ComesFrom, CanLend, TellsLent, CanTakeBack, TellsGranted}
 use Rattle.host_node.specs.Tree.{Shape, directory, file, link, lent, with_faults, is_directory, is_lent, child_of}
 use Rattle.host_node.specs.Tree.{with_child, lend_child, none_lent}
-use Rattle.host_node.specs.Routes.{subtree, put_subtree, directory_at, only_directory, is_free}
+use Rattle.host_node.specs.Routes.{subtree, put_subtree, directory_at, only_directory, is_way_free}
 use Rattle.host_node.proofs.TreeLemmas.{directory_from_child, child_of-with_same, none_lent-with_faults}
 use Rattle.host_node.proofs.TreeLemmas.{none_lent-child_of, none_lent-with_child, is_lent-none_lent}
 use Rattle.host_node.proofs.RouteLemmas.{put-put_subtree, none_lent-subtree, none_lent-put_subtree, is_free-none_lent}
 use Rattle.host_node.proofs.RouteLemmas.{subtree-directory_at}
 use Rattle.host_node.proofs.ToldLemmas.{can_take_back, can_settle}
 use Rattle.host_memory.specs.declared.places.PutErr.TheVariants.{NoParent, Taken}
-use Rattle.host_memory.specs.Places.{way_of, last_of, parent_of, put_under, put_fault}
+use Rattle.host_memory.specs.Places.{way_of, last_of, parent_directory, put_under, put_fault}
 use Rattle.host_memory.proofs.PlaceLemmas.{given-taken, put_under-below}
 
 -- the directory for what is put is the one that the names before the last lead to
-parent_found : (names : List (List ℕ)) (t p : Shape) → parent_of names t ≡ Some p → subtree (way_of names) t ≡ Some p
+parent_found : (names : List (List ℕ)) (t p : Shape) → parent_directory names t ≡ Some p → subtree (way_of names) t
+    ≡ Some p
 parent_found names t p h = subtree-directory_at (way_of names) p t h
 
 -- a tree with nothing lent stays so where one with nothing lent is put
 pub none_lent_put : (names : List (List ℕ)) (new t : Shape) → none_lent t ≡ true → none_lent new ≡ true
     → none_lent (put_under names new t) ≡ true
-none_lent_put names new t n h = by (parent_of names t) refl
+none_lent_put names new t n h = by (parent_directory names t) refl
   where
-    by : (o : Option Shape) → parent_of names t ≡ o
+    by : (o : Option Shape) → parent_directory names t ≡ o
         → none_lent (option_map_or (λ p. put_subtree (way_of names) (with_child (last_of names) new p) t) o t) ≡ true
     by None e = n
     by (Some p) e =
@@ -35,7 +36,7 @@ none_lent_put names new t n h = by (parent_of names t) refl
         h)
 
 -- a tree with nothing lent can grant each of its folders
-pub can_grant : (names : List (List ℕ)) (t : Shape) → none_lent t ≡ true → is_free names t ≡ true
+pub can_grant : (names : List (List ℕ)) (t : Shape) → none_lent t ≡ true → is_way_free names t ≡ true
 can_grant names t n = is_free-none_lent names t n
 
 -- a folder that was granted has its place, where it can be settled

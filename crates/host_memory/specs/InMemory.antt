@@ -55,8 +55,8 @@ after_open_of write node = record (after_call_of Open node) {
 
 -- a node that is lent from under a name of another, with what stands there
 -- profile
-abbrev pub lent_from : NodeInMemory → List ℕ → Shape → NodeInMemory
-lent_from node name shape = record {
+abbrev pub lent_below : NodeInMemory → List ℕ → Shape → NodeInMemory
+lent_below node name shape = record {
   tree = shape;
   access = Closed;
   place = place_below node.place name;

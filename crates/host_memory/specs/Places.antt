@@ -22,21 +22,21 @@ last_of (name ∷ next ∷ names) = last_of (next ∷ names)
 
 -- the directory that the names but the last lead to, or None
 -- path_resolution(7)
-abbrev pub parent_of : List (List ℕ) → Shape → Option Shape
-parent_of names shape = directory_at (way_of names) shape
+abbrev pub parent_directory : List (List ℕ) → Shape → Option Shape
+parent_directory names shape = directory_at (way_of names) shape
 
 -- the tree with another under the last name of the directory that the names before it lead to
 -- profile
 abbrev pub put_under : List (List ℕ) → Shape → Shape → Shape
 put_under names new shape =
     option_map_or (λ parent. put_subtree (way_of names) (with_child (last_of names) new parent) shape)
-    (parent_of names shape) shape
+    (parent_directory names shape) shape
 
 -- why nothing can be put where names lead, if so: no directory is there for it, or something is there already
 -- mkdir(2), ENOENT, ENOTDIR and EEXIST; order of errors: profile
 abbrev pub put_fault : List (List ℕ) → Shape → Option PutErr
 put_fault names shape =
-    if is_none (parent_of names shape) then Some NoParent
+    if is_none (parent_directory names shape) then Some NoParent
     else if is_some (subtree names shape) then Some Taken
     else None
 

@@ -4,15 +4,15 @@ ghost use Rattle.std.specs.Prelude.{◌≡◌, ◌≤◌, ◌++◌, ◌-◌, fal
 ghost use Rattle.std.specs.Prelude.{if◌then◌else◌, IfOk, IfSome, IfNone, OnOk, OnErr};
 ghost use Rattle.std.specs.Bool.{OnTrue};
 ghost use Rattle.host_node.specs.declared.error.HostErr.TheVariants.{Failed};
-ghost use Rattle.host_node.specs.Faults.{has_failed};
+ghost use Rattle.host_node.specs.Faults.{host_failed};
 ghost use Rattle.sn_base.specs.Faults.{Rose, HasCause};
 ghost use Rattle.host_node.specs.Order.{IsAscending, names_of};
-ghost use Rattle.host_node.specs.Told.{Closed as NotOpen, after_open, kept, TellsAttr, CanList, TellsListing, CanLend};
+ghost use Rattle.host_node.specs.Told.{Closed as NotOpen, told_after_open, kept, TellsAttr, CanList, TellsListing, CanLend};
 ghost use Rattle.host_node.specs.Told.{LacksChild, TellsLent, after_lend, CanOpen, CanRead, ReadsAt, CanTakeBack};
 ghost use Rattle.host_node.specs.Told.{TakesBack};
-ghost use Rattle.host_node.specs.Tree.{attr_of, bytes_of, child_of, faults_of, kind_of, is_lent};
+ghost use Rattle.host_node.specs.Tree.{attr_of, file_bytes, child_of, faults_of, kind_of, is_lent};
 ghost use Rattle.host_memory.specs.Access.{opened_as};
-ghost use Rattle.host_memory.specs.InMemory.{is_to_fail, after_call_of, after_open_of, lent_from, after_lend_of};
+ghost use Rattle.host_memory.specs.InMemory.{is_to_fail, after_call_of, after_open_of, lent_below, after_lend_of};
 ghost use Rattle.host_memory.specs.InMemory.{with_back};
 ghost use Rattle.host_memory.specs.Plans.{fails, after_call, lines_below, lines_after, place_below, failed_once};
 ghost use Rattle.host_memory.specs.Plans.{FailsAsPlanned};
@@ -160,7 +160,7 @@ impl HostNode for MemoryNode {
         ensures attr { IfOk result (TellsAttr (Some self.old.tree)) }
         ensures mode { IfOk result (λ attr. attr.mode ≤ 511) }
         ensures kind { IfOk result (λ attr. attr.kind ≡ kind_of self.old.tree) }
-        ensures faults { HasCause (has_failed result) (faults_of self.old.tree) (faults_of self.new.tree) }
+        ensures faults { HasCause (host_failed result) (faults_of self.old.tree) (faults_of self.new.tree) }
         ensures tells { Some self.new.tree ≡ kept (faults_of self.new.tree) (Some self.old.tree) }
         ensures what { kind_of self.new.tree ≡ kind_of self.old.tree }
         ensures opened { opened_as self.new.access ≡ opened_as self.old.access }
@@ -182,7 +182,7 @@ impl HostNode for MemoryNode {
         ensures entries { OnOk result (TellsListing (Some self.old.tree) out.new) }
         ensures ordered { OnOk result (IsAscending (names_of out.new)) }
         ensures err { OnErr result (out.new ≡ out.old) }
-        ensures faults { HasCause (has_failed result) (faults_of self.old.tree) (faults_of self.new.tree) }
+        ensures faults { HasCause (host_failed result) (faults_of self.old.tree) (faults_of self.new.tree) }
         ensures tells { Some self.new.tree ≡ kept (faults_of self.new.tree) (Some self.old.tree) }
         ensures what { kind_of self.new.tree ≡ kind_of self.old.tree }
         ensures opened { opened_as self.new.access ≡ opened_as self.old.access }
@@ -205,7 +205,7 @@ impl HostNode for MemoryNode {
         ensures node { IfOk result (λ lent. IfSome lent (λ node.
             TellsLent name.now (Some self.old.tree) (Some node.tree) (faults_of node.tree) (kind_of node.tree))) }
         ensures closed { IfOk result (λ lent. IfSome lent (λ node. opened_as node.access ≡ NotOpen)) }
-        ensures faults { HasCause (has_failed result) (faults_of self.old.tree) (faults_of self.new.tree) }
+        ensures faults { HasCause (host_failed result) (faults_of self.old.tree) (faults_of self.new.tree) }
         ensures tells { Some self.new.tree ≡ after_lend result name.now (faults_of self.new.tree) (Some self.old.tree) }
         ensures what { kind_of self.new.tree ≡ kind_of self.old.tree }
         ensures opened { opened_as self.new.access ≡ opened_as self.old.access }
@@ -219,7 +219,7 @@ impl HostNode for MemoryNode {
         ensures node_place { IfOk result (λ lent. IfSome lent (λ node.
             node.place ≡ place_below self.old.place name.now)) }
         ensures lent { IfOk result (λ lent. IfSome lent (λ node.
-            Some node ≡ option_map (lent_from self.old name.now) (child_of name.now self.old.tree))) }
+            Some node ≡ option_map (lent_below self.old name.now) (child_of name.now self.old.tree))) }
         ensures lacks { child_of name.now self.old.tree ≡ None → is_to_fail Lend self.old ≡ false →
             result ≡ Ok None }
         ensures after { self.new ≡ after_lend_of result name.now self.old }
@@ -242,8 +242,8 @@ impl HostNode for MemoryNode {
 
     fn open(&mut self, _route: &Route, write: bool) -> Result<(), HostErr>
         requires { CanOpen write (Some self.old.tree) }
-        ensures opened { opened_as self.new.access ≡ after_open result write (opened_as self.old.access) }
-        ensures faults { HasCause (has_failed result) (faults_of self.old.tree) (faults_of self.new.tree) }
+        ensures opened { opened_as self.new.access ≡ told_after_open result write (opened_as self.old.access) }
+        ensures faults { HasCause (host_failed result) (faults_of self.old.tree) (faults_of self.new.tree) }
         ensures tells { Some self.new.tree ≡ kept (faults_of self.new.tree) (Some self.old.tree) }
         ensures what { kind_of self.new.tree ≡ kind_of self.old.tree }
         ensures planned { FailsAsPlanned (fails self.old.place Open self.old.plan) result
@@ -268,7 +268,7 @@ impl HostNode for MemoryNode {
         requires { CanRead (Some self.old.tree) (opened_as self.old.access) }
         ensures within { IfOk result (λ n. n ≤ length buf.old) }
         ensures bytes { IfOk result (λ n. ReadsAt at (Some self.old.tree) n buf.old buf.new) }
-        ensures faults { HasCause (has_failed result) (faults_of self.old.tree) (faults_of self.new.tree) }
+        ensures faults { HasCause (host_failed result) (faults_of self.old.tree) (faults_of self.new.tree) }
         ensures tells { Some self.new.tree ≡ kept (faults_of self.new.tree) (Some self.old.tree) }
         ensures what { kind_of self.new.tree ≡ kind_of self.old.tree }
         ensures opened { opened_as self.new.access ≡ opened_as self.old.access }
@@ -277,7 +277,7 @@ impl HostNode for MemoryNode {
         ensures plan { self.new.plan ≡ after_call self.old.place ReadAt self.old.plan }
         ensures place { self.new.place ≡ self.old.place }
         ensures answer { result ≡ (if is_to_fail ReadAt self.old then Err Failed
-            else Ok (min (length buf.old) (length (bytes_of self.old.tree) - at))) }
+            else Ok (min (length buf.old) (length (file_bytes self.old.tree) - at))) }
         ensures after { self.new ≡ after_call_of ReadAt self.old }
         ensures err { OnErr result (buf.new ≡ buf.old) }
     {

@@ -4,7 +4,7 @@ ghost use Rattle.std.specs.Prelude.{option_copied, option_map, ◌≡◌, ◌+�
 ghost use Rattle.std.specs.Prelude.{is_some, if◌then◌else◌, IfOk, IfErr, IfSome, IfNone, OnOk, OnErr};
 ghost use Rattle.std.specs.Bool.{OnTrue};
 ghost use Rattle.host_node.specs.declared.kind.Kind.TheVariants.{Dir as Directory};
-ghost use Rattle.host_node.specs.Faults.{has_failed};
+ghost use Rattle.host_node.specs.Faults.{host_failed};
 ghost use Rattle.sn_base.specs.Faults.{Rose, HasCause};
 ghost use Rattle.sn_base.specs.Sums.{capped};
 ghost use Rattle.host_node.specs.Routes.{directory_at, subtree, put_subtree};
@@ -202,7 +202,7 @@ impl HostWorld for World {
             (Some node.tree) (faults_of node.tree) (kind_of node.tree))) }
         ensures directory { IfOk result (λ granted. IfSome granted (λ node. kind_of node.tree ≡ Directory)) }
         ensures closed { IfOk result (λ granted. IfSome granted (λ node. opened_as node.access ≡ NotOpen)) }
-        ensures faults { HasCause (has_failed result) self.old.failed self.new.failed }
+        ensures faults { HasCause (host_failed result) self.old.failed self.new.failed }
         ensures tells { Some self.new.tree ≡ after_grant result folder.now.names (Some self.old.tree) }
         ensures buried { self.new.dead ≡ self.old.dead }
         ensures planned { FailsAsPlanned (fails [] Lend self.old.plan) result self.old.failed self.new.failed }

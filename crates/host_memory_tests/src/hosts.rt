@@ -3,7 +3,7 @@
 ghost use Rattle.std.specs.Prelude.{◌≡◌, true, Some, IfOk};
 ghost use Rattle.host_node.specs.declared.kind.Kind.TheVariants.{Dir as Directory};
 ghost use Rattle.host_node.specs.Routes.{subtree, put_subtree};
-ghost use Rattle.host_node.specs.Tree.{file as regular, lent as away, bytes_of, faults_of, is_directory, none_lent};
+ghost use Rattle.host_node.specs.Tree.{file as regular, lent as away, file_bytes, faults_of, is_directory, none_lent};
 ghost use Rattle.host_memory.specs.declared.node.Access.TheVariants.{Closed as NotOpened, Reading as Reads};
 
 use host_memory::{Line, MemoryNode, Op, Plan, World};
@@ -76,7 +76,7 @@ pub(crate) fn file_node(alloc: Global, bytes: &[u8], op: Op, k: u64) -> Result<M
 
 /// The node of a file that is open, of which a read is to fail.
 pub(crate) fn open_file(alloc: Global, bytes: &[u8], k: u64) -> Result<MemoryNode, Fail>
-    ensures file { IfOk result (λ node. node.tree ≡ regular (bytes_of node.tree) 420 (faults_of node.tree)) }
+    ensures file { IfOk result (λ node. node.tree ≡ regular (file_bytes node.tree) 420 (faults_of node.tree)) }
     ensures open { IfOk result (λ node. node.access ≡ Reads) }
 {
     let mut node = file_node(alloc, bytes, Op::ReadAt, k)?;

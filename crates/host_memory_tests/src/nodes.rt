@@ -2,7 +2,7 @@
 
 ghost use Rattle.std.specs.Prelude.{◌≡◌, [], IfOk};
 ghost use Rattle.host_node.specs.Tree.{directory as dir, file as regular, link as symlink, no_children, with_child};
-ghost use Rattle.host_node.specs.Tree.{bytes_of, faults_of};
+ghost use Rattle.host_node.specs.Tree.{file_bytes, faults_of};
 ghost use Rattle.host_memory.specs.declared.node.Access.TheVariants.{Reading as Reads};
 
 use crate::hosts::{folder_of, granted, open_file, world_of};
@@ -15,7 +15,7 @@ use std::test::Fail;
 
 /// That reads of a file of the bytes `hello` begin at their offsets, and leave the rest of the buffer.
 fn expect_reads(rt: &impl Abort, node: &mut MemoryNode) -> Result<(), Fail>
-    requires file { node.old.tree ≡ regular (bytes_of node.old.tree) 420 (faults_of node.old.tree) }
+    requires file { node.old.tree ≡ regular (file_bytes node.old.tree) 420 (faults_of node.old.tree) }
     requires open { node.old.access ≡ Reads }
 {
     let mut buf = [0; 3];

@@ -1,7 +1,7 @@
 //! Calls that fail where they were planned to, and alone are counted.
 
 ghost use Rattle.std.specs.Prelude.{◌≡◌, true, IfOk};
-ghost use Rattle.host_node.specs.Tree.{directory as dir, file as regular, no_children, bytes_of, faults_of, none_lent};
+ghost use Rattle.host_node.specs.Tree.{directory as dir, file as regular, no_children, file_bytes, faults_of, none_lent};
 ghost use Rattle.host_memory.specs.declared.node.Access.TheVariants.{Reading as Reads};
 
 use crate::hosts::{file_node, folder_of, granted, is_failure, open_file, world_of};
@@ -80,7 +80,7 @@ fn a_call_of_a_directory_fails_where_it_was_planned(rt: HostRuntime) -> Result<(
 
 /// Whether of four opens of a file the k-th alone fails and is counted.
 fn opens_fail(node: &mut MemoryNode, route: &Route, k: u64) -> Result<bool, Fail>
-    requires { node.old.tree ≡ regular (bytes_of node.old.tree) 420 (faults_of node.old.tree) }
+    requires { node.old.tree ≡ regular (file_bytes node.old.tree) 420 (faults_of node.old.tree) }
 {
     for call in 1..=4 {
         let failed = is_failure(node.open(route, call == 2))?;
@@ -100,7 +100,7 @@ fn open_fails_once(alloc: Global, k: u64) -> Result<bool, Fail> {
 
 /// Whether of four reads of an open file the k-th alone fails and is counted.
 fn reads_fail(node: &mut MemoryNode, k: u64) -> Result<bool, Fail>
-    requires file { node.old.tree ≡ regular (bytes_of node.old.tree) 420 (faults_of node.old.tree) }
+    requires file { node.old.tree ≡ regular (file_bytes node.old.tree) 420 (faults_of node.old.tree) }
     requires open { node.old.access ≡ Reads }
 {
     let mut buf = [0; 3];

@@ -8,7 +8,7 @@ use Rattle.std.proofs.lemmas.Cmp.{nat_list_eq_equiv}
 use Rattle.std.proofs.lemmas.Slice.Eq.{bytes_eq-Decides}
 use Rattle.host_node.specs.Tree.{Shape, Children, directory, file, link, lent, no_children, child}
 use Rattle.host_node.specs.Tree.{find_child, replace_child, put_child, child_of, with_child, is_lent}
-use Rattle.host_node.specs.Routes.{subtree, put_subtree, only_directory, directory_at, is_free}
+use Rattle.host_node.specs.Routes.{subtree, put_subtree, only_directory, directory_at, is_way_free}
 use Rattle.host_node.proofs.TreeLemmas.{put-replaces, find-replace_other, child_of-with_same, child_of-with_other}
 use Rattle.host_node.proofs.TreeLemmas.{directory_from_child, with_child_twice}
 use Rattle.host_node.proofs.RouteLemmas.{put_step, no_step}
@@ -116,7 +116,7 @@ is_lent-with_child name s (lent kind) = refl
 
 -- and it can be granted as it could
 pub is_free_apart : (names others : List (List ℕ)) (new t : Shape) → are_apart names others ≡ true
-    → is_free names (put_subtree others new t) ≡ is_free names t
+    → is_way_free names (put_subtree others new t) ≡ is_way_free names t
 is_free_apart [] others new t h = cc
 is_free_apart (name ∷ names) [] new t h = cc
 is_free_apart (name ∷ names) (other ∷ others) new t h =
@@ -124,30 +124,31 @@ is_free_apart (name ∷ names) (other ∷ others) new t h =
     (part_on name other names others same h))
   where
     here : Shape → Option Shape → Bool
-    here x o = not (is_lent x) && option_map_or (is_free names) o true
+    here x o = not (is_lent x) && option_map_or (is_way_free names) o true
 
     by : (o : Option Shape) → child_of other t ≡ o → (b : Bool) → bytes_eq name other ≡ b
-        → ((c : Shape) → bytes_eq name other ≡ true → is_free names (put_subtree others new c) ≡ is_free names c)
-        → is_free (name ∷ names) (put_subtree (other ∷ others) new t) ≡ is_free (name ∷ names) t
-    by None e b d more = ap (is_free (name ∷ names)) (no_step other others new t e)
+        → ((c : Shape) → bytes_eq name other ≡ true → is_way_free names (put_subtree others new c)
+        ≡ is_way_free names c)
+        → is_way_free (name ∷ names) (put_subtree (other ∷ others) new t) ≡ is_way_free (name ∷ names) t
+    by None e b d more = ap (is_way_free (name ∷ names)) (no_step other others new t e)
     by (Some c) e false d more =
         let x : Shape = put_subtree others new c in
-        ap (is_free (name ∷ names)) (put_step other others new t c e)
-        ∙ ap (λ o. not (is_lent (with_child other x t)) && option_map_or (is_free names) o true)
+        ap (is_way_free (name ∷ names)) (put_step other others new t c e)
+        ∙ ap (λ o. not (is_lent (with_child other x t)) && option_map_or (is_way_free names) o true)
         (child_of-with_other name other x t d)
-        ∙ ap (λ b. not b && option_map_or (is_free names) (child_of name t) true) (is_lent-with_child other x t)
+        ∙ ap (λ b. not b && option_map_or (is_way_free names) (child_of name t) true) (is_lent-with_child other x t)
     by (Some c) e true d more =
         let x : Shape = put_subtree others new c in
         let same : name ≡ other = (bytes_eq-Decides name other).0 d in
-        ap (is_free (name ∷ names)) (put_step other others new t c e)
-        ∙ ap (λ n. not (is_lent (with_child other x t)) && option_map_or (is_free names)
+        ap (is_way_free (name ∷ names)) (put_step other others new t c e)
+        ∙ ap (λ n. not (is_lent (with_child other x t)) && option_map_or (is_way_free names)
         (child_of n (with_child other x t)) true) same
-        ∙ ap (λ o. not (is_lent (with_child other x t)) && option_map_or (is_free names) o true)
+        ∙ ap (λ o. not (is_lent (with_child other x t)) && option_map_or (is_way_free names) o true)
         (child_of-with_same other x t (directory_from_child other t c e))
-        ∙ ap (λ b. not b && is_free names x) (is_lent-with_child other x t)
+        ∙ ap (λ b. not b && is_way_free names x) (is_lent-with_child other x t)
         ∙ ap (λ b. not (is_lent t) && b) (more c d)
-        ∙ sym (ap (λ n. not (is_lent t) && option_map_or (is_free names) (child_of n t) true) same
-        ∙ ap (λ o. not (is_lent t) && option_map_or (is_free names) o true) e)
+        ∙ sym (ap (λ n. not (is_lent t) && option_map_or (is_way_free names) (child_of n t) true) same
+        ∙ ap (λ o. not (is_lent t) && option_map_or (is_way_free names) o true) e)
 
 -- what stands under another name where something is put
 child_of-put_other : (m name : List ℕ) (names : List (List ℕ)) (new t : Shape) → bytes_eq m name ≡ false

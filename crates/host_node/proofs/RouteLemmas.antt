@@ -4,7 +4,7 @@ use Rattle.std.proofs.Common.{ap, ◌∙◌, option_and_then}
 use Rattle.std.specs.Option.{option_map_or}
 use Rattle.host_node.specs.declared.kind.Kind.TheVariants.{Dir}
 use Rattle.host_node.specs.Tree.{Shape, lent, is_lent, is_directory, child_of, with_child, none_lent}
-use Rattle.host_node.specs.Routes.{subtree, put_subtree, only_directory, directory_at, is_free}
+use Rattle.host_node.specs.Routes.{subtree, put_subtree, only_directory, directory_at, is_way_free}
 use Rattle.host_node.proofs.TreeLemmas.{directory_from_child, child_of-with_same, with_child_twice, with_child_found}
 use Rattle.host_node.proofs.TreeLemmas.{none_lent-child_of, none_lent-with_child, is_lent-none_lent, second_part}
 
@@ -102,26 +102,27 @@ none_lent-put_subtree (name ∷ names) new t n h =
         ∙ none_lent-with_child name (put_subtree names new c) t n (more c (none_lent-child_of name c t n e))
 
 -- a tree with nothing lent can grant each of its folders
-pub is_free-none_lent : (names : List (List ℕ)) (t : Shape) → none_lent t ≡ true → is_free names t ≡ true
+pub is_free-none_lent : (names : List (List ℕ)) (t : Shape) → none_lent t ≡ true → is_way_free names t ≡ true
 is_free-none_lent [] t n = n
 is_free-none_lent (name ∷ names) t n = by (child_of name t) refl (is_free-none_lent names)
   where
-    by : (o : Option Shape) → child_of name t ≡ o → ((c : Shape) → none_lent c ≡ true → is_free names c ≡ true)
-        → (not (is_lent t) && option_map_or (is_free names) o true) ≡ true
+    by : (o : Option Shape) → child_of name t ≡ o → ((c : Shape) → none_lent c ≡ true → is_way_free names c ≡ true)
+        → (not (is_lent t) && option_map_or (is_way_free names) o true) ≡ true
     by None e more = rw (is_lent-none_lent t n) refl
     by (Some c) e more = rw (is_lent-none_lent t n) (more c (none_lent-child_of name c t n e))
 
 -- what can be granted has nothing lent
-pub none_lent-is_free : (names : List (List ℕ)) (s t : Shape) → is_free names t ≡ true
+pub none_lent-is_free : (names : List (List ℕ)) (s t : Shape) → is_way_free names t ≡ true
     → subtree names t ≡ Some s → none_lent s ≡ true
 none_lent-is_free [] s t n h = ap none_lent (sym (same_some t s h)) ∙ n
 none_lent-is_free (name ∷ names) s t n h = by (child_of name t) refl h n (none_lent-is_free names s)
   where
     by : (o : Option Shape) → child_of name t ≡ o → option_and_then (subtree names) o ≡ Some s
-        → (not (is_lent t) && option_map_or (is_free names) o true) ≡ true
-        → ((c : Shape) → is_free names c ≡ true → subtree names c ≡ Some s → none_lent s ≡ true) → none_lent s ≡ true
+        → (not (is_lent t) && option_map_or (is_way_free names) o true) ≡ true
+        → ((c : Shape) → is_way_free names c ≡ true → subtree names c ≡ Some s → none_lent s ≡ true) → none_lent s
+        ≡ true
     by None e g f more = cc
-    by (Some c) e g f more = more c (second_part (not (is_lent t)) (is_free names c) f) g
+    by (Some c) e g f more = more c (second_part (not (is_lent t)) (is_way_free names c) f) g
 
 -- a folder that is found is what stands where its names lead,
 pub subtree-directory_at : (names : List (List ℕ)) (s t : Shape) → directory_at names t ≡ Some s

@@ -5,7 +5,7 @@ use Rattle.host_node.specs.declared.error.HostErr.TheVariants.{Failed, Memory}
 
 -- a call answered that the host failed
 -- errno(3): any error but want of memory on this side
-abbrev pub has_failed : {A : Type 0} → Result A HostErr → Bool
-has_failed (Ok _) = false
-has_failed (Err Failed) = true
-has_failed (Err Memory) = false
+abbrev pub host_failed : {A : Type 0} → Result A HostErr → Bool
+host_failed (Ok _) = false
+host_failed (Err Failed) = true
+host_failed (Err Memory) = false

@@ -29,6 +29,6 @@ directory_at names shape = option_and_then only_directory (subtree names shape)
 
 -- no node on the way to where names lead stands with a borrower, nor any below it
 -- profile
-abbrev pub is_free : List (List ℕ) → Shape → Bool
-is_free [] shape = none_lent shape
-is_free (name ∷ names) shape = not (is_lent shape) && option_map_or (is_free names) (child_of name shape) true
+abbrev pub is_way_free : List (List ℕ) → Shape → Bool
+is_way_free [] shape = none_lent shape
+is_way_free (name ∷ names) shape = not (is_lent shape) && option_map_or (is_way_free names) (child_of name shape) true

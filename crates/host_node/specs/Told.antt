@@ -7,9 +7,9 @@ use Rattle.host_node.specs.declared.kind.Kind.TheVariants.{Dir}
 use Rattle.host_node.specs.declared.kind.Attr.{Attr}
 use Rattle.host_node.specs.declared.listing.Listed.{Listed}
 use Rattle.host_node.specs.declared.error.HostErr.{HostErr}
-use Rattle.host_node.specs.Tree.{Shape, directory, file, link, lent, kind_of, faults_of, with_faults, attr_of, bytes_of}
+use Rattle.host_node.specs.Tree.{Shape, directory, file, link, lent, kind_of, faults_of, with_faults, attr_of, file_bytes}
 use Rattle.host_node.specs.Tree.{is_directory, is_lent, child_of, with_child, lend_child, listing_of}
-use Rattle.host_node.specs.Routes.{subtree, put_subtree, directory_at, is_free}
+use Rattle.host_node.specs.Routes.{subtree, put_subtree, directory_at, is_way_free}
 
 -- how a node stands to its file
 -- open(2), O_RDONLY and O_RDWR
@@ -20,15 +20,15 @@ pub data Opened : Type 0 where
 
 -- a node that was opened so
 -- open(2), O_RDONLY and O_RDWR
-abbrev pub opened_for : Bool → Opened
-opened_for false = Reading
-opened_for true = Writing
+abbrev pub told_opened : Bool → Opened
+told_opened false = Reading
+told_opened true = Writing
 
 -- how a node stands to its file after an open with this answer
 -- open(2)
-abbrev pub after_open : {A : Type 0} → Result A HostErr → Bool → Opened → Opened
-after_open (Ok _) write before = opened_for write
-after_open (Err _) write before = before
+abbrev pub told_after_open : {A : Type 0} → Result A HostErr → Bool → Opened → Opened
+told_after_open (Ok _) write before = told_opened write
+told_after_open (Err _) write before = before
 
 -- what a node tells is a node with this count of failed calls, and of this kind
 -- profile
@@ -115,8 +115,8 @@ CanRead (Some (lent kind)) opened = ⊥
 abbrev pub ReadsAt : ℕ → Option Shape → (count : ℕ) (before after : List ℕ) → Type 0
 ReadsAt offset None count before after = ⊤
 ReadsAt offset (Some t) count before after =
-    (count ≡ min (length before) (length (bytes_of t) - offset))
-    × (after ≡ take count (drop offset (bytes_of t)) ++ drop count before)
+    (count ≡ min (length before) (length (file_bytes t) - offset))
+    × (after ≡ take count (drop offset (file_bytes t)) ++ drop count before)
 
 -- what is told has the name as that of a node that stands with a borrower
 -- profile
@@ -135,7 +135,7 @@ TakesBack name (Some t) (Some s) after = after ≡ Some (with_child name s t)
 -- profile
 abbrev pub CanGrant : List (List ℕ) → Option Shape → Type 0
 CanGrant names None = ⊤
-CanGrant names (Some t) = IsTrue (is_free names t)
+CanGrant names (Some t) = IsTrue (is_way_free names t)
 
 -- what is told has no directory where the names lead
 -- path_resolution(7), ENOENT and ENOTDIR

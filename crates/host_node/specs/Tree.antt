@@ -39,11 +39,11 @@ kind_of (lent kind) = kind
 
 -- the permission bits of a node; a link's are 0o777
 -- inode(7), The file type and mode; symlink(7), Symbolic link ownership, permissions, and timestamps
-abbrev pub mode_of : Shape → ℕ
-mode_of (directory mode faults entries) = mode
-mode_of (file bytes mode faults) = mode
-mode_of (link text faults) = 511
-mode_of (lent kind) = 0
+abbrev pub permissions_of : Shape → ℕ
+permissions_of (directory mode faults entries) = mode
+permissions_of (file bytes mode faults) = mode
+permissions_of (link text faults) = 511
+permissions_of (lent kind) = 0
 
 -- how many bytes a node holds: a file's, or a link's text
 -- stat(2), st_size
@@ -56,7 +56,7 @@ size_of (lent kind) = 0
 -- what is told of a node
 -- stat(2)
 abbrev pub attr_of : Shape → Attr
-attr_of shape = record { kind = kind_of shape; mode = mode_of shape; size = size_of shape }
+attr_of shape = record { kind = kind_of shape; mode = permissions_of shape; size = size_of shape }
 
 -- how many calls of the node failed; of a node that is lent, its borrower has the count
 -- profile
@@ -76,11 +76,11 @@ with_faults n (lent kind) = lent kind
 
 -- what a file holds; of another node, nothing
 -- read(2)
-abbrev pub bytes_of : Shape → List ℕ
-bytes_of (directory mode faults entries) = []
-bytes_of (file bytes mode faults) = bytes
-bytes_of (link text faults) = []
-bytes_of (lent kind) = []
+abbrev pub file_bytes : Shape → List ℕ
+file_bytes (directory mode faults entries) = []
+file_bytes (file bytes mode faults) = bytes
+file_bytes (link text faults) = []
+file_bytes (lent kind) = []
 
 -- the node stands with its borrower
 -- profile

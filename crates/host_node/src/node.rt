@@ -3,10 +3,10 @@
 ghost use Rattle.std.specs.Prelude.{◌≡◌, ◌≤◌, ℕ, length, Option, Some, None, IfOk, IfSome, IfNone, OnOk, OnErr};
 ghost use Rattle.host_node.specs.declared.kind.Kind.{Kind};
 ghost use Rattle.host_node.specs.Tree.{Shape};
-ghost use Rattle.host_node.specs.Faults.{has_failed};
+ghost use Rattle.host_node.specs.Faults.{host_failed};
 ghost use Rattle.sn_base.specs.Faults.{HasCause};
 ghost use Rattle.host_node.specs.Order.{IsAscending, names_of};
-ghost use Rattle.host_node.specs.Told.{Opened, Closed, after_open, TellsItself, kept, TellsAttr, CanList, TellsListing};
+ghost use Rattle.host_node.specs.Told.{Opened, Closed, told_after_open, TellsItself, kept, TellsAttr, CanList, TellsListing};
 ghost use Rattle.host_node.specs.Told.{CanLend, LacksChild, TellsLent, after_lend, CanOpen, CanRead, ReadsAt};
 ghost use Rattle.host_node.specs.Told.{CanTakeBack, TakesBack};
 
@@ -48,7 +48,7 @@ pub trait HostNode: Sized + Send + Drop {
         ensures attr { IfOk result (TellsAttr (told self.old)) }
         ensures mode { IfOk result (λ attr. attr.mode ≤ 511) }
         ensures kind { IfOk result (λ attr. attr.kind ≡ what self.old) }
-        ensures faults { HasCause (has_failed result) (count self.old) (count self.new) }
+        ensures faults { HasCause (host_failed result) (count self.old) (count self.new) }
         ensures tells { told self.new ≡ kept (count self.new) (told self.old) }
         ensures what { what self.new ≡ what self.old }
         ensures opened { opened self.new ≡ opened self.old };
@@ -60,7 +60,7 @@ pub trait HostNode: Sized + Send + Drop {
         ensures entries { OnOk result (TellsListing (told self.old) out.new) }
         ensures ordered { OnOk result (IsAscending (names_of out.new)) }
         ensures err { OnErr result (out.new ≡ out.old) }
-        ensures faults { HasCause (has_failed result) (count self.old) (count self.new) }
+        ensures faults { HasCause (host_failed result) (count self.old) (count self.new) }
         ensures tells { told self.new ≡ kept (count self.new) (told self.old) }
         ensures what { what self.new ≡ what self.old }
         ensures opened { opened self.new ≡ opened self.old };
@@ -73,7 +73,7 @@ pub trait HostNode: Sized + Send + Drop {
         ensures node { IfOk result (λ lent. IfSome lent (λ node.
             TellsLent name.now (told self.old) (told node) (count node) (what node))) }
         ensures closed { IfOk result (λ lent. IfSome lent (λ node. opened node ≡ Closed)) }
-        ensures faults { HasCause (has_failed result) (count self.old) (count self.new) }
+        ensures faults { HasCause (host_failed result) (count self.old) (count self.new) }
         ensures tells { told self.new ≡ after_lend result name.now (count self.new) (told self.old) }
         ensures what { what self.new ≡ what self.old }
         ensures opened { opened self.new ≡ opened self.old };
@@ -81,8 +81,8 @@ pub trait HostNode: Sized + Send + Drop {
     /// Opens a file for reading or for writing, or a directory for reading (open(2)).
     fn open(&mut self, route: &Route, write: bool) -> Result<(), HostErr>
         requires { CanOpen write (told self.old) }
-        ensures opened { opened self.new ≡ after_open result write (opened self.old) }
-        ensures faults { HasCause (has_failed result) (count self.old) (count self.new) }
+        ensures opened { opened self.new ≡ told_after_open result write (opened self.old) }
+        ensures faults { HasCause (host_failed result) (count self.old) (count self.new) }
         ensures tells { told self.new ≡ kept (count self.new) (told self.old) }
         ensures what { what self.new ≡ what self.old };
 
@@ -92,7 +92,7 @@ pub trait HostNode: Sized + Send + Drop {
         requires { CanRead (told self.old) (opened self.old) }
         ensures within { IfOk result (λ n. n ≤ length buf.old) }
         ensures bytes { IfOk result (λ n. ReadsAt at (told self.old) n buf.old buf.new) }
-        ensures faults { HasCause (has_failed result) (count self.old) (count self.new) }
+        ensures faults { HasCause (host_failed result) (count self.old) (count self.new) }
         ensures tells { told self.new ≡ kept (count self.new) (told self.old) }
         ensures what { what self.new ≡ what self.old }
         ensures opened { opened self.new ≡ opened self.old };

@@ -3,7 +3,7 @@
 ghost use Rattle.std.specs.Prelude.{◌≡◌, ◌+◌, ◌≤◌, length};
 ghost use Rattle.sn_base.specs.Sums.{capped};
 ghost use Rattle.host_node.specs.Tree.{directory as dir, file as regular, link as symlink, lent as away, no_children};
-ghost use Rattle.host_node.specs.Tree.{kind_of, mode_of, size_of, attr_of, faults_of, with_faults, bytes_of};
+ghost use Rattle.host_node.specs.Tree.{kind_of, permissions_of, size_of, attr_of, faults_of, with_faults, file_bytes};
 ghost use Rattle.host_node.specs.Tree.{is_directory};
 
 mod children;
@@ -158,7 +158,7 @@ impl Tree {
 
     /// The permission bits of the node.
     fn mode(&self) -> u32
-        ensures value { result ≡ mode_of self.now }
+        ensures value { result ≡ permissions_of self.now }
         ensures most { result ≤ 511 }
     {
         match &self.node {
@@ -207,7 +207,7 @@ impl Tree {
 
     /// What a file holds; of another node, nothing.
     pub fn bytes(&self) -> &[u8]
-        ensures { result.now ≡ bytes_of self.now }
+        ensures { result.now ≡ file_bytes self.now }
     {
         match &self.node {
             Node::File { bytes, .. } => bytes.as_slice(),

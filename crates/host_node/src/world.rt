@@ -3,7 +3,7 @@
 ghost use Rattle.std.specs.Prelude.{◌≡◌, [], ◌∷◌, ◌++◌, ℕ, List, Option, IfOk, IfSome, IfNone, OnOk, OnErr};
 ghost use Rattle.host_node.specs.declared.kind.Kind.TheVariants.{Dir as Directory};
 ghost use Rattle.host_node.specs.Tree.{Shape};
-ghost use Rattle.host_node.specs.Faults.{has_failed};
+ghost use Rattle.host_node.specs.Faults.{host_failed};
 ghost use Rattle.sn_base.specs.Faults.{HasCause};
 ghost use Rattle.host_node.specs.Told.{Closed, CanGrant, LacksFolder, TellsGranted, after_grant, CanSettle, Settles};
 
@@ -45,7 +45,7 @@ pub trait HostWorld {
             Self.Node.what node ≡ Directory)) }
         ensures closed { IfOk result (λ granted. IfSome granted (λ node.
             Self.Node.opened node ≡ Closed)) }
-        ensures faults { HasCause (has_failed result) (count self.old) (count self.new) }
+        ensures faults { HasCause (host_failed result) (count self.old) (count self.new) }
         ensures tells { told self.new ≡ after_grant result folder.now.names (told self.old) }
         ensures buried { buried self.new ≡ buried self.old };
 

@@ -2,12 +2,12 @@
 use Rattle.std.specs.Prelude.{◌||◌}
 use Rattle.elf_image.specs.declared.image.Rights.{Rights as ImageRights}
 use Rattle.mm_areas.specs.declared.rights.Rights.{Rights}
-use Rattle.mm_areas.specs.Rights.{rights_of}
+use Rattle.mm_areas.specs.Rights.{rights_with}
 
 -- an image's rights as those of a page: each that the image has
 -- ELF-64 Object File Format, p_flags; mmap(2), PROT_READ, PROT_WRITE and PROT_EXEC
 abbrev pub page_rights : ImageRights → Rights
-page_rights rights = rights_of rights.read rights.write rights.execute
+page_rights rights = rights_with rights.read rights.write rights.execute
 
 -- what two segments that meet a page want of it
 -- ELF-64 Object File Format, Program Loading

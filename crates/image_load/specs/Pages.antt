@@ -6,7 +6,7 @@ use Rattle.std.specs.FinMap as fin
 use Rattle.elf_image.specs.declared.image.Rights.{Rights as ImageRights}
 use Rattle.elf_image.specs.declared.image.Segment.{Segment}
 use Rattle.elf_image.specs.Loadable.{Loadable, first_page, page_count}
-use Rattle.mm_areas.specs.Rights.{rights_of}
+use Rattle.mm_areas.specs.Rights.{rights_with}
 use Rattle.mm_areas.specs.Pages.{Mapped, Pages, is_within, laid}
 use Rattle.mm_areas.specs.Pages.Held.{Bytes}
 use Rattle.image_load.specs.PageRights.{joined, page_rights}
@@ -69,7 +69,7 @@ image_page segments page =
 -- execve(2); System V ABI, Process Initialization
 abbrev pub stack_page : (sp : ℕ) → List ℕ → (page : ℕ) → Mapped
 stack_page sp bytes page =
-    record { rights = rights_of true true false; held = Bytes (page_bytes (stack_byte sp bytes) page) }
+    record { rights = rights_with true true false; held = Bytes (page_bytes (stack_byte sp bytes) page) }
 
 -- ---- the pages of an address space
 

@@ -60,10 +60,10 @@ AreShort args env =
 
 -- what a refusal may tell of strings: that they are too big, or want of memory where they aren't
 -- execve(2), E2BIG and ENOMEM; order of the errors: profile
-abbrev pub IsFaultOf : (args env : List (List ℕ)) → LoadErr → Type 0
-IsFaultOf args env TooBig = IsTooBig args env
-IsFaultOf args env Limit = ⊥
-IsFaultOf args env Memory = AreShort args env
+abbrev pub IsStackFaultOf : (args env : List (List ℕ)) → LoadErr → Type 0
+IsStackFaultOf args env TooBig = IsTooBig args env
+IsStackFaultOf args env Limit = ⊥
+IsStackFaultOf args env Memory = AreShort args env
 
 -- the first address above the stack
 -- profile

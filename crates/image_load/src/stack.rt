@@ -1,7 +1,7 @@
 //! The end of an opening task's stack: its strings, and the words that tell where they stand.
 
 ghost use Rattle.std.specs.Prelude.{◌≡◌, ◌+◌, ◌%◌, ◌^◌, ◌<◌, ◌≤◌, ◌++◌, length, replicate, IfOk, IfErr, OnOk};
-ghost use Rattle.image_load.specs.Stacks.{IsFaultOf, IsStackOf, IsTooBig, ProgramStart, args_address, stack_bytes};
+ghost use Rattle.image_load.specs.Stacks.{IsStackFaultOf, IsStackOf, IsTooBig, ProgramStart, args_address, stack_bytes};
 ghost use Rattle.image_load.specs.Stacks.{started, stack_pointer, strings_room, words_length};
 ghost use Rattle.image_load.specs.declared.stack.LoadErr.TheVariants.{Memory as WantOfMemory};
 
@@ -95,7 +95,7 @@ pub fn opening_stack(
         IfOk result (λ stack. args_address start < stack.sp + words_length start + 16) }
     ensures top { IfOk result (λ stack. stack.sp + length stack.bytes ≡ 2 ^ 38) }
     ensures read { IfOk result (IsStackOf (started program.now auxiliary.now)) }
-    ensures fault { IfErr result (IsFaultOf program.now.args program.now.env) }
+    ensures fault { IfErr result (IsStackFaultOf program.now.args program.now.env) }
     ensures faulty { IsTooBig program.now.args program.now.env → result ≡ Err LoadErr.TooBig }
 {
     if is_too_big(program.args, program.env) {

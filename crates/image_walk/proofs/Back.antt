@@ -7,7 +7,7 @@ use Rattle.kernel_model.specs.files.FileTree.{with_plain}
 use Rattle.image_walk.specs.declared.granted.Numbering.{Numbering}
 use Rattle.image_walk.specs.Granted.{Child, GivesBack, put_all}
 use Rattle.image_walk.specs.Loading.{faulted_by}
-use Rattle.image_walk.specs.Standing.{AreThere, Stands, lend_all, lent_from}
+use Rattle.image_walk.specs.Standing.{StandUnlent, Stands, lend_all, lent_from}
 use Rattle.image_walk.proofs.Commuting.{put_all_lent}
 use Rattle.image_walk.proofs.Places.{IsThere, root_is}
 use Rattle.image_walk.proofs.Trees.{faulted_by_none}
@@ -18,7 +18,7 @@ put_found name t None e h = absurd h
 put_found name t (Some s) e h =
     ap (λ (x : Shape). with_child name x t) (faulted_by_none s h.1) ∙ with_child_found name s t e
 
-put_all_found : (n : ℕ) (t : Shape) (names : List (List ℕ)) → AreThere t names
+put_all_found : (n : ℕ) (t : Shape) (names : List (List ℕ)) → StandUnlent t names
     → put_all (lent_from n t names []) t ≡ t
 put_all_found n t [] h = refl
 put_all_found n t (name ∷ names) h =

@@ -10,7 +10,7 @@ use Rattle.kernel_model.specs.files.FileTree.{with_plain}
 use Rattle.kernel_model.specs.files.Settled.{rise_in}
 use Rattle.image_walk.specs.Granted.{put_all}
 use Rattle.image_walk.specs.Loading.{faulted_by}
-use Rattle.image_walk.specs.Standing.{lend_all, IsNoneOf, AreThere, lent_from}
+use Rattle.image_walk.specs.Standing.{lend_all, IsNoneOf, StandUnlent, lent_from}
 use Rattle.image_walk.proofs.Trees.{child_of-lend_other, child_of-lend_same}
 use Rattle.image_walk.proofs.Lending.{still_there}
 use Rattle.image_walk.proofs.Places.{IsThere}
@@ -38,7 +38,7 @@ lend_apart n m x t d hn hm = by (child_of m t) refl hm
 
 -- one that is put where others are lent
 put-lend_all : (name : List ℕ) (x : Shape) (names : List (List ℕ)) (t : Shape) → is_some (child_of name t) ≡ true
-    → IsNoneOf name names → AreThere t names
+    → IsNoneOf name names → StandUnlent t names
     → with_child name x (lend_all names t) ≡ lend_all names (with_child name x t)
 put-lend_all name x [] t there new h = refl
 put-lend_all name x (m ∷ names) t there new h =
@@ -48,7 +48,7 @@ put-lend_all name x (m ∷ names) t there new h =
 
 -- the others stay there where one is put
 still_there_put : (name : List ℕ) (x : Shape) (names : List (List ℕ)) (t : Shape) → IsNoneOf name names
-    → AreThere t names → AreThere (with_child name x t) names
+    → StandUnlent t names → StandUnlent (with_child name x t) names
 still_there_put name x [] t new h = tt
 still_there_put name x (m ∷ names) t new h = (
   subst (λ (o : Option Shape). IsThere o) (sym (child_of-with_other m name x t new.0)) h.0,
@@ -76,7 +76,7 @@ lent_some name t h = by (child_of name t) refl h
 
 -- what one more child that goes back does
 one_put : (name : List ℕ) (o : Option Shape) (names : List (List ℕ)) (tree : Shape) → is_some o ≡ true
-    → IsThere (child_of name tree) → IsNoneOf name names → AreThere tree names
+    → IsThere (child_of name tree) → IsNoneOf name names → StandUnlent tree names
     → with_plain name o (lend_all names (lend_child name tree)) ≡ lend_all names (with_plain name o tree)
 one_put name None names tree some there new h = absurd (cc some)
 one_put name (Some x) names tree some there new h =
@@ -84,7 +84,7 @@ one_put name (Some x) names tree some there new h =
     ∙ ap (lend_all names) (put_lent name x tree there)
 
 plain_there : (name : List ℕ) (o : Option Shape) (names : List (List ℕ)) (tree : Shape) → is_some o ≡ true
-    → IsNoneOf name names → AreThere tree names → AreThere (with_plain name o tree) names
+    → IsNoneOf name names → StandUnlent tree names → StandUnlent (with_plain name o tree) names
 plain_there name None names tree some new h = absurd (cc some)
 plain_there name (Some x) names tree some new h = still_there_put name x names tree new h
 
@@ -93,8 +93,8 @@ faulted_some d None h = absurd h
 faulted_some d (Some s) h = refl
 
 -- all children put over the tree of which they were lent
-pub put_all_lent : (n : ℕ) (t : Shape) (rises : List Rise) (names : List (List ℕ)) (tree : Shape) → AreThere t names
-    → AreThere tree names
+pub put_all_lent : (n : ℕ) (t : Shape) (rises : List Rise) (names : List (List ℕ)) (tree : Shape) → StandUnlent t names
+    → StandUnlent tree names
     → put_all (lent_from n t names rises) (lend_all names tree) ≡ put_all (lent_from n t names rises) tree
 put_all_lent n t rises [] tree h g = refl
 put_all_lent n t rises (name ∷ names) tree h g =

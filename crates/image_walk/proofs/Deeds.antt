@@ -17,7 +17,7 @@ use Rattle.image_walk.specs.declared.loading.Answer.TheVariants.{Starts, Refuses
 use Rattle.image_walk.specs.declared.walk.Step.{Step}
 use Rattle.image_walk.specs.Executing.{walked_by, walked_to, walked_among, fresh_for, fresh_by, rises_by, named_then}
 use Rattle.image_walk.specs.Executing.{HasNumber, AnswersBy, Executes}
-use Rattle.image_walk.specs.Granted.{Child, place_of}
+use Rattle.image_walk.specs.Granted.{Child, place_of_child}
 use Rattle.image_walk.specs.Loading.{Loads, LoadsWhere, faulted_by}
 use Rattle.image_walk.specs.Standing.{IsNumbering, Stands, lend_all, lent_from, numbers_from}
 use Rattle.image_walk.specs.Walking.{NotSearched, LendsNone, LendsBy, LoadsAt, Walks, Unsearched, Known, Lent}
@@ -130,7 +130,7 @@ module _ (num : Numbering) (is : IsNumbering num) (t : Shape) (names : List (Lis
     -- ---- a name that the root lacks
 
     did_missing : (after : Option Shape) (children' : List Child) (risen : Option ℕ) (answer : Answer)
-        → owner_executes (lend_all names t) ≡ true → place_of name children ≡ None
+        → owner_executes (lend_all names t) ≡ true → place_of_child name children ≡ None
         → LendsNone (lend_all names t) name after risen answer → children' ≡ children
         → Did after children' false num.root risen answer
     did_missing after children' None (Refuses errno) x p h c =
@@ -149,7 +149,7 @@ module _ (num : Numbering) (is : IsNumbering num) (t : Shape) (names : List (Lis
     children_long : length children ≡ length names
     children_long = ap length st.children_tell ∙ lent_long num.first t names []
 
-    known_within : (place : ℕ) → place_of name children ≡ Some place
+    known_within : (place : ℕ) → place_of_child name children ≡ Some place
         → HasNumber num (length names) (place + num.first)
     known_within place p =
         let within : place < length children =
@@ -157,14 +157,14 @@ module _ (num : Numbering) (is : IsNumbering num) (t : Shape) (names : List (Lis
         inr (omega arith, omega (arith, within, children_long))
 
     known_walk : (place : ℕ) (s : Shape) → owner_executes (lend_all names t) ≡ true
-        → place_of name children ≡ Some place → child_of name t ≡ Some s
+        → place_of_child name children ≡ Some place → child_of name t ≡ Some s
         → walked_among num t names name ≡ record { draws = false; image = executed s }
     known_walk place s x p e =
         walk_known s (place + num.first) (executes_root true x)
         (placed num t names root children name place st p).number e
 
     known_still : (after : Option Shape) (children' : List Child) (place : ℕ) (s : Shape) (told : Option Shape)
-        (answer : Answer) → after ≡ Some (lend_all names t) → place_of name children ≡ Some place
+        (answer : Answer) → after ≡ Some (lend_all names t) → place_of_child name children ≡ Some place
         → children' ≡ slice_set children place (name, told) → child_of name t ≡ Some s → told ≡ Some s
         → AnswersBy num (walked_among num t names name) false (length names) [] answer
         → Did after children' false (place + num.first) None answer
@@ -182,7 +182,7 @@ module _ (num : Numbering) (is : IsNumbering num) (t : Shape) (names : List (Lis
 
     known_by : (after : Option Shape) (children' : List Child) (place : ℕ) (s : Shape) (told : Option Shape)
         (risen : Option ℕ) (answer : Answer) → owner_executes (lend_all names t) ≡ true
-        → after ≡ Some (lend_all names t) → place_of name children ≡ Some place
+        → after ≡ Some (lend_all names t) → place_of_child name children ≡ Some place
         → children' ≡ slice_set children place (name, told) → child_of name t ≡ Some s → Loads s told risen answer
         → Did after children' false (place + num.first) risen answer
     known_by after children' place s told None (Starts image) x a p c e h =
@@ -215,7 +215,7 @@ module _ (num : Numbering) (is : IsNumbering num) (t : Shape) (names : List (Lis
 
     pub did_known : (after : Option Shape) (children' : List Child) (place : ℕ) (risen : Option ℕ) (answer : Answer)
         → owner_executes (lend_all names t) ≡ true → after ≡ Some (lend_all names t)
-        → place_of name children ≡ Some place → LoadsAt place children children' risen answer
+        → place_of_child name children ≡ Some place → LoadsAt place children children' risen answer
         → Did after children' false (place + num.first) risen answer
     did_known after children' place risen answer x a p loads = by (child_of name t) refl found.there whole
       where
@@ -237,13 +237,13 @@ module _ (num : Numbering) (is : IsNumbering num) (t : Shape) (names : List (Lis
 
     -- ---- a child that is lent now
 
-    lent_walk : (s : Shape) → owner_executes (lend_all names t) ≡ true → place_of name children ≡ None
+    lent_walk : (s : Shape) → owner_executes (lend_all names t) ≡ true → place_of_child name children ≡ None
         → child_of name t ≡ Some s → walked_among num t names name ≡ record { draws = true; image = executed s }
     lent_walk s x p e =
         walk_drawn s (executes_root true x) (unplaced num t names [] root children name st p).unnumbered e
 
     lent_still : (after : Option Shape) (children' : List Child) (ino : ℕ) (s : Shape) (told : Option Shape)
-        (answer : Answer) → place_of name children ≡ None → child_of name t ≡ Some s → faults_of s < 2 ^ 64
+        (answer : Answer) → place_of_child name children ≡ None → child_of name t ≡ Some s → faults_of s < 2 ^ 64
         → after ≡ Some (lend_child name (lend_all names t)) → children' ≡ children ++ (name, told) ∷ []
         → ino ≡ length names + num.first → told ≡ Some s
         → AnswersBy num (walked_among num t names name) true (length (names ++ name ∷ [])) [] answer
@@ -262,7 +262,8 @@ module _ (num : Numbering) (is : IsNumbering num) (t : Shape) (names : List (Lis
     }
 
     lent_by : (after : Option Shape) (children' : List Child) (ino : ℕ) (s : Shape) (told : Option Shape)
-        (risen : Option ℕ) (answer : Answer) → owner_executes (lend_all names t) ≡ true → place_of name children ≡ None
+        (risen : Option ℕ) (answer : Answer) → owner_executes (lend_all names t) ≡ true → place_of_child name children
+        ≡ None
         → child_of name t ≡ Some s → faults_of s < 2 ^ 64 → after ≡ Some (lend_child name (lend_all names t))
         → children' ≡ children ++ (name, told) ∷ [] → ino ≡ length names + num.first → Loads s told risen answer
         → Did after children' true ino risen answer
@@ -293,7 +294,7 @@ module _ (num : Numbering) (is : IsNumbering num) (t : Shape) (names : List (Lis
     lent_by after children' ino s told (Some d) (Starts image) x p e small a c i h = absurd h
 
     pub did_lent : (drawn : Bool) (after : Option Shape) (children' : List Child) (ino : ℕ) (risen : Option ℕ)
-        (answer : Answer) → owner_executes (lend_all names t) ≡ true → place_of name children ≡ None
+        (answer : Answer) → owner_executes (lend_all names t) ≡ true → place_of_child name children ≡ None
         → LendsBy num drawn (lend_all names t) name children children' after ino risen answer
         → Did after children' drawn ino risen answer
     did_lent true after children' ino risen answer x p h =

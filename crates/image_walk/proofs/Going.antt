@@ -11,7 +11,7 @@ use Rattle.host_node.specs.Told.{CanLend, ComesFrom, TellsLent}
 use Rattle.image_walk.specs.declared.granted.Numbering.{Numbering}
 use Rattle.image_walk.specs.declared.loading.Loaded.{Loaded}
 use Rattle.image_walk.specs.declared.walk.Step.{Step}
-use Rattle.image_walk.specs.Granted.{Child, place_of, told_of}
+use Rattle.image_walk.specs.Granted.{Child, place_of_child, told_of}
 use Rattle.image_walk.specs.declared.granted.Lent.{Lent as LentChild}
 use Rattle.image_walk.specs.Loading.{IsHere, LoadsWhere}
 use Rattle.image_walk.specs.Standing.{Stands}
@@ -58,7 +58,7 @@ there_here (Some s) h = h.0
 
 pub known_here : (num : Numbering) (name : List ℕ) (root : Option Shape) (children : List Child) (i : ℕ)
     → IsGrant num root children
-    → place_of name children ≡ Some i → IfSome (slice_get children i) (λ c. IsHere c.1)
+    → place_of_child name children ≡ Some i → IfSome (slice_get children i) (λ c. IsHere c.1)
 known_here num name None children i grant e = nothing_here children i grant
 known_here num name (Some r) children i grant e =
     let p = placed num grant.0 grant.1 (Some r) children name i grant.3 e in
@@ -66,7 +66,7 @@ known_here num name (Some r) children i grant e =
 
 pub walks_known : (num : Numbering) (name : List ℕ) (told after : Option Shape) (children children' : List Child)
     (place : ℕ)
-    (step : Step) → SearchedFor told after None → place_of name children ≡ Some place → step.drawn ≡ false
+    (step : Step) → SearchedFor told after None → place_of_child name children ≡ Some place → step.drawn ≡ false
     → step.ino ≡ place + num.first → LoadsAt place children children' step.loaded.risen step.loaded.answer
     → WalksWhere num told name children children' after step
 walks_known num name None after children children' place step searched e drawn ino loads = (
@@ -82,7 +82,7 @@ walks_known num name (Some t) after children children' place step searched e dra
 
 pub can_lend_then : (num : Numbering) (name : List ℕ) (told after : Option Shape) (children : List Child)
     → IsGrant num told children
-    → SearchedFor told after None → place_of name children ≡ None → CanLend name after
+    → SearchedFor told after None → place_of_child name children ≡ None → CanLend name after
 can_lend_then num name None after children grant searched e =
     subst (λ (o : Option Shape). CanLend name o) (sym searched) tt
 can_lend_then num name (Some r) after children grant searched e =
@@ -93,7 +93,7 @@ can_lend_then num name (Some r) after children grant searched e =
 
 pub walks_lent : (num : Numbering) (name : List ℕ) (told between after : Option Shape)
     (children children' : List Child) (step : Step)
-    → SearchedFor told between None → place_of name children ≡ None
+    → SearchedFor told between None → place_of_child name children ≡ None
     → LendsWhere num between name children children' after step → WalksWhere num told name children children' after step
 walks_lent num name None between after children children' step searched e lends =
     subst (λ (o : Option Shape). LendsWhere num o name children children' after step) searched lends
@@ -144,7 +144,7 @@ lends_child num (Some t) root' child child' name count what ino loaded children 
 
 pub walks_ok : {E : Type 0} (num : Numbering) (name : List ℕ) (told between after : Option Shape)
     (children children' : List Child)
-    (result : Result Step E) → SearchedFor told between None → place_of name children ≡ None
+    (result : Result Step E) → SearchedFor told between None → place_of_child name children ≡ None
     → IfOk result (LendsWhere num between name children children' after)
     → IfOk result (WalksWhere num told name children children' after)
 walks_ok num name told between after children children' (Ok step) searched e lends =

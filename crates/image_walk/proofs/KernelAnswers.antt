@@ -26,7 +26,7 @@ use Rattle.image_walk.specs.declared.granted.Numbering.{Numbering}
 use Rattle.image_walk.specs.declared.loading.Answer.{Answer}
 use Rattle.image_walk.specs.declared.loading.Answer.TheVariants.{Starts, Refuses}
 use Rattle.image_walk.specs.Granted.{Child, GivesBack}
-use Rattle.image_walk.specs.Standing.{IsNumbering, IsNoneOf, AreNodes, AreThere, KeepsRoots, Stands}
+use Rattle.image_walk.specs.Standing.{IsNumbering, IsNoneOf, AreNodes, StandUnlent, KeepsRoots, Stands}
 use Rattle.image_walk.specs.Standing.{no_left}
 use Rattle.image_walk.specs.Executing.{HasNumber, walked_among, fresh_for, named_then, AnswersBy, Answers, Executes}
 use Rattle.image_walk.proofs.Places.{IsThere}
@@ -38,7 +38,8 @@ use Rattle.image_walk.proofs.Settling.{settles, settles_risen}
 
 -- ---- an execve, by what was given and answered
 
-there_first : (t : Shape) (names : List (List ℕ)) (name : List ℕ) → AreThere t (names ++ name ∷ []) → AreThere t names
+there_first : (t : Shape) (names : List (List ℕ)) (name : List ℕ) → StandUnlent t (names ++ name ∷ [])
+    → StandUnlent t names
 there_first t [] name h = tt
 there_first t (other ∷ names) name h = (h.0, fewer names h.1, there_first t names name h.2)
   where
@@ -46,18 +47,18 @@ there_first t (other ∷ names) name h = (h.0, fewer names h.1, there_first t na
     fewer [] o = tt
     fewer (n ∷ ns) o = (o.0, fewer ns o.1)
 
-there_last : (t : Shape) (names : List (List ℕ)) (name : List ℕ) → AreThere t (names ++ name ∷ [])
+there_last : (t : Shape) (names : List (List ℕ)) (name : List ℕ) → StandUnlent t (names ++ name ∷ [])
     → IsThere (child_of name t)
 there_last t [] name h = h.0
 there_last t (other ∷ names) name h = there_last t names name h.2
 
 there_before : (drawn : Bool) (t : Shape) (names : List (List ℕ)) (name : List ℕ)
-    → AreThere t (named_then drawn names name) → AreThere t names
+    → StandUnlent t (named_then drawn names name) → StandUnlent t names
 there_before true t names name h = there_first t names name h
 there_before false t names name h = h
 
 there_drawn : (drawn : Bool) (t : Shape) (names : List (List ℕ)) (name : List ℕ)
-    → AreThere t (named_then drawn names name) → drawn ≡ true → IsThere (child_of name t)
+    → StandUnlent t (named_then drawn names name) → drawn ≡ true → IsThere (child_of name t)
 there_drawn true t names name h e = there_last t names name h
 there_drawn false t names name h e = absurd (cc e)
 

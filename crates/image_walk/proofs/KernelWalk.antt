@@ -22,7 +22,7 @@ use Rattle.kernel_model.specs.opening.Opening.{name_in_path, unwalked}
 use Rattle.kernel_model.specs.opening.Opening as opening
 use Rattle.kernel_model.proofs.Trees.{outcome-bind}
 use Rattle.image_walk.specs.declared.granted.Numbering.{Numbering}
-use Rattle.image_walk.specs.Standing.{lend_all, numbers_from, root_with, HaveNodes, AreNodes, AreThere}
+use Rattle.image_walk.specs.Standing.{lend_all, numbers_from, root_with, HaveNodes, AreNodes, StandUnlent}
 use Rattle.image_walk.specs.Executing.{walked_by, walked_among, walked_to, without_draw}
 use Rattle.image_walk.proofs.Lending.{owner_executes-lend_all, child_of-lend_all}
 use Rattle.image_walk.proofs.Places.{unnumbered_new}
@@ -60,7 +60,7 @@ none_above num nodes n t (name ∷ names) ino h l =
 -- up to them there is one
 pub node_within : (num : Numbering) (nodes : Nodes) (n : ℕ) (t : Shape) (names : List (List ℕ)) (ino : ℕ)
     → HaveNodes num nodes n t names
-    → AreThere t names → n ≤ ino → ino < n + length names → is_some (map.get nodes ino) ≡ true
+    → StandUnlent t names → n ≤ ino → ino < n + length names → is_some (map.get nodes ino) ≡ true
 node_within num nodes n t [] ino h there low high = absurd (let g : ino < n + 0 = high in omega arith)
 node_within num nodes n t (name ∷ names) ino h there low high =
     by (cases_eq n ino) (λ l g. node_within num nodes (n + 1) t names ino h.1 there.2 l g)
@@ -90,7 +90,7 @@ pub record HasNodes (num : Numbering) (s : Parts) (t : Shape) (names : List (Lis
   pub within : (ino : ℕ) → num.first ≤ ino → ino < num.first + length names → is_some (s (OfNode ino)) ≡ true
 
 pub has_nodes : (num : Numbering) (k : Kernel) (t : Shape) (names : List (List ℕ)) → AreNodes num k.nodes t names
-    → AreThere t names
+    → StandUnlent t names
     → HasNodes num (parts k) t names
 has_nodes num k t names a there = record {
   root = a.root;
@@ -105,12 +105,12 @@ module _ (num : Numbering) (s : Parts) (t : Shape) (names : List (List ℕ)) (ha
   known_walk None held e = ap (λ n. record { draws = false; image = numbered_image n }) e
   known_walk (Some x) held e = ap (λ n. record { draws = false; image = numbered_image n }) e
 
-  unknown_walk : (o : Option Shape) → outcome_in s (opening.walked_to (known None o)) ≡ walked_by o
+  unknown_walk : (o : Option Shape) → outcome_in s (opening.walked_to_child (known None o)) ≡ walked_by o
   unknown_walk None = refl
   unknown_walk (Some x) = refl
 
   child_walk : (name : List ℕ) (number : Option ℕ) → number_in name (numbers_from num.first names) ≡ number
-      → outcome_in s (opening.walked_to (known number (child_of name (lend_all names t))))
+      → outcome_in s (opening.walked_to_child (known number (child_of name (lend_all names t))))
       ≡ walked_to number (walked_by (child_of name t))
   child_walk name None e =
       unknown_walk (child_of name (lend_all names t))
@@ -119,7 +119,8 @@ module _ (num : Numbering) (s : Parts) (t : Shape) (names : List (List ℕ)) (ha
 
   walk_if : (name : List ℕ) (b : Bool)
       → outcome_in s (if b
-      then opening.walked_to (known (number_in name (numbers_from num.first names)) (child_of name (lend_all names t)))
+      then opening.walked_to_child (known (number_in name (numbers_from num.first names))
+      (child_of name (lend_all names t)))
       else done (record { draws = false; image = Err EACCES }))
       ≡ (if b then walked_to (number_in name (numbers_from num.first names)) (walked_by (child_of name t))
       else record { draws = false; image = Err EACCES })

@@ -3,7 +3,7 @@ use Rattle.std.proofs.Common.{◌≡◌, ℕ, ◌<◌, ◌^◌, true, false, Lis
 use Rattle.std.specs.Prelude.{Option, Some, None, IsSomeAnd, ⊤}
 use Rattle.host_node.specs.Tree.{Shape, faults_of, is_lent, is_directory, child_of, lend_child}
 use Rattle.kernel_model.specs.files.FileTree.{owner_executes}
-use Rattle.image_walk.specs.Standing.{lend_all, IsNoneOf, AreThere}
+use Rattle.image_walk.specs.Standing.{lend_all, IsNoneOf, StandUnlent}
 use Rattle.host_node.proofs.Apart.{apart}
 use Rattle.image_walk.proofs.Trees.{faults_of-lend, is_directory-lend, owner_executes-lend, child_of-lend_other}
 use Rattle.image_walk.proofs.Trees.{child_of-lend_same}
@@ -39,8 +39,8 @@ lend_all-more [] name t = refl
 lend_all-more (other ∷ names) name t = lend_all-more names name (lend_child other t)
 
 -- where one is lent, the others stand as they did
-pub still_there : (name : List ℕ) (names : List (List ℕ)) (t : Shape) → IsNoneOf name names → AreThere t names
-    → AreThere (lend_child name t) names
+pub still_there : (name : List ℕ) (names : List (List ℕ)) (t : Shape) → IsNoneOf name names → StandUnlent t names
+    → StandUnlent (lend_child name t) names
 still_there name [] t apart h = tt
 still_there name (other ∷ names) t apart h = (
   subst (λ (o : Option Shape). IsSomeAnd o (λ s. (is_lent s ≡ false) × (faults_of s < 2 ^ 64)))
@@ -65,7 +65,7 @@ lent_first name t h = by (child_of name t) refl h
     by (Some s) e h =
         subst (λ (o : Option Shape). IsSomeAnd o (λ x. is_lent x ≡ true)) (sym (child_of-lend_same name t s e)) refl
 
-pub all_lent : (names : List (List ℕ)) (t : Shape) → AreThere t names → AreLent (lend_all names t) names
+pub all_lent : (names : List (List ℕ)) (t : Shape) → StandUnlent t names → AreLent (lend_all names t) names
 all_lent [] t h = tt
 all_lent (name ∷ names) t h = (
   subst (λ (o : Option Shape). IsSomeAnd o (λ s. is_lent s ≡ true))

@@ -7,7 +7,7 @@ use Rattle.kernel_model.specs.files.Settled.{rise_in}
 use Rattle.image_walk.specs.declared.granted.Numbering.{Numbering}
 use Rattle.image_walk.specs.Granted.{Child, IsNew, AreOut, CanGiveBack}
 use Rattle.image_walk.specs.Loading.{faulted_by}
-use Rattle.image_walk.specs.Standing.{lend_all, IsNoneOf, AreThere, lent_from, Stands}
+use Rattle.image_walk.specs.Standing.{lend_all, IsNoneOf, StandUnlent, lent_from, Stands}
 use Rattle.image_walk.proofs.Trees.{child_of-faults}
 use Rattle.image_walk.proofs.Lending.{AreLent, all_lent}
 
@@ -21,7 +21,8 @@ tells : (d : ℕ) (o : Option Shape) → IsSomeAnd o (λ s. (is_lent s ≡ false
 tells d None h = absurd h
 tells d (Some s) h = refl
 
-out_from : (tree t : Shape) (n : ℕ) (names : List (List ℕ)) (rises : List Rise) → AreLent tree names → AreThere t names
+out_from : (tree t : Shape) (n : ℕ) (names : List (List ℕ)) (rises : List Rise) → AreLent tree names
+    → StandUnlent t names
     → AreOut tree (lent_from n t names rises)
 out_from tree t n [] rises l h = tt
 out_from tree t n (name ∷ names) rises l h = (

@@ -11,9 +11,9 @@ use Rattle.host_node.specs.Told.{CanLend}
 use Rattle.kernel_model.specs.declared.opening.Rise.{Rise}
 use Rattle.kernel_model.specs.files.FileTree.{number_in}
 use Rattle.image_walk.specs.declared.granted.Numbering.{Numbering}
-use Rattle.image_walk.specs.Granted.{Child, place_of}
+use Rattle.image_walk.specs.Granted.{Child, place_of_child}
 use Rattle.image_walk.specs.Loading.{faulted_by}
-use Rattle.image_walk.specs.Standing.{lend_all, IsNoneOf, AreThere, lent_from, numbers_from, Stands}
+use Rattle.image_walk.specs.Standing.{lend_all, IsNoneOf, StandUnlent, lent_from, numbers_from, Stands}
 use Rattle.host_node.proofs.Apart.{apart}
 use Rattle.image_walk.proofs.Trees.{faulted_by_none, free_child}
 use Rattle.image_walk.proofs.Lending.{faults_of-lend_all, is_directory-lend_all, child_of-lend_all}
@@ -62,25 +62,27 @@ mapped_none None e = refl
 mapped_none (Some i) e = cc
 
 unplaced_from : (name : List ℕ) (n : ℕ) (t : Shape) (names : List (List ℕ)) (rises : List Rise)
-    → place_of name (lent_from n t names rises) ≡ None → Unplaced name n names
+    → place_of_child name (lent_from n t names rises) ≡ None → Unplaced name n names
 unplaced_from name n t [] rises e = record { unnumbered = refl; new = tt }
 unplaced_from name n t (other ∷ names) rises e =
     by (bytes_eq name other) refl e (λ h. unplaced_from name (n + 1) t names rises h)
   where
     by : (b : Bool) → bytes_eq name other ≡ b
-        → (if b then Some 0 else option_map (λ place. place + 1) (place_of name (lent_from (n + 1) t names rises)))
+        → (if b then Some 0 else option_map (λ place. place + 1)
+        (place_of_child name (lent_from (n + 1) t names rises)))
         ≡ None
-        → (place_of name (lent_from (n + 1) t names rises) ≡ None → Unplaced name (n + 1) names)
+        → (place_of_child name (lent_from (n + 1) t names rises) ≡ None → Unplaced name (n + 1) names)
         → Unplaced name n (other ∷ names)
     by true d e more = absurd (cc e)
     by false d e more = unplaced_more name n other names d (more (mapped_none _ e))
 
 pub unplaced : (num : Numbering) (t : Shape) (names : List (List ℕ)) (rises : List Rise) (root : Option Shape)
     (children : List Child)
-    (name : List ℕ) → Stands num t names rises root children → place_of name children ≡ None
+    (name : List ℕ) → Stands num t names rises root children → place_of_child name children ≡ None
     → Unplaced name num.first names
 unplaced num t names rises root children name s e =
-    unplaced_from name num.first t names rises (subst (λ (cs : List Child). place_of name cs ≡ None) s.children_tell e)
+    unplaced_from name num.first t names rises (subst (λ (cs : List Child). place_of_child name cs
+    ≡ None) s.children_tell e)
 
 -- its child in the tree without its children is that of the tree, and can be lent
 pub can_lend : (t : Shape) (names : List (List ℕ)) (name : List ℕ) → none_lent t ≡ true → is_directory t ≡ true
@@ -134,16 +136,16 @@ mapped_some : (o : Option ℕ) (i : ℕ) → option_map (λ (place : ℕ). place
 mapped_some None i e = absurd (cc e)
 mapped_some (Some j) i e = (j, refl, cc)
 
-placed_from : (t : Shape) (name : List ℕ) (n : ℕ) (names : List (List ℕ)) (i : ℕ) → AreThere t names
-    → place_of name (lent_from n t names []) ≡ Some i → Placed t name n names (lent_from n t names []) i
+placed_from : (t : Shape) (name : List ℕ) (n : ℕ) (names : List (List ℕ)) (i : ℕ) → StandUnlent t names
+    → place_of_child name (lent_from n t names []) ≡ Some i → Placed t name n names (lent_from n t names []) i
 placed_from t name n [] i h e = absurd (cc e)
 placed_from t name n (other ∷ names) i h e =
     by (bytes_eq name other) refl e (λ j g. placed_from t name (n + 1) names j h.2 g)
   where
     by : (b : Bool) → bytes_eq name other ≡ b
-        → (if b then Some 0 else option_map (λ place. place + 1) (place_of name (lent_from (n + 1) t names [])))
+        → (if b then Some 0 else option_map (λ place. place + 1) (place_of_child name (lent_from (n + 1) t names [])))
         ≡ Some i
-        → ((j : ℕ) → place_of name (lent_from (n + 1) t names []) ≡ Some j
+        → ((j : ℕ) → place_of_child name (lent_from (n + 1) t names []) ≡ Some j
         → Placed t name (n + 1) names (lent_from (n + 1) t names []) j)
         → Placed t name n (other ∷ names) (lent_from n t (other ∷ names) []) i
     by true d e more =
@@ -153,21 +155,23 @@ placed_from t name n (other ∷ names) i h e =
         (placed_first t name n names i (subst (λ (m : List ℕ). IsThere (child_of m t)) same h.0) first
         (subst (λ (m : List ℕ). bytes_eq name m ≡ true) same d))
     by false d e more =
-        let found = mapped_some (place_of name (lent_from (n + 1) t names [])) i e in
+        let found = mapped_some (place_of_child name (lent_from (n + 1) t names [])) i e in
         placed_more t name n other names i found.0 d found.2 (more found.0 found.1)
 
 pub placed : (num : Numbering) (t : Shape) (names : List (List ℕ)) (root : Option Shape) (children : List Child)
     (name : List ℕ) (i : ℕ)
-    → Stands num t names [] root children → place_of name children ≡ Some i → Placed t name num.first names children i
+    → Stands num t names [] root children → place_of_child name children ≡ Some i
+    → Placed t name num.first names children i
 placed num t names root children name i s e =
     subst (λ (cs : List Child). Placed t name num.first names cs i) (sym s.children_tell)
     (placed_from t name num.first names i s.there
-    (subst (λ (cs : List Child). place_of name cs ≡ Some i) s.children_tell e))
+    (subst (λ (cs : List Child). place_of_child name cs ≡ Some i) s.children_tell e))
 
 -- the same of a name that no child has
 pub can_lend_new : (num : Numbering) (t : Shape) (names : List (List ℕ)) (rises : List Rise) (root : Option Shape)
     (children : List Child)
-    (name : List ℕ) → Stands num t names rises root children → is_directory t ≡ true → place_of name children ≡ None
+    (name : List ℕ) → Stands num t names rises root children → is_directory t ≡ true → place_of_child name children
+    ≡ None
     → CanLend name (Some (lend_all names t))
 can_lend_new num t names rises root children name s d e =
     can_lend t names name s.free d (unplaced num t names rises root children name s e).new
@@ -175,7 +179,7 @@ can_lend_new num t names rises root children name s d e =
 -- its child in the tree without its children is that of the tree
 pub child_of-new : (num : Numbering) (t : Shape) (names : List (List ℕ)) (rises : List Rise) (root : Option Shape)
     (children : List Child)
-    (name : List ℕ) → Stands num t names rises root children → place_of name children ≡ None
+    (name : List ℕ) → Stands num t names rises root children → place_of_child name children ≡ None
     → child_of name (lend_all names t) ≡ child_of name t
 child_of-new num t names rises root children name s e =
     child_of-lend_all name names t (unplaced num t names rises root children name s e).new

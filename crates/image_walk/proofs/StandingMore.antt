@@ -9,9 +9,9 @@ use Rattle.host_node.proofs.TreeLemmas.{is_lent-none_lent, none_lent-child_of}
 use Rattle.kernel_model.specs.declared.opening.Rise.{Rise}
 use Rattle.kernel_model.specs.files.Settled.{rise_in}
 use Rattle.image_walk.specs.declared.granted.Numbering.{Numbering}
-use Rattle.image_walk.specs.Granted.{Child, place_of}
+use Rattle.image_walk.specs.Granted.{Child, place_of_child}
 use Rattle.image_walk.specs.Loading.{faulted_by}
-use Rattle.image_walk.specs.Standing.{lend_all, IsNoneOf, AreThere, lent_from, Stands}
+use Rattle.image_walk.specs.Standing.{lend_all, IsNoneOf, StandUnlent, lent_from, Stands}
 use Rattle.host_node.proofs.Apart.{apart}
 use Rattle.image_walk.proofs.Trees.{faulted_by_none}
 use Rattle.image_walk.proofs.Lending.{faults_of-lend_all, lend_all-more}
@@ -55,8 +55,8 @@ lent_from-above n t (name ∷ names) r h =
 
 -- ---- one more child
 
-there_more : (t : Shape) (names : List (List ℕ)) (name : List ℕ) → AreThere t names → IsNoneOf name names
-    → IsThere (child_of name t) → AreThere t (names ++ name ∷ [])
+there_more : (t : Shape) (names : List (List ℕ)) (name : List ℕ) → StandUnlent t names → IsNoneOf name names
+    → IsThere (child_of name t) → StandUnlent t (names ++ name ∷ [])
 there_more t [] name h new there = (there, tt, tt)
 there_more t (other ∷ names) name h new there =
     (h.0, others names h.1, there_more t names name h.2 new.1 there)
@@ -185,7 +185,7 @@ set_risen n t (other ∷ names) name s (suc i) r g e h =
 
 pub stands_child_risen : (num : Numbering) (low : num.root < num.first) (t : Shape) (names : List (List ℕ))
     (root : Option Shape) (children : List Child)
-    (name : List ℕ) (i : ℕ) (s : Shape) (r : Rise) → Stands num t names [] root children → place_of name children
+    (name : List ℕ) (i : ℕ) (s : Shape) (r : Rise) → Stands num t names [] root children → place_of_child name children
     ≡ Some i
     → child_of name t ≡ Some s → r.ino ≡ i + num.first
     → Stands num t names (r ∷ []) root (slice_set children i (name, Some (faulted_by r.count s)))

@@ -24,10 +24,10 @@ IsNew name (c ∷ children) = (bytes_eq c.0 name ≡ false) × IsNew name childr
 
 -- which child has that name, counted from 0
 -- profile
-abbrev pub place_of : List ℕ → List Child → Option ℕ
-place_of name [] = None
-place_of name (c ∷ children) =
-    if bytes_eq name c.0 then Some 0 else option_map (λ place. place + 1) (place_of name children)
+abbrev pub place_of_child : List ℕ → List Child → Option ℕ
+place_of_child name [] = None
+place_of_child name (c ∷ children) =
+    if bytes_eq name c.0 then Some 0 else option_map (λ place. place + 1) (place_of_child name children)
 
 -- each child stands as lent in the tree under a name of its own, and tells itself
 -- profile

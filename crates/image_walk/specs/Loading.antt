@@ -1,7 +1,7 @@
 -- What a program's node gives: its image, or an error.
 use Rattle.std.specs.Prelude.{◌≡◌, ◌⊎◌, ℕ, ◌+◌, ◌/◌, ◌%◌, ◌<◌, ◌≤◌, ◌^◌, List, length, Bool, true, false, ⊤}
 use Rattle.std.specs.Prelude.{Option, Some, None, Ok, Err}
-use Rattle.host_node.specs.Tree.{Shape, kind_of, faults_of, with_faults, bytes_of, attr_of, is_lent}
+use Rattle.host_node.specs.Tree.{Shape, kind_of, faults_of, with_faults, file_bytes, attr_of, is_lent}
 use Rattle.host_node.specs.declared.kind.Kind.TheVariants.{File}
 use Rattle.host_node.specs.declared.kind.Attr.{Attr}
 use Rattle.sn_base.specs.Sums.{capped}
@@ -17,7 +17,7 @@ use Rattle.image_walk.specs.declared.loading.Answer.TheVariants.{Starts, Refuses
 -- execve(2), ERRORS: EACCES, ELOOP, ENOEXEC
 abbrev pub RefusalOf : Shape → Option Errno → Type 0
 RefusalOf s (Some errno) = executed s ≡ Err errno
-RefusalOf s None = (kind_of s ≡ File) × (executed s ≡ image_within (image_of (bytes_of s)))
+RefusalOf s None = (kind_of s ≡ File) × (executed s ≡ image_within (image_of (file_bytes s)))
 
 abbrev pub Refusal : Attr → Option Errno → Type 0
 Refusal attr refusal = (s : Shape) → attr ≡ attr_of s → is_lent s ≡ false → RefusalOf s refusal
@@ -40,13 +40,13 @@ IsHere (Some s) = is_lent s ≡ false
 -- stat(2), st_size
 abbrev pub IsFileOf : ℕ → Option Shape → Type 0
 IsFileOf size None = ⊤
-IsFileOf size (Some s) = (kind_of s ≡ File) × (is_lent s ≡ false) × (length (bytes_of s) ≡ size)
+IsFileOf size (Some s) = (kind_of s ≡ File) × (is_lent s ≡ false) × (length (file_bytes s) ≡ size)
 
 -- what was read is all that a node tells
 -- read(2)
 abbrev pub ReadsFile : Option Shape → List ℕ → Type 0
 ReadsFile None bytes = ⊤
-ReadsFile (Some s) bytes = bytes ≡ bytes_of s
+ReadsFile (Some s) bytes = bytes ≡ file_bytes s
 
 -- a node's call failed: its count rose by so much, and the answer is EIO
 -- profile

@@ -11,13 +11,14 @@ use Rattle.kernel_model.specs.declared.opening.Rise.{Rise}
 use Rattle.kernel_model.specs.files.FileTree.{Nodes, child_node}
 use Rattle.kernel_model.specs.files.Settled.{rise_in}
 use Rattle.image_walk.specs.declared.granted.Numbering.{Numbering}
+use Rattle.image_walk.specs.declared.granted.TheConstants.{MOST_ROOTS}
 use Rattle.image_walk.specs.Granted.{Child}
 use Rattle.image_walk.specs.Loading.{faulted_by}
 
 -- the numbers of a granted folder: the root's, and those of children from the first on, which are above those of roots
--- inode(7), st_ino; that there are at most 16 roots: profile
+-- inode(7), st_ino; how many roots there may be: profile
 abbrev pub IsNumbering : Numbering → Type 0
-IsNumbering num = (0 < num.root) × (num.root < num.first) × (num.first ≤ 17)
+IsNumbering num = (0 < num.root) × (num.root < num.first) × (num.first ≤ MOST_ROOTS + 1)
 
 -- a tree with what stands under names left to borrowers
 -- profile
@@ -33,11 +34,11 @@ IsNoneOf name (other ∷ names) = (bytes_eq other name ≡ false) × IsNoneOf na
 
 -- under each of these names, of which no two are one, stands a node that is not lent
 -- profile
-abbrev pub AreThere : Shape → (names : List (List ℕ)) → Type 0
-AreThere t [] = ⊤
-AreThere t (name ∷ names) =
+abbrev pub StandUnlent : Shape → (names : List (List ℕ)) → Type 0
+StandUnlent t [] = ⊤
+StandUnlent t (name ∷ names) =
     IsSomeAnd (child_of name t) (λ s. (is_lent s ≡ false) × (faults_of s < 2 ^ 64)) × IsNoneOf name names
-    × AreThere t names
+    × StandUnlent t names
 
 -- what the nodes under these names tell, numbered from that number on, after these rises of counts
 -- profile
@@ -53,7 +54,7 @@ pub record Stands (num : Numbering) (t : Shape) (names : List (List ℕ)) (rises
     (children : List Child) : Type 0 where
   pub small : faults_of t < 2 ^ 64
   pub free : none_lent t ≡ true
-  pub there : AreThere t names
+  pub there : StandUnlent t names
   pub root_tells : root ≡ Some (faulted_by (rise_in num.root rises) (lend_all names t))
   pub children_tell : children ≡ lent_from num.first t names rises
 

@@ -10,7 +10,7 @@ use Rattle.image_walk.specs.declared.loading.Answer.{Answer}
 use Rattle.image_walk.specs.declared.loading.Answer.TheVariants.{Refuses, Memory}
 use Rattle.image_walk.specs.declared.loading.Loaded.{Loaded}
 use Rattle.image_walk.specs.declared.walk.Step.{Step}
-use Rattle.image_walk.specs.Granted.{Child, place_of}
+use Rattle.image_walk.specs.Granted.{Child, place_of_child}
 use Rattle.image_walk.specs.Loading.{Loads, LoadsWhere, faulted_by}
 use Rattle.image_walk.specs.Standing.{Stands}
 
@@ -118,10 +118,10 @@ pub data Walks (num : Numbering) (t : Shape) (name : List ℕ) (children childre
   Unsearched : NotSearched t after step.loaded.risen step.loaded.answer → children' ≡ children → step.drawn ≡ false
       → step.ino ≡ num.root → Walks num t name children children' after step
   Known : owner_executes t ≡ true → after ≡ Some t → step.drawn ≡ false → (place : ℕ)
-      → place_of name children ≡ Some place → step.ino ≡ place + num.first
+      → place_of_child name children ≡ Some place → step.ino ≡ place + num.first
       → LoadsAt place children children' step.loaded.risen step.loaded.answer
       → Walks num t name children children' after step
-  Lent : owner_executes t ≡ true → place_of name children ≡ None
+  Lent : owner_executes t ≡ true → place_of_child name children ≡ None
       → LendsBy num step.drawn t name children children' after step.ino step.loaded.risen step.loaded.answer
       → Walks num t name children children' after step
 

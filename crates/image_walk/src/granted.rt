@@ -2,7 +2,7 @@
 
 ghost use Rattle.std.specs.Prelude.{◌≡◌, ◌<◌, [], length, IfSome};
 ghost use Rattle.host_node.specs.Tree.{Shape};
-ghost use Rattle.image_walk.specs.Granted.{CanGiveBack, GivesBack, place_of, told_of};
+ghost use Rattle.image_walk.specs.Granted.{CanGiveBack, GivesBack, place_of_child, told_of};
 
 use host_node::HostNode;
 use sn_text::{Name, is_same_name};
@@ -14,6 +14,9 @@ pub struct Lent<N: Drop> {
     pub name: Name,
     pub node: N,
 }
+
+/// How many roots the numbers of granted folders leave room for, below the first for a child.
+pub const MOST_ROOTS: u64 = 16;
 
 /// The inode numbers of a granted folder: that of its root, and the first for a child of the root.
 #[derive(Clone, Copy, Debug, PartialEq, Eq)]
@@ -72,8 +75,8 @@ impl<N: HostNode> Granted<N> {
 }
 
 /// Which of the children has that name, counted from 0.
-pub(crate) fn place_of<N: HostNode>(name: &Name, lent: &[Lent<N>]) -> Option<usize>
-    ensures place { result ≡ place_of name.now (told_of N.told lent.now) }
+pub(crate) fn place_of_child<N: HostNode>(name: &Name, lent: &[Lent<N>]) -> Option<usize>
+    ensures place { result ≡ place_of_child name.now (told_of N.told lent.now) }
     ensures within { IfSome result (λ i. i < length lent.now) }
 {
     match lent {
@@ -82,7 +85,7 @@ pub(crate) fn place_of<N: HostNode>(name: &Name, lent: &[Lent<N>]) -> Option<usi
             if is_same_name(name, &first.name) {
                 return Some(0);
             }
-            match place_of(name, rest) {
+            match place_of_child(name, rest) {
                 Some(place) => Some(place + 1),
                 None => None,
             }

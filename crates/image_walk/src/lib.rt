@@ -24,5 +24,5 @@ mod loading;
 mod walk;
 
 pub use executing::{Executed, execve};
-pub use granted::{Granted, Lent, Numbering};
+pub use granted::{Granted, Lent, MOST_ROOTS, Numbering};
 pub use loading::Answer;

@@ -1,7 +1,7 @@
 //! The image of a program's node.
 
 ghost use Rattle.std.specs.Prelude.{◌≡◌, ◌≢◌, ◌+◌, ◌<◌, true, None, Some, IfOk, OnOk};
-ghost use Rattle.host_node.specs.Faults.{has_failed};
+ghost use Rattle.host_node.specs.Faults.{host_failed};
 ghost use Rattle.host_node.specs.Told.{kept, Reading, Writing};
 ghost use Rattle.sn_base.specs.Faults.{HasCause, Rose};
 ghost use Rattle.sn_base.specs.Sums.{capped};
@@ -90,7 +90,7 @@ fn read_file<N: HostNode>(
     ensures tells { N.told node.new ≡ kept (N.count node.new) (N.told node.old) }
     ensures opened { OnOk result (N.opened node.new ≡ Reading) }
     ensures unwritten { N.opened node.old ≢ Writing → N.opened node.new ≢ Writing }
-    ensures faults { HasCause (has_failed result) (N.count node.old) (N.count node.new) }
+    ensures faults { HasCause (host_failed result) (N.count node.old) (N.count node.new) }
 {
     let mut bytes = vec![in alloc; 0u8; size as usize]?;
     node.open(route, false)?;

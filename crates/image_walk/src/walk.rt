@@ -2,12 +2,12 @@
 
 ghost use Rattle.std.specs.Prelude.{◌≡◌, ◌<◌, ◌∷◌, [], length, None, Some, true, false, IfOk, IfSome, OnErr, slice_get};
 ghost use Rattle.host_node.specs.Told.{CanLend};
-ghost use Rattle.image_walk.specs.Granted.{place_of, told_of};
+ghost use Rattle.image_walk.specs.Granted.{place_of_child, told_of};
 ghost use Rattle.image_walk.specs.Loading.{IsHere, is_roomy};
 ghost use Rattle.image_walk.specs.Standing.{IsNumbering};
 ghost use Rattle.image_walk.specs.Walking.{DrawsNext, IsGrant, LendsWhere, LoadsAt, SearchedFor, WalksWhere};
 
-use crate::granted::{Granted, Lent, Numbering, place_of};
+use crate::granted::{Granted, Lent, Numbering, place_of_child};
 use crate::loading::{Answer, Loaded, answered, failed, load};
 use host_node::{HostErr, HostNode};
 use sn_base::Memory;
@@ -153,7 +153,7 @@ pub(crate) fn walk<N: HostNode>(
     if let Some(loaded) = search(&mut granted.root, &routes.root) {
         return Ok(at_root(root, loaded));
     }
-    match place_of(name, granted.lent.as_slice()) {
+    match place_of_child(name, granted.lent.as_slice()) {
         Some(place) => Ok(Step {
             drawn: false,
             ino: first + place as u64,

@@ -16,7 +16,7 @@ use Rattle.kernel_model.specs.declared.kernel.Kernel.{Kernel}
 use Rattle.kernel_model.specs.declared.open_files.OpenFiles.{OpenFiles}
 use Rattle.kernel_model.specs.laws.Files.{with_copy}
 use Rattle.kernel_model.proofs.NamedMaps.{same_or_other, get-with, both_set, with-with}
-use Rattle.kernel_calls.specs.Making.{with_task, with_words}
+use Rattle.kernel_calls.specs.Making.{with_new_task, with_words}
 use Rattle.kernel_calls.specs.declared.clone.Words.{Words}
 
 -- ---- two changes of a map
@@ -98,7 +98,7 @@ module _ (c : Caller) (k : Kernel) (place clear : ℕ) (memory : AddressSpace) (
   process_as : (tasks : TaskTable) (spaces : NamedMap AddressSpace) (files : OpenFiles)
       → tasks ≡ forked k.tasks c.task (made_for_child place) (made_for_child place) clear
       → spaces ≡ with_named k.spaces place 0 memory → files ≡ with_copy c.table (made_for_child place) k.files
-      → with_task place (Some memory) clear c k ≡ with_process tasks spaces files
+      → with_new_task place (Some memory) clear c k ≡ with_process tasks spaces files
   process_as tasks spaces files e f g =
       let copy : OpenFiles = with_copy c.table (made_for_child place) k.files in
       ap (λ t. with_process t (with_named k.spaces place 0 memory) copy) (sym e)
@@ -106,11 +106,11 @@ module _ (c : Caller) (k : Kernel) (place clear : ℕ) (memory : AddressSpace) (
 
   -- where the caller's memory has the child's name, its words are lost
   hidden : (words : Option Words) → (c.memory.place ≡ place) × (c.memory.index ≡ 0)
-      → with_task place (Some memory) clear c (with_words words c k)
-      ≡ record (with_task place (Some memory) clear c k) { areas = (with_words words c k).areas }
+      → with_new_task place (Some memory) clear c (with_words words c k)
+      ≡ record (with_new_task place (Some memory) clear c k) { areas = (with_words words c k).areas }
   hidden None same = refl
   hidden (Some words) same =
-      ap (λ s. record (with_task place (Some memory) clear c k) { spaces = s; areas = words.areas })
+      ap (λ s. record (with_new_task place (Some memory) clear c k) { spaces = s; areas = words.areas })
       (ap (λ p. with_named (with_named k.spaces p c.memory.index words.space) place 0 memory) same.0
       ∙ ap (λ i. with_named (with_named k.spaces place i words.space) place 0 memory) same.1
       ∙ with-with k.spaces place 0 words.space memory)
@@ -121,7 +121,7 @@ module _ (c : Caller) (k : Kernel) (place clear : ℕ) (memory : AddressSpace) (
       → tasks ≡ forked k.tasks c.task (made_for_child place) (made_for_child place) clear
       → spaces ≡ with_named k.spaces place 0 memory → files ≡ with_copy c.table (made_for_child place) k.files
       → (with_words words c k).areas ≡ areas
-      → with_task place (Some memory) clear c (with_words words c k)
+      → with_new_task place (Some memory) clear c (with_words words c k)
       ≡ record k { tasks = tasks; spaces = spaces; areas = areas; files = files }
   words_hidden tasks spaces areas files same e f h g =
       hidden words same
@@ -130,11 +130,11 @@ module _ (c : Caller) (k : Kernel) (place clear : ℕ) (memory : AddressSpace) (
 
   -- where it has another, either may be placed first
   apart : (words : Option Words) → (c.memory.place ≢ place) ⊎ ((c.memory.place ≡ place) × (c.memory.index ≢ 0))
-      → with_task place (Some memory) clear c (with_words words c k)
-      ≡ with_words words c (with_task place (Some memory) clear c k)
+      → with_new_task place (Some memory) clear c (with_words words c k)
+      ≡ with_words words c (with_new_task place (Some memory) clear c k)
   apart None other = refl
   apart (Some words) other =
-      ap (λ s. record (with_task place (Some memory) clear c k) { spaces = s; areas = words.areas })
+      ap (λ s. record (with_new_task place (Some memory) clear c k) { spaces = s; areas = words.areas })
       (with_swapped k.spaces c.memory.place c.memory.index place 0 words.space memory other)
 
   pub words_behind : (tasks : TaskTable) (spaces left : NamedMap AddressSpace) (areas : NamedMap AreaState)
@@ -144,7 +144,7 @@ module _ (c : Caller) (k : Kernel) (place clear : ℕ) (memory : AddressSpace) (
       → spaces ≡ with_named k.spaces place 0 memory → files ≡ with_copy c.table (made_for_child place) k.files
       → with_words words c (with_process tasks spaces files)
       ≡ record (with_process tasks spaces files) { spaces = left; areas = areas }
-      → with_task place (Some memory) clear c (with_words words c k)
+      → with_new_task place (Some memory) clear c (with_words words c k)
       ≡ record k { tasks = tasks; spaces = left; areas = areas; files = files }
   words_behind tasks spaces left areas files other e f h g =
       apart words other ∙ ap (with_words words c) (process_as tasks spaces files e f h) ∙ g

@@ -28,7 +28,7 @@ use Rattle.kernel_model.specs.entries.Parts.{Parts, parts, Prog, done, look, out
 use Rattle.kernel_model.proofs.ChildLaws.{changed-append}
 use Rattle.kernel_model.proofs.FileChanges.{copied_behind}
 use Rattle.kernel_model.proofs.Trees.{outcome-bind}
-use Rattle.kernel_calls.specs.Making.{with_child, with_task, with_words}
+use Rattle.kernel_calls.specs.Making.{with_new_child, with_new_task, with_words}
 use Rattle.kernel_calls.specs.Clones.{HasSet, MakesIf, SetsWord, is_shape}
 use Rattle.guest_access.specs.Lending.{with_hand}
 use Rattle.guest_access.specs.Memories.{with_memory}
@@ -54,12 +54,12 @@ pub record IsChild (child : Child) (c : Caller) (k : Kernel) (args : Args) (own 
 module _ (c : Caller) (k : Kernel) where
   abbrev made_so : Regs → (clear : ℕ) → Option AddressSpace → Kernel → Kernel
   made_so registers clear memory after =
-      let made = with_task (k.entries + 1) memory clear c after in
+      let made = with_new_task (k.entries + 1) memory clear c after in
       record made { registers = map.insert made.registers (k.tasks.last + 1) registers }
 
   made_by : (child : Child) (args : Args) (memory : Option AddressSpace) (space : AddressSpace)
       (areas : NamedMap AreaState) → IsChild child c k args memory space areas
-      → with_child child (k.entries + 1) c k
+      → with_new_child child (k.entries + 1) c k
       ≡ made_so (child_registers (cloning_of args).flags (cloning_of args).stack (cloning_of args).tls c.registers)
       (child_clear (cloning_of args).flags (cloning_of args).child_word) memory (with_memory c space areas k)
   made_by child args memory space areas is =

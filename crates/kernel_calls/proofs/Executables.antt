@@ -6,7 +6,7 @@ use Rattle.elf_image.specs.declared.fault.ImageFault.{ImageFault}
 use Rattle.elf_image.specs.declared.fault.ImageFault.TheVariants.{Short, Magic, Class, Machine, Kind, Flags, Headers}
 use Rattle.elf_image.specs.declared.fault.ImageFault.TheVariants.{Interp, Range, Overlap, Entry, Memory}
 use Rattle.elf_image.specs.declared.image.Image.{Image}
-use Rattle.elf_image.specs.Faults.{image_fault, IsFaultOf}
+use Rattle.elf_image.specs.Faults.{image_fault, IsImageFaultOf}
 use Rattle.elf_image.specs.Images.{image_in}
 use Rattle.kernel_model.specs.machine.Image.{image_of}
 
@@ -25,7 +25,7 @@ pub image_some : (bytes : List ℕ) (image : Image) → image_fault bytes ≡ No
 image_some bytes image h e = by_fault bytes None h ∙ ap Some (sym e)
 
 -- bytes with a fault are none
-pub image_none : (bytes : List ℕ) (fault : ImageFault) → IsFaultOf bytes fault → (fault ≡ Memory → ⊥)
+pub image_none : (bytes : List ℕ) (fault : ImageFault) → IsImageFaultOf bytes fault → (fault ≡ Memory → ⊥)
     → image_of bytes ≡ None
 image_none bytes Short h other = by_fault bytes (Some Short) h
 image_none bytes Magic h other = by_fault bytes (Some Magic) h

@@ -21,9 +21,9 @@ with_words (Some words) c k = with_memory c words.space words.areas k
 -- a kernel with a new task: a thread of the caller's group, or a process with a memory of its own and a copy of the
 -- caller's descriptor table, which are named by the place of the entry
 -- clone(2); fork(2)
-abbrev pub with_task : (place : ℕ) → Option AddressSpace → (clear : ℕ) → Caller → Kernel → Kernel
-with_task place None clear c k = record k { tasks = threaded k.tasks c.task clear }
-with_task place (Some memory) clear c k = record k {
+abbrev pub with_new_task : (place : ℕ) → Option AddressSpace → (clear : ℕ) → Caller → Kernel → Kernel
+with_new_task place None clear c k = record k { tasks = threaded k.tasks c.task clear }
+with_new_task place (Some memory) clear c k = record k {
   tasks = forked k.tasks c.task (made_for_child place) (made_for_child place) clear;
   spaces = with_named k.spaces place 0 memory;
   files = with_copy c.table (made_for_child place) k.files;
@@ -36,6 +36,7 @@ with_registers child number k = record k { registers = map.insert k.registers nu
 
 -- a kernel with a child: the words that got its number, its task with its memory and its descriptors, and its registers
 -- clone(2); fork(2)
-abbrev pub with_child : Child → (place : ℕ) → Caller → Kernel → Kernel
-with_child child place c k =
-    with_registers child (k.tasks.last + 1) (with_task place child.memory child.clear c (with_words child.words c k))
+abbrev pub with_new_child : Child → (place : ℕ) → Caller → Kernel → Kernel
+with_new_child child place c k =
+    with_registers child (k.tasks.last + 1) (with_new_task place child.memory child.clear c
+    (with_words child.words c k))

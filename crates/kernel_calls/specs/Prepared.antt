@@ -24,7 +24,7 @@ use Rattle.kernel_model.specs.laws.Room.{IsRoomFor}
 use Rattle.kernel_model.specs.laws.Files.{without_table}
 use Rattle.kernel_model.specs.entries.Parts.{Parts, parts, Prog, outcome_in, Change, changed}
 use Rattle.file_changes.specs.Changes.{files_after}
-use Rattle.kernel_calls.specs.Making.{with_child}
+use Rattle.kernel_calls.specs.Making.{with_new_child}
 use Rattle.guest_access.specs.Memories.{with_memory}
 use Rattle.kernel_calls.specs.declared.context.Context.{Context}
 use Rattle.kernel_calls.specs.declared.clone.Child.{Child}
@@ -116,7 +116,7 @@ pub record Answers (row : Prog Answer) (p : Prepared) (c : Caller) (k : Kernel) 
 pub record MakesChild (row : Prog Answer) (child : Child) (c : Caller) (k : Kernel) : Type 0 where
   pub changes : List Change
   pub row_is : outcome_in (parts k) row ≡ replies (pos (k.tasks.last + 1)) changes
-  pub done_is : changed changes k ≡ with_child child (k.entries + 1) c k
+  pub done_is : changed changes k ≡ with_new_child child (k.entries + 1) c k
 
 -- a row comes to what has become of a call: it replies, or makes a child, or puts its task to sleep, or waits
 -- syscall(2); futex(2), FUTEX_WAIT

@@ -2,7 +2,7 @@
 
 ghost use Rattle.std.specs.Prelude.{◌≡◌, ℕ, false, true, IfOk, IsTrue, OnErr};
 ghost use Rattle.futex_core.specs.Waiters.{FutexList};
-ghost use Rattle.sn_errno.specs.Calls.{call_of};
+ghost use Rattle.sn_errno.specs.Calls.{call_numbered};
 ghost use Rattle.sn_errno.specs.Errors.{reply_of};
 ghost use Rattle.sn_errno.specs.declared.errno.Errno.TheVariants.{ENOSYS};
 ghost use Rattle.task_table.specs.Table.{is_live};
@@ -55,7 +55,7 @@ pub fn call(
     files: &OpenFiles,
 ) -> Result<Called, Memory>
     requires lives { IsTrue (is_live tasks.now.tasks context.now.task) }
-    requires others { is_on_files (call_of number) ≡ false }
+    requires others { is_on_files (call_numbered number) ≡ false }
     ensures row { IfOk result (λ d. (c : ACaller) (k : AKernel) (console : ℕ) →
         IsCalling c k context.now space.old areas.old tasks.now sleepers.now console → k.files ≡ files.now →
         c.registers ≡ registers.now →

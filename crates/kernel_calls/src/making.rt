@@ -11,7 +11,7 @@ ghost use Rattle.kernel_model.specs.declared.caller.Caller.{Caller as ACaller};
 ghost use Rattle.kernel_model.specs.declared.kernel.Kernel.{Kernel as AKernel};
 ghost use Rattle.kernel_model.specs.laws.Room.{IsRoomFor};
 ghost use Rattle.kernel_model.specs.laws.Files.{with_copy};
-ghost use Rattle.kernel_calls.specs.Making.{with_child, with_task, with_words};
+ghost use Rattle.kernel_calls.specs.Making.{with_new_child, with_new_task, with_words};
 
 use crate::Context;
 use crate::clone::{Child, Words};
@@ -41,7 +41,7 @@ pub fn make(
     ensures ok { OnOk result ((c : ACaller) (k : AKernel) → c.task ≡ context.now.task →
         c.memory ≡ context.now.memory → c.table ≡ context.now.table →
         k.tasks ≡ tasks.old → k.registers ≡ registers.old → k.spaces ≡ spaces.old →
-        k.areas ≡ areas.old → k.files ≡ files.old → with_child child context.now.place c k ≡ record k {
+        k.areas ≡ areas.old → k.files ≡ files.old → with_new_child child context.now.place c k ≡ record k {
           tasks = tasks.new;
           registers = registers.new;
           spaces = spaces.new;
@@ -97,7 +97,7 @@ fn make_task(
     ensures ok { OnOk result ((c : ACaller) (k : AKernel) → c.task ≡ context.now.task →
         c.memory ≡ context.now.memory → c.table ≡ context.now.table →
         k.tasks ≡ tasks.old → k.spaces ≡ spaces.old → k.areas ≡ areas.old →
-        k.files ≡ files.old → with_task context.now.place child.memory child.clear c (with_words child.words c k)
+        k.files ≡ files.old → with_new_task context.now.place child.memory child.clear c (with_words child.words c k)
         ≡ record k { tasks = tasks.new; spaces = spaces.new; areas = areas.new; files = files.new }) }
     ensures err { OnErr result (tasks.new ≡ tasks.old) }
     ensures err_spaces { OnErr result (spaces.new ≡ spaces.old) }

@@ -7,7 +7,7 @@ ghost use Rattle.kernel_model.specs.declared.caller.Caller.{Caller as ACaller};
 ghost use Rattle.kernel_model.specs.declared.kernel.Kernel.{Kernel as AKernel};
 ghost use Rattle.kernel_model.specs.calls.Callers.{context_of};
 ghost use Rattle.kernel_model.specs.calls.RandomBytes.{getrandom_row};
-ghost use Rattle.kernel_model.specs.machine.Random.{opening_random, random_at, random_bytes, words_of};
+ghost use Rattle.kernel_model.specs.machine.Random.{opening_random, random_at, random_bytes, stream_words};
 ghost use Rattle.kernel_calls.specs.Prepared.{Answers, IsCalling};
 ghost use Rattle.kernel_calls.specs.declared.prepared.Effect.TheVariants.{Nothing};
 
@@ -72,7 +72,7 @@ fn random_at(alloc: Global, seed: &[u8], place: u64, count: u64) -> Result<List<
 #[tactic(auto, using(crate::proofs::RandomWords::no_words, crate::proofs::RandomWords::words_more))]
 fn words_of(alloc: Global, seed: &[u8; 32], stream: u64, count: u64) -> Result<List<u8>, Memory>
     requires { count ≤ 64 }
-    ensures { IfOk result (λ bytes. bytes ≡ words_of seed.now stream count) }
+    ensures { IfOk result (λ bytes. bytes ≡ stream_words seed.now stream count) }
 {
     let mut words = ChaCha20Rng::from_seed(*seed);
     words.set_stream(stream);

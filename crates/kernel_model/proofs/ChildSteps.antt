@@ -20,7 +20,7 @@ use Rattle.sn_errno.specs.declared.calls.CallNo.TheVariants.{Getrandom}
 use Rattle.mm_areas.specs.Mappings.{unmap_fault, pages_in}
 use Rattle.mm_space.specs.Changes.{broken_in, unmapped_in, righted_in}
 use Rattle.mm_space.specs.Handed.{zero_area}
-use Rattle.sn_errno.specs.Calls.{call_of}
+use Rattle.sn_errno.specs.Calls.{call_numbered}
 use Rattle.sn_errno.specs.Errors.{reply_of}
 use Rattle.host_node.specs.Tree.{Shape}
 use Rattle.sn_base.specs.declared.made.Made.{Made}
@@ -80,7 +80,7 @@ use Rattle.kernel_model.specs.entries.Parts.{changed}
 use Rattle.kernel_model.specs.entries.Steps.{run_changes, run_row, run_alone, or_step, step_row, step_with, end_at}
 use Rattle.kernel_model.specs.entries.Steps.{call_at, going_on, replied_by, replied_to}
 use Rattle.kernel_model.specs.entries.Steps.{refused_with, failing, exhausted, numbering, by_answer, by_given}
-use Rattle.kernel_model.specs.entries.Steps.{are_named, are_just, row_of, if_live, task_of, entry_row, stepped}
+use Rattle.kernel_model.specs.entries.Steps.{are_named_fresh, are_just, row_of, if_live, task_of, entry_row, stepped}
 use Rattle.kernel_model.specs.entries.Steps.{may_enter, step, stands_at, sleep_at, slept_by, woken_at, woken_entry}
 use Rattle.kernel_model.specs.entries.Waiting.{Wait, Awake, Asleep, Woken, wait_of}
 use Rattle.kernel_model.specs.laws.Children.{HasUnnumbered, is_given_to, numbers_child}
@@ -475,7 +475,7 @@ module _ (k : Kernel) (dir : ℕ) (name : List ℕ) (shape : Shape) where
         behind (call_row context c (number_of c.registers) (args_of c.registers))
         (λ (answer : Answer). done (slept_by answer answer.reply))
         (slept_keeps (outcome_in (parts k) (call_row context c (number_of c.registers) (args_of c.registers))) _
-        (known_leaves (parts k) context c (args_of c.registers) (call_of (number_of c.registers))))
+        (known_leaves (parts k) context c (args_of c.registers) (call_numbered (number_of c.registers))))
 
     woken_fits : (c : Caller) (call : ℕ) (args : Args) (reply : ℤ) (given : Given)
         → Fits (woken_entry c call args reply given)
@@ -556,7 +556,7 @@ module _ (k : Kernel) (dir : ℕ) (name : List ℕ) (shape : Shape) where
         answer_fits : (answer : Answer) → LeavesNodes answer.changes → Fits (by_answer c reply given answer)
         answer_fits answer leaves =
             either_fits (list_any above_last given.fresh) _ _
-            (either_fits (are_named given.fresh answer.fresh) _ _ exhausted_fits tt)
+            (either_fits (are_named_fresh given.fresh answer.fresh) _ _ exhausted_fits tt)
             (either_fits (are_just given.fresh answer.fresh) _ _ (numbering_fits answer leaves) tt)
 
         call_fits : (context : Context) (call : ℕ) (args : Args) → Fits (by_given context c call args reply given)
@@ -564,7 +564,7 @@ module _ (k : Kernel) (dir : ℕ) (name : List ℕ) (shape : Shape) where
             either_fits (is_in_order given) _ _
             (either_fits (has_any given.rises) _ _ failing_fits
             (behind (call_row context c call args) (by_answer c reply given)
-            (answer_fits _ (known_leaves (parts k) context c args (call_of call))))) tt
+            (answer_fits _ (known_leaves (parts k) context c args (call_numbered call))))) tt
 
     -- ---- each entry
 

@@ -18,10 +18,10 @@ use Rattle.kernel_model.specs.descriptors.Counts.{closed_as, copied_as, counted,
 use Rattle.kernel_model.specs.descriptors.Counts.{object_closed, table_closed, table_copied}
 use Rattle.kernel_model.specs.entries.InTurn.{followed, in_turn}
 use Rattle.kernel_model.specs.entries.Parts.{Holds, Parts, parts, Prog, done, outcome_in, ◌>>=◌, IsIn, Change}
-use Rattle.kernel_model.specs.entries.Parts.{set_named, put, changed, parts_of}
+use Rattle.kernel_model.specs.entries.Parts.{set_named, put, changed, parts_changed}
 use Rattle.kernel_model.specs.laws.Files.{all_counted, all_dropped, closed_by, copied_by, dropped_by, with_copy}
 use Rattle.kernel_model.specs.laws.Files.{with_one_fewer, with_one_more, without_object, without_table}
-use Rattle.kernel_model.specs.laws.InPlace.{done_by}
+use Rattle.kernel_model.specs.laws.InPlace.{kernel_left}
 use Rattle.kernel_model.proofs.ChildLaws.{changed-append}
 use Rattle.kernel_model.proofs.Trees.{outcome-bind}
 use Rattle.kernel_model.proofs.Turns.{done_in_turn, done_none, outcome_followed, outcome_over, state_after}
@@ -49,7 +49,8 @@ both_open [] ys these those = those
 both_open (x ∷ xs) ys these those = (these.0, both_open xs ys these.1 those)
 
 -- they change no node
-pub open_leaves : (changes : List Change) → AreOpenParts changes → (ino : ℕ) → ¬ IsIn (OfNode ino) (parts_of changes)
+pub open_leaves : (changes : List Change) → AreOpenParts changes → (ino : ℕ)
+    → ¬ IsIn (OfNode ino) (parts_changed changes)
 open_leaves [] are ino is = is
 open_leaves (c ∷ changes) are ino (inl e) = subst IsOpenPart (sym e) are.0
 open_leaves (c ∷ changes) are ino (inr is) = open_leaves changes are.1 ino is
@@ -172,7 +173,7 @@ closed_open name s = by (s (OfTable name))
 
 -- ---- what they leave
 
-counted_in_turn : (names : List Made) (k : Kernel) → done_by (in_turn counted names) k
+counted_in_turn : (names : List Made) (k : Kernel) → kernel_left (in_turn counted names) k
     ≡ record k { files = record k.files { descriptions = all_counted names k.files.descriptions } }
 counted_in_turn [] k = done_none k counted
 counted_in_turn (name ∷ names) k =
@@ -181,14 +182,14 @@ counted_in_turn (name ∷ names) k =
     (record k { files = record k.files { descriptions = with_one_more name k.files.descriptions } })
 
 closed_object : (object : Object) (k : Kernel)
-    → done_by (object_closed object) k ≡ record k { files = without_object object k.files }
+    → kernel_left (object_closed object) k ≡ record k { files = without_object object k.files }
 closed_object (object.Node ino) k = refl
 closed_object (object.PipeEnd name side) k = refl
 closed_object object.Console k = refl
 closed_object object.EmptyInput k = refl
 
 pub dropped_one : (name : Made) (k : Kernel)
-    → done_by (dropped name) k ≡ record k { files = with_one_fewer name k.files }
+    → kernel_left (dropped name) k ≡ record k { files = with_one_fewer name k.files }
 dropped_one name k = by (parts k (OfDescription name))
   where
     by_count : (file : OpenFile) (b : Bool) → changed (outcome_in (parts k) (cond b
@@ -227,11 +228,11 @@ dropped_one name k = by (parts k (OfDescription name))
     by (Some file) = by_count file (nat_le 2 file.descriptors)
 
 dropped_in_turn : (names : List Made) (k : Kernel)
-    → done_by (in_turn dropped names) k ≡ record k { files = all_dropped names k.files }
+    → kernel_left (in_turn dropped names) k ≡ record k { files = all_dropped names k.files }
 dropped_in_turn [] k = done_none k dropped
 dropped_in_turn (name ∷ names) k =
     done_in_turn k dropped name names
-    ∙ ap (done_by (in_turn dropped names)) (dropped_one name k)
+    ∙ ap (kernel_left (in_turn dropped names)) (dropped_one name k)
     ∙ dropped_in_turn names (record k { files = with_one_fewer name k.files })
 
 -- the tables stay where descriptors are dropped,
@@ -288,7 +289,7 @@ tables_stay names files = ap (λ (f : OpenFiles). f.tables) (all_beside names fi
 
 -- what copies and closes of whole tables leave
 copied_table : (name copy : Made) (k : Kernel)
-    → done_by (table_copied name copy) k ≡ record k { files = with_copy name copy k.files }
+    → kernel_left (table_copied name copy) k ≡ record k { files = with_copy name copy k.files }
 copied_table name copy k = by (parts k (OfTable name))
   where
     by : (table : Option Table) → changed (outcome_in (parts k) (copied_as copy table)) k
@@ -302,7 +303,7 @@ copied_table name copy k = by (parts k (OfTable name))
         ∙ ap (put (OfTable copy) (Some table)) (counted_in_turn (descriptions_of table) k)
 
 closed_table : (name : Made) (k : Kernel)
-    → done_by (table_closed name) k ≡ record k { files = without_table name k.files }
+    → kernel_left (table_closed name) k ≡ record k { files = without_table name k.files }
 closed_table name k = by (parts k (OfTable name))
   where
     by : (table : Option Table) → changed (outcome_in (parts k) (closed_as name table)) k

@@ -9,13 +9,13 @@ use Rattle.kernel_model.specs.declared.kernel.Part.TheVariants.{OfArea, OfNode}
 use Rattle.kernel_model.specs.calls.Answers.{Answer, refuses, replies}
 use Rattle.kernel_model.specs.calls.Lookups.{or_refuse}
 use Rattle.kernel_model.specs.entries.Areas.{area_changes, reach_changes}
-use Rattle.kernel_model.specs.entries.Parts.{Parts, Prog, done, outcome_in, ◌>>=◌, IsIn, Change, parts_of}
+use Rattle.kernel_model.specs.entries.Parts.{Parts, Prog, done, outcome_in, ◌>>=◌, IsIn, Change, parts_changed}
 use Rattle.kernel_model.proofs.Trees.{outcome-bind}
 
 -- ---- changes
 
 abbrev pub LeavesNodes : List Change → Type 0
-LeavesNodes changes = (ino : ℕ) → ¬ IsIn (OfNode ino) (parts_of changes)
+LeavesNodes changes = (ino : ℕ) → ¬ IsIn (OfNode ino) (parts_changed changes)
 
 pub leaves-append : (xs ys : List Change) → LeavesNodes xs → LeavesNodes ys → LeavesNodes (xs ++ ys)
 leaves-append [] ys none more ino is = more ino is

@@ -11,7 +11,7 @@ use Rattle.fd_table.specs.Tables.{Table}
 use Rattle.mm_space.specs.Accesses.{writable}
 use Rattle.mm_space.specs.Handed.{InHand}
 use Rattle.mm_space.specs.Spaces.{AddressSpace, Reach, unreserved}
-use Rattle.sn_errno.specs.Calls.{call_of}
+use Rattle.sn_errno.specs.Calls.{call_numbered}
 use Rattle.task_table.specs.Table.{TaskTable}
 use Rattle.kernel_model.specs.declared.caller.Caller.{Caller}
 use Rattle.kernel_model.specs.declared.entry.Args.{Args}
@@ -30,7 +30,7 @@ use Rattle.kernel_model.specs.calls.Clone.{Cloning, cloning_of, caller_word, is_
 use Rattle.kernel_model.specs.calls.Clone.{made_for_child, process_by, process_with, sets_child_word, thread_by}
 use Rattle.kernel_model.specs.calls.Clone.{thread_made, word_set}
 use Rattle.kernel_model.specs.descriptors.Counts.{table_copied}
-use Rattle.kernel_model.specs.calls.Lookups.{or_refuse, with_table}
+use Rattle.kernel_model.specs.calls.Lookups.{or_refuse, with_callers_table}
 use Rattle.kernel_model.specs.calls.Pipes.{are_pipe_flags, pipe_made, two_free}
 use Rattle.kernel_model.specs.calls.Memory.{file_refusal, map_refusal, maps, unless_refused}
 use Rattle.kernel_model.specs.calls.Table.{call_row, row_of_call, row_if_known}
@@ -215,7 +215,7 @@ module _ (s : Parts) (context : Context) (caller : Caller) (args : Args) where
     table_answers hand (Some table) = ends_answer hand table (two_free table)
 
     hand_answers : (hand : Option (List InHand))
-        → Answers (or_refuse EFAULT (λ h. with_table caller (in_table h)) hand)
+        → Answers (or_refuse EFAULT (λ h. with_callers_table caller (in_table h)) hand)
     hand_answers None = refl
     hand_answers (Some hand) = table_answers hand (s (OfTable caller.table))
 
@@ -247,7 +247,8 @@ by_next s c d caller Goes = refl
 by_next s c d caller (Traps signal) = refl
 by_next s c d caller (Touches area) = refl
 by_next s c d caller Calls =
-    here c ∙ known_alike s c d caller (args_of caller.registers) (call_of (number_of caller.registers)) ∙ sym (here d)
+    here c ∙ known_alike s c d caller (args_of caller.registers) (call_numbered (number_of caller.registers))
+    ∙ sym (here d)
   where
     here : (x : Context) → outcome_in s (ready_by x caller Calls)
         ≡ makes_entry (outcome_in s (call_row x caller (number_of caller.registers) (args_of caller.registers))).reply

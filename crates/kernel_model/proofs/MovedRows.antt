@@ -22,7 +22,7 @@ use Rattle.kernel_model.specs.declared.caller.Caller.{Caller}
 use Rattle.kernel_model.specs.declared.kernel.Part.TheVariants.{OfConsole, OfDescription, OfPipe, OfTable}
 use Rattle.kernel_model.specs.calls.Answers.{Answer, refuses, replies}
 use Rattle.kernel_model.specs.calls.Callers.{Context}
-use Rattle.kernel_model.specs.calls.Lookups.{descriptor, if_may, opened_for, or_refuse, with_file, with_table}
+use Rattle.kernel_model.specs.calls.Lookups.{descriptor, if_may, opened_for, or_refuse, with_file, with_callers_table}
 use Rattle.kernel_model.specs.calls.Pipes.{are_pipe_flags, pipe2_of, pipe_made, two_free, two_ints}
 use Rattle.kernel_model.specs.calls.ReadWrite.{appended, from_pipe, is_awaited, moved, put_into, read_row, reads}
 use Rattle.kernel_model.specs.calls.ReadWrite.{reads_into, reads_of, readv_row, to_pipe, waits, write_row, writes}
@@ -185,7 +185,7 @@ module _ (s : Parts) where
         found_leaves s EMFILE (λ fds. done (pipe_made context c buffer flags hand table fds))
         (pipe_made_leaves hand table) (two_free table)
 
-    hand_leaves : (hand : List InHand) → Leaves s (with_table c (in_table hand))
+    hand_leaves : (hand : List InHand) → Leaves s (with_callers_table c (in_table hand))
     hand_leaves hand ino is =
         found_leaves s EBADF (in_table hand) (in_table_leaves hand) (s (OfTable c.table)) ino is
 
@@ -193,5 +193,5 @@ module _ (s : Parts) where
     pipe2_leaves =
         either_leaves s (not (are_pipe_flags flags)) _ _ (refused_leaves s EINVAL)
         (behind_leaves s (access_row writable c.space buffer 8) _
-        (found_leaves s EFAULT (λ hand. with_table c (in_table hand)) hand_leaves
+        (found_leaves s EFAULT (λ hand. with_callers_table c (in_table hand)) hand_leaves
         (outcome_in s (access_row writable c.space buffer 8))))

@@ -17,7 +17,7 @@ use Rattle.kernel_model.specs.declared.open_files.OpenFile.{OpenFile}
 use Rattle.kernel_model.specs.calls.Answers.{Answer}
 use Rattle.kernel_model.specs.calls.Lookups.{descriptor}
 use Rattle.kernel_model.specs.calls.Descriptors.{by_command, close_row, dup3_row, dup_row, dupfd_of, fcntl_row, gives}
-use Rattle.kernel_model.specs.calls.Descriptors.{gives_at, ioctl_row, is_cloexec_or_none, is_possible, leaves}
+use Rattle.kernel_model.specs.calls.Descriptors.{gives_at, ioctl_row, is_cloexec_or_none, is_possible, leaves_table}
 use Rattle.kernel_model.specs.calls.Descriptors.{opens_from, replaced, sets_status, tells_status}
 use Rattle.kernel_model.specs.calls.Lookups.{if_may, lowest_free, opened_for, or_refuse, with_descriptor, with_file}
 use Rattle.kernel_model.specs.calls.Seek.{lseek_row, positioned, pread64_row, pwrite64_row}
@@ -47,10 +47,10 @@ module _ (s : Parts) where
 
   -- a changed table behind a piece
   behind : (piece : Prog (List Change)) → AllOpen piece → (c : Caller) (reply : ℕ) (table : Table)
-      → Open (piece >>= λ changes. done (leaves c reply table changes))
+      → Open (piece >>= λ changes. done (leaves_table c reply table changes))
   behind piece all c reply table =
       subst (λ (a : Answer). AreOpenParts a.changes)
-      (sym (outcome-bind s piece (λ changes. done (leaves c reply table changes)))) (tt, all s)
+      (sym (outcome-bind s piece (λ changes. done (leaves_table c reply table changes)))) (tt, all s)
 
   replaced_open : (before : Option Descriptor) → AllOpen (replaced before)
   replaced_open None = λ t. tt

@@ -12,7 +12,7 @@ use Rattle.kernel_model.specs.declared.kernel.Part.{Part}
 use Rattle.kernel_model.specs.declared.kernel.Part.TheVariants.{OfTasks, OfTask, OfSpace, OfArea, OfTable}
 use Rattle.kernel_model.specs.declared.kernel.Part.TheVariants.{OfDescription}
 use Rattle.kernel_model.specs.declared.kernel.Part.TheVariants.{OfPipe, OfNode, OfSleepers, OfConsole, OfFaults}
-use Rattle.kernel_model.specs.entries.Parts.{Holds, parts, IsIn, Change, set_at, area_made, put, changed, parts_of}
+use Rattle.kernel_model.specs.entries.Parts.{Holds, parts, IsIn, Change, set_at, area_made, put, changed, parts_changed}
 use Rattle.kernel_model.specs.entries.Steps.{stepped}
 use Rattle.kernel_model.proofs.NamedMaps.{get-set_same, get-set_other, get-set_alike}
 
@@ -314,14 +314,15 @@ put_alike OfFaults OfFaults content a b e = refl
 
 -- ---- what changes leave
 
-pub changed_other : (changes : List Change) (k : Kernel) (p : Part) → ¬ IsIn p (parts_of changes)
+pub changed_other : (changes : List Change) (k : Kernel) (p : Part) → ¬ IsIn p (parts_changed changes)
     → parts (changed changes k) p ≡ parts k p
 changed_other [] k p apart = refl
 changed_other (c ∷ changes) k p apart =
     changed_other changes (put c.0 c.1 k) p (λ is. apart (inr is)) ∙ put_other c.0 p c.1 k (λ e. apart (inl e))
 
 pub changed_alike : (changes : List Change) (a b : Kernel) (p : Part)
-    → (IsIn p (parts_of changes)) ⊎ (parts a p ≡ parts b p) → parts (changed changes a) p ≡ parts (changed changes b) p
+    → (IsIn p (parts_changed changes)) ⊎ (parts a p ≡ parts b p) → parts (changed changes a) p
+    ≡ parts (changed changes b) p
 changed_alike [] a b p (inl is) = absurd is
 changed_alike [] a b p (inr e) = e
 changed_alike (c ∷ changes) a b p (inl (inl e)) =

@@ -3,7 +3,7 @@ use Rattle.std.proofs.Common.{◌≡◌, List, [], ◌∷◌, ◌++◌, refl, ap
 use Rattle.kernel_model.specs.declared.kernel.Kernel.{Kernel}
 use Rattle.kernel_model.specs.entries.InTurn.{nothing, content_after, over_changes, followed, in_turn}
 use Rattle.kernel_model.specs.entries.Parts.{Parts, parts, put, changed, Change, Prog, done, look, outcome_in, ◌>>=◌}
-use Rattle.kernel_model.specs.laws.InPlace.{done_by}
+use Rattle.kernel_model.specs.laws.InPlace.{kernel_left}
 use Rattle.kernel_model.proofs.ChildLaws.{changed-append}
 use Rattle.kernel_model.proofs.PartChanges.{put_same, changed_alike}
 use Rattle.kernel_model.proofs.Trees.{outcome_alike, outcome-bind}
@@ -38,7 +38,7 @@ outcome_followed s first second =
 -- ---- the kernels that pieces leave
 
 pub done_followed : (k : Kernel) (first second : Prog (List Change))
-    → done_by (followed first second) k ≡ done_by second (done_by first k)
+    → kernel_left (followed first second) k ≡ kernel_left second (kernel_left first k)
 done_followed k first second =
     ap (λ changes. changed changes k)
     (outcome_followed (parts k) first second
@@ -46,10 +46,10 @@ done_followed k first second =
     ∙ changed-append (outcome_in (parts k) first) _ k
 
 pub done_in_turn : {A : Type 0} (k : Kernel) (piece : A → Prog (List Change)) (x : A) (xs : List A)
-    → done_by (in_turn piece (x ∷ xs)) k ≡ done_by (in_turn piece xs) (done_by (piece x) k)
+    → kernel_left (in_turn piece (x ∷ xs)) k ≡ kernel_left (in_turn piece xs) (kernel_left (piece x) k)
 unfolding in_turn
 done_in_turn k piece x xs = done_followed k (piece x) (in_turn piece xs)
 
-pub done_none : {A : Type 0} (k : Kernel) (piece : A → Prog (List Change)) → done_by (in_turn piece []) k ≡ k
+pub done_none : {A : Type 0} (k : Kernel) (piece : A → Prog (List Change)) → kernel_left (in_turn piece []) k ≡ k
 unfolding in_turn
 done_none k piece = refl

@@ -17,7 +17,7 @@ use Rattle.sn_base.proofs.Maps.{same_by_get, get-insert_same, get-insert_other, 
 use Rattle.mm_areas.specs.declared.page.Page.{Page}
 use Rattle.mm_areas.specs.declared.areas.Region.{Region}
 use Rattle.mm_areas.specs.Pages.{Mapped, Pages, mapped_by, is_within}
-use Rattle.mm_areas.specs.Contents.{bytes_mapped, bytes_at, changed, changed_at, with_change}
+use Rattle.mm_areas.specs.Contents.{bytes_mapped, bytes_at, with_bytes_changed, bytes_changed_at, with_change}
 use Rattle.mm_areas.specs.declared.rights.Rights.{Rights}
 use Rattle.mm_areas.specs.Rights.{has}
 use Rattle.mm_areas.specs.Hints.{has_page, allows_mapped, allows_at}
@@ -202,13 +202,13 @@ mapping_of pages start program_break = record { pages = pages; start = start; pr
 
 pub write_ok : {X E : Type 0} (answer : Result X E) (page : ℕ) (old new : Page) (olds news : List Region)
     (start program_break : ℕ) (change : List ℕ → List ℕ) → AreWritten page old new olds news
-    → OnOk answer (mapped_by new ≡ changed change (mapped_by old))
+    → OnOk answer (mapped_by new ≡ with_bytes_changed change (mapped_by old))
     → OnOk answer (mapping_of (pages_of news) start program_break
     ≡ mapping_of (with_change (pages_of olds) page change) start program_break)
 write_ok (Ok x) page old new olds news start program_break change are is =
     ap (λ (p : Pages). mapping_of p start program_break)
     (are.pages ∙ ap (insert (pages_of olds) page) is
-    ∙ ap (λ (o : Option Mapped). changed_at change page o (pages_of olds)) (sym are.mapped))
+    ∙ ap (λ (o : Option Mapped). bytes_changed_at change page o (pages_of olds)) (sym are.mapped))
 write_ok (Err e) page old new olds news start program_break change are is = tt
 
 pub write_owns : {X E : Type 0} (answer : Result X E) (page : ℕ) (old new : Page) (olds news : List Region)
@@ -251,7 +251,7 @@ write_others page old new olds news are q other = ap is_own_at (are.others q oth
 
 pub put_ok : (done : Bool) (page : ℕ) (old new : Page) (olds news : List Region) (start program_break : ℕ)
     (change : List ℕ → List ℕ) → AreWritten page old new olds news
-    → OnTrue done (mapped_by new ≡ changed change (mapped_by old))
+    → OnTrue done (mapped_by new ≡ with_bytes_changed change (mapped_by old))
     → OnTrue done (mapping_of (pages_of news) start program_break
     ≡ mapping_of (with_change (pages_of olds) page change) start program_break)
 put_ok true page old new olds news start program_break change are is =

@@ -29,16 +29,16 @@ changed_held change (PageOf area number) = PageOf area number
 
 -- a page with its bytes changed, and its rights as before
 -- mmap(2), MAP_PRIVATE
-abbrev pub changed : (List ℕ → List ℕ) → Mapped → Mapped
-changed change m = record { rights = m.rights; held = changed_held change m.held }
+abbrev pub with_bytes_changed : (List ℕ → List ℕ) → Mapped → Mapped
+with_bytes_changed change m = record { rights = m.rights; held = changed_held change m.held }
 
 -- pages of which one that may not be mapped has its bytes changed
 -- mmap(2), MAP_PRIVATE
-abbrev pub changed_at : (List ℕ → List ℕ) → (page : ℕ) → Option Mapped → Pages → Pages
-changed_at change page None pages = pages
-changed_at change page (Some m) pages = map.insert pages page (changed change m)
+abbrev pub bytes_changed_at : (List ℕ → List ℕ) → (page : ℕ) → Option Mapped → Pages → Pages
+bytes_changed_at change page None pages = pages
+bytes_changed_at change page (Some m) pages = map.insert pages page (with_bytes_changed change m)
 
 -- pages of which one has its bytes changed, and the others are as before
 -- mmap(2), MAP_PRIVATE
 abbrev pub with_change : Pages → (page : ℕ) → (List ℕ → List ℕ) → Pages
-with_change pages page change = changed_at change page (map.get pages page) pages
+with_change pages page change = bytes_changed_at change page (map.get pages page) pages

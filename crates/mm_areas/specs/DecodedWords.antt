@@ -2,7 +2,7 @@
 use Rattle.std.specs.Prelude.{◌≡◌, ℕ, Bool, false, List, Option, Some, None, option_map, slice_get}
 use Rattle.rv_table.specs.declared.instr.Instr.{Instr}
 use Rattle.mm_frames.specs.Frames.{has_row}
-use Rattle.mm_frames.specs.Rows.{row_of}
+use Rattle.mm_frames.specs.Rows.{decoded_row}
 use Rattle.mm_areas.specs.declared.page.Content.{Content}
 use Rattle.mm_areas.specs.declared.page.Content.TheVariants.{Private, Shared}
 use Rattle.mm_areas.specs.declared.page.Page.{Page}
@@ -36,9 +36,9 @@ AreUndecoded pages = (index : ℕ) → has_row_in (slice_get pages index) ≡ fa
 -- the instructions that a page's words are, of a page that has its own bytes
 -- RISC-V Unprivileged ISA 20191213, 1.5: instructions of four bytes, the lowest first
 abbrev pub row_mapped : Option Mapped → Option (List Instr)
-row_mapped page = option_map row_of (bytes_mapped page)
+row_mapped page = option_map decoded_row (bytes_mapped page)
 
 -- the same of a page by its number
 -- RISC-V Unprivileged ISA 20191213, 1.5: instructions of four bytes, the lowest first
 abbrev pub row_at : Pages → (page : ℕ) → Option (List Instr)
-row_at pages page = option_map row_of (bytes_at pages page)
+row_at pages page = option_map decoded_row (bytes_at pages page)

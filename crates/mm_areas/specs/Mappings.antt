@@ -53,8 +53,8 @@ pages_in length = (length + 4095) / 4096
 
 -- an address or a length that a call doesn't take: an address that is no multiple of 4,096, an end above 2^38
 -- mmap(2), munmap(2), mprotect(2), EINVAL
-abbrev pub is_misplaced : (address length : ℕ) → Bool
-is_misplaced address length = not (address % 4096 == 0) || nat_lt (2 ^ 38) (address + 4096 * pages_in length)
+abbrev pub is_no_range : (address length : ℕ) → Bool
+is_no_range address length = not (address % 4096 == 0) || nat_lt (2 ^ 38) (address + 4096 * pages_in length)
 
 -- a length that no mapping has: none, or one that passes 2^63 in whole pages
 -- mmap(2), EINVAL
@@ -80,7 +80,7 @@ highest_free pages count = highest_of pages count (2 ^ 26 - 256 + 1 - (2 ^ 25 + 
 -- mmap(2), MAP_FIXED, EINVAL
 abbrev pub is_no_place : Option ℕ → (length : ℕ) → Bool
 is_no_place None length = is_no_length length
-is_no_place (Some address) length = is_no_length length || is_misplaced address length || nat_lt address 4096
+is_no_place (Some address) length = is_no_length length || is_no_range address length || nat_lt address 4096
 
 -- how many pages are mapped once so many more are
 -- mmap(2), ENOMEM
@@ -90,9 +90,9 @@ pages_after pages (Some address) count = map.len (unmapped (address / 4096) coun
 
 -- the page that a mapping begins at: of the address that is asked, or of the highest free range
 -- mmap(2)
-abbrev pub place_in : Pages → Option ℕ → (count : ℕ) → Option ℕ
-place_in pages None count = highest_free pages count
-place_in pages (Some address) count = Some (address / 4096)
+abbrev pub first_page_for : Pages → Option ℕ → (count : ℕ) → Option ℕ
+first_page_for pages None count = highest_free pages count
+first_page_for pages (Some address) count = Some (address / 4096)
 
 -- the address that a page begins at
 -- getpagesize(2)
@@ -111,7 +111,7 @@ abbrev pub map_fault : Mapping → Option ℕ → (length : ℕ) → Option Area
 map_fault m at length =
     if is_no_place at length then Some Invalid
     else if nat_lt MOST_PAGES (pages_after m.pages at (pages_in length)) then Some Limit
-    else or_no_range (place_in m.pages at (pages_in length))
+    else or_no_range (first_page_for m.pages at (pages_in length))
 
 -- a mapping with new pages from a page on, in the places of those that are there
 -- mmap(2)
@@ -123,7 +123,7 @@ mapped_at m page length rights backing = with_pages m (laid page (new_pages back
 -- why nothing is unmapped
 -- munmap(2), ERRORS
 abbrev pub unmap_fault : (address length : ℕ) → Option AreaErr
-unmap_fault address length = if (length == 0) || is_misplaced address length then Some Invalid else None
+unmap_fault address length = if (length == 0) || is_no_range address length then Some Invalid else None
 
 -- a mapping without the pages of so many bytes from an address on
 -- munmap(2)
@@ -134,7 +134,7 @@ unmapped_at m address length = with_pages m (unmapped (address / 4096) (pages_in
 -- mprotect(2), ERRORS
 abbrev pub protect_fault : Mapping → (address length : ℕ) → Option AreaErr
 protect_fault m address length =
-    if is_misplaced address length then Some Invalid
+    if is_no_range address length then Some Invalid
     else if is_covered m.pages (address / 4096) (pages_in length) then None
     else Some Hole
 

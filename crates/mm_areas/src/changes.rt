@@ -5,10 +5,10 @@ ghost use Rattle.std.specs.FinMap as map_of;
 ghost use Rattle.mm_areas.specs.Pages.{is_within};
 ghost use Rattle.mm_areas.specs.Own.{page_of, owns};
 ghost use Rattle.mm_areas.specs.DecodedWords.{has_row_at};
-ghost use Rattle.mm_areas.specs.Mappings.{mapping, pages_in, place_in, address_of, map_fault, mapped_at, unmap_fault};
+ghost use Rattle.mm_areas.specs.Mappings.{mapping, pages_in, first_page_for, address_of, map_fault, mapped_at, unmap_fault};
 ghost use Rattle.mm_areas.specs.Mappings.{unmapped_at, is_break, broken_at, after_brk};
 
-use crate::lengths::{PAGE_SIZE, is_misplaced, pages_in};
+use crate::lengths::{PAGE_SIZE, is_no_range, pages_in};
 use crate::new_pages::new_pages;
 use crate::places::{is_break, place};
 use crate::{AreaErr, Areas, Backing, Rights};
@@ -29,7 +29,7 @@ impl Areas {
         backing: Backing,
     ) -> Result<u64, AreaErr>
         ensures place { IfOk result (λ address.
-            address_of (place_in (mapping self.old).pages at (pages_in length)) ≡ Some address) }
+            address_of (first_page_for (mapping self.old).pages at (pages_in length)) ≡ Some address) }
         ensures ok { IfOk result (λ address.
             mapping self.new ≡ mapped_at (mapping self.old) (address / 4096) length rights backing) }
         ensures fault { IfErr result (λ e. e ≢ AreaErr.Memory → map_fault (mapping self.old) at length ≡ Some e) }
@@ -70,7 +70,7 @@ impl Areas {
             has_row_at self.new page ≡ has_row_at self.old page }
         ensures rows_kept { OnErr result ((page : ℕ) → has_row_at self.new page ≡ has_row_at self.old page) }
     {
-        if length == 0 || is_misplaced(address, length) {
+        if length == 0 || is_no_range(address, length) {
             return Err(AreaErr::Invalid);
         }
         self.take(address / PAGE_SIZE, pages_in(length))?;

@@ -4,9 +4,9 @@ ghost use Rattle.std.specs.Prelude.{◌≡◌, ℕ, ◌+◌, ◌-◌, ◌^◌, �
 ghost use Rattle.std.specs.Prelude.{OnErr, Some, None, [], SomeIff, unwrap_or, option_and_then, slice_get};
 ghost use Rattle.std.specs.Bool.{OnTrue, OnFalse};
 ghost use Rattle.rv_table.specs.Words.{IsWidth};
-ghost use Rattle.mm_frames.specs.Numbers.{IsInPage, number_in, with_number, with_run};
+ghost use Rattle.mm_frames.specs.Numbers.{IsInPage, little_number_at, with_number, with_run};
 ghost use Rattle.mm_areas.specs.Pages.{mapped_by};
-ghost use Rattle.mm_areas.specs.Contents.{bytes_mapped, changed};
+ghost use Rattle.mm_areas.specs.Contents.{bytes_mapped, with_bytes_changed};
 ghost use Rattle.mm_areas.specs.Own.{is_own_content};
 ghost use Rattle.mm_areas.specs.DecodedWords.{has_row_content};
 
@@ -55,7 +55,7 @@ impl Page {
         requires width { IsWidth width }
         requires fits { offset + width ≤ 4096 }
         ensures ok { OnOk result (mapped_by self.new ≡
-            changed (λ bytes. with_number bytes offset width value) (mapped_by self.old)) }
+            with_bytes_changed (λ bytes. with_number bytes offset width value) (mapped_by self.old)) }
         ensures own { OnOk result (is_own_content self.new.content ≡ true) }
         ensures err { OnErr result (self.new ≡ self.old) }
         ensures lacking { OnErr result (is_own_content self.old.content ≡ false) }
@@ -72,7 +72,7 @@ impl Page {
         requires private { is_some (bytes_mapped (Some (mapped_by self.old))) ≡ true }
         requires fits { offset + length run.now ≤ 4096 }
         ensures ok { OnOk result (mapped_by self.new ≡
-            changed (λ bytes. with_run bytes offset run.now) (mapped_by self.old)) }
+            with_bytes_changed (λ bytes. with_run bytes offset run.now) (mapped_by self.old)) }
         ensures own { OnOk result (is_own_content self.new.content ≡ true) }
         ensures err { OnErr result (self.new ≡ self.old) }
         ensures lacking { OnErr result (is_own_content self.old.content ≡ false) }
@@ -89,7 +89,7 @@ impl Page {
     pub(crate) fn put_number(&mut self, offset: usize, width: u8, value: u64) -> bool
         ensures fits { IsTrue result ↔ ((is_own_content self.old.content ≡ true) × IsInPage offset width) }
         ensures bytes { OnTrue result (mapped_by self.new ≡
-            changed (λ bytes. with_number bytes offset width value) (mapped_by self.old)) }
+            with_bytes_changed (λ bytes. with_number bytes offset width value) (mapped_by self.old)) }
         ensures own { is_own_content self.new.content ≡ is_own_content self.old.content }
         ensures unchanged { OnFalse result (self.new ≡ self.old) }
         ensures row { has_row_content self.new.content ≡ has_row_content self.old.content }
@@ -230,7 +230,7 @@ impl Areas {
     pub fn number(&self, page: u64, offset: usize, width: u8) -> Option<u64>
         ensures { SomeIff result
             ((is_some (bytes_at (mapping self.now).pages page) ≡ true) × IsInPage offset width)
-            (number_in (unwrap_or (bytes_at (mapping self.now).pages page) []) offset width) }
+            (little_number_at (unwrap_or (bytes_at (mapping self.now).pages page) []) offset width) }
     {
         match &self.page(page)?.content {
             Content::Private(frame) => frame.number(offset, width),

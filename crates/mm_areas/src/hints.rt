@@ -3,11 +3,11 @@
 ghost use Rattle.std.specs.Prelude.{◌≡◌, ℕ, ◌+◌, ◌-◌, ◌^◌, ◌<◌, ◌≤◌, ◌↔◌, true, false, length, is_some, IsTrue, Some};
 ghost use Rattle.std.specs.Prelude.{None, [], IfSome, SomeIff, unwrap_or, option_map};
 ghost use Rattle.std.specs.Bool.{OnTrue, OnFalse};
-ghost use Rattle.mm_frames.specs.Numbers.{IsInPage, number_in, with_number};
+ghost use Rattle.mm_frames.specs.Numbers.{IsInPage, little_number_at, with_number};
 ghost use Rattle.std.specs.List.{HoldsAt};
 ghost use Rattle.std.specs.Option.{option_copied};
 ghost use Rattle.mm_areas.specs.Pages.{is_within, mapped_by};
-ghost use Rattle.mm_areas.specs.Contents.{bytes_mapped, changed};
+ghost use Rattle.mm_areas.specs.Contents.{bytes_mapped, with_bytes_changed};
 ghost use Rattle.mm_areas.specs.Own.{is_own_content};
 ghost use Rattle.mm_areas.specs.DecodedWords.{has_row_content};
 
@@ -23,7 +23,7 @@ impl Page {
         ensures { SomeIff result
             ((has self.now.rights right ≡ true) ×
             (is_some (bytes_mapped (Some (mapped_by self.now))) ≡ true) × IsInPage offset width)
-            (number_in (unwrap_or (bytes_mapped (Some (mapped_by self.now))) []) offset width) }
+            (little_number_at (unwrap_or (bytes_mapped (Some (mapped_by self.now))) []) offset width) }
     {
         if !self.rights.allows(right) {
             return None;
@@ -56,7 +56,7 @@ impl Page {
         ensures fits { IsTrue result ↔ ((is_own_content self.old.content ≡ true) ×
             (has self.old.rights right ≡ true) × IsInPage offset width) }
         ensures bytes { OnTrue result (mapped_by self.new ≡
-            changed (λ bytes. with_number bytes offset width value) (mapped_by self.old)) }
+            with_bytes_changed (λ bytes. with_number bytes offset width value) (mapped_by self.old)) }
         ensures own { is_own_content self.new.content ≡ is_own_content self.old.content }
         ensures unchanged { OnFalse result (self.new ≡ self.old) }
         ensures row { has_row_content self.new.content ≡ has_row_content self.old.content }
@@ -153,7 +153,7 @@ impl Areas {
         ensures { SomeIff result
             ((is_hint self.now hint page ≡ true) × (allows_at (mapping self.now).pages page right ≡ true)
             × (is_some (bytes_at (mapping self.now).pages page) ≡ true) × IsInPage offset width)
-            (number_in (unwrap_or (bytes_at (mapping self.now).pages page) []) offset width) }
+            (little_number_at (unwrap_or (bytes_at (mapping self.now).pages page) []) offset width) }
     {
         if !self.is_near(hint, page) {
             return None;

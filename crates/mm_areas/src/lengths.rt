@@ -1,7 +1,7 @@
 //! Bytes as whole pages: lengths that round up, and addresses and lengths that no call takes.
 
 ghost use Rattle.std.specs.Prelude.{◌≡◌};
-ghost use Rattle.mm_areas.specs.Mappings.{pages_in, is_misplaced, is_no_length};
+ghost use Rattle.mm_areas.specs.Mappings.{pages_in, is_no_range, is_no_length};
 
 /// The size of a page, in bytes: getpagesize(2); RISC-V Privileged ISA 20211203, 4.4, Sv39.
 pub const PAGE_SIZE: u64 = 4_096;
@@ -17,8 +17,8 @@ pub(crate) fn pages_in(length: u64) -> u64
 }
 
 /// Whether an address is no multiple of a page's bytes, or the end above that of the address space.
-pub(crate) fn is_misplaced(address: u64, length: u64) -> bool
-    ensures { result ≡ is_misplaced address length }
+pub(crate) fn is_no_range(address: u64, length: u64) -> bool
+    ensures { result ≡ is_no_range address length }
 {
     address % PAGE_SIZE != 0 || address / PAGE_SIZE + pages_in(length) > END
 }

@@ -2,11 +2,11 @@
 
 ghost use Rattle.std.specs.Prelude.{◌≡◌, ◌+◌, ◌<◌, ◌≤◌, ◌^◌, None, Some, IfOk, IfErr, OnOk};
 ghost use Rattle.std.specs.FinMap as map_of;
-ghost use Rattle.mm_areas.specs.Mappings.{mapping, taken_from, pages_in, pages_after, place_in, map_fault, is_no_place};
+ghost use Rattle.mm_areas.specs.Mappings.{mapping, taken_from, pages_in, pages_after, first_page_for, map_fault, is_no_place};
 ghost use Rattle.mm_areas.specs.Mappings.{is_break};
 
 use crate::free::{highest_free, is_free, mapped_within};
-use crate::lengths::{PAGE_SIZE, is_misplaced, is_no_length, pages_in};
+use crate::lengths::{PAGE_SIZE, is_no_length, is_no_range, pages_in};
 use crate::{AreaErr, Areas};
 
 /// The most pages that are mapped at once: getrlimit(2), `RLIMIT_AS`.
@@ -19,7 +19,7 @@ fn is_no_place(at: Option<u64>, length: u64) -> bool
     match at {
         None => is_no_length(length),
         Some(address) => is_no_length(length)
-            || is_misplaced(address, length)
+            || is_no_range(address, length)
             || address < PAGE_SIZE,
     }
 }
@@ -43,7 +43,7 @@ fn pages_after(areas: &Areas, at: Option<u64>, count: u64) -> u64
 #[tactic(auto, using(crate::proofs::RegionLaws::order_from_test, crate::proofs::PlaceLaws::highest_ends,
     crate::proofs::PlaceLaws::highest_takes))]
 pub(crate) fn place(areas: &Areas, at: Option<u64>, length: u64) -> Result<u64, AreaErr>
-    ensures fits { IfOk result (λ page. place_in (mapping areas.now).pages at (pages_in length) ≡ Some page) }
+    ensures fits { IfOk result (λ page. first_page_for (mapping areas.now).pages at (pages_in length) ≡ Some page) }
     ensures ok { OnOk result (map_fault (mapping areas.now) at length ≡ None) }
     ensures some { OnOk result (0 < length) }
     ensures end { IfOk result (λ page. page + pages_in length ≤ 2 ^ 26) }
@@ -69,7 +69,7 @@ impl Areas {
     ///
     /// mmap(2), ERRORS.
     pub fn place_of(&self, at: Option<u64>, length: u64) -> Result<u64, AreaErr>
-        ensures place { IfOk result (λ page. place_in (mapping self.now).pages at (pages_in length) ≡ Some page) }
+        ensures place { IfOk result (λ page. first_page_for (mapping self.now).pages at (pages_in length) ≡ Some page) }
         ensures ok { OnOk result (map_fault (mapping self.now) at length ≡ None) }
         ensures end { IfOk result (λ page. page + pages_in length ≤ 2 ^ 26) }
         ensures few { OnOk result (pages_in length ≤ MOST_PAGES) }

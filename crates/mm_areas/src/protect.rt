@@ -11,7 +11,7 @@ ghost use Rattle.mm_areas.specs.Mappings.{mapping, protect_fault, protected_in};
 
 use crate::areas::Region;
 use crate::free::is_covered;
-use crate::lengths::{PAGE_SIZE, is_misplaced, pages_in};
+use crate::lengths::{PAGE_SIZE, is_no_range, pages_in};
 use crate::regions::first_behind;
 use crate::{AreaErr, Areas, Page, Rights};
 
@@ -74,7 +74,7 @@ impl Areas {
         ensures owned { (page : ℕ) → owns self.new page ≡ owns self.old page }
         ensures rows { (page : ℕ) → has_row_at self.new page ≡ has_row_at self.old page }
     {
-        if is_misplaced(address, length) {
+        if is_no_range(address, length) {
             return Err(AreaErr::Invalid);
         }
         let first = address / PAGE_SIZE;

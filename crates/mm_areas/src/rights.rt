@@ -42,14 +42,14 @@ impl Flags for Rights {
 }
 
 impl Rights {
-    ghost use Rattle.mm_areas.specs.Rights.{has, rights_of};
+    ghost use Rattle.mm_areas.specs.Rights.{has, rights_with};
 
     /// The rights of the heap's pages.
     pub(crate) const READ_WRITE: Rights = Rights(3);
 
     /// The rights of which each is there or not.
     pub fn of(read: bool, write: bool, execute: bool) -> Rights
-        ensures exact { result ≡ rights_of read write execute }
+        ensures exact { result ≡ rights_with read write execute }
         ensures read { has result (record { 0 = 1 }) ≡ read }
         ensures write { has result (record { 0 = 2 }) ≡ write }
         ensures execute { has result (record { 0 = 4 }) ≡ execute }

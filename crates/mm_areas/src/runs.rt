@@ -4,7 +4,7 @@ ghost use Rattle.std.specs.Prelude.{◌≡◌, ℕ, ◌+◌, ◌-◌, ◌^◌, �
 ghost use Rattle.std.specs.Bool.{OnTrue, OnFalse};
 ghost use Rattle.mm_frames.specs.Numbers.{with_run};
 ghost use Rattle.mm_areas.specs.Pages.{mapped_by};
-ghost use Rattle.mm_areas.specs.Contents.{changed};
+ghost use Rattle.mm_areas.specs.Contents.{with_bytes_changed};
 ghost use Rattle.mm_areas.specs.Own.{is_own_content};
 ghost use Rattle.mm_areas.specs.DecodedWords.{has_row_content};
 
@@ -17,7 +17,7 @@ impl Page {
         ensures fits { IsTrue result ↔
             ((is_own_content self.old.content ≡ true) × (offset + length run.now ≤ 4096)) }
         ensures bytes { OnTrue result (mapped_by self.new ≡
-            changed (λ bytes. with_run bytes offset run.now) (mapped_by self.old)) }
+            with_bytes_changed (λ bytes. with_run bytes offset run.now) (mapped_by self.old)) }
         ensures own { is_own_content self.new.content ≡ is_own_content self.old.content }
         ensures unchanged { OnFalse result (self.new ≡ self.old) }
         ensures row { OnTrue result (has_row_content self.new.content ≡ false) }

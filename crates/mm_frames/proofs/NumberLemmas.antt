@@ -2,7 +2,7 @@
 use Rattle.std.proofs.Common.{◌≡◌, ◌≢◌, ◌⊎◌, ℕ, zero, suc, ◌+◌, ◌*◌, ◌/◌, ◌%◌, ◌<◌, ◌≤◌, List, length, get_or, set, inl}
 use Rattle.std.proofs.Common.{inr, refl, ap, ◌∙◌, arith}
 use Rattle.std.proofs.lemmas.List.{length-set, get_or-set_other}
-use Rattle.mm_frames.specs.Numbers.{number_in, with_number}
+use Rattle.mm_frames.specs.Numbers.{little_number_at, with_number}
 
 -- a number that is put leaves as many bytes as there were
 pub length-with_number : (bytes : List ℕ) (offset width value : ℕ)
@@ -19,13 +19,13 @@ SameOutside old new offset count = (k : ℕ) → (k < offset) ⊎ (offset + coun
 
 -- so are the numbers there
 pub same_number : (old new : List ℕ) (offset count : ℕ) → SameOutside old new offset count → (at width : ℕ)
-    → (at + width ≤ offset) ⊎ (offset + count ≤ at) → number_in new at width ≡ number_in old at width
+    → (at + width ≤ offset) ⊎ (offset + count ≤ at) → little_number_at new at width ≡ little_number_at old at width
 same_number old new offset count same at zero side = refl
 same_number old new offset count same at (suc n) (inl below) =
-    ap (λ byte. byte + 256 * number_in new (at + 1) n) (same at (inl (omega arith)))
+    ap (λ byte. byte + 256 * little_number_at new (at + 1) n) (same at (inl (omega arith)))
     ∙ ap (λ rest. get_or old at 0 + 256 * rest) (same_number old new offset count same (at + 1) n (inl (omega arith)))
 same_number old new offset count same at (suc n) (inr above) =
-    ap (λ byte. byte + 256 * number_in new (at + 1) n) (same at (inr above))
+    ap (λ byte. byte + 256 * little_number_at new (at + 1) n) (same at (inr above))
     ∙ ap (λ rest. get_or old at 0 + 256 * rest) (same_number old new offset count same (at + 1) n (inr (omega arith)))
 
 -- a byte that is put changes no other

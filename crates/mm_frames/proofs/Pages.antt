@@ -9,7 +9,7 @@ use Rattle.std.proofs.Math.Seq.{map-set_same}
 use Rattle.std.proofs.lemmas.Bool.{false≢true}
 use Rattle.std.proofs.lemmas.Option.{slice_get-get_or, slice_get_within}
 use Rattle.mm_frames.specs.declared.frame.Frame.{Frame}
-use Rattle.mm_frames.specs.Frames.{bytes_of, is_own, with_change, page_at}
+use Rattle.mm_frames.specs.Frames.{bytes_of, is_own, with_page_changed, page_at}
 
 -- the frame at a page that there is
 inside : (frames : List Frame) (page : ℕ) → page < length (map bytes_of frames) → page < length frames
@@ -24,7 +24,7 @@ page_is frames page old within was =
 pub page_changed : {E : Type 0} (answer : Result Unit E) (frames : List Frame) (page : ℕ) (old new : Frame)
     (change : List ℕ → List ℕ) → page < length (map bytes_of frames) → old ≡ get_or frames page old
     → OnOk answer (bytes_of new ≡ change (bytes_of old))
-    → OnOk answer (map bytes_of (set frames page new) ≡ with_change (map bytes_of frames) page change)
+    → OnOk answer (map bytes_of (set frames page new) ≡ with_page_changed (map bytes_of frames) page change)
 page_changed (Ok done) frames page old new change within was changed =
     map-set bytes_of frames page new
     ∙ ap (set (map bytes_of frames) page) (changed ∙ ap change (page_is frames page old within was))
@@ -40,7 +40,7 @@ page_owned (Err e) frames page new own is = tt
 pub page_put : (done : Bool) (frames : List Frame) (page : ℕ) (old new : Frame) (change : List ℕ → List ℕ)
     → page < length frames → old ≡ get_or frames page old
     → OnTrue done (bytes_of new ≡ change (bytes_of old))
-    → OnTrue done (map bytes_of (set frames page new) ≡ with_change (map bytes_of frames) page change)
+    → OnTrue done (map bytes_of (set frames page new) ≡ with_page_changed (map bytes_of frames) page change)
 page_put true frames page old new change within was changed =
     map-set bytes_of frames page new
     ∙ ap (set (map bytes_of frames) page) (changed

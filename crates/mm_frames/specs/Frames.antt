@@ -22,8 +22,8 @@ has_row frame = is_some frame.row
 
 -- the bytes of frames, a page after another
 -- mmap(2): a region is so many pages, one behind another
-abbrev pub pages_of : Frames → List (List ℕ)
-pages_of frames = map bytes_of frames.frames.items
+abbrev pub bytes_of_frames : Frames → List (List ℕ)
+bytes_of_frames frames = map bytes_of frames.frames.items
 
 -- which of them have their bytes for themselves
 -- fork(2), NOTES: copy-on-write pages
@@ -37,10 +37,10 @@ page_at pages page = slice_index_or pages page []
 
 -- the byte at an offset of a page, or none past the page's end and past the last page
 -- profile
-abbrev pub byte_at : List (List ℕ) → (page offset : ℕ) → Option ℕ
-byte_at pages page offset = option_and_then (λ bytes. slice_get bytes offset) (slice_get pages page)
+abbrev pub byte_of_pages : List (List ℕ) → (page offset : ℕ) → Option ℕ
+byte_of_pages pages page offset = option_and_then (λ bytes. slice_get bytes offset) (slice_get pages page)
 
 -- pages of which one has changed, and the others are as before
 -- profile
-abbrev pub with_change : List (List ℕ) → (page : ℕ) → (List ℕ → List ℕ) → List (List ℕ)
-with_change pages page change = slice_set pages page (change (page_at pages page))
+abbrev pub with_page_changed : List (List ℕ) → (page : ℕ) → (List ℕ → List ℕ) → List (List ℕ)
+with_page_changed pages page change = slice_set pages page (change (page_at pages page))

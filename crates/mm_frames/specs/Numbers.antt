@@ -5,9 +5,9 @@ use Rattle.rv_table.specs.Words.{IsWidth}
 
 -- the number of so many bytes from an offset on, the lowest first
 -- RISC-V Unprivileged ISA 20191213, 1.4: little-endian
-abbrev pub number_in : List ℕ → (offset width : ℕ) → ℕ
-number_in bytes offset zero = 0
-number_in bytes offset (suc n) = slice_index bytes offset + 256 * number_in bytes (offset + 1) n
+abbrev pub little_number_at : List ℕ → (offset width : ℕ) → ℕ
+little_number_at bytes offset zero = 0
+little_number_at bytes offset (suc n) = slice_index bytes offset + 256 * little_number_at bytes (offset + 1) n
 
 -- an access of that width lies in a page from an offset on
 -- RISC-V Unprivileged ISA 20191213, 2.6 and 5.3, Load and Store Instructions; pages of 4 KiB: profile

@@ -5,9 +5,9 @@ ghost use Rattle.std.specs.Prelude.{IsTrue, is_some, slice_get, slice_set, repli
 ghost use Rattle.std.specs.Bool.{OnTrue, OnFalse};
 ghost use Rattle.std.specs.Option.{ForSome};
 ghost use Rattle.rv_table.specs.Words.{IsWidth};
-ghost use Rattle.mm_frames.specs.Numbers.{IsInPage, number_in, with_number, with_run};
+ghost use Rattle.mm_frames.specs.Numbers.{IsInPage, little_number_at, with_number, with_run};
 ghost use Rattle.mm_frames.specs.Bytes.{bytes_in};
-ghost use Rattle.mm_frames.specs.Rows.{row_of, words_of, AreOthers};
+ghost use Rattle.mm_frames.specs.Rows.{decoded_row, words_of, AreRowOutside};
 
 use crate::numbers::{is_in_page, is_whole, number_at, word_at};
 use crate::{Bytes, Row};
@@ -22,7 +22,7 @@ pub struct Frame {
     bytes: Bytes,
     row: Option<Row>,
     ghost whole: { length (bytes_in bytes) ≡ 4096 },
-    ghost decoded: { ForSome row (λ r. words_of r ≡ row_of (bytes_in bytes)) },
+    ghost decoded: { ForSome row (λ r. words_of r ≡ decoded_row (bytes_in bytes)) },
 }
 
 impl Frame {
@@ -71,7 +71,7 @@ impl Frame {
     /// and for a width that no access has.
     #[inline(always)]
     pub fn number(&self, offset: usize, width: u8) -> Option<u64>
-        ensures { SomeIff result (IsInPage offset width) (number_in (bytes_of self.now) offset width) }
+        ensures { SomeIff result (IsInPage offset width) (little_number_at (bytes_of self.now) offset width) }
     {
         match &self.bytes {
             Bytes::Own(own) => number_at(own, offset, width),
@@ -84,14 +84,14 @@ impl Frame {
     /// in its loop.
     #[inline(never)]
     fn other_number(&self, offset: usize, width: u8) -> Option<u64>
-        ensures { SomeIff result (IsInPage offset width) (number_in (bytes_of self.now) offset width) }
+        ensures { SomeIff result (IsInPage offset width) (little_number_at (bytes_of self.now) offset width) }
     {
         number_at(self.bytes.array(), offset, width)
     }
 
     /// The word of four bytes from an offset on, the lowest first, or `None` where the page doesn't reach so far.
     pub fn word(&self, offset: usize) -> Option<u32>
-        ensures { SomeIff result (offset + 4 ≤ 4096) (number_in (bytes_of self.now) offset 4) }
+        ensures { SomeIff result (offset + 4 ≤ 4096) (little_number_at (bytes_of self.now) offset 4) }
     {
         if offset <= 4092 {
             Some(word_at(self.bytes.array(), offset))
@@ -245,7 +245,7 @@ impl Frame {
     /// The page's words, decoded, where they are there.
     pub fn row(&self) -> Option<&[Instr]>
         ensures there { is_some result ≡ has_row self.now }
-        ensures words { IfSome result (λ words. words.now ≡ row_of (bytes_of self.now)) }
+        ensures words { IfSome result (λ words. words.now ≡ decoded_row (bytes_of self.now)) }
     {
         match &self.row {
             Some(row) => Some(row.as_slice()),
@@ -257,7 +257,7 @@ impl Frame {
     /// to.
     pub fn take_row(&mut self) -> Option<Row>
         ensures there { is_some result ≡ has_row self.old }
-        ensures words { IfSome result (λ r. words_of r ≡ row_of (bytes_of self.old)) }
+        ensures words { IfSome result (λ r. words_of r ≡ decoded_row (bytes_of self.old)) }
         ensures row { has_row self.new ≡ false }
         ensures bytes { self.new.bytes ≡ self.old.bytes }
     {
@@ -266,7 +266,7 @@ impl Frame {
 
     /// Puts back decoded words, which are those of the page's bytes.
     pub fn put_row(&mut self, row: Row)
-        requires { words_of row ≡ row_of (bytes_of self.old) }
+        requires { words_of row ≡ decoded_row (bytes_of self.old) }
         ensures row { has_row self.new ≡ true }
         ensures bytes { self.new.bytes ≡ self.old.bytes }
     {
@@ -285,8 +285,8 @@ impl Frame {
 /// Decodes anew the words in which so many bytes from an offset on lie, which have changed.
 fn mend(row: &mut Option<Row>, bytes: &Bytes, offset: usize, count: usize)
     requires fits { offset + count ≤ 4096 }
-    requires others { ForSome row.old (λ r. AreOthers (words_of r) (bytes_in bytes.now) offset count) }
-    ensures decoded { ForSome row.new (λ r. words_of r ≡ row_of (bytes_in bytes.now)) }
+    requires others { ForSome row.old (λ r. AreRowOutside (words_of r) (bytes_in bytes.now) offset count) }
+    ensures decoded { ForSome row.new (λ r. words_of r ≡ decoded_row (bytes_in bytes.now)) }
     ensures kept { is_some row.new ≡ is_some row.old }
 {
     if let Some(row) = row {

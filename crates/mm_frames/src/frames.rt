@@ -5,7 +5,7 @@ ghost use Rattle.std.specs.Prelude.{OnErr, slice_get, slice_set, replicate};
 ghost use Rattle.std.specs.Bool.{OnTrue, OnFalse};
 ghost use Rattle.std.specs.Option.{option_copied};
 ghost use Rattle.rv_table.specs.Words.{IsWidth};
-ghost use Rattle.mm_frames.specs.Numbers.{IsInPage, number_in, with_number, with_run};
+ghost use Rattle.mm_frames.specs.Numbers.{IsInPage, little_number_at, with_number, with_run};
 
 use crate::Frame;
 use sn_base::Memory;
@@ -18,12 +18,12 @@ pub struct Frames {
 }
 
 impl Frames {
-    ghost use Rattle.mm_frames.specs.Frames.{bytes_of, is_own, pages_of, owned_of, page_at, byte_at, with_change};
+    ghost use Rattle.mm_frames.specs.Frames.{bytes_of, is_own, bytes_of_frames, owned_of, page_at, byte_of_pages, with_page_changed};
 
     /// So many pages that nobody has written.
     #[tactic(auto, using(crate::proofs::Pages::alike_more))]
     pub fn zeros(alloc: Global, count: usize) -> Result<Frames, Memory>
-        ensures pages { IfOk result (λ frames. pages_of frames ≡ replicate count (replicate 4096 0)) }
+        ensures pages { IfOk result (λ frames. bytes_of_frames frames ≡ replicate count (replicate 4096 0)) }
         ensures owned { IfOk result (λ frames. owned_of frames ≡ replicate count false) }
     {
         let mut frames = Vec::with_capacity(alloc, count)?;
@@ -35,21 +35,21 @@ impl Frames {
 
     /// How many pages there are.
     pub fn len(&self) -> usize
-        ensures { result ≡ length (pages_of self.now) }
+        ensures { result ≡ length (bytes_of_frames self.now) }
     {
         self.frames.len()
     }
 
     /// Whether there are no pages.
     pub fn is_empty(&self) -> bool
-        ensures { IsTrue result ↔ (pages_of self.now ≡ []) }
+        ensures { IsTrue result ↔ (bytes_of_frames self.now ≡ []) }
     {
         self.frames.is_empty()
     }
 
     /// The byte at an offset of a page, or `None` past the page's end and past the last page.
     pub fn byte(&self, page: usize, offset: usize) -> Option<u8>
-        ensures { result ≡ byte_at (pages_of self.now) page offset }
+        ensures { result ≡ byte_of_pages (bytes_of_frames self.now) page offset }
     {
         self.frames.get(page)?.byte(offset)
     }
@@ -58,15 +58,15 @@ impl Frames {
     /// so far, past the last page, and for a width that no access has.
     pub fn number(&self, page: usize, offset: usize, width: u8) -> Option<u64>
         ensures { SomeIff result
-            ((page < length (pages_of self.now)) × IsInPage offset width)
-            (number_in (page_at (pages_of self.now) page) offset width) }
+            ((page < length (bytes_of_frames self.now)) × IsInPage offset width)
+            (little_number_at (page_at (bytes_of_frames self.now) page) offset width) }
     {
         self.frames.get(page)?.number(offset, width)
     }
 
     /// A page's bytes, in order, or `None` past the last page.
     pub fn as_slice(&self, page: usize) -> Option<&[u8]>
-        ensures { option_copied result ≡ slice_get (pages_of self.now) page }
+        ensures { option_copied result ≡ slice_get (bytes_of_frames self.now) page }
     {
         Some(self.frames.get(page)?.as_slice())
     }
@@ -74,8 +74,8 @@ impl Frames {
     /// Makes a page's bytes its own: bytes that it shares, and zeros that nobody has written, are copied. An `Err`
     /// changes nothing, and comes only where they weren't its own.
     pub fn own(&mut self, alloc: Global, page: usize) -> Result<(), Memory>
-        requires { page < length (pages_of self.old) }
-        ensures pages { pages_of self.new ≡ pages_of self.old }
+        requires { page < length (bytes_of_frames self.old) }
+        ensures pages { bytes_of_frames self.new ≡ bytes_of_frames self.old }
         ensures owned { OnOk result (owned_of self.new ≡ slice_set (owned_of self.old) page true) }
         ensures kept { OnErr result (owned_of self.new ≡ owned_of self.old) }
         ensures shared { OnErr result (slice_get (owned_of self.old) page ≡ Some false) }
@@ -89,8 +89,9 @@ impl Frames {
     pub fn put_number(&mut self, page: usize, offset: usize, width: u8, value: u64) -> bool
         ensures fits { IsTrue result ↔ ((slice_get (owned_of self.old) page ≡ Some true) × IsInPage offset width) }
         ensures bytes { OnTrue result
-            (pages_of self.new ≡ with_change (pages_of self.old) page (λ bytes. with_number bytes offset width value)) }
-        ensures unchanged { OnFalse result (pages_of self.new ≡ pages_of self.old) }
+            (bytes_of_frames self.new
+            ≡ with_page_changed (bytes_of_frames self.old) page (λ bytes. with_number bytes offset width value)) }
+        ensures unchanged { OnFalse result (bytes_of_frames self.new ≡ bytes_of_frames self.old) }
         ensures owned { owned_of self.new ≡ owned_of self.old }
     {
         match self.frames.get_mut(page) {
@@ -105,8 +106,9 @@ impl Frames {
         ensures fits { IsTrue result ↔
             ((slice_get (owned_of self.old) page ≡ Some true) × (offset + length run.now ≤ 4096)) }
         ensures bytes { OnTrue result
-            (pages_of self.new ≡ with_change (pages_of self.old) page (λ bytes. with_run bytes offset run.now)) }
-        ensures unchanged { OnFalse result (pages_of self.new ≡ pages_of self.old) }
+            (bytes_of_frames self.new
+            ≡ with_page_changed (bytes_of_frames self.old) page (λ bytes. with_run bytes offset run.now)) }
+        ensures unchanged { OnFalse result (bytes_of_frames self.new ≡ bytes_of_frames self.old) }
         ensures owned { owned_of self.new ≡ owned_of self.old }
     {
         match self.frames.get_mut(page) {
@@ -124,12 +126,13 @@ impl Frames {
         offset: usize,
         value: u8,
     ) -> Result<(), Memory>
-        requires page { page < length (pages_of self.old) }
+        requires page { page < length (bytes_of_frames self.old) }
         requires offset { offset < 4096 }
         ensures ok { OnOk result
-            (pages_of self.new ≡ with_change (pages_of self.old) page (λ bytes. slice_set bytes offset value)) }
+            (bytes_of_frames self.new
+            ≡ with_page_changed (bytes_of_frames self.old) page (λ bytes. slice_set bytes offset value)) }
         ensures owned { OnOk result (owned_of self.new ≡ slice_set (owned_of self.old) page true) }
-        ensures err { OnErr result (pages_of self.new ≡ pages_of self.old) }
+        ensures err { OnErr result (bytes_of_frames self.new ≡ bytes_of_frames self.old) }
         ensures kept { OnErr result (owned_of self.new ≡ owned_of self.old) }
         ensures shared { OnErr result (slice_get (owned_of self.old) page ≡ Some false) }
     {
@@ -145,13 +148,14 @@ impl Frames {
         width: u8,
         value: u64,
     ) -> Result<(), Memory>
-        requires page { page < length (pages_of self.old) }
+        requires page { page < length (bytes_of_frames self.old) }
         requires width { IsWidth width }
         requires fits { offset + width ≤ 4096 }
         ensures ok { OnOk result
-            (pages_of self.new ≡ with_change (pages_of self.old) page (λ bytes. with_number bytes offset width value)) }
+            (bytes_of_frames self.new
+            ≡ with_page_changed (bytes_of_frames self.old) page (λ bytes. with_number bytes offset width value)) }
         ensures owned { OnOk result (owned_of self.new ≡ slice_set (owned_of self.old) page true) }
-        ensures err { OnErr result (pages_of self.new ≡ pages_of self.old) }
+        ensures err { OnErr result (bytes_of_frames self.new ≡ bytes_of_frames self.old) }
         ensures kept { OnErr result (owned_of self.new ≡ owned_of self.old) }
         ensures shared { OnErr result (slice_get (owned_of self.old) page ≡ Some false) }
     {
@@ -166,12 +170,13 @@ impl Frames {
         offset: usize,
         run: &[u8],
     ) -> Result<(), Memory>
-        requires page { page < length (pages_of self.old) }
+        requires page { page < length (bytes_of_frames self.old) }
         requires fits { offset + length run.now ≤ 4096 }
         ensures ok { OnOk result
-            (pages_of self.new ≡ with_change (pages_of self.old) page (λ bytes. with_run bytes offset run.now)) }
+            (bytes_of_frames self.new
+            ≡ with_page_changed (bytes_of_frames self.old) page (λ bytes. with_run bytes offset run.now)) }
         ensures owned { OnOk result (owned_of self.new ≡ slice_set (owned_of self.old) page true) }
-        ensures err { OnErr result (pages_of self.new ≡ pages_of self.old) }
+        ensures err { OnErr result (bytes_of_frames self.new ≡ bytes_of_frames self.old) }
         ensures kept { OnErr result (owned_of self.new ≡ owned_of self.old) }
         ensures shared { OnErr result (slice_get (owned_of self.old) page ≡ Some false) }
     {
@@ -180,9 +185,9 @@ impl Frames {
 
     /// Makes another frame of a page's bytes, which both share from then on. An `Err` changes nothing.
     pub fn share_page(&mut self, alloc: Global, page: usize) -> Result<Frame, Memory>
-        requires { page < length (pages_of self.old) }
-        ensures kept { pages_of self.new ≡ pages_of self.old }
-        ensures bytes { IfOk result (λ other. bytes_of other ≡ page_at (pages_of self.old) page) }
+        requires { page < length (bytes_of_frames self.old) }
+        ensures kept { bytes_of_frames self.new ≡ bytes_of_frames self.old }
+        ensures bytes { IfOk result (λ other. bytes_of other ≡ page_at (bytes_of_frames self.old) page) }
         ensures own { IfOk result (λ other. is_own other ≡ false) }
         ensures owned { OnOk result (owned_of self.new ≡ slice_set (owned_of self.old) page false) }
         ensures err { OnErr result (owned_of self.new ≡ owned_of self.old) }
@@ -195,10 +200,10 @@ impl Frames {
     #[tactic(auto, using(crate::proofs::Pages::alike_more, crate::proofs::Pages::copied_more,
         crate::proofs::Pages::lost_more))]
     pub fn share(&mut self, alloc: Global) -> Result<Frames, Memory>
-        ensures kept { pages_of self.new ≡ pages_of self.old }
-        ensures pages { IfOk result (λ others. pages_of others ≡ pages_of self.old) }
-        ensures owned { IfOk result (λ others. owned_of others ≡ replicate (length (pages_of self.old)) false) }
-        ensures lost { OnOk result (owned_of self.new ≡ replicate (length (pages_of self.old)) false) }
+        ensures kept { bytes_of_frames self.new ≡ bytes_of_frames self.old }
+        ensures pages { IfOk result (λ others. bytes_of_frames others ≡ bytes_of_frames self.old) }
+        ensures owned { IfOk result (λ others. owned_of others ≡ replicate (length (bytes_of_frames self.old)) false) }
+        ensures lost { OnOk result (owned_of self.new ≡ replicate (length (bytes_of_frames self.old)) false) }
     {
         let count = self.frames.len();
         let mut others = Vec::with_capacity(alloc, count)?;

@@ -2,7 +2,7 @@
 
 ghost use Rattle.std.specs.Prelude.{◌≡◌, ◌+◌, ◌<◌, ◌≤◌, ◌%◌, ◌↔◌, length, slice_set, SomeIff, IsTrue};
 ghost use Rattle.std.specs.Bool.{OnTrue, OnFalse};
-ghost use Rattle.mm_frames.specs.Numbers.{IsInPage, number_in, with_number, with_run};
+ghost use Rattle.mm_frames.specs.Numbers.{IsInPage, little_number_at, with_number, with_run};
 
 /// A page's bytes are 4,096: for a proof alone, it does nothing.
 pub(crate) fn is_whole(bytes: &[u8; 4096])
@@ -15,7 +15,7 @@ pub(crate) fn is_whole(bytes: &[u8; 4096])
 /// wide.
 #[inline(always)]
 pub(crate) fn number_at(bytes: &[u8; 4096], offset: usize, width: u8) -> Option<u64>
-    ensures { SomeIff result (IsInPage offset width) (number_in bytes.now offset width) }
+    ensures { SomeIff result (IsInPage offset width) (little_number_at bytes.now offset width) }
 {
     match width {
         8 if offset <= 4088 => Some(double_at(bytes, offset)),
@@ -43,7 +43,7 @@ pub(crate) fn is_in_page(offset: usize, width: u8) -> bool
 #[inline(always)]
 fn half_at(bytes: &[u8; 4096], offset: usize) -> u16
     requires { offset + 2 ≤ 4096 }
-    ensures { result ≡ number_in bytes.now offset 2 }
+    ensures { result ≡ little_number_at bytes.now offset 2 }
 {
     u16::from_le_bytes([bytes[offset], bytes[offset + 1]])
 }
@@ -51,7 +51,7 @@ fn half_at(bytes: &[u8; 4096], offset: usize) -> u16
 #[inline(always)]
 pub(crate) fn word_at(bytes: &[u8; 4096], offset: usize) -> u32
     requires { offset + 4 ≤ 4096 }
-    ensures { result ≡ number_in bytes.now offset 4 }
+    ensures { result ≡ little_number_at bytes.now offset 4 }
 {
     u32::from_le_bytes([
         bytes[offset],
@@ -64,7 +64,7 @@ pub(crate) fn word_at(bytes: &[u8; 4096], offset: usize) -> u32
 #[inline(always)]
 fn double_at(bytes: &[u8; 4096], offset: usize) -> u64
     requires { offset + 8 ≤ 4096 }
-    ensures { result ≡ number_in bytes.now offset 8 }
+    ensures { result ≡ little_number_at bytes.now offset 8 }
 {
     u64::from_le_bytes([
         bytes[offset],

@@ -6,7 +6,7 @@ use Rattle.std.specs.Bool.{OnTrue, OnFalse}
 use Rattle.std.proofs.lemmas.Bool.{false≢true}
 use Rattle.std.proofs.lemmas.List.{set_past}
 use Rattle.std.proofs.lemmas.Option.{slice_get_cases}
-use Rattle.mm_frames.specs.Frames.{with_change, page_at}
+use Rattle.mm_frames.specs.Frames.{with_page_changed, page_at}
 use Rattle.mm_frames.specs.Numbers.{IsInPage, with_number}
 
 pub one_byte : (bytes : List ℕ) (offset value : ℕ) → value < 256 → with_number bytes offset 1 value
@@ -18,9 +18,9 @@ pub put_done : (done : Bool) (pages news : List (List ℕ)) (owned : List Bool) 
     → wide ≡ value → value < 256 → offset < 4096 → length owned ≡ length pages
     → unwrap_or (slice_get owned number) true ≡ true
     → (IsTrue done ↔ ((slice_get owned number ≡ Some true) × IsInPage offset 1))
-    → OnTrue done (news ≡ with_change pages number (λ bytes. with_number bytes offset 1 wide))
+    → OnTrue done (news ≡ with_page_changed pages number (λ bytes. with_number bytes offset 1 wide))
     → OnFalse done (news ≡ pages)
-    → news ≡ with_change pages number (λ bytes. slice_set bytes offset value)
+    → news ≡ with_page_changed pages number (λ bytes. slice_set bytes offset value)
 put_done true pages news owned number offset value wide widened small inside alike own fits changed same =
     changed ∙ ap (slice_set pages number) (ap (with_number (page_at pages number) offset 1) widened
     ∙ one_byte (page_at pages number) offset value small)

@@ -12,7 +12,7 @@ use Rattle.rv_table.specs.declared.error.Area.{Area}
 use Rattle.rv_atomic.specs.declared.area_reservations.AreaReservation.{AreaReservation}
 use Rattle.rv_atomic.specs.AreaReservations.{after_run_here}
 use Rattle.rv_atomic.specs.Reservations.{granule, lies_over, meets}
-use Rattle.mm_frames.specs.Frames.{page_at, with_change}
+use Rattle.mm_frames.specs.Frames.{page_at, with_page_changed}
 use Rattle.mm_frames.specs.Numbers.{with_run}
 use Rattle.mm_space.specs.Handed.{AreaState, InHand}
 use Rattle.mm_space.specs.Puts.{changed_in_hand, put_in_area, with_area}
@@ -49,7 +49,7 @@ pages_set task number (b ∷ bs) offset area =
 pub pages_put : (task number : ℕ) (run : List ℕ) (offset : ℕ) (area : AreaState)
     → (number < length area.pages → length (page_at area.pages number) ≡ 4096) → offset + length run ≤ 4096
     → (put_run_in_area task number offset run area).pages
-    ≡ with_change area.pages number (λ bytes. with_run bytes offset run)
+    ≡ with_page_changed area.pages number (λ bytes. with_run bytes offset run)
 pages_put task number run offset area whole fits =
     let page : List ℕ = page_at area.pages number in
     pages_set task number run offset area
@@ -168,8 +168,9 @@ pub run_done : (done : Bool) (pages news : List (List ℕ)) (owned : List Bool) 
     → offset + length run ≤ 4096 → length owned ≡ length pages
     → unwrap_or (slice_get owned number) true ≡ true
     → (IsTrue done ↔ ((slice_get owned number ≡ Some true) × (offset + length run ≤ 4096)))
-    → OnTrue done (news ≡ with_change pages number (λ bytes. with_run bytes offset run)) → OnFalse done (news ≡ pages)
-    → news ≡ with_change pages number (λ bytes. with_run bytes offset run)
+    → OnTrue done (news ≡ with_page_changed pages number (λ bytes. with_run bytes offset run))
+    → OnFalse done (news ≡ pages)
+    → news ≡ with_page_changed pages number (λ bytes. with_run bytes offset run)
 run_done true pages news owned number offset run inside alike own fits changed same = changed
 run_done false pages news owned number offset run inside alike own fits changed same =
     elim (slice_get_cases owned number).1 [
@@ -181,7 +182,7 @@ run_done false pages news owned number offset run inside alike own fits changed 
 
 pub area_put : (task number offset : ℕ) (run : List ℕ) (area : AreaState) (pages : List (List ℕ))
     (reservations : List AreaReservation) → (number < length area.pages → length (page_at area.pages number) ≡ 4096)
-    → offset + length run ≤ 4096 → pages ≡ with_change area.pages number (λ bytes. with_run bytes offset run)
+    → offset + length run ≤ 4096 → pages ≡ with_page_changed area.pages number (λ bytes. with_run bytes offset run)
     → reservations ≡ after_run_here area.reservations task ((number * 4096) % 2 ^ 64 + offset) (length run)
     → (let s : AreaState = record { pages = pages; reservations = reservations } in s)
     ≡ put_run_in_area task number offset run area

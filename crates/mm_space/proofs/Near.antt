@@ -7,7 +7,7 @@ use Rattle.std.specs.FinMap as map
 use Rattle.std.proofs.lemmas.Option.{slice_get-get_or}
 use Rattle.rv_table.specs.Bytes.{Byte, Holds, Barred, Value, behind, or_barred, or_area, value_in, first_barred}
 use Rattle.rv_table.specs.Bytes.{first_area, number_from, loaded}
-use Rattle.mm_frames.specs.Numbers.{number_in}
+use Rattle.mm_frames.specs.Numbers.{little_number_at}
 use Rattle.mm_areas.specs.declared.rights.Rights.{Rights}
 use Rattle.mm_areas.specs.Pages.{Bytes}
 use Rattle.mm_areas.specs.Rights.{has}
@@ -62,7 +62,7 @@ module _ (right : Rights) (r : Reach) (number : ℕ) (bytes : List ℕ) (low : n
       ∙ none_shared (behind at) (offset + 1) n (next_here at offset is) (omega arith)
 
   number_is : (at offset count : ℕ) → at ≡ (number * 4096 + offset) % 2 ^ 64 → offset + count ≤ 4096
-      → number_from (byte_at right r) at count ≡ number_in bytes offset count
+      → number_from (byte_at right r) at count ≡ little_number_at bytes offset count
   unfolding number_from
   number_is at offset zero is inside = refl
   number_is at offset (suc n) is inside =
@@ -84,7 +84,7 @@ near_apart right r bytes at count small private inside =
 
 -- and comes to the number that lies there
 pub near_value : (right : Rights) (r : Reach) (bytes : List ℕ) (at count value : ℕ) → at < 2 ^ 64
-    → IsPrivate right r (at / 4096) bytes → at % 4096 + count ≤ 4096 → value ≡ number_in bytes (at % 4096) count
+    → IsPrivate right r (at / 4096) bytes → at % 4096 + count ≤ 4096 → value ≡ little_number_at bytes (at % 4096) count
     → loaded (byte_at right r) at count ≡ Value value
 near_value right r bytes at count value small private inside is =
     value_there (byte_at right r) at count value (near_free right r bytes at count small private inside)
@@ -96,7 +96,7 @@ pub near_answer : (right rights : Rights) (space : AddressSpace) (bytes : List �
     (answer : Option ℕ) → at < 2 ^ 64
     → map.get space.mapping.pages (at / 4096) ≡ Some (record { rights = rights; held = Bytes bytes })
     → has rights right ≡ true → length bytes ≡ 4096 → (fits → at % 4096 + width ≤ 4096)
-    → SomeIff answer fits (number_in bytes (at % 4096) width) → IfSome answer (LoadsNear right space at width)
+    → SomeIff answer fits (little_number_at bytes (at % 4096) width) → IfSome answer (LoadsNear right space at width)
 near_answer right rights space bytes at width fits None small there allowed whole inside is = tt
 near_answer right rights space bytes at width fits (Some value) small there allowed whole inside is = λ hand.
     near_value right (record { space = space; hand = hand }) bytes at width value small

@@ -11,13 +11,13 @@ use Rattle.rv_table.specs.Bytes.{AllowsAs, behind, loaded}
 use Rattle.rv_atomic.specs.Reservations.{after_store}
 use Rattle.rv_atomic.specs.declared.reservations.Reservation.{Reservation}
 use Rattle.mm_frames.specs.Frames.{bytes_of}
-use Rattle.mm_frames.specs.Numbers.{IsInPage, number_in, with_number}
+use Rattle.mm_frames.specs.Numbers.{IsInPage, little_number_at, with_number}
 use Rattle.mm_areas.specs.declared.areas.Areas.{Areas}
 use Rattle.mm_areas.specs.declared.page.Content.{Content}
 use Rattle.mm_areas.specs.declared.page.Content.TheVariants.{Private, Shared}
 use Rattle.mm_areas.specs.declared.page.Page.{Page}
 use Rattle.mm_areas.specs.declared.rights.Rights.{Rights}
-use Rattle.mm_areas.specs.Contents.{bytes_at, bytes_mapped, changed_at, with_change}
+use Rattle.mm_areas.specs.Contents.{bytes_at, bytes_mapped, bytes_changed_at, with_change}
 use Rattle.mm_areas.specs.Hints.{allows_at, allows_mapped}
 use Rattle.mm_areas.specs.Mappings.{Mapping, mapping, with_pages}
 use Rattle.mm_areas.specs.Own.{is_own_at, is_own_content, owns, page_in}
@@ -84,7 +84,7 @@ pub load_done : (areas : Areas) (reservations : List Reservation) (right : Right
     (answer : Option ℕ) → at < 2 ^ 64
     → SomeIff answer ((near ≡ true) × (allows_at (mapping areas).pages (at / 4096) right ≡ true)
     × (is_some (bytes_at (mapping areas).pages (at / 4096)) ≡ true) × IsInPage (at % 4096) width)
-    (number_in (unwrap_or (bytes_at (mapping areas).pages (at / 4096)) []) (at % 4096) width)
+    (little_number_at (unwrap_or (bytes_at (mapping areas).pages (at / 4096)) []) (at % 4096) width)
     → IfSome answer (LoadsNear right (record { mapping = mapping areas; reservations = reservations }) at width)
 load_done areas reservations right near at width None small is = tt
 load_done areas reservations right near at width (Some value) small is = λ hand.
@@ -97,7 +97,7 @@ load_done areas reservations right near at width (Some value) small is = λ hand
       whole = page.whole;
     })
     is.0.3.1
-    (is.1 ∙ ap (λ (o : Option Mapped). number_in (unwrap_or (bytes_mapped o) []) (at % 4096) width) page.there)
+    (is.1 ∙ ap (λ (o : Option Mapped). little_number_at (unwrap_or (bytes_mapped o) []) (at % 4096) width) page.there)
   where
     page : IsPrivatePage areas (at / 4096)
     page = bytes_page areas (at / 4096) is.0.2
@@ -131,7 +131,7 @@ module _ (task number : ℕ) (rights : Rights) (r : Reach) (low : number < 2 ^ 5
       ∙ ap (λ o. put_mapped task number o value (map.get ps number) (with_bytes bytes)) offset_is
       ∙ ap (λ (m : Option Mapped). put_mapped task number offset value m (with_bytes bytes))
       (get-insert_same pages number (private_of bytes))
-      ∙ ap (λ (m : Option Mapped). with_space (changed_at change number m ps))
+      ∙ ap (λ (m : Option Mapped). with_space (bytes_changed_at change number m ps))
       (get-insert_same pages number (private_of bytes))
       ∙ ap with_space (insert-insert pages number (private_of bytes) (private_of (change bytes)))
 
@@ -204,7 +204,7 @@ store_done areas news was is true near task at width value small fits changed en
         with_mapping hand rs (with_pages (mapping areas) (with_change pages page change))) ended
         ∙ ap (λ (o : Option Mapped).
         with_mapping hand (after_store was task at width)
-        (with_pages (mapping areas) (changed_at change page o pages))) own.there
+        (with_pages (mapping areas) (bytes_changed_at change page o pages))) own.there
         ∙ sym (ap (λ (put : Reach).
         (let after : Reach = record { space = ended_by_store task at width put.space; hand = put.hand } in after))
         (bytes_put task page own.rights (old hand) (omega (arith, small)) own.bytes own.there at (at % 4096) width value

@@ -9,7 +9,7 @@ use Rattle.mm_frames.specs.Numbers.{with_run}
 use Rattle.mm_areas.specs.declared.areas.Areas.{Areas}
 use Rattle.mm_areas.specs.declared.page.SharedPage.{SharedPage}
 use Rattle.mm_areas.specs.declared.rights.Rights.{Rights}
-use Rattle.mm_areas.specs.Contents.{changed_at, with_change}
+use Rattle.mm_areas.specs.Contents.{bytes_changed_at, with_change}
 use Rattle.mm_areas.specs.Mappings.{Mapping, mapping, with_pages}
 use Rattle.mm_areas.specs.Own.{owns}
 use Rattle.mm_areas.specs.Pages.{Held, Bytes, PageOf, Mapped}
@@ -46,7 +46,7 @@ module _ (task at : ℕ) (run : List ℕ) (lies : Lies at run) where
       let with : List ℕ → List ℕ = λ bytes. with_run bytes (at % 4096) run in
       ap with_mapping changed
       ∙ ap (λ (o : Option Mapped).
-      with_mapping (with_pages (mapping areas) (changed_at with (at / 4096) o (mapping areas).pages))) page.there
+      with_mapping (with_pages (mapping areas) (bytes_changed_at with (at / 4096) o (mapping areas).pages))) page.there
       ∙ sym (private_run task (at / 4096) page.rights (with_mapping (mapping areas))
       (omega (arith, lies.small)) run page.bytes at (at % 4096) page.there page.whole
       (omega (arith, lies.small)) lies.inside)

@@ -12,7 +12,7 @@ use Rattle.rv_atomic.specs.declared.reservations.Reservation.{Reservation}
 use Rattle.mm_frames.specs.Numbers.{IsInPage, with_number}
 use Rattle.mm_areas.specs.declared.areas.Areas.{Areas}
 use Rattle.mm_areas.specs.declared.rights.Rights.{Rights}
-use Rattle.mm_areas.specs.Contents.{changed, changed_at, changed_held, with_change}
+use Rattle.mm_areas.specs.Contents.{with_bytes_changed, bytes_changed_at, changed_held, with_change}
 use Rattle.mm_areas.specs.Mappings.{Mapping, mapping, with_pages}
 use Rattle.mm_areas.specs.Own.{owns}
 use Rattle.mm_areas.specs.Pages.{Held, Bytes, PageOf, Mapped, Pages}
@@ -22,7 +22,7 @@ use Rattle.mm_space.specs.declared.handed.Handed.{Handed}
 use Rattle.mm_space.specs.declared.space.Space.{Space}
 use Rattle.mm_space.specs.Accesses.{page_number, page_offset}
 use Rattle.mm_space.specs.Handed.{hand_of}
-use Rattle.mm_space.specs.Places.{AreAsReady, is_ready, is_ready_at, is_ready_held, is_ready_mapped, shared_at}
+use Rattle.mm_space.specs.Places.{AreAsReady, takes_no_memory, is_ready_at, is_ready_held, is_ready_mapped, shared_at}
 use Rattle.mm_space.specs.Places.{shared_held}
 use Rattle.mm_space.specs.Puts.{put_byte, put_mapped}
 use Rattle.mm_space.specs.Spaces.{Reach, reach}
@@ -31,46 +31,47 @@ use Rattle.mm_space.proofs.AreaPuts.{one_byte}
 -- where not all are ready after pages have become own, not all were before
 pub unready_before : (space other : Space) (handed others : Handed)
     → ((address : ℕ) → is_ready_at space handed address ≡ true → is_ready_at other others address ≡ true)
-    → (at count : ℕ) → is_ready other others at count ≡ false → is_ready space handed at count ≡ false
-unfolding is_ready
+    → (at count : ℕ) → takes_no_memory other others at count ≡ false → takes_no_memory space handed at count ≡ false
+unfolding takes_no_memory
 unready_before space other handed others still at zero unready = unready
 unready_before space other handed others still at (suc n) unready =
-    by (is_ready_at space handed at) (still at) (is_ready_at other others at) refl (is_ready other others (behind at) n)
+    by (is_ready_at space handed at) (still at) (is_ready_at other others at) refl
+    (takes_no_memory other others (behind at) n)
     refl (unready_before space other handed others still (behind at) n) unready
   where
     by : (was : Bool) → (was ≡ true → is_ready_at other others at ≡ true) → (is : Bool)
-        → is_ready_at other others at ≡ is → (rest : Bool) → is_ready other others (behind at) n ≡ rest
-        → (is_ready other others (behind at) n ≡ false → is_ready space handed (behind at) n ≡ false)
-        → (is && rest) ≡ false → (was && is_ready space handed (behind at) n) ≡ false
+        → is_ready_at other others at ≡ is → (rest : Bool) → takes_no_memory other others (behind at) n ≡ rest
+        → (takes_no_memory other others (behind at) n ≡ false → takes_no_memory space handed (behind at) n ≡ false)
+        → (is && rest) ≡ false → (was && takes_no_memory space handed (behind at) n) ≡ false
     by false own is here rest there before un = refl
     by true own false here rest there before un = absurd (false≢true (sym here ∙ own refl))
     by true own true here rest there before un = before (there ∙ un)
 
 -- pages that are as ready as before leave a store as ready
 pub ready_same : (space other : Space) (handed others : Handed) → AreAsReady space other handed others → (at count : ℕ)
-    → is_ready other others at count ≡ is_ready space handed at count
-unfolding is_ready
+    → takes_no_memory other others at count ≡ takes_no_memory space handed at count
+unfolding takes_no_memory
 ready_same space other handed others alike at zero = refl
 ready_same space other handed others alike at (suc n) =
-    ap (λ (b : Bool). b && is_ready other others (behind at) n) (alike at)
+    ap (λ (b : Bool). b && takes_no_memory other others (behind at) n) (alike at)
     ∙ ap (λ (b : Bool). is_ready_at space handed at && b) (ready_same space other handed others alike (behind at) n)
 
 pub lacking_all : {E : Type 0} (answer : Result Unit E) (space other : Space) (handed others : Handed) (at count : ℕ)
     → (count ≡ 0 → ⊥)
     → ((address : ℕ) → is_ready_at space handed address ≡ true → is_ready_at other others address ≡ true)
-    → OnErr answer (is_ready other others (behind at) (count - 1) ≡ false)
-    → OnErr answer (is_ready space handed at count ≡ false)
-unfolding is_ready
+    → OnErr answer (takes_no_memory other others (behind at) (count - 1) ≡ false)
+    → OnErr answer (takes_no_memory space handed at count ≡ false)
+unfolding takes_no_memory
 lacking_all (Ok done) space other handed others at count some still unready = tt
 lacking_all (Err e) space other handed others at zero some still unready = absurd (some refl)
 lacking_all (Err e) space other handed others at (suc n) some still unready =
     by (is_ready_at space handed at)
     (unready_before space other handed others still (behind at) n
-    (subst (λ (k : ℕ). is_ready other others (behind at) k ≡ false) (let one_less : suc n - 1
+    (subst (λ (k : ℕ). takes_no_memory other others (behind at) k ≡ false) (let one_less : suc n - 1
     ≡ n = simp unary_clauses in one_less) unready))
   where
-    by : (was : Bool) → is_ready space handed (behind at) n ≡ false
-        → (was && is_ready space handed (behind at) n) ≡ false
+    by : (was : Bool) → takes_no_memory space handed (behind at) n ≡ false
+        → (was && takes_no_memory space handed (behind at) n) ≡ false
     by true un = un
     by false un = refl
 
@@ -99,17 +100,17 @@ module _ (old new : Areas) (handed : Handed) (reservations others : List Reserva
 
   mapped_changed : (pages : Pages) (page : ℕ) (change : List ℕ → List ℕ) (q : ℕ) (at : Option Mapped)
       → map.get pages page ≡ at
-      → is_ready_mapped other handed q (map.get (changed_at change page at pages) q)
+      → is_ready_mapped other handed q (map.get (bytes_changed_at change page at pages) q)
       ≡ is_ready_mapped space handed q (map.get pages q)
   mapped_changed pages page change q None there = mapped_same q (map.get pages q)
   mapped_changed pages page change q (Some m) there = elim (cases_eq page q) [
     | inl same ↦
-        ap (λ n. is_ready_mapped other handed q (map.get (map.insert pages n (changed change m)) q)) same
-        ∙ ap (is_ready_mapped other handed q) (get-insert_same pages q (changed change m))
+        ap (λ n. is_ready_mapped other handed q (map.get (map.insert pages n (with_bytes_changed change m)) q)) same
+        ∙ ap (is_ready_mapped other handed q) (get-insert_same pages q (with_bytes_changed change m))
         ∙ held_alike q change m.held
         ∙ ap (is_ready_mapped space handed q) (sym there ∙ ap (map.get pages) same)
     | inr apart ↦
-        ap (is_ready_mapped other handed q) (get-insert_other pages page q (changed change m) apart)
+        ap (is_ready_mapped other handed q) (get-insert_other pages page q (with_bytes_changed change m) apart)
         ∙ mapped_same q (map.get pages q)
   ]
 
@@ -178,7 +179,7 @@ put_page done space news handed task address value wide widened small inside apa
     unwritten true is none_there =
         written true is refl
         ∙ ap (λ (o : Option Mapped).
-        with_pages (mapping space.areas) (changed_at change (address / 4096) o pages)) none_there
+        with_pages (mapping space.areas) (bytes_changed_at change (address / 4096) o pages)) none_there
     unwritten false is none_there = subst (λ (b : Bool). OnFalse b (news ≡ mapping space.areas)) is same
 
     by_held : (rights : Rights) (held : Held)
@@ -189,11 +190,11 @@ put_page done space news handed task address value wide widened small inside apa
     by_held rights (Bytes bytes) there is_private own =
         ap with_mapping (written done refl (fits.1 (own, (inl refl, omega arith))))
         ∙ ap (λ (o : Option Mapped).
-        with_mapping (with_pages (mapping space.areas) (changed_at change (address / 4096) o pages))) there
+        with_mapping (with_pages (mapping space.areas) (bytes_changed_at change (address / 4096) o pages))) there
         ∙ ap (λ (bs : List ℕ). (let m : Mapped = record { rights = rights; held = Bytes bs } in
         with_mapping (with_pages (mapping space.areas) (map.insert pages (address / 4096) m)))) (one_is bytes)
         ∙ sym (ap (λ (o : Option Mapped).
-        with_mapping (with_pages (mapping space.areas) (changed_at set_one (address / 4096) o pages))) there)
+        with_mapping (with_pages (mapping space.areas) (bytes_changed_at set_one (address / 4096) o pages))) there)
         ∙ sym (ap (λ (m : Option Mapped). put_mapped task (address / 4096) (address % 4096) value m
         (reach space handed)) there)
     by_held rights (PageOf name number) there is_private own = absurd (cc is_private)

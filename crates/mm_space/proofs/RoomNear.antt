@@ -12,7 +12,7 @@ use Rattle.mm_areas.specs.Pages.{Mapped, Pages}
 use Rattle.mm_space.specs.declared.handed.Handed.{Handed}
 use Rattle.mm_space.specs.declared.space.Space.{Space}
 use Rattle.mm_space.specs.Accesses.{byte_at, page_number, writable}
-use Rattle.mm_space.specs.Places.{is_ready, is_ready_mapped}
+use Rattle.mm_space.specs.Places.{takes_no_memory, is_ready_mapped}
 use Rattle.mm_space.specs.Puts.{AllowsNear}
 use Rattle.mm_space.specs.Spaces.{Reach, space_of}
 use Rattle.mm_space.proofs.Accessed.{room_there}
@@ -46,7 +46,7 @@ room_allows true near space at width small fits = λ hand.
 -- and their page has its bytes for itself
 pub room_ready : (done near : Bool) (space : Space) (at width : ℕ) → at < 2 ^ 64
     → (IsTrue done ↔ HasRoom space near at width)
-    → OnTrue done ((handed : Handed) → is_ready space handed at width ≡ true)
+    → OnTrue done ((handed : Handed) → takes_no_memory space handed at width ≡ true)
 room_ready false near space at width small fits = tt
 room_ready true near space at width small fits = λ handed.
     let page : IsPrivatePage space.areas (at / 4096) = own_page space.areas (at / 4096) (fits.0 refl).1 in

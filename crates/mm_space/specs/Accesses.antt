@@ -23,7 +23,7 @@ page_offset address = address % 2 ^ 64 % 4096
 -- mmap(2), MAP_SHARED; areas that are not handed in: profile
 abbrev pub area_byte : Area → (number offset : ℕ) → Option AreaState → Byte
 area_byte name number offset None = InArea name
-area_byte name number offset (Some area) = as_byte (frames.byte_at area.pages number offset)
+area_byte name number offset (Some area) = as_byte (frames.byte_of_pages area.pages number offset)
 
 abbrev pub held_byte : List InHand → (offset : ℕ) → Held → Byte
 held_byte hand offset (Bytes bytes) = as_byte (slice_get bytes offset)

@@ -14,12 +14,12 @@ held_at offset (PageOf name number) = Some (record { name = name; offset = (4096
 
 -- the same of a page that may not be mapped
 -- mmap(2), MAP_SHARED
-abbrev pub mapped_at : (offset : ℕ) → Option Mapped → Option AreaByte
-mapped_at offset None = None
-mapped_at offset (Some m) = held_at offset m.held
+abbrev pub area_byte_if_mapped : (offset : ℕ) → Option Mapped → Option AreaByte
+area_byte_if_mapped offset None = None
+area_byte_if_mapped offset (Some m) = held_at offset m.held
 
 -- the byte of a shared area that lies at an address, whatever rights its page has
 -- futex(2), DESCRIPTION: one futex word may have different addresses in different processes
 abbrev pub area_byte_at : AddressSpace → (address : ℕ) → Option AreaByte
 area_byte_at space address =
-    mapped_at (page_offset address) (map.get space.mapping.pages (page_number address))
+    area_byte_if_mapped (page_offset address) (map.get space.mapping.pages (page_number address))

@@ -2,7 +2,7 @@
 use Rattle.std.specs.Prelude.{ℕ, List, [], ◌∷◌, map, replicate, Option, Some, None, if◌then◌else◌}
 use Rattle.rv_table.specs.declared.error.Area.{Area}
 use Rattle.rv_atomic.specs.declared.area_reservations.AreaReservation.{AreaReservation}
-use Rattle.mm_frames.specs.Frames.{pages_of}
+use Rattle.mm_frames.specs.Frames.{bytes_of_frames}
 use Rattle.mm_space.specs.Sight.{is_area}
 use Rattle.mm_space.specs.declared.handed.SharedArea.{SharedArea}
 use Rattle.mm_space.specs.declared.handed.HandedArea.{HandedArea}
@@ -15,7 +15,7 @@ pub record AreaState : Type 0 where
   pub reservations : List AreaReservation
 
 abbrev pub area_state : SharedArea → AreaState
-area_state area = record { pages = pages_of area.frames; reservations = area.reservations }
+area_state area = record { pages = bytes_of_frames area.frames; reservations = area.reservations }
 
 -- an area of so many pages that nobody has written, in which nothing is reserved
 -- mmap(2), MAP_SHARED and MAP_ANONYMOUS

@@ -54,9 +54,9 @@ is_ready_at space handed address =
 
 -- whether a store of so many bytes from an address on is sure to take no memory
 -- fork(2), NOTES: copy-on-write pages
-unfoldable pub is_ready : Space → Handed → (at count : ℕ) → Bool
-is_ready space handed at zero = true
-is_ready space handed at (suc n) = is_ready_at space handed at && is_ready space handed (behind at) n
+unfoldable pub takes_no_memory : Space → Handed → (at count : ℕ) → Bool
+takes_no_memory space handed at zero = true
+takes_no_memory space handed at (suc n) = is_ready_at space handed at && takes_no_memory space handed (behind at) n
 
 -- the page of a shared area that a page of the address space is
 -- mmap(2), MAP_SHARED

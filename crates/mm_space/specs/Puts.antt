@@ -19,7 +19,7 @@ use Rattle.mm_space.specs.Spaces.{AddressSpace, Reach}
 -- mmap(2), MAP_SHARED; RISC-V Unprivileged ISA 20191213, 8.2: a store from another hart to the reservation set
 abbrev pub put_in_area : (task number offset value : ℕ) → AreaState → AreaState
 put_in_area task number offset value area = record {
-  pages = frames.with_change area.pages number (λ bytes. slice_set bytes offset value);
+  pages = frames.with_page_changed area.pages number (λ bytes. slice_set bytes offset value);
   reservations = after_store_here area.reservations task ((4096 * number + offset) % 2 ^ 64) 1;
 }
 

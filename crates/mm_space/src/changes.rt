@@ -2,7 +2,7 @@
 
 ghost use Rattle.std.specs.Prelude.{◌≡◌, ◌≢◌, ◌*◌, ◌<◌, ◌^◌, false, Some, Ok, Err, IfOk, IfErr, IfSome, OnOk, OnErr};
 ghost use Rattle.mm_areas.specs.declared.fault.AreaErr.TheVariants as AreaErr;
-ghost use Rattle.mm_areas.specs.Mappings.{address_of, is_break, map_fault, pages_in, place_in, protect_fault};
+ghost use Rattle.mm_areas.specs.Mappings.{address_of, is_break, map_fault, pages_in, first_page_for, protect_fault};
 ghost use Rattle.mm_areas.specs.Mappings.{unmap_fault};
 ghost use Rattle.mm_space.specs.Changes.{broken_in, mapped_in, righted_in, unmapped_in};
 ghost use Rattle.mm_space.specs.Spaces.{space_of};
@@ -26,7 +26,7 @@ impl Space {
         backing: Backing,
     ) -> Result<u64, AreaErr>
         ensures place { IfOk result (λ address.
-            address_of (place_in (space_of self.old).mapping.pages at (pages_in length)) ≡ Some address) }
+            address_of (first_page_for (space_of self.old).mapping.pages at (pages_in length)) ≡ Some address) }
         ensures ok { IfOk result (λ address.
             space_of self.new ≡ mapped_in (space_of self.old) address length rights backing) }
         ensures fault { IfErr result (λ e.

@@ -8,7 +8,7 @@ ghost use Rattle.rv_table.specs.Words.{IsWidth};
 ghost use Rattle.rv_table.specs.declared.error.MemErr.TheVariants as MemErr;
 ghost use Rattle.mm_areas.specs.Mappings.{mapping};
 ghost use Rattle.mm_space.specs.Accesses.{byte_at, writable};
-ghost use Rattle.mm_space.specs.Places.{AreAsReady, is_ready, is_ready_at, shared_at};
+ghost use Rattle.mm_space.specs.Places.{AreAsReady, takes_no_memory, is_ready_at, shared_at};
 ghost use Rattle.mm_space.specs.Puts.{AllowsNear, after_stored, put_byte, put_bytes};
 ghost use Rattle.mm_space.specs.Spaces.{reach, space_of};
 ghost use Rattle.mm_space.specs.declared.handed.Handed.{Handed};
@@ -34,8 +34,8 @@ impl Space {
         width: u8,
     ) -> Result<(), MemErr>
         ensures room { AllowsAs (loaded (byte_at writable (reach self.old handed.old)) at width) result }
-        ensures ready { OnOk result (is_ready self.new handed.new at width ≡ true) }
-        ensures lean { is_ready self.old handed.old at width ≡ true → result ≢ Err MemErr.Memory }
+        ensures ready { OnOk result (takes_no_memory self.new handed.new at width ≡ true) }
+        ensures lean { takes_no_memory self.old handed.old at width ≡ true → result ≢ Err MemErr.Memory }
         ensures same { reach self.new handed.new ≡ reach self.old handed.old }
     {
         if self.has_room(at, width) {
@@ -47,7 +47,7 @@ impl Space {
     /// Whether so many bytes at an address lie in one page that may be written and has its bytes for itself.
     fn has_room(&self, at: u64, width: u8) -> bool
         ensures room { OnTrue result (AllowsNear (space_of self.now) at width) }
-        ensures ready { OnTrue result ((handed : Handed) → is_ready self.now handed at width ≡ true) }
+        ensures ready { OnTrue result ((handed : Handed) → takes_no_memory self.now handed at width ≡ true) }
     {
         let hint = self.guess(at / 4096);
         let offset = (at % 4096) as usize;
@@ -64,8 +64,8 @@ impl Space {
         width: u8,
     ) -> Result<(), MemErr>
         ensures room { AllowsAs (loaded (byte_at writable (reach self.old handed.old)) at width) result }
-        ensures ready { OnOk result (is_ready self.new handed.new at width ≡ true) }
-        ensures lean { is_ready self.old handed.old at width ≡ true → result ≢ Err MemErr.Memory }
+        ensures ready { OnOk result (takes_no_memory self.new handed.new at width ≡ true) }
+        ensures lean { takes_no_memory self.old handed.old at width ≡ true → result ≢ Err MemErr.Memory }
         ensures same { reach self.new handed.new ≡ reach self.old handed.old }
     {
         self.allowed(handed, Rights::WRITE, at, usize::from(width))?;
@@ -89,7 +89,7 @@ impl Space {
     ) -> Result<(), MemErr>
         requires { IsWidth width }
         ensures room { AllowsAs (loaded (byte_at writable (reach self.old handed.old)) at width) result }
-        ensures lean { is_ready self.old handed.old at width ≡ true → result ≢ Err MemErr.Memory }
+        ensures lean { takes_no_memory self.old handed.old at width ≡ true → result ≢ Err MemErr.Memory }
         ensures ok { OnOk result (reach self.new handed.new ≡
             after_stored task at width value (reach self.old handed.old)) }
         ensures err { OnErr result (reach self.new handed.new ≡ reach self.old handed.old) }
@@ -145,7 +145,7 @@ impl Space {
     }
 
     /// Makes the bytes of the pages of so many bytes from an address on their own.
-    #[tactic(auto, unfolding(crate::specs::Places::is_ready))]
+    #[tactic(auto, unfolding(crate::specs::Places::takes_no_memory))]
     fn own_all(
         &mut self,
         alloc: Global,
@@ -154,10 +154,10 @@ impl Space {
         count: u8,
     ) -> Result<(), Memory>
         ensures same { reach self.new handed.new ≡ reach self.old handed.old }
-        ensures ready { OnOk result (is_ready self.new handed.new at count ≡ true) }
+        ensures ready { OnOk result (takes_no_memory self.new handed.new at count ≡ true) }
         ensures still { (other : ℕ) →
             is_ready_at self.old handed.old other ≡ true → is_ready_at self.new handed.new other ≡ true }
-        ensures lacking { OnErr result (is_ready self.old handed.old at count ≡ false) }
+        ensures lacking { OnErr result (takes_no_memory self.old handed.old at count ≡ false) }
     {
         if count == 0 {
             return Ok(());
@@ -186,9 +186,9 @@ impl Space {
     }
 
     /// Puts so many of a number's bytes from an address on, whose pages have their bytes for themselves.
-    #[tactic(auto, unfolding(crate::specs::Places::is_ready, crate::specs::Puts::put_bytes))]
+    #[tactic(auto, unfolding(crate::specs::Places::takes_no_memory, crate::specs::Puts::put_bytes))]
     fn put_all(&mut self, handed: &mut Handed, task: u32, at: u64, count: u8, value: u64)
-        requires { is_ready self.old handed.old at count ≡ true }
+        requires { takes_no_memory self.old handed.old at count ≡ true }
         ensures put { reach self.new handed.new ≡ put_bytes task at count value (reach self.old handed.old) }
         ensures ready { AreAsReady self.old self.new handed.old handed.new }
     {

@@ -5,7 +5,7 @@ ghost use Rattle.std.specs.Prelude.{Err};
 ghost use Rattle.rv_table.specs.Bytes.{AllowsAs, loaded};
 ghost use Rattle.rv_table.specs.declared.error.MemErr.TheVariants as MemErr;
 ghost use Rattle.mm_space.specs.Accesses.{byte_at, writable};
-ghost use Rattle.mm_space.specs.Places.{AreAsReady, is_ready, is_ready_at};
+ghost use Rattle.mm_space.specs.Places.{AreAsReady, takes_no_memory, is_ready_at};
 ghost use Rattle.mm_space.specs.Puts.{after_run_stored, put_run};
 ghost use Rattle.mm_space.specs.Spaces.{reach};
 
@@ -35,7 +35,7 @@ impl Space {
         bytes: &[u8],
     ) -> Result<(), MemErr>
         ensures room { AllowsAs (loaded (byte_at writable (reach self.old handed.old)) at (length bytes.now)) result }
-        ensures lean { is_ready self.old handed.old at (length bytes.now) ≡ true → result ≢ Err MemErr.Memory }
+        ensures lean { takes_no_memory self.old handed.old at (length bytes.now) ≡ true → result ≢ Err MemErr.Memory }
         ensures ok { OnOk result (reach self.new handed.new ≡
             after_run_stored task at bytes.now (reach self.old handed.old)) }
         ensures err { OnErr result (reach self.new handed.new ≡ reach self.old handed.old) }
@@ -58,7 +58,7 @@ impl Space {
     /// readv(2): what a call puts into one of a guest's buffers.
     pub fn put_two(&mut self, handed: &mut Handed, task: u32, at: u64, first: &[u8], second: &[u8])
         requires fits { length first.now + length second.now < 2 ^ 63 }
-        requires ready { is_ready self.old handed.old at (length first.now + length second.now) ≡ true }
+        requires ready { takes_no_memory self.old handed.old at (length first.now + length second.now) ≡ true }
         ensures put { reach self.new handed.new ≡
             after_run_stored task at (first.now ++ second.now) (reach self.old handed.old) }
         ensures ready { AreAsReady self.old self.new handed.old handed.new }
@@ -70,7 +70,7 @@ impl Space {
 
     /// Puts two runs of bytes from an address on, whose pages have their bytes for themselves.
     fn put_both(&mut self, handed: &mut Handed, task: u32, at: u64, first: &[u8], second: &[u8])
-        requires { is_ready self.old handed.old at (length first.now + length second.now) ≡ true }
+        requires { takes_no_memory self.old handed.old at (length first.now + length second.now) ≡ true }
         ensures put { reach self.new handed.new ≡
             put_run task at (first.now ++ second.now) (reach self.old handed.old) }
         ensures ready { AreAsReady self.old self.new handed.old handed.new }
@@ -92,10 +92,10 @@ impl Space {
         count: usize,
     ) -> Result<(), Memory>
         ensures same { reach self.new handed.new ≡ reach self.old handed.old }
-        ensures ready { OnOk result (is_ready self.new handed.new at count ≡ true) }
+        ensures ready { OnOk result (takes_no_memory self.new handed.new at count ≡ true) }
         ensures still { (other : ℕ) →
             is_ready_at self.old handed.old other ≡ true → is_ready_at self.new handed.new other ≡ true }
-        ensures lacking { OnErr result (is_ready self.old handed.old at count ≡ false) }
+        ensures lacking { OnErr result (takes_no_memory self.old handed.old at count ≡ false) }
     {
         let mut done = 0;
         while done < count {
@@ -108,7 +108,7 @@ impl Space {
 
     /// Puts bytes from an address on, whose pages have their bytes for themselves.
     fn put_run(&mut self, handed: &mut Handed, task: u32, at: u64, bytes: &[u8])
-        requires { is_ready self.old handed.old at (length bytes.now) ≡ true }
+        requires { takes_no_memory self.old handed.old at (length bytes.now) ≡ true }
         ensures put { reach self.new handed.new ≡ put_run task at bytes.now (reach self.old handed.old) }
         ensures ready { AreAsReady self.old self.new handed.old handed.new }
     {

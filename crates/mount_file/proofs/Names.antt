@@ -5,7 +5,7 @@ use Rattle.std.specs.Prelude.{if◌then◌else◌}
 use Rattle.std.specs.List.{list_all, starts_with, zip}
 use Rattle.std.specs.Str.{bytes_eq}
 use Rattle.std.proofs.lemmas.List.Folds.{list_all_at}
-use Rattle.sn_text.specs.Names.{IsFaultOf, IsName}
+use Rattle.sn_text.specs.Names.{IsNameFaultOf, IsName}
 use Rattle.sn_text.specs.declared.fault.NameFault.{NameFault}
 use Rattle.sn_text.specs.declared.fault.NameFault.TheVariants.{Empty, Long, Slash, Nul, Dot, Memory}
 use Rattle.mount_file.specs.declared.mounts.MountFault.{MountFault}
@@ -39,7 +39,7 @@ one_refused pieces i piece within at refused =
     (list_all_at is_name pieces i piece within (rw (← at) (untaken (is_name piece) piece refused)))
 
 -- what a name's fault is told as
-pub name_refused : (bytes : List ℕ) (e : NameFault) → IsFaultOf bytes e
+pub name_refused : (bytes : List ℕ) (e : NameFault) → IsNameFaultOf bytes e
     → Gives (if is_name bytes then Some bytes else None) (Err (fault_of_name e))
 name_refused bytes Empty fault = rw fault refl
 name_refused bytes Long fault = rw fault refl

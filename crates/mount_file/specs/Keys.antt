@@ -19,8 +19,8 @@ has_only keys (member key value rest) = is_one_of keys key && has_only keys rest
 
 -- the key is there, with a value of this type
 -- TOML 1.1, Key/Value Pair
-abbrev pub has : (Data → Bool) → List ℕ → Members → Bool
-has is_of_type key members = option_map_or is_of_type (get_member key members) false
+abbrev pub has_key : (Data → Bool) → List ℕ → Members → Bool
+has_key is_of_type key members = option_map_or is_of_type (get_member key members) false
 
 -- the key is left out, or has a value of this type
 -- TOML 1.1, Key/Value Pair
@@ -58,8 +58,8 @@ is_table_of fits _ = false
 abbrev pub has_mount_keys : Members → Bool
 has_mount_keys members =
     has_only (codes "at" ∷ codes "folder" ∷ codes "write" ∷ []) members
-    && has is_string (codes "at") members
-    && has is_string (codes "folder") members
+    && has_key is_string (codes "at") members
+    && has_key is_string (codes "folder") members
     && may_have is_boolean (codes "write") members
 
 -- the table of a task: `path`, and perhaps `args` and `env`
@@ -67,7 +67,7 @@ has_mount_keys members =
 abbrev pub has_task_keys : Members → Bool
 has_task_keys members =
     has_only (codes "path" ∷ codes "args" ∷ codes "env" ∷ []) members
-    && has is_string (codes "path") members
+    && has_key is_string (codes "path") members
     && may_have (is_array_of is_string) (codes "args") members
     && may_have (is_array_of is_string) (codes "env") members
 
@@ -76,7 +76,7 @@ has_task_keys members =
 abbrev pub has_keys : Members → Bool
 has_keys document =
     has_only (codes "entries" ∷ codes "seed" ∷ codes "mount" ∷ codes "task" ∷ []) document
-    && has is_integer (codes "entries") document
-    && has is_string (codes "seed") document
-    && has (is_array_of (is_table_of has_mount_keys)) (codes "mount") document
-    && has (is_array_of (is_table_of has_task_keys)) (codes "task") document
+    && has_key is_integer (codes "entries") document
+    && has_key is_string (codes "seed") document
+    && has_key (is_array_of (is_table_of has_mount_keys)) (codes "mount") document
+    && has_key (is_array_of (is_table_of has_task_keys)) (codes "task") document

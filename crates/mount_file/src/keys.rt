@@ -1,7 +1,7 @@
 //! Which keys the tables of a mount file have, and of which types.
 
 ghost use Rattle.std.specs.Prelude.{◌≡◌, map};
-ghost use Rattle.mount_file.specs.Keys.{is_one_of, has_only, has, may_have, is_integer, is_string, is_boolean, are_all};
+ghost use Rattle.mount_file.specs.Keys.{is_one_of, has_only, has_key, may_have, is_integer, is_string, is_boolean, are_all};
 ghost use Rattle.mount_file.specs.Keys.{is_array_of, is_table_of, has_mount_keys, has_task_keys, has_keys};
 ghost use Rattle.toml.specs.View.{view, items_view, table_view};
 
@@ -55,7 +55,7 @@ fn has_only(table: &Table, keys: &[&str]) -> bool
 
 /// Whether the key is there, with an integer.
 fn has_integer(table: &Table, key: &str) -> bool
-    ensures { result ≡ has is_integer key.now (table_view table.now) }
+    ensures { result ≡ has_key is_integer key.now (table_view table.now) }
 {
     match value_at(table, key) {
         Some(value) => value.is_integer(),
@@ -65,7 +65,7 @@ fn has_integer(table: &Table, key: &str) -> bool
 
 /// Whether the key is there, with a string.
 fn has_string(table: &Table, key: &str) -> bool
-    ensures { result ≡ has is_string key.now (table_view table.now) }
+    ensures { result ≡ has_key is_string key.now (table_view table.now) }
 {
     match value_at(table, key) {
         Some(value) => value.is_str(),
@@ -75,7 +75,7 @@ fn has_string(table: &Table, key: &str) -> bool
 
 /// Whether the key is there, with an array of tables of mounts.
 fn has_mounts(table: &Table, key: &str) -> bool
-    ensures { result ≡ has (is_array_of (is_table_of has_mount_keys)) key.now (table_view table.now) }
+    ensures { result ≡ has_key (is_array_of (is_table_of has_mount_keys)) key.now (table_view table.now) }
 {
     match value_at(table, key) {
         Some(value) => are_mounts(value),
@@ -85,7 +85,7 @@ fn has_mounts(table: &Table, key: &str) -> bool
 
 /// Whether the key is there, with an array of tables of tasks.
 fn has_tasks(table: &Table, key: &str) -> bool
-    ensures { result ≡ has (is_array_of (is_table_of has_task_keys)) key.now (table_view table.now) }
+    ensures { result ≡ has_key (is_array_of (is_table_of has_task_keys)) key.now (table_view table.now) }
 {
     match value_at(table, key) {
         Some(value) => are_tasks(value),

@@ -23,7 +23,7 @@ use Rattle.file_changes.specs.Changes.{by_descriptor, closed, files_after, freed
 use Rattle.file_changes.specs.Changes.{with_table}
 use Rattle.file_changes.specs.declared.change.FileChange.TheVariants.{Gives, Marks, SetsStatus, Closes}
 use Rattle.parked_tasks.specs.Untouched.{AreUntouched}
-use Rattle.parked_tasks.specs.Touched.{description_at, is_name, pipe_at, pipe_in, touched_with}
+use Rattle.parked_tasks.specs.Touched.{description_at, is_that_name, pipe_at, pipe_in, touched_with}
 use Rattle.parked_tasks.specs.Used.{same_made}
 use Rattle.parked_tasks.proofs.UserLists.{made_same}
 
@@ -64,7 +64,7 @@ module _ (name : Made) (files : OpenFiles) where
   object_descriptions object.Console rest = refl
   object_descriptions object.EmptyInput rest = refl
 
-  object_pipes : (o : Object) (rest : OpenFiles) (q : Made) → is_name (pipe_in o) q ≡ false
+  object_pipes : (o : Object) (rest : OpenFiles) (q : Made) → is_that_name (pipe_in o) q ≡ false
       → get_named (without_object o rest).pipes q.place q.index ≡ get_named rest.pipes q.place q.index
   object_pipes (object.Node ino) rest q apart = refl
   object_pipes (object.PipeEnd pipe side) rest q apart =
@@ -110,7 +110,8 @@ module _ (name : Made) (files : OpenFiles) where
         ≡ get_named files.descriptions q.place q.index
     fewer_descriptions apart = descriptions_in apart (get_named files.descriptions name.place name.index)
 
-    pipes_by : (file : OpenFile) → is_name (pipe_in file.description.object) q ≡ false → (b : Bool) → get_named (cond b
+    pipes_by : (file : OpenFile) → is_that_name (pipe_in file.description.object) q ≡ false → (b : Bool)
+        → get_named (cond b
         (left (Some (record file { descriptors = file.descriptors - 1 })))
         (without_object file.description.object (left None))).pipes q.place q.index
         ≡ get_named files.pipes q.place q.index
@@ -118,12 +119,12 @@ module _ (name : Made) (files : OpenFiles) where
     pipes_by file apart false = object_pipes file.description.object (left None) q apart
 
     pipes_in : (o : Option OpenFile)
-        → is_name (option_and_then (λ (file : OpenFile). pipe_in file.description.object) o) q ≡ false
+        → is_that_name (option_and_then (λ (file : OpenFile). pipe_in file.description.object) o) q ≡ false
         → get_named (fewer o).pipes q.place q.index ≡ get_named files.pipes q.place q.index
     pipes_in None apart = refl
     pipes_in (Some file) apart = pipes_by file apart (nat_le 2 file.descriptors)
 
-    pub fewer_pipes : is_name (pipe_at files name) q ≡ false
+    pub fewer_pipes : is_that_name (pipe_at files name) q ≡ false
         → get_named (with_one_fewer name files).pipes q.place q.index ≡ get_named files.pipes q.place q.index
     fewer_pipes apart = pipes_in (get_named files.descriptions name.place name.index) apart
 
@@ -192,7 +193,7 @@ module _ (table : Made) (files : OpenFiles) where
             fewer_descriptions d.description after q (none_of false (same_made q d.description) apart).1;
         pipes = λ q apart.
             fewer_pipes d.description after q
-            (none_of (is_name (pipe_at files d.description) q) false apart).0;
+            (none_of (is_that_name (pipe_at files d.description) q) false apart).0;
       }
 
   pub closes_touched : (number : ℕ) → AreUntouched
@@ -230,8 +231,8 @@ module _ (table : Made) (files : OpenFiles) where
             ∙ other_stays d.description q _ files.descriptions both.0;
         pipes = λ q apart.
             fewer_pipes b.description after q
-            (ap (λ o. is_name o q) (pipe_more d.description b.description files tables)
-            ∙ (none_of (is_name (pipe_at files b.description) q) false apart).0);
+            (ap (λ o. is_that_name o q) (pipe_more d.description b.description files tables)
+            ∙ (none_of (is_that_name (pipe_at files b.description) q) false apart).0);
       }
 
   gives_by : (number : ℕ) (cloexec : Bool) (t : Table) (fault : Option FdErr) (d before : Option Descriptor)

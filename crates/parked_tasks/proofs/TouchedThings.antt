@@ -4,7 +4,7 @@ use Rattle.std.specs.Prelude.{Option, Some, None, if◌then◌else◌}
 use Rattle.std.specs.Option.{option_map, option_map_or}
 use Rattle.sn_base.specs.declared.made.Made.{Made}
 use Rattle.kernel_calls.specs.declared.prepared.UsedEnd.{UsedEnd}
-use Rattle.parked_tasks.specs.Touched.{are_named, has_table_named, is_name, is_used}
+use Rattle.parked_tasks.specs.Touched.{are_named, has_table_named, is_that_name, is_used}
 use Rattle.parked_tasks.specs.Used.{has_description, has_pipe, uses_areas}
 use Rattle.parked_tasks.specs.declared.touched.UpToTwo.{UpToTwo}
 use Rattle.parked_tasks.specs.declared.used.Spot.{Spot}
@@ -30,7 +30,7 @@ table_used name used is spot = ap (λ u. is_used u spot) is ∙ by name
     by (Some n) = refl
 
 description_used : (name : Option Made) (spot : Spot)
-    → is_used (option_map Description name) spot ≡ has_description (is_name name) spot
+    → is_used (option_map Description name) spot ≡ has_description (is_that_name name) spot
 description_used None spot = fails spot.awaited.end
 description_used (Some n) spot = refl
 
@@ -41,11 +41,11 @@ descriptions_used names one two first second spot =
     ap (λ u. is_used u spot || is_used two spot) first
     ∙ ap (λ u. is_used (option_map Description names.first) spot || is_used u spot) second
     ∙ ap (λ b. b || is_used (option_map Description names.second) spot) (description_used names.first spot)
-    ∙ ap (λ b. has_description (is_name names.first) spot || b) (description_used names.second spot)
-    ∙ two_parts (λ (e : UsedEnd). is_name names.first e.description)
-    (λ (e : UsedEnd). is_name names.second e.description) spot.awaited.end
+    ∙ ap (λ b. has_description (is_that_name names.first) spot || b) (description_used names.second spot)
+    ∙ two_parts (λ (e : UsedEnd). is_that_name names.first e.description)
+    (λ (e : UsedEnd). is_that_name names.second e.description) spot.awaited.end
 
-pipe_used : (name : Option Made) (spot : Spot) → is_used (option_map Pipe name) spot ≡ has_pipe (is_name name) spot
+pipe_used : (name : Option Made) (spot : Spot) → is_used (option_map Pipe name) spot ≡ has_pipe (is_that_name name) spot
 pipe_used None spot = fails spot.awaited.end
 pipe_used (Some n) spot = refl
 
@@ -56,9 +56,9 @@ pipes_used names one two first second spot =
     ap (λ u. is_used u spot || is_used two spot) first
     ∙ ap (λ u. is_used (option_map Pipe names.first) spot || is_used u spot) second
     ∙ ap (λ b. b || is_used (option_map Pipe names.second) spot) (pipe_used names.first spot)
-    ∙ ap (λ b. has_pipe (is_name names.first) spot || b) (pipe_used names.second spot)
-    ∙ two_parts (λ (e : UsedEnd). is_name names.first e.pipe)
-    (λ (e : UsedEnd). is_name names.second e.pipe) spot.awaited.end
+    ∙ ap (λ b. has_pipe (is_that_name names.first) spot || b) (pipe_used names.second spot)
+    ∙ two_parts (λ (e : UsedEnd). is_that_name names.first e.pipe)
+    (λ (e : UsedEnd). is_that_name names.second e.pipe) spot.awaited.end
 
 -- areas, where they may have changed
 pub areas_used : (changed : Bool) (used : Option Used) → used ≡ (if changed then Some Areas else None) → (spot : Spot)

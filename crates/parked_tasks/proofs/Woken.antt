@@ -10,7 +10,7 @@ use Rattle.std.proofs.lemmas.List.Folds.{list_any_more}
 use Rattle.std.proofs.Math.Bool.{or-false}
 use Rattle.sn_base.proofs.Maps.{get_of_empty, get-insert_same, get-insert_other}
 use Rattle.kernel_model.proofs.NamedMaps.{same_or_other}
-use Rattle.parked_tasks.specs.Parked.{AreLeft, AreListed, HaveWoken}
+use Rattle.parked_tasks.specs.Parked.{WereParked, AreListed, HaveWoken}
 use Rattle.parked_tasks.specs.Used.{AreMore, IsListedWith, has_used, is_listed_in}
 use Rattle.parked_tasks.specs.Users.{AreNumbers, is_among}
 use Rattle.parked_tasks.specs.declared.index.Index.{Index}
@@ -127,7 +127,7 @@ module _ {V : Type 0} (tasks : List ℕ) (before after : map.FinMap nat_cmp Spot
   left_so task spot e =
       stayed (is_among task tasks) (map.get before task) spot (sym (looked.parked task) ∙ e)
 
-  pub are_left : AreLeft before after
+  pub are_left : WereParked before after
   are_left task spot e = (left_so task spot e).1
 
   pub numbers_looked_at : AreNumbers before → AreNumbers awake → AreNumbers awake'
@@ -197,11 +197,11 @@ listed_none parked index none task spot e = absurd (cc (e, none task))
 pub none_parked : (parked : map.FinMap nat_cmp Spot) → parked ≡ map.empty → (task : ℕ) → map.get parked task ≡ None
 none_parked parked empty task = ap (λ m. map.get m task) empty ∙ get_of_empty task
 
-pub listed_left : (before after : map.FinMap nat_cmp Spot) (index : Index) → AreLeft before after
+pub listed_left : (before after : map.FinMap nat_cmp Spot) (index : Index) → WereParked before after
     → AreListed before index → AreListed after index
 listed_left before after index left listed task spot e = listed task spot (left task spot e)
 
-pub numbers_left : (before after : map.FinMap nat_cmp Spot) → AreLeft before after → AreNumbers before
+pub numbers_left : (before after : map.FinMap nat_cmp Spot) → WereParked before after → AreNumbers before
     → AreNumbers after
 numbers_left before after left numbers task there =
     let spot = there_of (map.get after task) there in

@@ -13,8 +13,8 @@ AreListed parked index = (task : ℕ) (spot : Spot) → map.get parked task ≡ 
 
 -- each that is parked was parked so before
 -- profile
-abbrev pub AreLeft : (before after : map.FinMap nat_cmp Spot) → Type 0
-AreLeft before after = (task : ℕ) (spot : Spot) → map.get after task ≡ Some spot → map.get before task ≡ Some spot
+abbrev pub WereParked : (before after : map.FinMap nat_cmp Spot) → Type 0
+WereParked before after = (task : ℕ) (spot : Spot) → map.get after task ≡ Some spot → map.get before task ≡ Some spot
 
 -- Some of the tasks that were parked are parked no more and are looked at, and among them is each that was parked with
 -- what passes the test. Each other task is parked, or looked at, as it was.

@@ -12,8 +12,8 @@ parked_at parking task = map.get parking.parked.tasks task
 
 -- each task is parked as it was
 -- profile
-abbrev pub AreAlike : (before after : Parking) → Type 0
-AreAlike before after = (task : ℕ) → parked_at after task ≡ parked_at before task
+abbrev pub AreParkedAlike : (before after : Parking) → Type 0
+AreParkedAlike before after = (task : ℕ) → parked_at after task ≡ parked_at before task
 
 -- a task is parked so, and each other as it was
 -- profile

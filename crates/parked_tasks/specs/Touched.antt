@@ -18,11 +18,11 @@ use Rattle.parked_tasks.specs.declared.used.Used.{Used}
 
 -- whether a name is that, where there is one, and whether it is one of up to two
 -- profile
-abbrev pub is_name : Option Made → Made → Bool
-is_name one name = option_map_or (λ m. same_made name m) one false
+abbrev pub is_that_name : Option Made → Made → Bool
+is_that_name one name = option_map_or (λ m. same_made name m) one false
 
 abbrev pub are_named : UpToTwo → Made → Bool
-are_named names name = is_name names.first name || is_name names.second name
+are_named names name = is_that_name names.first name || is_that_name names.second name
 
 -- whether a call that waits used that, where there is such a thing
 -- profile
@@ -32,7 +32,7 @@ is_used used spot = option_map_or (has_used spot) used false
 -- whether it used an end of a pipe by a descriptor of a table of that name, where there is one
 -- read(2); write(2); pipe(7)
 abbrev pub has_table_named : Option Made → Spot → Bool
-has_table_named table spot = option_map_or (λ (end : UsedEnd). is_name table spot.table) spot.awaited.end false
+has_table_named table spot = option_map_or (λ (end : UsedEnd). is_that_name table spot.table) spot.awaited.end false
 
 -- whether it used anything that an entry touched
 -- profile

@@ -8,7 +8,7 @@ use Rattle.kernel_calls.specs.Prepared.{with_closed}
 use Rattle.kernel_calls.specs.declared.prepared.Effect.{Effect}
 use Rattle.kernel_calls.specs.declared.prepared.Effect.TheVariants.{Nothing, EndsGroup, EndsTask, SetsClear}
 use Rattle.kernel_calls.specs.declared.prepared.Effect.TheVariants.{Wakes, Reaps, ChangesFiles}
-use Rattle.parked_tasks.specs.Touched.{are_named, is_name}
+use Rattle.parked_tasks.specs.Touched.{are_named, is_that_name}
 use Rattle.parked_tasks.specs.declared.touched.Touched.{Touched}
 
 -- whether an effect changes the task list
@@ -25,7 +25,7 @@ changes_list (ChangesFiles table change) = false
 -- what is open is as it was, but for what an entry touched
 -- close(2); dup(2); read(2); write(2)
 pub record AreUntouched (touched : Touched) (before after : OpenFiles) : Type 0 where
-  pub tables : (name : Made) → is_name touched.table name ≡ false
+  pub tables : (name : Made) → is_that_name touched.table name ≡ false
       → get_named after.tables name.place name.index ≡ get_named before.tables name.place name.index
   pub descriptions : (name : Made) → are_named touched.descriptions name ≡ false
       → get_named after.descriptions name.place name.index ≡ get_named before.descriptions name.place name.index

@@ -3,7 +3,7 @@
 ghost use Rattle.std.specs.Prelude.{◌≡◌, ◌||◌, ◌&&◌, ℕ, None, OnErr, OnOk, true, if◌then◌else◌};
 ghost use Rattle.std.specs.FinMap as map;
 ghost use Rattle.std.specs.Ordering.{eq_by_cmp, nat_cmp};
-ghost use Rattle.parked_tasks.specs.Parked.{AreLeft, AreListed, HaveWoken};
+ghost use Rattle.parked_tasks.specs.Parked.{WereParked, AreListed, HaveWoken};
 ghost use Rattle.parked_tasks.specs.Used.{has_used};
 ghost use Rattle.parked_tasks.specs.Users.{AreNumbers, is_among};
 
@@ -88,7 +88,7 @@ fn look_at(parked: &mut Map<Spot>, awake: &mut Map<()>, tasks: &[u64]) -> Result
     ensures looked_at { OnOk result ((task : ℕ) → map.contains_key awake.new task
         ≡ (map.contains_key awake.old task
         || (is_among task tasks.now && map.contains_key parked.old task))) }
-    ensures left { AreLeft parked.old parked.new }
+    ensures left { WereParked parked.old parked.new }
     ensures numbers { AreNumbers parked.old → AreNumbers awake.old → AreNumbers awake.new }
 {
     for task in tasks {

@@ -26,7 +26,7 @@ pub struct Parking {
 }
 
 impl Parking {
-    ghost use Rattle.parked_tasks.specs.Parking.{AreAlike, AreWoken, IsParkedAt, parked_at};
+    ghost use Rattle.parked_tasks.specs.Parking.{AreParkedAlike, AreWoken, IsParkedAt, parked_at};
 
     /// No task is looked at, and none is parked. It takes no memory.
     pub fn new(alloc: Global) -> Parking
@@ -53,7 +53,7 @@ impl Parking {
     pub fn wake(&mut self, task: u32) -> Result<(), Memory>
         ensures ok { OnOk result (self.new.awake ≡ map.insert self.old.awake task tt) }
         ensures err { OnErr result (self.new.awake ≡ self.old.awake) }
-        ensures parked { AreAlike self.old self.new }
+        ensures parked { AreParkedAlike self.old self.new }
     {
         self.awake.insert(u64::from(task), ())
     }
@@ -61,7 +61,7 @@ impl Parking {
     /// Has a task be looked at no more. It takes no memory.
     pub fn rest(&mut self, task: u32)
         ensures awake { self.new.awake ≡ map.remove self.old.awake task }
-        ensures parked { AreAlike self.old self.new }
+        ensures parked { AreParkedAlike self.old self.new }
     {
         let _ = self.awake.remove(u64::from(task));
     }

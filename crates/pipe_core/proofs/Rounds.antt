@@ -8,7 +8,7 @@ use Rattle.std.proofs.lemmas.List.{take-append-drop, take_all}
 use Rattle.std.proofs.Math.Seq.{take-append-add}
 use Rattle.std.proofs.lemmas.Bool.{cases_lt}
 use Rattle.std.proofs.lemmas.Grind.{same_number_lists}
-use Rattle.pipe_core.specs.Rings.{bytes_from}
+use Rattle.pipe_core.specs.Rings.{bytes_on_ring}
 
 -- a place less than two rounds on lies in the first round or in the second
 pub within_two_rounds : (j : ℕ) → j < 131072 → ((j < 65536) × (j % 65536 ≡ j)) ⊎ ((65536 ≤ j) × (j % 65536 ≡ j - 65536))
@@ -19,13 +19,13 @@ within_two_rounds j below = elim (cases_lt j 65536) [
 
 module _ (start count : ℕ) (slots : List ℕ) (begins : start < 65536) (fits : count ≤ 65536)
     (whole : length slots ≡ 65536) where
-  pub length-bytes_from : length (bytes_from start count slots) ≡ count
+  pub length-bytes_from : length (bytes_on_ring start count slots) ≡ count
   length-bytes_from =
       length-take-le count _
       (simp (length-append, length-drop) (omega (arith, length-take-le start slots (omega arith))))
 
   -- byte i lies i slots on
-  pub get_or-bytes_from : (i d : ℕ) → i < count → get_or (bytes_from start count slots) i d
+  pub get_or-bytes_from : (i d : ℕ) → i < count → get_or (bytes_on_ring start count slots) i d
       ≡ get_or slots ((start + i) % 65536) d
   get_or-bytes_from i d in_range =
       let length_tail = length-drop start slots in
@@ -40,14 +40,15 @@ module _ (start count : ℕ) (slots : List ℕ) (begins : start < 65536) (fits :
 
 -- without its first bytes the ring has the others, from so many slots on
 pub rest_from : (start count gone : ℕ) (slots : List ℕ) → start < 65536 → count ≤ 65536 → length slots ≡ 65536
-    → gone ≤ count → bytes_from ((start + gone) % 65536) (count - gone) slots ≡ drop gone (bytes_from start count slots)
+    → gone ≤ count → bytes_on_ring ((start + gone) % 65536) (count - gone) slots
+    ≡ drop gone (bytes_on_ring start count slots)
 rest_from start count gone slots begins fits whole within =
     same_lists _ _
-    (omega (arith, length_left, length-drop gone (bytes_from start count slots), length_all)) (λ i d in_range.
+    (omega (arith, length_left, length-drop gone (bytes_on_ring start count slots), length_all)) (λ i d in_range.
     get_or-bytes_from next (count - gone) slots next_begins (omega arith) whole i d (omega (arith, length_left))
     ∙ ap (λ j. get_or slots j d) (omega arith)
     ∙ sym (get_or-bytes_from start count slots begins fits whole (gone + i) d (omega (arith, length_left)))
-    ∙ sym (get_or-drop gone (bytes_from start count slots) i d))
+    ∙ sym (get_or-drop gone (bytes_on_ring start count slots) i d))
   where
     next : ℕ
     next = (start + gone) % 65536
@@ -55,10 +56,10 @@ rest_from start count gone slots begins fits whole within =
     next_begins : next < 65536
     next_begins = omega arith
 
-    length_all : length (bytes_from start count slots) ≡ count
+    length_all : length (bytes_on_ring start count slots) ≡ count
     length_all = length-bytes_from start count slots begins fits whole
 
-    length_left : length (bytes_from next (count - gone) slots) ≡ count - gone
+    length_left : length (bytes_on_ring next (count - gone) slots) ≡ count - gone
     length_left = length-bytes_from next (count - gone) slots next_begins (omega arith) whole
 
 -- bytes that were put into the slots behind the others stand behind them
@@ -67,19 +68,19 @@ pub put_behind : (start count : ℕ) (slots slots' bytes : List ℕ) → start <
     ((i : ℕ) → i < length bytes → get_or slots' (((start + count) % 65536 + i) % 65536) 0 ≡ get_or bytes i 0) →
     ((i : ℕ) → length bytes ≤ i → i < 65536 → get_or slots' (((start + count) % 65536 + i) % 65536) 0
     ≡ get_or slots (((start + count) % 65536 + i) % 65536) 0) →
-    bytes_from start (count + length bytes) slots' ≡ bytes_from start count slots ++ bytes
+    bytes_on_ring start (count + length bytes) slots' ≡ bytes_on_ring start count slots ++ bytes
 put_behind start count slots slots' bytes begins whole whole' fits put others =
-    same_number_lists _ _ (omega (arith, length_new, length_old, length-append (bytes_from start count slots) bytes))
+    same_number_lists _ _ (omega (arith, length_new, length_old, length-append (bytes_on_ring start count slots) bytes))
     (λ i in_range. at i (omega (arith, length_new)))
   where
-    length_old : length (bytes_from start count slots) ≡ count
+    length_old : length (bytes_on_ring start count slots) ≡ count
     length_old = length-bytes_from start count slots begins (omega arith) whole
 
-    length_new : length (bytes_from start (count + length bytes) slots') ≡ count + length bytes
+    length_new : length (bytes_on_ring start (count + length bytes) slots') ≡ count + length bytes
     length_new = length-bytes_from start (count + length bytes) slots' begins fits whole'
 
-    at : (i : ℕ) → i < count + length bytes → get_or (bytes_from start (count + length bytes) slots') i 0
-        ≡ get_or (bytes_from start count slots ++ bytes) i 0
+    at : (i : ℕ) → i < count + length bytes → get_or (bytes_on_ring start (count + length bytes) slots') i 0
+        ≡ get_or (bytes_on_ring start count slots ++ bytes) i 0
     at i in_range = get_or-bytes_from start (count + length bytes) slots' begins fits whole' i 0 in_range
         ∙ elim (cases_lt i count) [
           | inl old ↦
@@ -87,11 +88,11 @@ put_behind start count slots slots' bytes begins whole whole' fits put others =
               ∙ others (65536 - count + i) (omega arith) (omega arith)
               ∙ ap (λ j. get_or slots j 0) (omega arith)
               ∙ sym (get_or-bytes_from start count slots begins (omega arith) whole i 0 old)
-              ∙ sym (get_or_append_left (bytes_from start count slots) bytes 0 i (omega (arith, length_old)))
+              ∙ sym (get_or_append_left (bytes_on_ring start count slots) bytes 0 i (omega (arith, length_old)))
           | inr new ↦
               ap (λ j. get_or slots' j 0) (omega arith)
               ∙ put (i - count) (omega arith)
-              ∙ sym (get_or-append_right (bytes_from start count slots) bytes count i 0 length_old new)
+              ∙ sym (get_or-append_right (bytes_on_ring start count slots) bytes count i 0 length_old new)
         ]
 
 -- slots into which bytes were moved from one on, so many of them up to the last slot and the others to the first slots
@@ -155,7 +156,7 @@ module _ (start first : ℕ) (slots bytes : List ℕ) (begins : start < 65536) (
 -- the two runs of slots in which the bytes lie, the first up to the last slot
 pub two_runs : (start count first : ℕ) (slots : List ℕ) → start < 65536 → count ≤ 65536 → length slots ≡ 65536
     → first ≡ min count (65536 - start)
-    → take first (drop start slots) ++ take (count - first) slots ≡ bytes_from start count slots
+    → take first (drop start slots) ++ take (count - first) slots ≡ bytes_on_ring start count slots
 two_runs start count first slots begins fits whole cut = elim (cases_lt (65536 - start) count) [
   | inr one ↦
       let all : first ≡ count = omega arith in

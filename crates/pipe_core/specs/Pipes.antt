@@ -39,10 +39,10 @@ WriteWaits pipe count = (0 < pipe.readers) × (room_in pipe < room_wanted count)
 
 -- how many bytes a write has put
 -- write(2), RETURN VALUE
-abbrev pub put_by : PipeWrite → ℕ
-put_by (Put count) = count
-put_by Wait = 0
-put_by Broken = 0
+abbrev pub count_put : PipeWrite → ℕ
+count_put (Put count) = count
+count_put Wait = 0
+count_put Broken = 0
 
 -- the pipe after its first bytes were read
 -- pipe(7), I/O on pipes and FIFOs

@@ -9,10 +9,10 @@ slots_from start slots = drop start slots ++ take start slots
 
 -- so many bytes from a slot on, going round
 -- profile
-abbrev pub bytes_from : (start count : ℕ) → List ℕ → List ℕ
-bytes_from start count slots = take count (slots_from start slots)
+abbrev pub bytes_on_ring : (start count : ℕ) → List ℕ → List ℕ
+bytes_on_ring start count slots = take count (slots_from start slots)
 
 -- the byte so many slots on from one, going round
 -- profile
-abbrev pub byte_at : (start i : ℕ) → List ℕ → ℕ
-byte_at start i slots = slice_index slots ((start + i) % CAPACITY)
+abbrev pub byte_on_ring : (start i : ℕ) → List ℕ → ℕ
+byte_on_ring start i slots = slice_index slots ((start + i) % CAPACITY)

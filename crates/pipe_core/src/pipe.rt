@@ -1,7 +1,7 @@
 //! A pipe, its reads and its writes.
 
 ghost use Rattle.std.specs.Prelude.{◌≡◌, ℕ, ◌+◌, ◌-◌, ◌^◌, ◌<◌, ◌≤◌, ◌↔◌, ◌++◌, length, min, take, drop, IfOk};
-ghost use Rattle.pipe_core.specs.Pipes.{ReadWaits, WriteWaits, after_read, after_write, new_pipe, put_by, room_in};
+ghost use Rattle.pipe_core.specs.Pipes.{ReadWaits, WriteWaits, after_read, after_write, new_pipe, count_put, room_in};
 ghost use Rattle.pipe_core.specs.Pipes.{with_ends};
 
 use crate::ring::{CAPACITY, Ring};
@@ -84,8 +84,8 @@ impl Pipe {
         ensures put { (n : ℕ) → result ≡ PipeWrite.Put n → n ≡ min (length bytes.now) (room_in self.old) }
         ensures atomic { length bytes.now ≤ ATOMIC → (n : ℕ) → result ≡ PipeWrite.Put n →
             n ≡ length bytes.now }
-        ensures after { self.new ≡ after_write self.old (take (put_by result) bytes.now) }
-        ensures unchanged { put_by result ≡ 0 → self.new ≡ self.old }
+        ensures after { self.new ≡ after_write self.old (take (count_put result) bytes.now) }
+        ensures unchanged { count_put result ≡ 0 → self.new ≡ self.old }
     {
         if self.readers == 0 {
             return PipeWrite::Broken;

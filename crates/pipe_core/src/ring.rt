@@ -1,7 +1,7 @@
 //! The bytes on their way through a pipe: a ring of slots, taken when it is made.
 
 ghost use Rattle.std.specs.Prelude.{◌≡◌, ℕ, ◌+◌, ◌<◌, ◌≤◌, List, [], ◌++◌, length, take, drop, IfOk, slice_index};
-ghost use Rattle.pipe_core.specs.Rings.{byte_at, bytes_from};
+ghost use Rattle.pipe_core.specs.Rings.{byte_on_ring, bytes_on_ring};
 
 use sn_base::Memory;
 use std::alloc::Global;
@@ -21,12 +21,12 @@ pub(crate) struct Ring {
 
 impl Model for Ring {
     ghost use Rattle.std.specs.Prelude.{ℕ, ◌≡◌, ◌<◌, ◌≤◌, List, length};
-    ghost use Rattle.pipe_core.specs.Rings.{bytes_from};
+    ghost use Rattle.pipe_core.specs.Rings.{bytes_on_ring};
     ghost use Rattle.pipe_core.specs.declared.ring.TheConstants.{CAPACITY};
 
     ghost Value = { List ℕ };
 
-    ghost view = { λ a. bytes_from a.start a.len a.slots.items };
+    ghost view = { λ a. bytes_on_ring a.start a.len a.slots.items };
 
     ghost invariant = { λ a. (length a.slots.items ≡ CAPACITY) × (a.start < CAPACITY) × (a.len ≤ CAPACITY) };
 }
@@ -107,7 +107,7 @@ fn copy_out(slots: &[u8], start: usize, to: &mut [u8])
     requires slots { length slots.now ≡ CAPACITY }
     requires start { start < CAPACITY }
     requires within { length to.old ≤ CAPACITY }
-    ensures { to.new ≡ bytes_from start (length to.old) slots.now }
+    ensures { to.new ≡ bytes_on_ring start (length to.old) slots.now }
 {
     let len = to.len();
     let first = len.min(CAPACITY - start);
@@ -121,9 +121,9 @@ fn copy_in(slots: &mut [u8], start: usize, bytes: &[u8])
     requires start { start < CAPACITY }
     requires within { length bytes.now ≤ CAPACITY }
     ensures len { length slots.new ≡ CAPACITY }
-    ensures put { (i : ℕ) → i < length bytes.now → byte_at start i slots.new ≡ slice_index bytes.now i }
+    ensures put { (i : ℕ) → i < length bytes.now → byte_on_ring start i slots.new ≡ slice_index bytes.now i }
     ensures kept { (i : ℕ) → length bytes.now ≤ i → i < CAPACITY →
-        byte_at start i slots.new ≡ byte_at start i slots.old }
+        byte_on_ring start i slots.new ≡ byte_on_ring start i slots.old }
 {
     let first = bytes.len().min(CAPACITY - start);
     slots[start..start + first].copy_from_slice(&bytes[..first]);

@@ -5,7 +5,7 @@ ghost use Rattle.std.specs.FinMap as map;
 ghost use Rattle.std.specs.List.{list_any};
 ghost use Rattle.kernel_model.specs.files.FileTree.{owner_executes};
 ghost use Rattle.kernel_model.specs.entries.Given.{has_any, above_last, may_meet};
-ghost use Rattle.kernel_model.specs.opening.Opening.{image_in, executed, numbered_image, walk_of, draws_just};
+ghost use Rattle.kernel_model.specs.opening.Opening.{image_or_errno, executed, numbered_image, walk_of, draws_just};
 ghost use Rattle.kernel_model.specs.opening.Opening.{by_walk, name_in_path, root_of, execve_of};
 ghost use Rattle.kernel_model.specs.entries.Parts.{parts, outcome_in as outcome};
 ghost use Rattle.kernel_model.specs.laws.Room.{fits};
@@ -65,7 +65,7 @@ impl Execved {
 
 /// The image of a file's bytes, as execve takes it.
 fn image_in(alloc: Global, bytes: &[u8]) -> Result<Result<Image, Errno>, Memory>
-    ensures image { IfOk result (λ image. image ≡ image_in bytes.now) }
+    ensures image { IfOk result (λ image. image ≡ image_or_errno bytes.now) }
     ensures pages { IfOk result (λ image. fits image ≡ true) }
 {
     if LONGEST_IMAGE < bytes.len() as u64 {

@@ -35,7 +35,7 @@ use Rattle.kernel_model.proofs.CallLemmas.{call_disordered, call_failing}
 use Rattle.kernel_model.proofs.Failing.{faulted_is}
 use Rattle.kernel_model.proofs.NamedMaps.{same_or_other}
 use Rattle.kernel_model.proofs.Trees.{outcome-bind}
-use Rattle.kernel_calls.specs.Making.{with_child, with_registers, with_task, with_words}
+use Rattle.kernel_calls.specs.Making.{with_new_child, with_registers, with_new_task, with_words}
 use Rattle.guest_access.specs.Memories.{with_memory}
 use Rattle.kernel_calls.specs.Prepared.{Comes, with_effect}
 use Rattle.kernel_calls.specs.declared.clone.Child.{Child}
@@ -202,16 +202,16 @@ words_alike None c own k = refl
 words_alike (Some words) c own k = refl
 
 task_alike : (place : ℕ) (memory : Option AddressSpace) (clear : ℕ) (c : Caller) (own : AddressSpace) (k : Kernel)
-    → with_task place memory clear (record c { space = own }) k ≡ with_task place memory clear c k
+    → with_new_task place memory clear (record c { space = own }) k ≡ with_new_task place memory clear c k
 task_alike place None clear c own k = refl
 task_alike place (Some memory) clear c own k = refl
 
 child_alike : (child : Child) (place : ℕ) (c : Caller) (own : AddressSpace) (k : Kernel)
-    → with_child child place (record c { space = own }) k ≡ with_child child place c k
+    → with_new_child child place (record c { space = own }) k ≡ with_new_child child place c k
 child_alike child place c own k =
     ap (with_registers child (k.tasks.last + 1))
     (task_alike place child.memory child.clear c own (with_words child.words (record c { space = own }) k)
-    ∙ ap (with_task place child.memory child.clear c) (words_alike child.words c own k))
+    ∙ ap (with_new_task place child.memory child.clear c) (words_alike child.words c own k))
 
 kept_alike : (row : Prog Answer) (d : ACalled) (c : Caller) (own : AddressSpace) (k : Kernel) (space : AddressSpace)
     (areas : NamedMap AreaState) → Comes row d c k space areas → Comes row d (record c { space = own }) k space areas
@@ -290,7 +290,7 @@ module _ (k left : Kernel) (c : Caller) (areas : NamedMap AreaState) (told reply
       (λ row comes. replied_so row p.reply comes.changes comes.row_is (does comes.changes comes.done_is))
 
   pub finish_makes : (child : Child) → d ≡ Of (called.Makes child) → ((changes : List Change)
-      → changed changes k ≡ with_child child (k.entries + 1) c k
+      → changed changes k ≡ with_new_child child (k.entries + 1) c k
       → Does (replied_by c told changes (Replies (pos (k.tasks.last + 1)))) k left r)
       → Finishes k left c areas reply r d
   finish_makes child is does =
@@ -401,7 +401,7 @@ drawn_unused k given may order = ordered_unused given k order may
 -- ---- a child that is made
 
 task_registers : (place : ℕ) (memory : Option AddressSpace) (clear : ℕ) (c : Caller) (k : Kernel)
-    → (with_task place memory clear c k).registers ≡ k.registers
+    → (with_new_task place memory clear c k).registers ≡ k.registers
 task_registers place None clear c k = refl
 task_registers place (Some memory) clear c k = refl
 
@@ -411,7 +411,7 @@ words_registers (Some words) c k = refl
 
 -- it has registers beside those that there are
 child_registers : (child : Child) (place : ℕ) (c : Caller) (k : Kernel)
-    → (with_child child place c k).registers ≡ map.insert k.registers (k.tasks.last + 1) child.registers
+    → (with_new_child child place c k).registers ≡ map.insert k.registers (k.tasks.last + 1) child.registers
 child_registers child place c k =
     ap (λ m. map.insert m (k.tasks.last + 1) child.registers)
     (task_registers place child.memory child.clear c (with_words child.words c k) ∙ words_registers child.words c k)
@@ -425,7 +425,7 @@ has_beside m key other v has =
       | inr apart ↦ ap is_some (get-insert_other m other key v apart) ∙ has
     ]
 
-pub caller_stays : (child : Child) (place : ℕ) (c : Caller) (k after : Kernel) → with_child child place c k ≡ after
+pub caller_stays : (child : Child) (place : ℕ) (c : Caller) (k after : Kernel) → with_new_child child place c k ≡ after
     → map.contains_key k.registers c.task ≡ true → map.contains_key after.registers c.task ≡ true
 caller_stays child place c k after is has =
     ap (λ (m : Kernel). map.contains_key m.registers c.task) (sym is)

@@ -4,7 +4,7 @@ ghost use Rattle.std.specs.Prelude.{◌≡◌, ◌+◌, ◌<◌, true, [], Some,
 ghost use Rattle.std.specs.Ordering.{int_eq};
 ghost use Rattle.sn_errno.specs.Errors.{reply_of};
 ghost use Rattle.sn_errno.specs.declared.errno.Errno.TheVariants.{EIO};
-ghost use Rattle.kernel_calls.specs.Making.{with_child};
+ghost use Rattle.kernel_calls.specs.Making.{with_new_child};
 ghost use Rattle.guest_access.specs.Memories.{with_memory};
 ghost use Rattle.kernel_calls.specs.Prepared.{EndsCaller, EndsOnly, HasRoomFor, with_effect};
 ghost use Rattle.kernel_model.specs.Names.{get_named};
@@ -277,7 +277,7 @@ fn make_child(
     requires there { IsThere caller.now kernel.old }
     requires room { IsRoomFor kernel.old.tasks }
     ensures { (changes : Items Change) →
-        changed changes kernel.old ≡ with_child child (kernel.old.entries + 1) caller.now kernel.old →
+        changed changes kernel.old ≡ with_new_child child (kernel.old.entries + 1) caller.now kernel.old →
         Does (replied_by caller.now reply changes (Replies (pos (kernel.old.tasks.last + 1))))
         kernel.old kernel.new result }
 {

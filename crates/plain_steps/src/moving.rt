@@ -10,7 +10,7 @@ ghost use Rattle.kernel_model.specs.calls.Pipes.{pipe_made};
 ghost use Rattle.kernel_model.specs.entries.Parts.{Change, Prog, changed};
 ghost use Rattle.kernel_model.specs.entries.Steps.{replied_by};
 ghost use Rattle.call_fs.specs.Pipes.{MakesPipe};
-ghost use Rattle.call_fs.specs.Transfers.{HasRoom, after_transfer};
+ghost use Rattle.call_fs.specs.Transfers.{FitsPipe, after_transfer};
 ghost use Rattle.plain_steps.specs.Doing.{Does, IsThere};
 
 use crate::callers::context;
@@ -32,7 +32,7 @@ pub(crate) fn move_bytes(
     transfer: Transfer,
 ) -> Result<bool, Memory>
     requires there { IsThere caller.old kernel.old }
-    requires room { HasRoom transfer kernel.old.files }
+    requires room { FitsPipe transfer kernel.old.files }
     ensures { (changes : Items Change) → changed changes kernel.old
         ≡ after_transfer transfer caller.old.space
         (with_memory caller.old caller.old.space areas.old kernel.old) →

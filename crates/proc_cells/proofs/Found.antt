@@ -9,7 +9,7 @@ use Rattle.task_table.specs.declared.task.Group.{Group}
 use Rattle.task_table.specs.Table.{TaskTable, is_live, group_of}
 use Rattle.kernel_model.specs.Names.{NamedMap, get_named}
 use Rattle.kernel_model.specs.declared.caller.Caller.{Caller}
-use Rattle.kernel_model.specs.calls.Callers.{in_memory, with_memory, in_group}
+use Rattle.kernel_model.specs.calls.Callers.{in_memory, caller_with_memory, in_group}
 use Rattle.kernel_model.specs.entries.Parts.{Parts, parts, done, outcome_in}
 use Rattle.proc_cells.specs.Beside.{nothing_beside, nothing_held, kernel_with, found_in}
 
@@ -51,7 +51,7 @@ module _ (list : TaskTable) (registers : map.FinMap nat_cmp Regs) (spaces : Name
   found_by group r space live grouped registered remembered =
       ap (λ b. outcome_in s (cond b (in_group task number (map.get list.groups number)) (done None))) live
       ∙ ap (λ o. outcome_in s (in_group task number o)) grouped
-      ∙ ap (λ o. outcome_in s (with_memory task number group o)) registered
+      ∙ ap (λ o. outcome_in s (caller_with_memory task number group o)) registered
       ∙ ap (in_memory task number group r) remembered
 
   -- and where it is found, they are there
@@ -82,7 +82,7 @@ module _ (list : TaskTable) (registers : map.FinMap nat_cmp Regs) (spaces : Name
 
       by_registers : (group : Group) → is_live list.tasks task ≡ true → map.get list.groups number ≡ Some group
           → (o : Option Regs) → map.get registers task ≡ o
-          → outcome_in s (with_memory task number group o) ≡ Some c → Parted c
+          → outcome_in s (caller_with_memory task number group o) ≡ Some c → Parted c
       by_registers group live grouped None e found = absurd (cc found)
       by_registers group live grouped (Some r) e found =
           by_space group r live grouped e (get_named spaces group.memory.place group.memory.index) refl found

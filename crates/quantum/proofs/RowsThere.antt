@@ -4,7 +4,7 @@ use Rattle.std.proofs.Common.{ap, ◌∙◌, eq-eqb, lt-ltb}
 use Rattle.std.specs.Prelude.{if◌then◌else◌, is_some, option_map}
 use Rattle.std.proofs.lemmas.Bool.{and_from}
 use Rattle.rv_table.specs.declared.instr.Instr.{Instr}
-use Rattle.mm_frames.specs.Rows.{row_of}
+use Rattle.mm_frames.specs.Rows.{decoded_row}
 use Rattle.mm_areas.specs.Contents.{bytes_at, bytes_mapped}
 use Rattle.mm_areas.specs.DecodedWords.{row_at}
 use Rattle.mm_areas.specs.Hints.{allows_at}
@@ -15,10 +15,10 @@ use Rattle.mm_space.specs.declared.space.Space.{Space}
 use Rattle.mm_space.specs.Accesses.{executable}
 use Rattle.mm_space.specs.Spaces.{reach}
 use Rattle.mm_space.proofs.NearPuts.{IsPrivatePage, bytes_page}
-use Rattle.quantum.specs.Acting.{Acting, acting_on, has_instrs, instrs_of, is_whole}
+use Rattle.quantum.specs.Acting.{Acting, acting_on, has_instrs, instrs_of, is_whole_page}
 
 has_bytes : (bytes : Option (List ℕ)) (words : List Instr)
-    → option_map row_of bytes ≡ Some words → is_some bytes ≡ true
+    → option_map decoded_row bytes ≡ Some words → is_some bytes ≡ true
 has_bytes None words row = absurd (cc row)
 has_bytes (Some bytes) words row = refl
 
@@ -26,11 +26,11 @@ module _ (task page : ℕ) (space : Space) (handed : Handed) (words : List Instr
   abbrev pages : Pages
   pages = (mapping space.areas).pages
 
-  whole_page : row_at pages page ≡ Some words → is_whole (bytes_at pages page) ≡ true
+  whole_page : row_at pages page ≡ Some words → is_whole_page (bytes_at pages page) ≡ true
   whole_page row =
       let private : IsPrivatePage space.areas page
       = bytes_page space.areas page (has_bytes (bytes_at pages page) words row) in
-      ap (λ (found : Option Mapped). is_whole (bytes_mapped found)) private.there
+      ap (λ (found : Option Mapped). is_whole_page (bytes_mapped found)) private.there
       ∙ eq-eqb (length private.bytes) 4096 private.whole
 
   -- the words of a page that may be executed are its instructions
@@ -38,9 +38,9 @@ module _ (task page : ℕ) (space : Space) (handed : Handed) (words : List Instr
       → instrs_of (acting_on task (reach space handed)) page ≡ Some words
   instrs_there low allowed row =
       ap (λ (test : Bool). if test then row_at pages page else None)
-      (and_from (nat_lt page (2 ^ 52)) (allows_at pages page executable && is_whole (bytes_at pages page))
+      (and_from (nat_lt page (2 ^ 52)) (allows_at pages page executable && is_whole_page (bytes_at pages page))
       (lt-ltb page (2 ^ 52) low)
-      (and_from (allows_at pages page executable) (is_whole (bytes_at pages page)) allowed (whole_page row)))
+      (and_from (allows_at pages page executable) (is_whole_page (bytes_at pages page)) allowed (whole_page row)))
       ∙ row
 
 chosen : {X : Type 0} → (test : Bool) (found : Option X) (value : X)

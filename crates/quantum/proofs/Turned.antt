@@ -9,7 +9,7 @@ use Rattle.rv_exec.specs.Execution.{Done, Goes, Calls, Traps, Touches, StepsAs, 
 use Rattle.rv_exec.specs.declared.outcome.Step.{Step}
 use Rattle.rv_exec.specs.declared.outcome.Step.TheVariants as steps
 use Rattle.rv_exec.proofs.Courses.{ran_add, ran_still, ran_suc, ran_zero}
-use Rattle.quantum.specs.Acting.{Acting, after_write, memory_of}
+use Rattle.quantum.specs.Acting.{Acting, acting_after_write, memory_of}
 use Rattle.quantum.specs.Ends.{LacksMemory, Ran, end_of}
 use Rattle.quantum.specs.Instructions.{Going, ran}
 use Rattle.quantum.specs.Turns.{TurnsTo}
@@ -20,36 +20,39 @@ use Rattle.quantum.specs.declared.turn.Stop.TheVariants as stops
 pub ran_then : (n m k : ℕ) (start between end : Going) → n + m ≡ k → ran n start ≡ Some between
     → ran m between ≡ Some end → ran k start ≡ Some end
 ran_then n m k start between end is first then_ =
-    ap (λ j. ran j start) (sym is) ∙ ran_add memory_of after_write n m start between end first then_
+    ap (λ j. ran j start) (sym is) ∙ ran_add memory_of acting_after_write n m start between end first then_
 
 -- none
 pub still : (k : ℕ) (old new : Acting) (before after : Regs) → k ≡ 0 → after ≡ before → new ≡ old
     → ran k (courses.going old before) ≡ Some (courses.going new after)
 still k old new before after is same told =
-    ran_still memory_of after_write k before old new is told ∙ ap (λ (r : Regs). Some (courses.going new r)) (sym same)
+    ran_still memory_of acting_after_write k before old new is told
+    ∙ ap (λ (r : Regs). Some (courses.going new r)) (sym same)
 
 -- one, as a step did it
-went : (done : Done) (old new : Acting) (before after : Regs) → StepsAs after_write done before after old new steps.Next
-    → courses.went_by after_write old done ≡ Some (courses.going new after)
+went : (done : Done) (old new : Acting) (before after : Regs)
+    → StepsAs acting_after_write done before after old new steps.Next
+    → courses.went_by acting_after_write old done ≡ Some (courses.going new after)
 went (Goes r ws) old new before after h = λ i. Some (courses.going (sym h.1 i) (sym h.0 i))
 went Calls old new before after h = absurd h
 went (Traps signal) old new before after h = absurd h
 went (Touches area) old new before after h = absurd h
 
 pub stepped : (k : ℕ) (old new : Acting) (before after : Regs) (step : Step) → k ≡ 1 → step ≡ steps.Next
-    → StepsAs after_write (exec (memory_of old) before) before after old new step → ran k (courses.going old before)
+    → StepsAs acting_after_write (exec (memory_of old) before) before after old new step
+    → ran k (courses.going old before)
     ≡ Some (courses.going new after)
 stepped k old new before after step is next did =
     ap (λ j. ran j (courses.going old before)) is
-    ∙ ran_suc memory_of after_write 0 (courses.going old before)
-    ∙ ap (option_and_then (courses.one_more memory_of after_write))
-    (ran_zero memory_of after_write (courses.going old before))
+    ∙ ran_suc memory_of acting_after_write 0 (courses.going old before)
+    ∙ ap (option_and_then (courses.one_instruction_more memory_of acting_after_write))
+    (ran_zero memory_of acting_after_write (courses.going old before))
     ∙ went (exec (memory_of old) before) old new before after
-    (subst (λ (s : Step). StepsAs after_write (exec (memory_of old) before) before after old new s) next did)
+    (subst (λ (s : Step). StepsAs acting_after_write (exec (memory_of old) before) before after old new s) next did)
 
 -- a step that did no instruction changed nothing
 pub unmoved : (done : Done) (old new : Acting) (before after : Regs) (step : Step)
-    → StepsAs after_write done before after old new step → (step ≡ steps.Next → ⊥)
+    → StepsAs acting_after_write done before after old new step → (step ≡ steps.Next → ⊥)
     → (after ≡ before) × (new ≡ old)
 unmoved done old new before after steps.Next h apart = absurd (apart refl)
 unmoved (Goes r ws) old new before after steps.Memory h apart = h
@@ -81,7 +84,7 @@ pub next_apart : {step other : Step} → step ≡ other → is_next other ≡ fa
 next_apart is other next = false≢true (sym other ∙ ap is_next (sym is ∙ next))
 
 pub halted : (k : ℕ) (old new : Acting) (before after : Regs) (step : Step) → k ≡ 0
-    → StepsAs after_write (exec (memory_of old) before) before after old new step
+    → StepsAs acting_after_write (exec (memory_of old) before) before after old new step
     → (step ≡ steps.Next → ⊥) → ran k (courses.going old before) ≡ Some (courses.going new after)
 halted k old new before after step is did apart =
     let same = unmoved (exec (memory_of old) before) old new before after step did apart in

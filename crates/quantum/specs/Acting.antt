@@ -36,10 +36,10 @@ memory_of a = record {
 
 -- what it reaches after one of its instructions has written
 -- RISC-V Unprivileged ISA 20191213, 2.6, Load and Store Instructions; 8.2, Load-Reserved/Store-Conditional Instructions
-abbrev pub after_write : Write → Acting → Acting
-after_write (Stores at width value) a = acting_on a.task (after_stored a.task at width value a.reach)
-after_write (Reserves at width) a = acting_on a.task (after_reserved a.task at width a.reach)
-after_write (Releases at) a = acting_on a.task (after_taken a.task at a.reach)
+abbrev pub acting_after_write : Write → Acting → Acting
+acting_after_write (Stores at width value) a = acting_on a.task (after_stored a.task at width value a.reach)
+acting_after_write (Reserves at width) a = acting_on a.task (after_reserved a.task at width a.reach)
+acting_after_write (Releases at) a = acting_on a.task (after_taken a.task at a.reach)
 
 -- whether two addresses are of one byte: the same address, or the same byte of a shared area that is mapped twice
 -- mmap(2), MAP_SHARED; RISC-V Unprivileged ISA 20191213, 1.4: addresses go round at 2^64
@@ -62,14 +62,14 @@ is_same acting a b =
 
 -- whether bytes are a whole page's: those of a private page always are
 -- getpagesize(2): 4,096 bytes
-abbrev pub is_whole : Option (List ℕ) → Bool
-is_whole None = false
-is_whole (Some bytes) = length bytes == 4096
+abbrev pub is_whole_page : Option (List ℕ) → Bool
+is_whole_page None = false
+is_whole_page (Some bytes) = length bytes == 4096
 
 -- whether a page is a private one that may be executed
 -- mmap(2), MAP_PRIVATE and PROT_EXEC
 abbrev pub has_instrs : Pages → (page : ℕ) → Bool
-has_instrs pages page = nat_lt page (2 ^ 52) && (allows_at pages page executable && is_whole (bytes_at pages page))
+has_instrs pages page = nat_lt page (2 ^ 52) && (allows_at pages page executable && is_whole_page (bytes_at pages page))
 
 -- the instructions of such a page's words
 -- RISC-V Unprivileged ISA 20191213, 1.5

@@ -2,7 +2,7 @@
 use Rattle.std.specs.Prelude.{ℕ, Option}
 use Rattle.rv_exec.specs.Courses as courses
 use Rattle.rv_exec.specs.Execution.{Done, exec}
-use Rattle.quantum.specs.Acting.{Acting, after_write, memory_of}
+use Rattle.quantum.specs.Acting.{Acting, acting_after_write, memory_of}
 
 -- a task with its registers, over what it reaches
 -- profile
@@ -17,4 +17,4 @@ next_done g = exec (memory_of g.acting) g.registers
 -- the task after so many instructions, none of which traps, calls or touches a shared area that is not handed in
 -- the same
 abbrev pub ran : ℕ → Going → Option Going
-ran n g = courses.ran memory_of after_write n g
+ran n g = courses.after_instructions memory_of acting_after_write n g

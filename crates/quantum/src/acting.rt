@@ -21,9 +21,9 @@ pub(crate) struct Acting {
 
 impl Mem for Acting {
     ghost use Rattle.std.specs.Prelude.{true};
-    ghost use Rattle.mm_space.specs.Places.{is_ready};
+    ghost use Rattle.mm_space.specs.Places.{takes_no_memory};
     ghost use Rattle.mm_space.specs.Spaces.{reach};
-    ghost use Rattle.quantum.specs.Acting.{Acting as State, acting_on, after_write, instrs_of, is_same, memory_of};
+    ghost use Rattle.quantum.specs.Acting.{Acting as State, acting_on, acting_after_write, instrs_of, is_same, memory_of};
     ghost use Rattle.quantum.specs.laws.Writes.{written};
     ghost use Rattle.quantum.specs.laws.Places.{itself};
     ghost use Rattle.quantum.specs.laws.Decoded.{decoded};
@@ -34,13 +34,13 @@ impl Mem for Acting {
 
     ghost seen = { memory_of };
 
-    ghost after = { after_write };
+    ghost after = { acting_after_write };
 
     ghost is_same = { is_same };
 
     ghost instrs = { instrs_of };
 
-    ghost is_ready = { λ a at width. is_ready a.space a.handed at width };
+    ghost is_ready = { λ a at width. takes_no_memory a.space a.handed at width };
 
     ghost takes_memory = { true };
 

@@ -27,6 +27,7 @@ use Rattle.kernel_model.specs.opening.Opening.{Misfits, Refuses, Walked, execve_
 use Rattle.kernel_model.specs.opening.Opening.{made_by, root_of}
 use Rattle.kernel_model.specs.opening.Opening.{task_begun, tasks_begun, with_task}
 use Rattle.kernel_model.proofs.OpenedTasks.{AreOpened, opened_more}
+use Rattle.image_walk.specs.declared.granted.TheConstants.{MOST_ROOTS}
 use Rattle.image_walk.specs.declared.granted.Numbering.{Numbering}
 use Rattle.image_walk.specs.declared.loading.Answer.{Answer}
 use Rattle.image_walk.specs.declared.loading.Answer.TheVariants as answers
@@ -37,11 +38,11 @@ use Rattle.image_walk.specs.Walking.{IsGrant}
 use Rattle.image_walk.proofs.KernelAnswers.{Started, Failed, execve_starts, execve_fails, stands_on}
 use Rattle.call_table.specs.declared.processes.Processes.{Processes}
 use Rattle.proc_cells.specs.Beside.{Beside}
-use Rattle.call_table.specs.Processes.{kernel_of}
+use Rattle.call_table.specs.Processes.{kernel_of_processes}
 use Rattle.run_opening.specs.declared.opening.OpenErr.{OpenErr}
 use Rattle.run_opening.specs.declared.opening.OpenErr.TheVariants.{Image, Memory}
 use Rattle.run_opening.specs.Begun.{GoesOn, HasBegun, IsRefused, Stops}
-use Rattle.run_opening.specs.Openings.{Begins, IsStanding, MayLack, StandsAfter, StandsStill, beside_of, numbering_of}
+use Rattle.run_opening.specs.Openings.{Begins, IsStanding, MayLackMemory, StandsAfter, StandsStill, beside_of, numbering_of}
 use Rattle.run_opening.specs.Told.{kernel_told, trees_told}
 use Rattle.run_opening.specs.Trees.{AreOthers, Others}
 use Rattle.run_opening.proofs.Roots.{have_trees, root_within}
@@ -111,15 +112,15 @@ module _ (m : Mounts) (others : Others) (is : AreOthers m.mounts others) (t : Sh
   h = tells m.mounts others is t names root children s
 
   abbrev k : Kernel
-  k = kernel_of p (beside_of m h.nodes) 0
+  k = kernel_of_processes p (beside_of m h.nodes) 0
 
   tells_k : kernel_told m (trees_told others root children) p 0 ≡ Some k
-  tells_k = ap (option_map (λ nodes. kernel_of p (beside_of m nodes) 0)) h.told
+  tells_k = ap (option_map (λ nodes. kernel_of_processes p (beside_of m nodes) 0)) h.told
 
   room : length names + num.first ≤ LAST_NUMBER
   room =
       let named : length names ≤ i = subst (λ (n : ℕ). n ≤ i) (length_standing num t names root children s) drawn in
-      let low : num.first ≤ 17 = facts.2 in
+      let low : num.first ≤ MOST_ROOTS + 1 = facts.2 in
       omega arith
 
   -- what is left comes to what the next execve does, where what it drew and met may be
@@ -141,7 +142,8 @@ module _ (m : Mounts) (others : Others) (is : AreOthers m.mounts others) (t : Sh
       children')
       (last : p.cells.tasks.last ≡ i)
       (begun : (beside : Beside) (n : ℕ) → beside.seed ≡ m.seed → root_of beside.mounts ≡ root_of m.mounts
-      → kernel_of more beside n ≡ with_task (p.cells.tasks.last + 1) program image (kernel_of p beside n)) where
+      → kernel_of_processes more beside n ≡ with_task (p.cells.tasks.last + 1) program image
+      (kernel_of_processes p beside n)) where
     started : Started num k t (named_then e.drawn names name) program o.given image
     started =
         execve_starts num facts k t names name o.given
@@ -152,17 +154,17 @@ module _ (m : Mounts) (others : Others) (is : AreOthers m.mounts others) (t : Sh
     nodes' = (changed started.changes k).nodes
 
     abbrev k' : Kernel
-    k' = kernel_of more (beside_of m nodes') 0
+    k' = kernel_of_processes more (beside_of m nodes') 0
 
     after : with_task (i + 1) program image (changed started.changes k) ≡ k'
     after =
         ap (with_task (i + 1) program image) started.rest
-        ∙ ap (λ n. with_task (n + 1) program image (kernel_of p (beside_of m nodes') 0)) (sym last)
+        ∙ ap (λ n. with_task (n + 1) program image (kernel_of_processes p (beside_of m nodes') 0)) (sym last)
         ∙ sym (begun (beside_of m nodes') 0 refl refl)
 
     tells_after : kernel_told m (trees_told others root' children') more 0 ≡ Some k'
     tells_after =
-        ap (option_map (λ nodes. kernel_of more (beside_of m nodes) 0))
+        ap (option_map (λ nodes. kernel_of_processes more (beside_of m nodes) 0))
         (told_nodes m.mounts others is t (named_then e.drawn names name) nodes' root' children'
         (stands_on num (is_too_long program.args program.env) t names name o.given image root' children' e)
         started.nodes (λ ino differs low. started.others ino differs low ∙ h.kept ino differs low))
@@ -250,7 +252,7 @@ still_by num false walked drawn count t names (rise ∷ []) root children s a = 
 still_by num false walked drawn count t names (rise ∷ other ∷ rises) root children s a = absurd a
 
 lacks_then : (num : Numbering) (long : Bool) (t : Shape) (names : List (List ℕ)) (name : List ℕ) (given : Given)
-    (answer : Answer) (root : Option Shape) (children : List Child) → MayLack answer
+    (answer : Answer) (root : Option Shape) (children : List Child) → MayLackMemory answer
     → Executes num long t names name given answer root children → StandsStill num t root children
 lacks_then num long t names name given answer root children (inl starts) e =
     stands_then num long t names name given starts.0 answer root children starts.1 e

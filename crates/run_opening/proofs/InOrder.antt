@@ -14,7 +14,7 @@ use Rattle.image_walk.specs.Standing.{Stands}
 use Rattle.image_walk.specs.Walking.{IsGrant, IsRoot, IsSilent}
 use Rattle.image_walk.proofs.Places.{root_is}
 use Rattle.call_table.specs.declared.processes.Processes.{Processes}
-use Rattle.call_table.specs.Processes.{kernel_of}
+use Rattle.call_table.specs.Processes.{kernel_of_processes}
 use Rattle.run_opening.specs.declared.opening.OpenErr.{OpenErr}
 use Rattle.run_opening.specs.declared.opening.OpenErr.TheVariants.{Image, Memory}
 use Rattle.run_opening.specs.Begun.{GoesOn, HasBegun, Stops}
@@ -28,14 +28,15 @@ use Rattle.run_opening.proofs.Telling.{told_nodes}
 pub begun_none : (m : Mounts) (others : Others) (t : Shape) (p : Processes) (root : Option Shape)
     (children : List Child) (tasks : List Opened) → AreOthers m.mounts others
     → Stands (numbering_of m.mounts) t [] [] root children
-    → ((nodes : Nodes) → kernel_of p (beside_of m nodes) 0 ≡ record (bare m (trees_with others t)) { nodes = nodes })
+    → ((nodes : Nodes) → kernel_of_processes p (beside_of m nodes) 0
+    ≡ record (bare m (trees_with others t)) { nodes = nodes })
     → IsSomeAnd (kernel_told m (trees_told others root children) p 0)
     (HasBegun m 0 0 tasks tasks (bare m (trees_with others t)))
 begun_none m others t p root children tasks is s same =
     let first : length m.mounts + 1 ≡ length others.before + length others.behind + 2 = omega (arith, is.long) in
     let nodes : Nodes = rooted 1 (trees_with others t) in
     let tells_bare : kernel_told m (trees_told others root children) p 0 ≡ Some (bare m (trees_with others t)) =
-    ap (option_map (λ ns. kernel_of p (beside_of m ns) 0))
+    ap (option_map (λ ns. kernel_of_processes p (beside_of m ns) 0))
     (told_nodes m.mounts others is t [] nodes root children s
     (are_nodes (numbering_of m.mounts) others t is.place first) (λ ino differs low. refl))
     ∙ ap Some (same nodes) in

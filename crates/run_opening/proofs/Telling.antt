@@ -14,7 +14,7 @@ use Rattle.kernel_model.specs.opening.Opening.{rooted}
 use Rattle.image_walk.specs.declared.granted.Numbering.{Numbering}
 use Rattle.image_walk.specs.Granted.{AreOut, CanGiveBack, Child}
 use Rattle.image_walk.specs.Loading.{faulted_by}
-use Rattle.image_walk.specs.Standing.{AreNodes, AreThere, HaveNodes, KeepsRoots, Stands, lend_all, lent_from}
+use Rattle.image_walk.specs.Standing.{AreNodes, StandUnlent, HaveNodes, KeepsRoots, Stands, lend_all, lent_from}
 use Rattle.image_walk.specs.Standing.{numbers_from}
 use Rattle.image_walk.proofs.OutAgain.{can_give_back}
 use Rattle.image_walk.proofs.Places.{IsThere, root_is}
@@ -54,7 +54,7 @@ pub record LentNodes (num : Numbering) (t root : Shape) (n : ℕ) (names : List 
   pub have : HaveNodes num nodes n t names
   pub below : (ino : ℕ) → ino < n → map.get nodes ino ≡ map.get base ino
 
-lent_nodes : (num : Numbering) (t root : Shape) (n : ℕ) (names : List (List ℕ)) (base : Nodes) → AreThere t names
+lent_nodes : (num : Numbering) (t root : Shape) (n : ℕ) (names : List (List ℕ)) (base : Nodes) → StandUnlent t names
     → AreOut root (lent_from n t names []) → ((ino : ℕ) → n ≤ ino → map.get base ino ≡ None)
     → LentNodes num t root n names base
 lent_nodes num t root n [] base there out none =
@@ -101,7 +101,7 @@ module _ (mounts : List Mount) (others : Others) (is : AreOthers mounts others) 
   abbrev num : Numbering
   num = numbering_of mounts
 
-  tells_of : (r : Shape) → AreThere t names → AreOut r (lent_from num.first t names []) → r ≡ lend_all names t
+  tells_of : (r : Shape) → StandUnlent t names → AreOut r (lent_from num.first t names []) → r ≡ lend_all names t
       → Tells num others t names (Some r) (lent_from num.first t names [])
   tells_of r there out lends =
       let children : List Child = lent_from num.first t names [] in

@@ -18,7 +18,7 @@ use Rattle.image_walk.specs.Granted.{Child}
 use Rattle.image_walk.specs.Standing.{Stands}
 use Rattle.call_table.specs.declared.processes.Processes.{Processes}
 use Rattle.proc_cells.specs.Beside.{Beside}
-use Rattle.call_table.specs.Processes.{kernel_of}
+use Rattle.call_table.specs.Processes.{kernel_of_processes}
 use Rattle.run_opening.specs.declared.opening.OpenErr.{OpenErr}
 use Rattle.run_opening.specs.declared.opening.OpenErr.TheVariants.{Image, Memory}
 
@@ -54,8 +54,8 @@ StandsAfter Memory num t root children = StandsStill num t root children
 
 -- an answer that is no error: an image that may lack memory to begin, or want of memory
 -- execve(2)
-abbrev pub MayLack : Answer → Type 0
-MayLack answer = ((image : Executable) × (answer ≡ answers.Starts image)) ⊎ (answer ≡ answers.Memory)
+abbrev pub MayLackMemory : Answer → Type 0
+MayLackMemory answer = ((image : Executable) × (answer ≡ answers.Starts image)) ⊎ (answer ≡ answers.Memory)
 
 -- what comes of an opening execve's answer: the task of the next number begins its image, or why not
 -- execve(2)
@@ -66,7 +66,8 @@ Begins seed root program answer p (Ok next) =
     × (next.cells.tasks
     ≡ opened p.cells.tasks (made_by (p.cells.tasks.last + 1)) (made_by (p.cells.tasks.last + 1)) root)
     × ((beside : Beside) (n : ℕ) → beside.seed ≡ seed → root_of beside.mounts ≡ root
-    → kernel_of next beside n ≡ with_task (p.cells.tasks.last + 1) program image (kernel_of p beside n))
+    → kernel_of_processes next beside n ≡ with_task (p.cells.tasks.last + 1) program image
+    (kernel_of_processes p beside n))
 Begins seed root program answer p (Err (Image task errno)) =
     (task ≡ p.cells.tasks.last + 1) × (answer ≡ answers.Refuses errno)
-Begins seed root program answer p (Err Memory) = MayLack answer
+Begins seed root program answer p (Err Memory) = MayLackMemory answer

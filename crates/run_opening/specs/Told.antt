@@ -12,7 +12,7 @@ use Rattle.image_walk.specs.declared.granted.Numbering.{Numbering}
 use Rattle.image_walk.specs.Granted.{Child}
 use Rattle.image_walk.specs.Standing.{numbers_from}
 use Rattle.call_table.specs.declared.processes.Processes.{Processes}
-use Rattle.call_table.specs.Processes.{kernel_of}
+use Rattle.call_table.specs.Processes.{kernel_of_processes}
 use Rattle.run_opening.specs.Openings.{beside_of, numbering_of}
 use Rattle.run_opening.specs.Trees.{Others, trees_with}
 
@@ -75,4 +75,4 @@ nodes_told num f =
 -- profile
 abbrev pub kernel_told : Mounts → TreesTold → Processes → (entries : ℕ) → Option Kernel
 kernel_told m f p entries =
-    option_map (λ nodes. kernel_of p (beside_of m nodes) entries) (nodes_told (numbering_of m.mounts) f)
+    option_map (λ nodes. kernel_of_processes p (beside_of m nodes) entries) (nodes_told (numbering_of m.mounts) f)

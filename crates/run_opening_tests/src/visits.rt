@@ -11,7 +11,7 @@ ghost use Rattle.run_opening.specs.Openings.{numbering_of};
 use crate::folders::{granted, root_folder};
 use host_memory::World;
 use host_node::{HostNode, HostWorld};
-use image_walk::{Executed, Granted, Numbering, execve};
+use image_walk::{Executed, Granted, MOST_ROOTS, Numbering, execve};
 use kernel_model::Opened;
 use mount_file::{Mounts, Program};
 use run_opening::{OpenErr, numbering, open_tasks};
@@ -61,7 +61,7 @@ pub fn execute_in(
 ) -> Result<Executed, Fail>
     requires { none_lent world.old.tree ≡ true }
 {
-    if numbers.root == 0 || numbers.first <= numbers.root || numbers.first > 17 {
+    if numbers.root == 0 || numbers.first <= numbers.root || numbers.first > MOST_ROOTS + 1 {
         return Err(Fail::from("no numbers of a folder"));
     }
     let folder = root_folder(alloc)?;

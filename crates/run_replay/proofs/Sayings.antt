@@ -11,7 +11,7 @@ use Rattle.mount_file.specs.declared.mounts.Mounts.{Mounts}
 use Rattle.sentry_run.specs.Outcome.{started_kernel}
 use Rattle.sentry_run.specs.declared.outcome.Outcome.{Outcome}
 use Rattle.sn_base.specs.declared.memory.Memory.{Memory}
-use Rattle.run_replay.specs.Replays.{Course, Fits, IsApartFrom, Says, course_of, started}
+use Rattle.run_replay.specs.Replays.{Course, Fits, IsApartFrom, Says, course_of, kernel_started}
 use Rattle.run_replay.specs.declared.replays.Replayed.{Replayed}
 use Rattle.run_replay.specs.declared.replays.Replayed.TheVariants.{Step, Text}
 
@@ -45,7 +45,7 @@ pub says_of : (run : Outcome) (trees : List Shape) (flag : Bool) (text : List �
     → IfOk r (Says run.mounts (from_kernel k run.trace flag text))
     → IfOk r (Says run.mounts (course_of run trees flag text))
 says_of run trees flag text m is k r opens says =
-    let starts : started run.mounts trees run.opening ≡ Some k =
-    ap (λ o. started o trees run.opening) is ∙ ap started_kernel opens in
+    let starts : kernel_started run.mounts trees run.opening ≡ Some k =
+    ap (λ o. kernel_started o trees run.opening) is ∙ ap started_kernel opens in
     subst (λ o. IfOk r (Says run.mounts (record { start = o; trace = run.trace; flag = flag; text = text })))
     (sym starts) says

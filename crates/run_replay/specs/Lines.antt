@@ -6,18 +6,18 @@ use Rattle.run_replay.specs.declared.replays.Replayed.TheVariants.{Same, Unopene
 
 -- the line of an answer
 -- profile
-abbrev pub line_of : Replayed → List ℕ
-line_of (Same entries) = codes "replay: " ++ decimal entries ++ codes " entries done again\n"
-line_of (Unopened task) = codes "replay: task " ++ decimal task ++ codes " is not opened so\n"
-line_of (Step done) = codes "replay: " ++ decimal done ++ codes " entries done again, the next is no step\n"
-line_of (Text same) = codes "replay: the text is another behind " ++ decimal same ++ codes " bytes\n"
-line_of Beyond = codes "replay: too many tasks or entries\n"
+abbrev pub replay_line : Replayed → List ℕ
+replay_line (Same entries) = codes "replay: " ++ decimal entries ++ codes " entries done again\n"
+replay_line (Unopened task) = codes "replay: task " ++ decimal task ++ codes " is not opened so\n"
+replay_line (Step done) = codes "replay: " ++ decimal done ++ codes " entries done again, the next is no step\n"
+replay_line (Text same) = codes "replay: the text is another behind " ++ decimal same ++ codes " bytes\n"
+replay_line Beyond = codes "replay: too many tasks or entries\n"
 
 -- the exit status of an answer
 -- profile
-abbrev pub status_of : Replayed → ℕ
-status_of (Same entries) = 0
-status_of (Unopened task) = 1
-status_of (Step done) = 1
-status_of (Text same) = 1
-status_of Beyond = 1
+abbrev pub replay_status : Replayed → ℕ
+replay_status (Same entries) = 0
+replay_status (Unopened task) = 1
+replay_status (Step done) = 1
+replay_status (Text same) = 1
+replay_status Beyond = 1

@@ -18,9 +18,9 @@ use Rattle.sentry_run.specs.declared.outcome.Outcome.{Outcome}
 
 -- the kernel that an opening starts over the trees that were granted: none without a mount file
 -- profile
-abbrev pub started : Option Mounts → List Shape → Opening → Option Kernel
-started None trees opening = None
-started (Some mounts) trees opening = started_kernel (opening_of mounts trees opening)
+abbrev pub kernel_started : Option Mounts → List Shape → Opening → Option Kernel
+kernel_started None trees opening = None
+kernel_started (Some mounts) trees opening = started_kernel (opening_of mounts trees opening)
 
 -- what is done again: from where, which entries, and the text that they are to lead to, with the trace or without it
 -- profile
@@ -34,7 +34,7 @@ pub record Course : Type 0 where
 -- profile
 abbrev pub course_of : Outcome → List Shape → Bool → List ℕ → Course
 course_of run trees flag text = record {
-  start = started run.mounts trees run.opening;
+  start = kernel_started run.mounts trees run.opening;
   trace = run.trace;
   flag = flag;
   text = text;

@@ -2,7 +2,7 @@
 
 ghost use Rattle.std.specs.Prelude.{OnOk};
 ghost use Rattle.std.specs.Io.KnownBytes.{Appends};
-ghost use Rattle.run_replay.specs.Lines.{line_of};
+ghost use Rattle.run_replay.specs.Lines.{replay_line};
 
 use crate::replays::Replayed;
 use std::io;
@@ -11,7 +11,7 @@ use std::io::Write;
 /// Writes the line of an answer, a row an answer. It takes no memory.
 #[rattlefmt::skip]
 pub fn write_replayed<W: Write>(out: &mut W, replayed: Replayed) -> io::Result<()>
-    ensures { OnOk result (Appends (W.contents out.old) (W.contents out.new) (line_of replayed)) }
+    ensures { OnOk result (Appends (W.contents out.old) (W.contents out.new) (replay_line replayed)) }
 {
     match replayed {
         Replayed::Same { entries } => writeln!(out, "replay: {entries} entries done again"),

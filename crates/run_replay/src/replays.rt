@@ -2,7 +2,7 @@
 
 ghost use Rattle.std.specs.Prelude.{◌≡◌, ◌≤◌, ◌+◌, nat_lt, length, take, Option, Some, IfOk};
 ghost use Rattle.mount_file.specs.declared.mounts.Mounts.{Mounts as MountFile};
-ghost use Rattle.run_replay.specs.Lines.{status_of};
+ghost use Rattle.run_replay.specs.Lines.{replay_status};
 ghost use Rattle.run_replay.specs.Replays.{Fits, Says, course_of};
 
 use host_node::Tree;
@@ -33,7 +33,7 @@ pub enum Replayed {
 impl Replayed {
     /// The exit status of the program: 0 where the trace leads to the same.
     pub fn status(self) -> u8
-        ensures { result ≡ status_of self }
+        ensures { result ≡ replay_status self }
     {
         match self {
             Replayed::Same { .. } => 0,

@@ -6,8 +6,8 @@ use Rattle.rv_table.specs.declared.instr.Instr.{Instr}
 use Rattle.rv_table.specs.declared.instr.Instr.TheVariants as instr
 use Rattle.rv_table.specs.declared.registers.Regs.{Regs}
 use Rattle.rv_table.specs.Bytes.{Accessed, Memory, Value, Fault, Shared, loaded}
-use Rattle.rv_exec.specs.Courses.{EndsBy, Going, going, one_more, ran, went_by}
-use Rattle.rv_exec.specs.Execution.{Done, Goes, Calls, Traps, Touches, by_word, done_by, exec}
+use Rattle.rv_exec.specs.Courses.{EndsBy, Going, going, one_instruction_more, after_instructions, went_by}
+use Rattle.rv_exec.specs.Execution.{Done, Goes, Calls, Traps, Touches, by_fetched, done_by, exec}
 use Rattle.rv_exec.specs.Flows.{FlowsAs}
 use Rattle.rv_exec.specs.Rows.{AreOfPage, IsOfWord}
 use Rattle.rv_exec.specs.Writes.{Write}
@@ -17,7 +17,7 @@ use Rattle.rv_exec.specs.declared.flow.Flow.TheVariants as flows
 use Rattle.rv_exec.specs.declared.outcome.Step.{Step}
 
 of_word : (m : Memory) (r : Regs) (word : Accessed) (told : Instr) → IsOfWord word told
-    → by_word m r word ≡ done_by m r told
+    → by_fetched m r word ≡ done_by m r told
 of_word m r (Value word) told is = ap (λ (i : Instr). done_by m r i) (sym is)
 of_word m r (Fault address) told is = elim is [ ]
 of_word m r (Shared area) told is = elim is [ ]
@@ -71,20 +71,20 @@ went_jump write why (Touches area) r after old new h = absurd h
 
 one_more_by : {State : Type 0} → (seen : State → Memory) → (write : Write → State → State)
     → (n : ℕ) (start : Going State) (r : Regs) (old : State) (end : Going State)
-    → ran seen write n start ≡ Some (going old r)
+    → after_instructions seen write n start ≡ Some (going old r)
     → went_by write old (exec (seen old) r) ≡ Some end
-    → ran seen write (n + 1) start ≡ Some end
+    → after_instructions seen write (n + 1) start ≡ Some end
 one_more_by seen write n start r old end before went =
-    ap (λ m. ran seen write m start) (add-one n)
+    ap (λ m. after_instructions seen write m start) (add-one n)
     ∙ ran_suc seen write n start
-    ∙ ap (option_and_then (one_more seen write)) before
+    ∙ ap (option_and_then (one_instruction_more seen write)) before
     ∙ went
 
 pub one_more_ran : {State : Type 0} → (seen : State → Memory) → (write : Write → State → State) → (why : Step)
     → (n : ℕ) (start : Going State) (r after : Regs) (old new : State) (flow : Flow)
-    → ran seen write n start ≡ Some (going old r)
+    → after_instructions seen write n start ≡ Some (going old r)
     → FlowsAs write false why (exec (seen old) r) r after old new flow → flow ≡ flows.Next
-    → ran seen write (n + 1) start ≡ Some (going new after)
+    → after_instructions seen write (n + 1) start ≡ Some (going new after)
 one_more_ran seen write why n start r after old new flow before did next =
     one_more_by seen write n start r old (going new after) before
     (went_next write why (exec (seen old) r) r after old new
@@ -92,9 +92,9 @@ one_more_ran seen write why n start r after old new flow before did next =
 
 pub one_more_jumped : {State : Type 0} → (seen : State → Memory) → (write : Write → State → State) → (why : Step)
     → (n : ℕ) (start : Going State) (r after : Regs) (old new : State) (flow : Flow)
-    → ran seen write n start ≡ Some (going old r)
+    → after_instructions seen write n start ≡ Some (going old r)
     → FlowsAs write false why (exec (seen old) r) r after old new flow → flow ≡ flows.Jump
-    → ran seen write (n + 1) start ≡ Some (going new after)
+    → after_instructions seen write (n + 1) start ≡ Some (going new after)
 one_more_jumped seen write why n start r after old new flow before did jumped =
     one_more_by seen write n start r old (going new after) before
     (went_jump write why (exec (seen old) r) r after old new

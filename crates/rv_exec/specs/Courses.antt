@@ -24,16 +24,17 @@ went_by write acting Calls = None
 went_by write acting (Traps signal) = None
 went_by write acting (Touches area) = None
 
-abbrev pub one_more : {State : Type 0} → (State → Memory) → (Write → State → State) → Going State
+abbrev pub one_instruction_more : {State : Type 0} → (State → Memory) → (Write → State → State) → Going State
     → Option (Going State)
-one_more seen write g = went_by write g.acting (exec (seen g.acting) g.registers)
+one_instruction_more seen write g = went_by write g.acting (exec (seen g.acting) g.registers)
 
 -- after so many instructions, none of which traps, calls or touches an area that is not handed in
 -- the same
-unfoldable pub ran : {State : Type 0} → (State → Memory) → (Write → State → State) → ℕ → Going State
+unfoldable pub after_instructions : {State : Type 0} → (State → Memory) → (Write → State → State) → ℕ → Going State
     → Option (Going State)
-ran seen write zero g = Some g
-ran seen write (suc n) g = option_and_then (one_more seen write) (ran seen write n g)
+after_instructions seen write zero g = Some g
+after_instructions seen write (suc n) g = option_and_then (one_instruction_more seen write)
+    (after_instructions seen write n g)
 
 -- a run of fewer than so many instructions ends where the next one calls, traps or is refused; of another nothing is
 -- told here. None ends by a jump

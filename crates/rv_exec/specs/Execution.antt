@@ -249,15 +249,15 @@ done_by m r instr.Illegal = Traps 4
 
 -- what the bytes at pc do: where they may not be executed it is a segmentation violation
 -- signal(7), SIGSEGV 11; that it goes first: profile
-abbrev pub by_word : Memory → Regs → Accessed → Done
-by_word m r (Value word) = done_by m r (instr_of word)
-by_word m r (Fault address) = Traps 11
-by_word m r (Shared area) = Touches area
+abbrev pub by_fetched : Memory → Regs → Accessed → Done
+by_fetched m r (Value word) = done_by m r (instr_of word)
+by_fetched m r (Fault address) = Traps 11
+by_fetched m r (Shared area) = Touches area
 
 -- what the next instruction of a task does
 -- RISC-V Unprivileged ISA 20191213, 1.2 and 1.5
 unfoldable pub exec : Memory → Regs → Done
-exec m r = by_word m r (loaded m.code r.pc 4)
+exec m r = by_fetched m r (loaded m.code r.pc 4)
 
 -- a step did as the instruction does, to registers and to what is told of memory; what traps, calls or touches an area
 -- changes nothing, nor does want of memory

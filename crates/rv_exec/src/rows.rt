@@ -2,7 +2,7 @@
 
 ghost use Rattle.std.specs.Prelude.{◌≡◌, ◌/◌, ◌%◌, ◌<◌, ◌≤◌, length, Some, false};
 ghost use Rattle.rv_table.specs.Words.{sum};
-ghost use Rattle.rv_exec.specs.Courses.{EndsBy, going, ran};
+ghost use Rattle.rv_exec.specs.Courses.{EndsBy, going, after_instructions};
 ghost use Rattle.rv_exec.specs.Execution.{exec};
 ghost use Rattle.rv_exec.specs.Flows.{FlowsAs};
 ghost use Rattle.rv_exec.specs.declared.outcome.Step.TheVariants as outcomes;
@@ -24,7 +24,7 @@ pub struct RowRun {
 /// where it reaches for memory that isn't at hand, or stores into its own page (`Refused`): then `step` is asked.
 pub fn run_row<M: Mem>(regs: &mut Regs, mem: &mut M, row: &[Instr], most: u32) -> RowRun
     requires { M.instrs (M.told mem.old) (regs.old.pc / 4096) ≡ Some row.now }
-    ensures ran { ran M.seen M.after result.count (going (M.told mem.old) regs.old) ≡
+    ensures ran { after_instructions M.seen M.after result.count (going (M.told mem.old) regs.old) ≡
         Some (going (M.told mem.new) regs.new) }
     ensures few { result.count ≤ most }
     ensures ended { EndsBy (exec (M.seen (M.told mem.new)) regs.new) result.count most result.flow }
@@ -51,7 +51,7 @@ fn run_aligned<M: Mem>(regs: &mut Regs, mem: &mut M, row: &[Instr], most: u32) -
     requires row { M.instrs (M.told mem.old) (regs.old.pc / 4096) ≡ Some row.now }
     requires whole { length row.now ≡ 1024 }
     requires aligned { regs.old.pc % 4 ≡ 0 }
-    ensures ran { ran M.seen M.after result.count (going (M.told mem.old) regs.old) ≡
+    ensures ran { after_instructions M.seen M.after result.count (going (M.told mem.old) regs.old) ≡
         Some (going (M.told mem.new) regs.new) }
     ensures few { result.count ≤ most }
     ensures ended { EndsBy (exec (M.seen (M.told mem.new)) regs.new) result.count most result.flow }
@@ -91,7 +91,7 @@ fn run_straight<M: Mem>(
     requires page { regs.old.pc / 4096 ≡ near.old.page }
     requires aligned { regs.old.pc % 4 ≡ 0 }
     requires some { 0 < most }
-    ensures ran { ran M.seen M.after result.count (going (M.told mem.old) regs.old) ≡
+    ensures ran { after_instructions M.seen M.after result.count (going (M.told mem.old) regs.old) ≡
         Some (going (M.told mem.new) regs.new) }
     ensures some { result.flow ≡ Flow.Next → 0 < result.count }
     ensures few { result.count ≤ most }

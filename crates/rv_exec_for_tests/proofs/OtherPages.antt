@@ -7,7 +7,7 @@ use Rattle.rv_table.specs.declared.instr.Instr.{Instr}
 use Rattle.rv_table.specs.Bytes.{Accessed, Byte, behind, by_area, by_barred, first_area, first_barred, loaded}
 use Rattle.rv_table.specs.Bytes.{number_from, or_area, or_barred, value_in}
 use Rattle.rv_exec.specs.Writes.{stored_byte, with_value}
-use Rattle.rv_exec_for_tests.specs.Pages.{are_words, instr_read, instrs_from, instrs_of, is_value}
+use Rattle.rv_exec_for_tests.specs.Pages.{are_words, instr_read, instrs_from, page_instrs, is_value}
 
 -- ---- a byte of another page
 
@@ -77,7 +77,8 @@ choice_same : {A : Type 0} (low test other : Bool) (x y : A) → (low ≡ true �
 choice_same true test other x y p q = λ i. if p refl i then Some (q refl i) else None
 choice_same false test other x y p q = refl
 
-page_same : (f g : ℕ → Byte) (page : ℕ) → ((a : ℕ) → a / 4096 ≡ page → f a ≡ g a) → instrs_of f page ≡ instrs_of g page
+page_same : (f g : ℕ → Byte) (page : ℕ) → ((a : ℕ) → a / 4096 ≡ page → f a ≡ g a) → page_instrs f page
+    ≡ page_instrs g page
 page_same f g page same =
     choice_same (nat_lt page (2 ^ 52)) (are_words f (4096 * page) 1024) (are_words g (4096 * page) 1024)
     (instrs_from f (4096 * page) 1024) (instrs_from g (4096 * page) 1024)
@@ -86,7 +87,7 @@ page_same f g page same =
 
 pub page_apart : (code : ℕ → Byte) (at width value page : ℕ) → at < 2 ^ 64 → at % 4096 + width ≤ 4096
     → (page ≡ at / 4096 → ⊥)
-    → instrs_of (λ address. stored_byte nat_eq at width value address (code address)) page ≡ instrs_of code page
+    → page_instrs (λ address. stored_byte nat_eq at width value address (code address)) page ≡ page_instrs code page
 page_apart code at width value page low inside apart =
     page_same (λ address. stored_byte nat_eq at width value address (code address)) code page
     (λ a here. byte_apart at width value a (code a) low inside (λ same. apart (sym here ∙ same)))

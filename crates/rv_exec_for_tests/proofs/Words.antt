@@ -6,7 +6,7 @@ use Rattle.std.proofs.lemmas.Bool.{and_from, lt-ltb}
 use Rattle.rv_table.specs.declared.instr.Instr.{Instr}
 use Rattle.rv_table.specs.Bytes.{Accessed, Byte, Value, loaded}
 use Rattle.rv_table.specs.Table.{instr_of}
-use Rattle.rv_exec_for_tests.specs.Pages.{are_words, instr_read, instrs_from, instrs_of, is_value}
+use Rattle.rv_exec_for_tests.specs.Pages.{are_words, instr_read, instrs_from, page_instrs, is_value}
 
 words_suc : (code : ℕ → Byte) (at n : ℕ)
     → are_words code at (suc n) ≡ (are_words code at n && is_value (loaded code (at + 4 * n) 4))
@@ -41,7 +41,7 @@ next_instr code at n word row told is of_word before =
 
 pub whole_page : (code : ℕ → Byte) (page : ℕ) (row : List Instr) → page < 2 ^ 52
     → are_words code (4096 * page) 1024 ≡ true
-    → row ≡ instrs_from code (4096 * page) 1024 → instrs_of code page ≡ Some row
+    → row ≡ instrs_from code (4096 * page) 1024 → page_instrs code page ≡ Some row
 whole_page code page row low words is =
     ap (λ test. if test then Some (instrs_from code (4096 * page) 1024) else None)
     (and_from (nat_lt page (2 ^ 52)) (are_words code (4096 * page) 1024) (lt-ltb page (2 ^ 52) low) words)

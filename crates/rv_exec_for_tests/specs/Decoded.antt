@@ -10,7 +10,7 @@ use Rattle.rv_table.specs.declared.instr.Instr.{Instr}
 use Rattle.rv_table.specs.declared.instr.Instr.TheVariants as instr
 use Rattle.rv_table.specs.Bytes.{Accessed, Byte, Value, Fault, Shared, loaded}
 use Rattle.rv_exec.specs.Rows.{AreOfPage, IsOfWord}
-use Rattle.rv_exec_for_tests.specs.Pages.{are_words, instr_read, instrs_from, instrs_of, is_value}
+use Rattle.rv_exec_for_tests.specs.Pages.{are_words, instr_read, instrs_from, page_instrs, is_value}
 
 -- ---- one word
 
@@ -74,7 +74,7 @@ of_page code page h = record {
       (of_word (loaded code (4096 * page + 4 * k) 4) (word_from code (4096 * page) 1024 k h below));
 }
 
-pub decoded : (code : ℕ → Byte) (page : ℕ) (words : List Instr) → instrs_of code page ≡ Some words
+pub decoded : (code : ℕ → Byte) (page : ℕ) (words : List Instr) → page_instrs code page ≡ Some words
     → AreOfPage code page words
 decoded code page words h =
     let parts = cond_some (nat_lt page (2 ^ 52) && are_words code (4096 * page) 1024)

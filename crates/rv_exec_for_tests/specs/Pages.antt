@@ -30,8 +30,8 @@ are_words code at (suc n) = are_words code at n && is_value (loaded code (at + 4
 
 -- the instructions of a page, each word of which may be executed
 -- getpagesize(2): 4,096 bytes
-abbrev pub instrs_of : (code : ℕ → Byte) → (page : ℕ) → Option (List Instr)
-instrs_of code page =
+abbrev pub page_instrs : (code : ℕ → Byte) → (page : ℕ) → Option (List Instr)
+page_instrs code page =
     if nat_lt page (2 ^ 52) && are_words code (4096 * page) 1024
     then Some (instrs_from code (4096 * page) 1024)
     else None

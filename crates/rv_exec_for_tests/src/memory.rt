@@ -103,7 +103,7 @@ impl<const C: usize> Mem for Small<C> {
     ghost use Rattle.std.specs.Option.{option_map_or};
     ghost use Rattle.rv_table.specs.Bytes.{Memory as Seen};
     ghost use Rattle.rv_exec_for_tests.specs.MemoryAfter.{is_memory_after, memory_after};
-    ghost use Rattle.rv_exec_for_tests.specs.Pages.{instrs_of};
+    ghost use Rattle.rv_exec_for_tests.specs.Pages.{page_instrs};
     ghost use Rattle.rv_exec_for_tests.specs.Places.{itself, reached};
     ghost use Rattle.rv_exec_for_tests.specs.Decoded.{decoded};
 
@@ -123,7 +123,7 @@ impl<const C: usize> Mem for Small<C> {
 
     ghost is_same = { λ state. nat_eq };
 
-    ghost instrs = { λ state. instrs_of state.code };
+    ghost instrs = { λ state. page_instrs state.code };
 
     ghost is_ready = { λ memory at width. memory.ready };
 

@@ -1,7 +1,7 @@
 //! A page of words, and its decoded words.
 
 ghost use Rattle.std.specs.Prelude.{◌≡◌, ◌<◌, ◌*◌, ◌^◌, IfOk, IfSome, Some};
-ghost use Rattle.rv_exec_for_tests.specs.Pages.{instrs_of};
+ghost use Rattle.rv_exec_for_tests.specs.Pages.{page_instrs};
 
 use crate::bytes::{Bytes, Right, Run, access};
 use crate::memory::Small;
@@ -37,7 +37,7 @@ pub fn row_of<const N: usize>(
 ) -> Result<Option<Vec<Instr>>, AllocFailed<Instr>>
     requires { page < 2 ^ 52 }
     ensures { IfOk result (λ row.
-        IfSome row (λ row. instrs_of (⟦<Run<N> as Bytes>⟧.byte_at code.now) page ≡ Some row.items)) }
+        IfSome row (λ row. page_instrs (⟦<Run<N> as Bytes>⟧.byte_at code.now) page ≡ Some row.items)) }
 {
     let mut row = Vec::new(alloc);
     for place in 0..1024 {

@@ -64,8 +64,8 @@ branches =
     (6, instr.Bltu) ∷
     (7, instr.Bgeu) ∷ []
 
-abbrev pub loads : Rows (ℕ → ℕ → ℕ → Instr)
-loads =
+abbrev pub load_rows : Rows (ℕ → ℕ → ℕ → Instr)
+load_rows =
     (0, instr.Lb) ∷
     (1, instr.Lh) ∷
     (2, instr.Lw) ∷
@@ -74,8 +74,8 @@ loads =
     (5, instr.Lhu) ∷
     (6, instr.Lwu) ∷ []
 
-abbrev pub stores : Rows (ℕ → ℕ → ℕ → Instr)
-stores =
+abbrev pub store_rows : Rows (ℕ → ℕ → ℕ → Instr)
+store_rows =
     (0, instr.Sb) ∷
     (1, instr.Sh) ∷
     (2, instr.Sw) ∷
@@ -243,8 +243,8 @@ opcodes =
     (0x6f, λ word. j_format instr.Jal word ∷ []) ∷
     (0x67, by_funct3 i_format jumps) ∷
     (0x63, by_funct3 b_format branches) ∷
-    (0x03, by_funct3 i_format loads) ∷
-    (0x23, by_funct3 s_format stores) ∷
+    (0x03, by_funct3 i_format load_rows) ∷
+    (0x23, by_funct3 s_format store_rows) ∷
     (0x13, λ word. by_funct3 i_format immediates word ++ by_two shift_format funct3_of funct6_of shifts word) ∷
     (0x33, by_two r_format funct7_of funct3_of registers) ∷
     (0x0f, λ word. rows_at (funct3_of word) fences) ∷
@@ -273,11 +273,11 @@ IsOnly (one ∷ two ∷ more) told = ⊥
 
 -- the first of some instructions, or an illegal one where there is none
 -- profile
-abbrev pub first_of : List Instr → Instr
-first_of [] = instr.Illegal
-first_of (first ∷ rest) = first
+abbrev pub first_or_illegal : List Instr → Instr
+first_or_illegal [] = instr.Illegal
+first_or_illegal (first ∷ rest) = first
 
 -- the instruction that a word is
 -- chapter 24, RV32/64G Instruction Set Listings
 abbrev pub instr_of : ℕ → Instr
-instr_of word = first_of (rows_of word)
+instr_of word = first_or_illegal (rows_of word)

@@ -3,8 +3,8 @@
 ghost use Rattle.std.specs.Prelude.{◌≡◌, option_to_list, ◌++◌};
 ghost use Rattle.rv_table.specs.Fields.{funct3_of, funct5_of, funct6_of, funct7_of, rs2_of};
 ghost use Rattle.rv_table.specs.Table.{by_funct3, by_two, by_three, rows_at, r_format, i_format, s_format, b_format};
-ghost use Rattle.rv_table.specs.Table.{shift_format, word_shift_format, load_reserved_format, jumps, branches, loads};
-ghost use Rattle.rv_table.specs.Table.{stores, immediates, shifts, registers, word_immediates, word_shifts};
+ghost use Rattle.rv_table.specs.Table.{shift_format, word_shift_format, load_reserved_format, jumps, branches, load_rows};
+ghost use Rattle.rv_table.specs.Table.{store_rows, immediates, shifts, registers, word_immediates, word_shifts};
 ghost use Rattle.rv_table.specs.Table.{word_registers, load_reserveds, atomics, fences, systems, rows_of, IsOnly};
 ghost use Rattle.rv_table.specs.Table.{instr_of};
 
@@ -93,7 +93,7 @@ fn branch(word: u32) -> Option<Instr>
 
 /// By funct3.
 fn load(word: u32) -> Option<Instr>
-    ensures { by_funct3 i_format loads word ≡ option_to_list result }
+    ensures { by_funct3 i_format load_rows word ≡ option_to_list result }
 {
     let rd = rd(word);
     let rs1 = rs1(word);
@@ -112,7 +112,7 @@ fn load(word: u32) -> Option<Instr>
 
 /// By funct3.
 fn store(word: u32) -> Option<Instr>
-    ensures { by_funct3 s_format stores word ≡ option_to_list result }
+    ensures { by_funct3 s_format store_rows word ≡ option_to_list result }
 {
     let rs1 = rs1(word);
     let rs2 = rs2(word);

@@ -21,7 +21,7 @@ use Rattle.sentry_run.specs.declared.outcome.Outcome.{Outcome}
 use Rattle.sentry_run.specs.Causes.{is_source_fault, is_sink_fault, is_host_fault, MayFailToOpen}
 use Rattle.sentry_run.specs.Concluded.{IsCutOff, StopsShort}
 use Rattle.sentry_run.specs.Ran.{FailsToRead}
-use Rattle.sentry_run.specs.Outcome.{NamesMountFile, NamesFaulty, LacksFile, ComesTo, WhereRead, WhereState, begun, most_read}
+use Rattle.sentry_run.specs.Outcome.{NamesMountFile, NamesFaulty, LacksFile, ComesOut, WhereRead, WhereState, begun, most_read}
 use Rattle.sentry_run.specs.Outcome.{started_kernel, state_after, text_of, asks_trace}
 use Rattle.sentry_run.specs.Sides.{Side, Sides}
 use Rattle.sentry_run.proofs.Courses.{Session, Output, text_with, state_left, Began, state_of}
@@ -184,7 +184,7 @@ same_end x state k f whole b e is h =
 
 over_by : (x : Session) (p : Output) (whole f : Fault) → HasForm x.mounts → ToldFacts x p f
     → (k : Kernel) → state_left x ≡ Some k → EndsIn x.mounts x.outcome.trace k whole
-    → ComesTo whole p.before.told p.after.told (text_with x p k) f
+    → ComesOut whole p.before.told p.after.told (text_with x p k) f
 over_by x p whole faults.Done form t k e h = same_end x t.0 k faults.Done whole t.1 e t.2 h
 over_by x p whole faults.Full form t k e h = same_end x t.0 k faults.Full whole t.1 e t.2 h
 over_by x p whole faults.Stuck form t k e h =
@@ -203,7 +203,7 @@ over_by x p whole _ form t k e h = absurd t
 -- what a call comes to that is over with that answer, by the state that its trace leaves
 abbrev OverAs : Call → Outcome → Fault → Kernel → Type 0
 OverAs s r whole k =
-    ComesTo whole s.before.sink.told s.after.sink.told (printed k r.trace (asks_trace s.words)) r.fault
+    ComesOut whole s.before.sink.told s.after.sink.told (printed k r.trace (asks_trace s.words)) r.fault
 
 over_as : (s : Call) (m : Mounts) (r : Outcome) (whole : Fault) → Over s m r → (w : Shape)
     → s.before.host.told ≡ Some w → (k : Kernel) → state_left (session s m r w) ≡ Some k

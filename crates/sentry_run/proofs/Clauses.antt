@@ -21,7 +21,7 @@ use Rattle.sentry_run.specs.Ran.{ReadsAs, FailsToRead}
 use Rattle.sentry_run.specs.Causes.{status_of, IsUnread}
 use Rattle.sentry_run.specs.Outcome.{ReadsMounts, HasMountFault, first_lacking, granted, begun, state_after, most_read}
 use Rattle.sentry_run.specs.Outcome.{world_after, WhereRead}
-use Rattle.sentry_run.specs.Outcome.{WhereState, RefusesAs, refused_kernel}
+use Rattle.sentry_run.specs.Outcome.{WhereState, RefusesOpening, refused_kernel}
 use Rattle.sentry_run.specs.Sides.{Side, Sides}
 use Rattle.sentry_run.proofs.Courses.{Session, Began, state_left, state_of}
 use Rattle.sentry_run.proofs.Folders.{lacking_none}
@@ -242,9 +242,9 @@ grant s r way k h =
     (λ m o w told. lacking_none 1 m.mounts w k (told_as s m r (faults.Grant k) o h w told).1)
 
 pub image : (s : Call) (r : Outcome) → Way s r → (task : ℕ) (errno : Errno) → r.fault ≡ faults.Image task errno
-    → WhereRead r.mounts s.before.host.told (λ m w. RefusesAs (begun m w r.opening) task errno)
+    → WhereRead r.mounts s.before.host.told (λ m w. RefusesOpening (begun m w r.opening) task errno)
 image s r way task errno h =
-    where_read s r (λ m w. RefusesAs (begun m w r.opening) task errno) way
+    where_read s r (λ m w. RefusesOpening (begun m w r.opening) task errno) way
     (λ m o w told. let t = told_as s m r (faults.Image task errno) o h w told in (t.left, t.refuses))
 
 pub image_world : (s : Call) (r : Outcome) → Way s r → (task : ℕ) (errno : Errno) → r.fault ≡ faults.Image task errno

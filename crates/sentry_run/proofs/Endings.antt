@@ -23,7 +23,7 @@ use Rattle.image_walk.proofs.OutAgain.{can_give_back}
 use Rattle.image_walk.proofs.Back.{back_same}
 use Rattle.image_walk.proofs.Settling.{settles}
 use Rattle.call_table.specs.declared.processes.Processes.{Processes}
-use Rattle.call_table.specs.Processes.{kernel_of}
+use Rattle.call_table.specs.Processes.{kernel_of_processes}
 use Rattle.run_opening.specs.declared.opening.OpenErr.{OpenErr}
 use Rattle.run_opening.specs.declared.opening.OpenErr.TheVariants as openings
 use Rattle.run_opening.specs.Begun.{HasBegun, Stops}
@@ -35,7 +35,7 @@ use Rattle.run_opening.proofs.Roots.{have_trees}
 use Rattle.run_opening.proofs.Telling.{Tells, tells}
 use Rattle.sentry_run.specs.declared.play.End.{End}
 use Rattle.sentry_run.specs.declared.play.End.TheVariants as ends
-use Rattle.sentry_run.specs.Played.{Ended, EndsTold, RanFrom, ReplaysTo, Runs, SameText, end_of, over, over_told}
+use Rattle.sentry_run.specs.Played.{Ended, EndsTold, RanFrom, ReplaysTo, Runs, SameText, end_of_opening, over_nodes, over_told}
 use Rattle.sentry_run.proofs.Records.{opened_by, record_with}
 
 -- ---- what is given back
@@ -77,7 +77,7 @@ pub ended_stopped : (m : Mounts) (others : Others) (t : Shape) (why : OpenErr) (
     → Stops m 0 [] tasks why (trees_told others root children) (bare m (trees_with others t))
     → StandsAfter why (numbering_of m.mounts) t root children → (after : Shape)
     → GivesBack root children (Some after)
-    → EndsTold m (trees_told others root children) t after opening trace (end_of why)
+    → EndsTold m (trees_told others root children) t after opening trace (end_of_opening why)
 ended_stopped m others t openings.Memory tasks root children opening trace r o none stops stands after gives =
     ended_lacking m others t root children opening trace after stands none gives
 ended_stopped m others t (openings.Image task errno) tasks root children opening trace r o none stops stands after
@@ -109,10 +109,10 @@ module _ (m : Mounts) (others : Others) (is : AreOthers m.mounts others) (t : Sh
   h = tells m.mounts others is t s.names root children s.stands
 
   abbrev start : Kernel
-  start = kernel_of p (beside_of m h.nodes) 0
+  start = kernel_of_processes p (beside_of m h.nodes) 0
 
   tells_start : kernel_told m f p 0 ≡ Some start
-  tells_start = ap (option_map (λ nodes. kernel_of p (beside_of m nodes) 0)) h.told
+  tells_start = ap (option_map (λ nodes. kernel_of_processes p (beside_of m nodes) 0)) h.told
 
   begun : HasBegun m 0 (length m.tasks) [] tasks (bare m (trees_with others t)) start
   begun =
@@ -143,26 +143,26 @@ module _ (m : Mounts) (others : Others) (is : AreOthers m.mounts others) (t : Sh
         (subst (λ (n : Nodes). AreNodes (numbering_of m.mounts) n t s.names) (sym nodes) h.are) failed s.stands) gives);
   }
 
-  tells_over : (k : Kernel) → over_told m f k ≡ Some (over m h.nodes k)
-  tells_over k = ap (option_map (λ nodes. over m nodes k)) h.told
+  tells_over : (k : Kernel) → over_told m f k ≡ Some (over_nodes m h.nodes k)
+  tells_over k = ap (option_map (λ nodes. over_nodes m nodes k)) h.told
 
   -- what holds of the kernel that is told holds of it with its nodes
-  over_is : (k : Kernel) (fact : Kernel → Type 0) → IsSomeAnd (over_told m f k) fact → fact (over m h.nodes k)
+  over_is : (k : Kernel) (fact : Kernel → Type 0) → IsSomeAnd (over_told m f k) fact → fact (over_nodes m h.nodes k)
   over_is k fact e = subst (λ (x : Option Kernel). IsSomeAnd x fact) (tells_over k) e
 
-  is_over : (k : Kernel) (fact : Kernel → Type 0) → fact (over m h.nodes k) → IsSomeAnd (over_told m f k) fact
+  is_over : (k : Kernel) (fact : Kernel → Type 0) → fact (over_nodes m h.nodes k) → IsSomeAnd (over_told m f k) fact
   is_over k fact e = subst (λ (x : Option Kernel). IsSomeAnd x fact) (sym (tells_over k)) e
 
   ended_from : (trace : List Entry) (end : End) → RanFrom m f start end trace → (after : Shape)
       → GivesBack root children (Some after) → EndsTold m f t after opening trace end
   ended_from trace (ends.Done k) ran after gives =
-      let e = over_is k _ ran in is_over k _ (runs (over m h.nodes k) trace after e.0 refl refl gives, e.1)
+      let e = over_is k _ ran in is_over k _ (runs (over_nodes m h.nodes k) trace after e.0 refl refl gives, e.1)
   ended_from trace (ends.Full k) ran after gives =
-      let e = over_is k _ ran in is_over k _ (runs (over m h.nodes k) trace after e.0 refl refl gives, e.1, e.2)
+      let e = over_is k _ ran in is_over k _ (runs (over_nodes m h.nodes k) trace after e.0 refl refl gives, e.1, e.2)
   ended_from trace (ends.Stuck k) ran after gives =
-      let e = over_is k _ ran in is_over k _ (runs (over m h.nodes k) trace after e.0 refl refl gives, e.1)
+      let e = over_is k _ ran in is_over k _ (runs (over_nodes m h.nodes k) trace after e.0 refl refl gives, e.1)
   ended_from trace ends.Memory ran after gives =
-      let same : over m h.nodes ran.0 ≡ ran.0 = same_Some _ _ (sym (tells_over ran.0) ∙ ran.2) in
+      let same : over_nodes m h.nodes ran.0 ≡ ran.0 = same_Some _ _ (sym (tells_over ran.0) ∙ ran.2) in
       inr (
         ran.0,
         runs ran.0 trace after ran.1 (ap (λ (k : Kernel). k.nodes) (sym same))
@@ -186,10 +186,10 @@ told_then : (m : Mounts) (f : TreesTold) (k : Kernel) (fact : Kernel → Type 0)
     → (state : Kernel) × fact state × SameText state k
 told_then m f k fact h = by (nodes_told (numbering_of m.mounts) f) h
   where
-    by : (ns : Option Nodes) → IsSomeAnd (option_map (λ nodes. over m nodes k) ns) fact
+    by : (ns : Option Nodes) → IsSomeAnd (option_map (λ nodes. over_nodes m nodes k) ns) fact
         → (state : Kernel) × fact state × SameText state k
     by None e = absurd e
-    by (Some nodes) e = (over m nodes k, e, record { tasks = refl; console = refl })
+    by (Some nodes) e = (over_nodes m nodes k, e, record { tasks = refl; console = refl })
 
 -- how a run ended, whatever told it
 pub ended_told : (m : Mounts) (f : TreesTold) (t after : Shape) (opening : Opening) (trace : List Entry) (end : End)

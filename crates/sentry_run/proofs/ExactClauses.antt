@@ -29,7 +29,7 @@ use Rattle.sentry_run.specs.declared.outcome.Outcome.{Outcome}
 use Rattle.sentry_run.specs.Played.{nothing_opened}
 use Rattle.sentry_run.specs.Ran.{ReadsAs, FailsToRead}
 use Rattle.sentry_run.specs.Outcome.{NamesMountFile, NamesFaulty}
-use Rattle.sentry_run.specs.Outcome.{WhereTold, bytes_read, MeetsFault, granted, begun, begun_over, WhereRead}
+use Rattle.sentry_run.specs.Outcome.{WhereTold, command_bytes, MeetsFault, granted, begun, begun_over, WhereRead}
 use Rattle.sentry_run.specs.Outcome.{IsAccepted}
 use Rattle.sentry_run.specs.Causes.{MayFailToRead, MayFailToGrant, MayFailToStart, HasEnded}
 use Rattle.sentry_run.specs.Sides.{Side}
@@ -148,17 +148,17 @@ both_there (Some x) P Q f p q = f x p q
 faulty_same : (command : Command) (shelf : Shelf) (f g : MountFault) → NamesFaulty command shelf f
     → NamesFaulty command shelf g → f ≡ g
 faulty_same command shelf f g p q =
-    both_there (bytes_read command shelf) (λ b. IsFaultOf b f) (λ b. IsFaultOf b g) (λ b. fault_same b f g) p q
+    both_there (command_bytes command shelf) (λ b. IsFaultOf b f) (λ b. IsFaultOf b g) (λ b. fault_same b f g) p q
 
 named_same : (command : Command) (shelf : Shelf) (m n : Mounts) → NamesMountFile command shelf m
     → NamesMountFile command shelf n → m ≡ n
 named_same command shelf m n p q =
-    both_there (bytes_read command shelf) (λ b. IsMountFile b m) (λ b. IsMountFile b n) (λ b. mounts_same b m n) p q
+    both_there (command_bytes command shelf) (λ b. IsMountFile b m) (λ b. IsMountFile b n) (λ b. mounts_same b m n) p q
 
 never_both : (command : Command) (shelf : Shelf) (m : Mounts) (f : MountFault) → NamesMountFile command shelf m
     → NamesFaulty command shelf f → ⊥
 never_both command shelf m f p q =
-    both_there (bytes_read command shelf) (λ b. IsMountFile b m) (λ b. IsFaultOf b f) (λ b. no_fault b m f) p q
+    both_there (command_bytes command shelf) (λ b. IsMountFile b m) (λ b. IsFaultOf b f) (λ b. no_fault b m f) p q
 
 read_by : (command : Command) (before after : Side Shelf) (shelf : Shelf) (reason : MountFault) (f : Fault)
     → before.told ≡ Some shelf → NamesFaulty command shelf reason → FailsToRead command before after f

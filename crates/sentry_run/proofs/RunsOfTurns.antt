@@ -11,19 +11,19 @@ use Rattle.kernel_model.specs.entries.Given.{has_any}
 use Rattle.kernel_model.specs.entries.History.{any_live, replay, each_whole}
 use Rattle.kernel_model.specs.entries.Ready.{ready_numbers}
 use Rattle.call_table.specs.declared.processes.Processes.{Processes}
-use Rattle.call_table.specs.Processes.{kernel_of}
+use Rattle.call_table.specs.Processes.{kernel_of_processes}
 use Rattle.call_table.specs.Turns.{AreStill, Leaves}
 use Rattle.sentry_run.specs.declared.play.End.{End}
 use Rattle.sentry_run.specs.declared.play.End.TheVariants as ends
 use Rattle.proc_cells.specs.Beside.{Beside}
 use Rattle.run_opening.specs.Openings.{beside_of, numbering_of}
 use Rattle.run_opening.specs.Told.{TreesTold, kernel_told, nodes_told}
-use Rattle.sentry_run.specs.Played.{RanFrom, TraceOf, over, over_told}
+use Rattle.sentry_run.specs.Played.{RanFrom, TraceOf, over_nodes, over_told}
 use Rattle.sentry_run.specs.Stopped.{FinishesAs}
 
 -- the same nodes beside a kernel that has them
 over_itself : (m : Mounts) (nodes : Nodes) (state : Kernel) → Leaves (beside_of m nodes) (Some state)
-    → over m nodes state ≡ state
+    → over_nodes m nodes state ≡ state
 over_itself m nodes state l =
     ap (λ ns. record state { nodes = ns; failed = map.empty; mounts = m.mounts; seed = m.seed }) (sym l.0)
     ∙ ap (λ (f : map.FinMap nat_cmp ℕ). record state { failed = f; mounts = m.mounts; seed = m.seed }) (sym l.1)
@@ -32,8 +32,8 @@ over_itself m nodes state l =
 
 module _ (m : Mounts) (f : TreesTold) (nodes : Nodes) (are : nodes_told (numbering_of m.mounts) f ≡ Some nodes) where
   -- the kernel that is told, of processes that ended so
-  tells_over : (k : Kernel) → over_told m f k ≡ Some (over m nodes k)
-  tells_over k = ap (option_map (λ ns. over m ns k)) are
+  tells_over : (k : Kernel) → over_told m f k ≡ Some (over_nodes m nodes k)
+  tells_over k = ap (option_map (λ ns. over_nodes m ns k)) are
 
   left : (start : Kernel) (trace : List Entry) (found : Option Kernel) → replay start trace ≡ found
       → Leaves (beside_of m nodes) found → each_whole start trace ≡ true → RanFrom m f start ends.Memory trace
@@ -41,25 +41,28 @@ module _ (m : Mounts) (f : TreesTold) (nodes : Nodes) (are : nodes_told (numberi
   left start trace (Some state) e l whole =
       (state, (e, whole), tells_over state ∙ ap Some (over_itself m nodes state l))
 
-  ended : (k : Kernel) (fact : Kernel → Type 0) → fact (over m nodes k) → IsSomeAnd (over_told m f k) fact
+  ended : (k : Kernel) (fact : Kernel → Type 0) → fact (over_nodes m nodes k) → IsSomeAnd (over_told m f k) fact
   ended k fact h = subst (λ (o : Option Kernel). IsSomeAnd o fact) (sym (tells_over k)) h
 
   ran_from : (o : Option Processes) (trace : List Entry) (end : End) (start : Kernel)
       → Leaves (beside_of m nodes) (replay start trace)
-      → IfSome o (λ p. replay start trace ≡ Some (kernel_of p (beside_of m nodes) (length trace)))
+      → IfSome o (λ p. replay start trace ≡ Some (kernel_of_processes p (beside_of m nodes) (length trace)))
       → each_whole start trace ≡ true
       → length trace ≤ m.entries → IfSome o (λ p. AreStill p ⊎ (length trace ≡ m.entries))
       → FinishesAs o (length trace) m.entries end → RanFrom m f start end trace
   ran_from None trace end start leaves state whole bound stop fin =
       subst (λ (x : End). RanFrom m f start x trace) (sym fin) (left start trace (replay start trace) refl leaves whole)
   ran_from (Some p) trace (ends.Done k) start leaves state whole bound stop fin =
-      let same : over m nodes k ≡ kernel_of p (beside_of m nodes) (length trace) = ap (over m nodes) fin.1 in
+      let same : over_nodes m nodes k ≡ kernel_of_processes p (beside_of m nodes) (length trace) = ap
+      (over_nodes m nodes) fin.1 in
       ended k _ ((state ∙ ap Some (sym same), whole), ap any_live same ∙ fin.0)
   ran_from (Some p) trace (ends.Full k) start leaves state whole bound stop fin =
-      let same : over m nodes k ≡ kernel_of p (beside_of m nodes) (length trace) = ap (over m nodes) fin.2 in
+      let same : over_nodes m nodes k ≡ kernel_of_processes p (beside_of m nodes) (length trace) = ap
+      (over_nodes m nodes) fin.2 in
       ended k _ ((state ∙ ap Some (sym same), whole), ap any_live same ∙ fin.0, fin.1)
   ran_from (Some p) trace (ends.Stuck k) start leaves state whole bound stop fin =
-      let same : over m nodes k ≡ kernel_of p (beside_of m nodes) (length trace) = ap (over m nodes) fin.2 in
+      let same : over_nodes m nodes k ≡ kernel_of_processes p (beside_of m nodes) (length trace) = ap
+      (over_nodes m nodes) fin.2 in
       ended k _ (
         (state ∙ ap Some (sym same), whole),
         record {
@@ -79,19 +82,19 @@ module _ (m : Mounts) (f : TreesTold) (nodes : Nodes) (are : nodes_told (numberi
 state_with : (m : Mounts) (seed : List ℕ) (o : Option Processes) (first : Processes) (trace : List Entry)
     (nodes : Nodes) → m.seed ≡ seed
     → IfSome o (λ p. (beside : Beside) → beside.seed ≡ seed
-    → replay (kernel_of first beside 0) trace ≡ Some (kernel_of p beside (length trace)))
-    → IfSome o (λ p. replay (kernel_of first (beside_of m nodes) 0) trace
-    ≡ Some (kernel_of p (beside_of m nodes) (length trace)))
+    → replay (kernel_of_processes first beside 0) trace ≡ Some (kernel_of_processes p beside (length trace)))
+    → IfSome o (λ p. replay (kernel_of_processes first (beside_of m nodes) 0) trace
+    ≡ Some (kernel_of_processes p (beside_of m nodes) (length trace)))
 state_with m seed None first trace nodes same h = tt
 state_with m seed (Some p) first trace nodes same h = h (beside_of m nodes) same
 
 -- a run of turns, from the kernel that is told before it
 pub ran_told : (m : Mounts) (f : TreesTold) (seed : List ℕ) (first : Processes) (o : Option Processes)
     (trace : List Entry) (end : End) → m.seed ≡ seed
-    → ((beside : Beside) → beside.seed ≡ seed → Leaves beside (replay (kernel_of first beside 0) trace))
+    → ((beside : Beside) → beside.seed ≡ seed → Leaves beside (replay (kernel_of_processes first beside 0) trace))
     → IfSome o (λ p. (beside : Beside) → beside.seed ≡ seed
-    → replay (kernel_of first beside 0) trace ≡ Some (kernel_of p beside (length trace)))
-    → ((beside : Beside) → beside.seed ≡ seed → each_whole (kernel_of first beside 0) trace ≡ true)
+    → replay (kernel_of_processes first beside 0) trace ≡ Some (kernel_of_processes p beside (length trace)))
+    → ((beside : Beside) → beside.seed ≡ seed → each_whole (kernel_of_processes first beside 0) trace ≡ true)
     → length trace ≤ m.entries → IfSome o (λ p. AreStill p ⊎ (length trace ≡ m.entries))
     → FinishesAs o (length trace) m.entries end
     → IfSome (kernel_told m f first 0) (λ k. RanFrom m f k end trace)
@@ -99,10 +102,12 @@ ran_told m f seed first o trace end same history state whole bound stop fin =
     by (nodes_told (numbering_of m.mounts) f) refl
   where
     by : (ns : Option Nodes) → nodes_told (numbering_of m.mounts) f ≡ ns
-        → IfSome (option_map (λ nodes. kernel_of first (beside_of m nodes) 0) ns) (λ k. RanFrom m f k end trace)
+        → IfSome (option_map (λ nodes. kernel_of_processes first (beside_of m nodes) 0) ns)
+        (λ k. RanFrom m f k end trace)
     by None e = tt
     by (Some nodes) e =
-        ran_from m f nodes e o trace end (kernel_of first (beside_of m nodes) 0) (history (beside_of m nodes) same)
+        ran_from m f nodes e o trace end (kernel_of_processes first (beside_of m nodes) 0)
+        (history (beside_of m nodes) same)
         (state_with m seed o first trace nodes same state) (whole (beside_of m nodes) same) bound stop fin
 
 -- what its end says of the trace, whatever is told

@@ -47,18 +47,18 @@ most_read = LONGEST_MOUNT_FILE + 1
 
 -- the bytes that are read of the file that a command names, where it is there: all, or the first 65,537
 -- open(2), ENOENT; the number: profile
-abbrev pub bytes_read : Command → Shelf → Option (List ℕ)
-bytes_read command shelf = option_map (take most_read) (content_at shelf.files command.mounts)
+abbrev pub command_bytes : Command → Shelf → Option (List ℕ)
+command_bytes command shelf = option_map (take most_read) (content_at shelf.files command.mounts)
 
 -- the file that a command names is there, and what is read of it is a mount file that says this
 -- profile
 abbrev pub NamesMountFile : Command → Shelf → Mounts → Type 0
-NamesMountFile command shelf mounts = IsSomeAnd (bytes_read command shelf) (λ bytes. IsMountFile bytes mounts)
+NamesMountFile command shelf mounts = IsSomeAnd (command_bytes command shelf) (λ bytes. IsMountFile bytes mounts)
 
 -- it is there, and this is the first fault of what is read of it
 -- profile
 abbrev pub NamesFaulty : Command → Shelf → MountFault → Type 0
-NamesFaulty command shelf fault = IsSomeAnd (bytes_read command shelf) (λ bytes. IsFaultOf bytes fault)
+NamesFaulty command shelf fault = IsSomeAnd (command_bytes command shelf) (λ bytes. IsFaultOf bytes fault)
 
 -- what was read is what the file says
 -- profile
@@ -146,8 +146,8 @@ pub record IsHistory (mounts : Mounts) (world : Shape) (opening : Opening) (trac
 
 -- the opening execve of that task answers that error, and leaves this kernel
 -- execve(2), ERRORS
-abbrev pub RefusesAs : Begun → (task : ℕ) → Errno → Type 0
-RefusesAs begun task errno = (k : Kernel) × (begun ≡ Refuses k task errno)
+abbrev pub RefusesOpening : Begun → (task : ℕ) → Errno → Type 0
+RefusesOpening begun task errno = (k : Kernel) × (begun ≡ Refuses k task errno)
 
 abbrev pub refused_kernel : Begun → Option Kernel
 refused_kernel (Opens k) = None
@@ -170,12 +170,12 @@ abbrev pub asks_trace : Option Command → Bool
 asks_trace None = false
 asks_trace (Some command) = command.trace
 
--- an answer of a run that is over: it came out so, or the sink failed before the text's end, or memory ran out before it
+-- an answer of a run that is over: it came out so, or before the text's end the sink failed or memory ran out
 -- profile
-abbrev pub ComesTo : (whole : Fault) → (sink after : Option (List ℕ)) → (text : List ℕ) → Fault → Type 0
-ComesTo whole sink after text SinkFault = StopsShort sink after text
-ComesTo whole sink after text Memory = IsCutOff sink after text
-ComesTo whole sink after text fault = fault ≡ whole
+abbrev pub ComesOut : (whole : Fault) → (sink after : Option (List ℕ)) → (text : List ℕ) → Fault → Type 0
+ComesOut whole sink after text SinkFault = StopsShort sink after text
+ComesOut whole sink after text Memory = IsCutOff sink after text
+ComesOut whole sink after text fault = fault ≡ whole
 
 -- the text of a state, or nothing where there is none
 -- profile
@@ -196,14 +196,14 @@ child_named k f = child_in (map.get k.nodes f.dir) f.name
 
 -- two fresh numbers are of different children
 -- profile
-abbrev pub AreApart : Fresh → Fresh → Type 0
-AreApart a b = (a.dir ≡ b.dir) × (a.name ≡ b.name) → ⊥
+abbrev pub AreOfTwoChildren : Fresh → Fresh → Type 0
+AreOfTwoChildren a b = (a.dir ≡ b.dir) × (a.name ≡ b.name) → ⊥
 
 -- what no entry has is of different children, each there without a number
 -- profile
 pub record IsLeftOver (left : Left) (k : Kernel) : Type 0 where
   pub unnumbered : All (λ f. IsUnnumbered (child_named k f)) (left_fresh left)
-  pub apart : AllPairs AreApart (left_fresh left)
+  pub apart : AllPairs AreOfTwoChildren (left_fresh left)
 
 -- each task whose rises no entry has is one whose rises may be left beside this trace
 -- profile

@@ -89,13 +89,13 @@ Ended mounts others tree after opening trace (ends.Grant mount) = ⊥
 
 -- a kernel with that beside its processes
 -- profile
-abbrev pub over : Mounts → Nodes → Kernel → Kernel
-over m nodes k = record k { nodes = nodes; failed = map.empty; mounts = m.mounts; seed = m.seed }
+abbrev pub over_nodes : Mounts → Nodes → Kernel → Kernel
+over_nodes m nodes k = record k { nodes = nodes; failed = map.empty; mounts = m.mounts; seed = m.seed }
 
 -- the kernel that a run's state tells where its processes are that kernel: none where no nodes are told
 -- profile
 abbrev pub over_told : Mounts → TreesTold → Kernel → Option Kernel
-over_told m f k = option_map (λ nodes. over m nodes k) (nodes_told (numbering_of m.mounts) f)
+over_told m f k = option_map (λ nodes. over_nodes m nodes k) (nodes_told (numbering_of m.mounts) f)
 
 -- a trace is a history from a kernel, each Run in it whole, and leaves that state
 -- profile
@@ -145,9 +145,9 @@ EndsOver m f tree played =
 
 -- how a run ends whose opening ended so
 -- profile
-abbrev pub end_of : OpenErr → End
-end_of (openings.Image task errno) = ends.Image task errno
-end_of openings.Memory = ends.Memory
+abbrev pub end_of_opening : OpenErr → End
+end_of_opening (openings.Image task errno) = ends.Image task errno
+end_of_opening openings.Memory = ends.Memory
 
 -- what an end says of the trace, whatever the host tells
 -- profile

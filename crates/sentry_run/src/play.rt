@@ -11,7 +11,7 @@ ghost use Rattle.image_walk.specs.Walking.{IsRoot};
 ghost use Rattle.run_opening.specs.Openings.{numbering_of};
 ghost use Rattle.run_opening.specs.Told.{kernel_told, trees_told};
 ghost use Rattle.run_opening.specs.Trees.{AreOthers, Others};
-ghost use Rattle.sentry_run.specs.Played.{EndsOver, end_of, RanFrom, TraceOf, first_of, nothing_opened};
+ghost use Rattle.sentry_run.specs.Played.{EndsOver, end_of_opening, RanFrom, TraceOf, first_of, nothing_opened};
 ghost use Rattle.sentry_run.specs.Stopped.{EndsAs, FinishesAs, IsInner};
 
 use call_table::{Processes, Ran, run_turns};
@@ -156,7 +156,7 @@ fn ended(alloc: Global, processes: Processes, made: u64, entries: u64) -> End
 
 /// An opening that ended before all its tasks had begun.
 fn unbegun(alloc: Global, why: OpenErr, opening: Opening) -> Played
-    ensures end { result.end ≡ end_of why }
+    ensures end { result.end ≡ end_of_opening why }
     ensures inner { IsInner result.end }
     ensures trace { result.trace ≡ [] }
     ensures opening { result.opening ≡ opening }

@@ -19,8 +19,8 @@ ghost use Rattle.sentry_run.specs.Granted.{IsUngranted};
 ghost use Rattle.mount_file.specs.Form.{HasForm};
 ghost use Rattle.sentry_run.specs.Outcome.{ReadsMounts, HasMountFault, MeetsFault, first_lacking, granted, begun, most_read};
 ghost use Rattle.sentry_run.specs.Outcome.{state_after};
-ghost use Rattle.sentry_run.specs.Outcome.{WhereRead, WhereState, IsHistory, RefusesAs, refused_kernel, IsOver};
-ghost use Rattle.sentry_run.specs.Outcome.{asks_trace, text_of, LacksFile, ComesTo, AreLeft, LeavesInside};
+ghost use Rattle.sentry_run.specs.Outcome.{WhereRead, WhereState, IsHistory, RefusesOpening, refused_kernel, IsOver};
+ghost use Rattle.sentry_run.specs.Outcome.{asks_trace, text_of, LacksFile, ComesOut, AreLeft, LeavesInside};
 ghost use Rattle.sentry_run.specs.Outcome.{IsLeftOver, IsAccepted, world_after, KeepsOutside};
 ghost use Rattle.sentry_run.specs.Played.{IsStuck};
 ghost use Rattle.image_walk.specs.Standing.{no_left};
@@ -166,7 +166,7 @@ pub fn run_sentry<S: Source, W: HostWorld, K: Sink>(
     ensures grant_exact { WhereRead result.mounts (W.told host.old) (λ m w.
         granted m.mounts w ≡ None → MayFailToGrant result.fault) }
     ensures image { (task : ℕ) (errno : Errno) → result.fault ≡ Fault.Image task errno →
-        WhereRead result.mounts (W.told host.old) (λ m w. RefusesAs (begun m w result.opening) task errno) }
+        WhereRead result.mounts (W.told host.old) (λ m w. RefusesOpening (begun m w result.opening) task errno) }
     ensures image_exact { WhereRead result.mounts (W.told host.old) (λ m w. (k : Kernel) (task : ℕ) (errno : Errno) →
         begun m w result.opening ≡ Refuses k task errno → MayFailToStart task errno result.fault) }
     ensures sink_fault { result.fault ≡ Fault.SinkFault → Rose (K.count out.old) (K.count out.new) }
@@ -180,7 +180,7 @@ pub fn run_sentry<S: Source, W: HostWorld, K: Sink>(
     ensures done { result.fault ≡ Fault.Done →
         WhereState result.mounts (W.told host.old) result.opening result.trace (λ m w k. any_live k ≡ false) }
     ensures done_exact { WhereState result.mounts (W.told host.old) result.opening result.trace (λ m w k.
-        any_live k ≡ false → ComesTo Fault.Done (K.told out.old) (K.told out.new)
+        any_live k ≡ false → ComesOut Fault.Done (K.told out.old) (K.told out.new)
         (printed k result.trace (asks_trace (accepted (map string_bytes words.now)))) result.fault) }
     ensures full { result.fault ≡ Fault.Full →
         WhereState result.mounts (W.told host.old) result.opening result.trace (λ m w k. any_live k ≡ true) }
@@ -188,7 +188,7 @@ pub fn run_sentry<S: Source, W: HostWorld, K: Sink>(
     // A full trace goes before tasks none of which is ready.
     ensures full_exact { WhereState result.mounts (W.told host.old) result.opening result.trace (λ m w k.
         any_live k ≡ true → length result.trace ≡ m.entries →
-        ComesTo Fault.Full (K.told out.old) (K.told out.new)
+        ComesOut Fault.Full (K.told out.old) (K.told out.new)
         (printed k result.trace (asks_trace (accepted (map string_bytes words.now)))) result.fault) }
     ensures stuck { result.fault ≡ Fault.Stuck →
         WhereState result.mounts (W.told host.old) result.opening result.trace (λ m w k. IsStuck m result.trace k) }
@@ -196,7 +196,7 @@ pub fn run_sentry<S: Source, W: HostWorld, K: Sink>(
     // With a live task and a trace that is not full a run ends nowhere but where no step is ready.
     ensures stuck_exact { WhereState result.mounts (W.told host.old) result.opening result.trace (λ m w k.
         any_live k ≡ true → length result.trace < m.entries →
-        ComesTo Fault.Stuck (K.told out.old) (K.told out.new)
+        ComesOut Fault.Stuck (K.told out.old) (K.told out.new)
         (printed k result.trace (asks_trace (accepted (map string_bytes words.now)))) result.fault) }
     // ---- the trace
     ensures history { HasRun result.fault →

@@ -3,7 +3,7 @@ use Rattle.std.proofs.Common.{◌≡◌, ◌⊎◌, ℕ, ◌+◌, ◌≤◌, Lis
 use Rattle.std.proofs.Common.{sym, subst, ◌∙◌, inl, inr, arith}
 use Rattle.std.proofs.lemmas.List.{drop-drop, length-drop, length-append, length-take-le, take_all}
 use Rattle.std.proofs.Math.Seq.{take-add}
-use Rattle.sn_edge.specs.Shelf.{Shelf, after_open, after_read, after_failed_read, IsAtEnd}
+use Rattle.sn_edge.specs.Shelf.{Shelf, after_open, left_after_read, after_failed_read, IsAtEnd}
 use Rattle.sn_edge.specs.Reading.{after_reads, IsFrontOfFile, Gains, ReadsWithin}
 
 -- the bytes so far are the front of what was left, where that is told
@@ -23,7 +23,7 @@ after_reads-none None = refl
 after_reads-none (Some s) = same_told s.files refl (omega arith) (omega arith)
 
 -- one more read
-pub after_read-after_reads : (t : Option Shelf) (n m reads : ℕ) → after_read (after_reads t n reads) m
+pub after_read-after_reads : (t : Option Shelf) (n m reads : ℕ) → left_after_read (after_reads t n reads) m
     ≡ after_reads t (n + m) (reads + 1)
 after_read-after_reads None n m reads = refl
 after_read-after_reads (Some s) n m reads = same_told s.files (drop-drop m n s.rest) (omega arith) (omega arith)
@@ -70,14 +70,14 @@ ReadsWithin-reads (Some s) now name n reads most few le e =
 -- the last read gave an error, or memory ran out behind it
 pub ReadsWithin-last : (before t s now : Option Shelf) (name : List ℕ) (n last most reads : ℕ)
     → t ≡ after_open before name → s ≡ after_reads t n reads → reads ≤ n → n + last ≤ most
-    → (now ≡ after_failed_read s) ⊎ ((m : ℕ) × (m ≤ last) × (now ≡ after_read s m)) → ReadsWithin before now most
+    → (now ≡ after_failed_read s) ⊎ ((m : ℕ) × (m ≤ last) × (now ≡ left_after_read s m)) → ReadsWithin before now most
 ReadsWithin-last before t s now name n last most reads opened so_far few fits outcome =
     let told : s ≡ after_reads (after_open before name) n reads = so_far ∙ ap (λ u. after_reads u n reads) opened in
     elim outcome [
       | inl e ↦ ReadsWithin-reads before now name n (reads + 1) most (omega arith) (omega arith)
           (e ∙ ap after_failed_read told ∙ after_failed_read-after_reads (after_open before name) n reads)
       | inr w ↦ ReadsWithin-reads before now name (n + w.0) (reads + 1) most (omega arith) (omega (arith, w.1))
-          (w.2 ∙ ap (λ u. after_read u w.0) told ∙ after_read-after_reads (after_open before name) n w.0 reads)
+          (w.2 ∙ ap (λ u. left_after_read u w.0) told ∙ after_read-after_reads (after_open before name) n w.0 reads)
     ]
 
 -- the front grows by a read, of what is told after the reads before it
@@ -99,6 +99,7 @@ IsFrontOfFile-end before t s name bytes now n reads most opened so_far front gai
     ∙ ap (λ k. after_reads (after_open before name) k reads) (sym same)) at_end)
 
 -- one more read, in what is told
-pub after_reads-step : (t s now : Option Shelf) (n m reads : ℕ) → s ≡ after_reads t n reads → now ≡ after_read s m
+pub after_reads-step : (t s now : Option Shelf) (n m reads : ℕ) → s ≡ after_reads t n reads → now ≡ left_after_read s m
     → now ≡ after_reads t (n + m) (reads + 1)
-after_reads-step t s now n m reads so_far e = e ∙ ap (λ u. after_read u m) so_far ∙ after_read-after_reads t n m reads
+after_reads-step t s now n m reads so_far e = e ∙ ap (λ u. left_after_read u m) so_far
+    ∙ after_read-after_reads t n m reads

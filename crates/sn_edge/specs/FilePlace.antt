@@ -15,10 +15,10 @@ rest_of files (Some place) done = drop done (content_of files place)
 
 -- A read of the open file gave what that file gives, and 0 where none is open. Which file is open stays.
 -- read(2), RETURN VALUE
-abbrev pub ReadsOpened : {F E : Type 0} → (F → Option (List ℕ)) → Option F → Option F → Result ℕ E
+abbrev pub ReadsOpenFile : {F E : Type 0} → (F → Option (List ℕ)) → Option F → Option F → Result ℕ E
     → List ℕ → Type 0
-ReadsOpened remaining None None result buffer = IfOk result (λ n. n ≡ 0)
-ReadsOpened remaining None (Some file) result buffer = ⊥
-ReadsOpened remaining (Some file) None result buffer = ⊥
-ReadsOpened remaining (Some before) (Some now) result buffer =
+ReadsOpenFile remaining None None result buffer = IfOk result (λ n. n ≡ 0)
+ReadsOpenFile remaining None (Some file) result buffer = ⊥
+ReadsOpenFile remaining (Some file) None result buffer = ⊥
+ReadsOpenFile remaining (Some before) (Some now) result buffer =
     ReadConsumes (remaining before) (remaining now) result buffer

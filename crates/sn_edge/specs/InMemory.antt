@@ -22,5 +22,5 @@ empty_shelf = record { files = []; rest = []; reads = 0; taken = 0 }
 
 -- One more file, behind the others.
 -- profile: the first of a name counts
-abbrev pub with_file : Shelf → List ℕ → List ℕ → Shelf
-with_file shelf name content = record shelf { files = shelf.files ++ (name, content) ∷ [] }
+abbrev pub with_file_added : Shelf → List ℕ → List ℕ → Shelf
+with_file_added shelf name content = record shelf { files = shelf.files ++ (name, content) ∷ [] }

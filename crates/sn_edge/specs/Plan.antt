@@ -31,6 +31,6 @@ with_failing plan call = record plan { failing = plan.failing ++ call ∷ [] }
 
 -- A call was made, and failed or didn't.
 -- profile: both counts stay at their largest value
-abbrev pub after_call : Plan → Bool → Plan
-after_call plan failed =
+abbrev pub plan_after : Plan → Bool → Plan
+plan_after plan failed =
     record plan { calls = next_call plan; faults = if failed then capped (plan.faults + 1) else plan.faults }

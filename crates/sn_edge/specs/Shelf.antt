@@ -52,9 +52,9 @@ after_open (Some shelf) name = Some (record shelf { rest = unwrap_or (content_at
 
 -- What is told once a read took n bytes from the front of what was left.
 -- read(2), RETURN VALUE
-abbrev pub after_read : Option Shelf → ℕ → Option Shelf
-after_read None n = None
-after_read (Some shelf) n =
+abbrev pub left_after_read : Option Shelf → ℕ → Option Shelf
+left_after_read None n = None
+left_after_read (Some shelf) n =
     Some (record shelf { rest = drop n shelf.rest; reads = shelf.reads + 1; taken = shelf.taken + n })
 
 -- What is told once a read gave an error: it counts as a read.

@@ -3,7 +3,7 @@
 ghost use Rattle.std.specs.Prelude.{◌≡◌, ◌≤◌, length, IfOk, OnOk, OnErr, IsSome, IsNone};
 ghost use Rattle.sn_base.specs.Faults.{HasCause};
 ghost use Rattle.sn_edge.specs.Errors.{has_failed};
-ghost use Rattle.sn_edge.specs.FilePlace.{ReadsOpened};
+ghost use Rattle.sn_edge.specs.FilePlace.{ReadsOpenFile};
 
 use crate::system::failure;
 use crate::{EdgeErr, Source};
@@ -65,7 +65,7 @@ impl<R: Files> Source for FileSource<R> {
         ensures cause { HasCause (has_failed result) self.old.faults self.new.faults }
 
         // What the file gives is handed on, as far as the runtime knows what its files hold.
-        ensures bytes { ReadsOpened R.File.remaining self.old.opened self.new.opened result buf.new }
+        ensures bytes { ReadsOpenFile R.File.remaining self.old.opened self.new.opened result buf.new }
     {
         let Some(file) = &mut self.opened else {
             return Ok(0);

@@ -4,7 +4,7 @@ ghost use Rattle.std.specs.Prelude.{◌≡◌, ◌<◌, ◌≤◌, [], length, t
 ghost use Rattle.sn_base.specs.Faults.{HasCause};
 ghost use Rattle.sn_edge.specs.Errors.{has_failed};
 ghost use Rattle.sn_edge.specs.Taken.{with_taken};
-ghost use Rattle.sn_edge.specs.Plan.{no_plan, fails_next, fails_no_more, with_failing, after_call};
+ghost use Rattle.sn_edge.specs.Plan.{no_plan, fails_next, fails_no_more, with_failing, plan_after};
 
 use crate::plan::Plan;
 use crate::{EdgeErr, Sink};
@@ -82,7 +82,7 @@ impl Sink for MemSink {
         // It takes the piece whole, and fails where the plan says so.
         ensures whole { IfOk result (λ n. n ≡ length bytes.now) }
         ensures failed { has_failed result ≡ fails_next self.old.plan }
-        ensures plan { self.new.plan ≡ after_call self.old.plan (has_failed result) }
+        ensures plan { self.new.plan ≡ plan_after self.old.plan (has_failed result) }
     {
         self.plan.begin(false)?;
         self.taken.extend_from_slice(bytes)?;

@@ -4,9 +4,9 @@ ghost use Rattle.std.specs.Prelude.{◌≡◌, ◌<◌, ◌≤◌, ◌++◌, ◌
 ghost use Rattle.std.specs.Prelude.{IsFalse, is_err, is_none, MatchOption, Some, None};
 ghost use Rattle.sn_base.specs.Faults.{HasCause};
 ghost use Rattle.sn_edge.specs.Errors.{has_failed};
-ghost use Rattle.sn_edge.specs.Shelf.{content_at, HasFile, after_open, after_read, after_failed_read, Gets, IsAtEnd};
-ghost use Rattle.sn_edge.specs.Plan.{no_plan, fails_next, fails_no_more, with_failing, after_call};
-ghost use Rattle.sn_edge.specs.InMemory.{empty_shelf, with_file};
+ghost use Rattle.sn_edge.specs.Shelf.{content_at, HasFile, after_open, left_after_read, after_failed_read, Gets, IsAtEnd};
+ghost use Rattle.sn_edge.specs.Plan.{no_plan, fails_next, fails_no_more, with_failing, plan_after};
+ghost use Rattle.sn_edge.specs.InMemory.{empty_shelf, with_file_added};
 ghost use Rattle.sn_edge.specs.FilePlace.{content_of};
 
 use crate::named_file::NamedFile;
@@ -69,7 +69,7 @@ impl MemSource {
     /// Adds a file. Where there is one of that name already, that one counts.
     pub fn put(&mut self, alloc: Global, name: &str, content: &[u8]) -> Result<(), Memory>
         ensures ok { OnOk result
-            (self.new ≡ record self.old { shelf = with_file self.old.shelf name.now content.now }) }
+            (self.new ≡ record self.old { shelf = with_file_added self.old.shelf name.now content.now }) }
         ensures err { OnErr result (self.new ≡ self.old) }
     {
         self.files.push(NamedFile::new(alloc, name, content)?)
@@ -152,7 +152,7 @@ impl Source for MemSource {
         ensures failed { has_failed result
             ≡ (fails_next self.old.plan || is_none (content_at self.old.shelf.files name.now)) }
         ensures no_other { is_err result ≡ has_failed result }
-        ensures plan { self.new.plan ≡ after_call self.old.plan (has_failed result) }
+        ensures plan { self.new.plan ≡ plan_after self.old.plan (has_failed result) }
     {
         let place = place_of(self.files.as_slice(), name.as_bytes());
         self.plan.begin(place.is_none())?;
@@ -164,7 +164,7 @@ impl Source for MemSource {
     fn read(&mut self, buf: &mut [u8]) -> Result<usize, EdgeErr>
         ensures bound { IfOk result (λ n. n ≤ length buf.old) }
         ensures bytes { IfOk result (λ n. Gets (Some self.old.shelf) n buf.old buf.new) }
-        ensures ok { IfOk result (λ n. Some self.new.shelf ≡ after_read (Some self.old.shelf) n) }
+        ensures ok { IfOk result (λ n. Some self.new.shelf ≡ left_after_read (Some self.old.shelf) n) }
         ensures end { IfOk result (λ n. n ≡ 0 → 0 < length buf.old → IsAtEnd (Some self.old.shelf)) }
         ensures err { OnErr result (Some self.new.shelf ≡ after_failed_read (Some self.old.shelf)) }
         ensures cause { HasCause (has_failed result) self.old.plan.faults self.new.plan.faults }
@@ -175,7 +175,7 @@ impl Source for MemSource {
         ensures count { IfOk result (λ n. n ≡ min (length self.old.shelf.rest) (length buf.old)) }
         ensures failed { has_failed result ≡ fails_next self.old.plan }
         ensures no_other { is_err result ≡ has_failed result }
-        ensures plan { self.new.plan ≡ after_call self.old.plan (has_failed result) }
+        ensures plan { self.new.plan ≡ plan_after self.old.plan (has_failed result) }
     {
         self.reads = self.reads.more(&1);
         self.plan.begin(false)?;

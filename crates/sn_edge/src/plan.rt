@@ -19,7 +19,7 @@ pub(crate) struct Plan {
 }
 
 impl Plan {
-    ghost use Rattle.sn_edge.specs.Plan.{no_plan, next_call, fails_next, fails_no_more, with_failing, after_call};
+    ghost use Rattle.sn_edge.specs.Plan.{no_plan, next_call, fails_next, fails_no_more, with_failing, plan_after};
 
     pub(crate) fn new(alloc: Global) -> Self
         ensures { result ≡ no_plan }
@@ -49,7 +49,7 @@ impl Plan {
     pub(crate) fn begin(&mut self, is_refused: bool) -> Result<(), EdgeErr>
         ensures answer { has_failed result ≡ (fails_next self.old || is_refused) }
         ensures failed { is_err result ≡ has_failed result }
-        ensures plan { self.new ≡ after_call self.old (has_failed result) }
+        ensures plan { self.new ≡ plan_after self.old (has_failed result) }
         ensures cause { HasCause (has_failed result) self.old.faults self.new.faults }
         ensures unfailing { IsTrue (fails_no_more self.old) → IsTrue (fails_no_more self.new) }
         ensures succeeds { IsTrue (fails_no_more self.old) → has_failed result ≡ is_refused }

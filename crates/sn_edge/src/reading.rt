@@ -3,7 +3,7 @@
 ghost use Rattle.std.specs.Prelude.{◌≡◌, ◌⊎◌, ◌<◌, ◌≤◌, ◌+◌, ℕ, length, IfOk, OnOk, OnErr, IsTrue, IsFalse};
 ghost use Rattle.sn_base.specs.Faults.{HasCause};
 ghost use Rattle.sn_edge.specs.Errors.{has_failed};
-ghost use Rattle.sn_edge.specs.Shelf.{HasFile, after_open, after_read, after_failed_read, IsAtEnd};
+ghost use Rattle.sn_edge.specs.Shelf.{HasFile, after_open, left_after_read, after_failed_read, IsAtEnd};
 ghost use Rattle.sn_edge.specs.Reading.{IsFrontOfFile, Gains, TakesInFew, ReadsWithin};
 
 use crate::{EdgeErr, Source};
@@ -24,10 +24,10 @@ fn read_piece<S: Source>(
     ensures bound { IfOk result (λ n. n ≤ most) }
     ensures len { IfOk result (λ n. length bytes.new ≡ length bytes.old + n) }
     ensures bytes { IfOk result (λ n. Gains (S.told source.old) n bytes.old bytes.new) }
-    ensures ok { IfOk result (λ n. S.told source.new ≡ after_read (S.told source.old) n) }
+    ensures ok { IfOk result (λ n. S.told source.new ≡ left_after_read (S.told source.old) n) }
     ensures end { IfOk result (λ n. n ≡ 0 → IsAtEnd (S.told source.old)) }
     ensures err { OnErr result ((S.told source.new ≡ after_failed_read (S.told source.old))
-        ⊎ ((n : ℕ) × (n ≤ most) × (S.told source.new ≡ after_read (S.told source.old) n))) }
+        ⊎ ((n : ℕ) × (n ≤ most) × (S.told source.new ≡ left_after_read (S.told source.old) n))) }
     ensures cause { HasCause (has_failed result) (S.count source.old) (S.count source.new) }
     ensures unfailing { IsTrue (S.unfailing source.old) → IsTrue (S.unfailing source.new) }
     ensures succeeds { IsTrue (S.unfailing source.old) → IsFalse (has_failed result) }

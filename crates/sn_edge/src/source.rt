@@ -3,7 +3,7 @@
 ghost use Rattle.std.specs.Prelude.{◌≡◌, ◌<◌, ◌≤◌, ℕ, Bool, false, Option, length, IfOk, OnOk, OnErr, IsTrue, IsFalse};
 ghost use Rattle.sn_base.specs.Faults.{HasCause};
 ghost use Rattle.sn_edge.specs.Errors.{has_failed};
-ghost use Rattle.sn_edge.specs.Shelf.{Shelf, HasFile, after_open, after_read, after_failed_read, Gets, IsAtEnd};
+ghost use Rattle.sn_edge.specs.Shelf.{Shelf, HasFile, after_open, left_after_read, after_failed_read, Gets, IsAtEnd};
 
 use crate::EdgeErr;
 
@@ -40,7 +40,7 @@ pub trait Source {
     fn read(&mut self, buf: &mut [u8]) -> Result<usize, EdgeErr>
         ensures bound { IfOk result (λ n. n ≤ length buf.old) }
         ensures bytes { IfOk result (λ n. Gets (told self.old) n buf.old buf.new) }
-        ensures ok { IfOk result (λ n. told self.new ≡ after_read (told self.old) n) }
+        ensures ok { IfOk result (λ n. told self.new ≡ left_after_read (told self.old) n) }
         ensures end { IfOk result (λ n. n ≡ 0 → 0 < length buf.old → IsAtEnd (told self.old)) }
         ensures err { OnErr result (told self.new ≡ after_failed_read (told self.old)) }
         ensures cause { HasCause (has_failed result) (count self.old) (count self.new) }

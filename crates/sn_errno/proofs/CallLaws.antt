@@ -5,7 +5,7 @@ use Rattle.std.specs.Fmt.{decimal}
 use Rattle.std.specs.Option.{option_map_or}
 use Rattle.std.proofs.lemmas.Bool.{eqb-true}
 use Rattle.sn_errno.specs.declared.calls.CallNo.{CallNo}
-use Rattle.sn_errno.specs.Calls.{Row, calls, row_of, call_of, row_for, name_for, known_name, call_name}
+use Rattle.sn_errno.specs.Calls.{Row, calls, row_numbered, call_numbered, row_for, name_for, known_name, call_name}
 
 -- each row of the table is the first with its call
 firsts : map (λ row. row_for row.1) calls ≡ map (λ row. Some row) calls
@@ -30,9 +30,9 @@ found_in (first ∷ rows) h number row e = by (first.0 == number) refl e (found_
     by false other e rest = rest e
 
 -- the row behind a call that a look-up finds
-found : (number : ℕ) (call : CallNo) → call_of number ≡ Some call → (row : Row) × (row_of number ≡ Some row)
+found : (number : ℕ) (call : CallNo) → call_numbered number ≡ Some call → (row : Row) × (row_numbered number ≡ Some row)
     × (row.1 ≡ call) × Found number row
-unfolding call_of row_of
+unfolding call_numbered row_numbered
 found number call e = by (find (λ row. row.0 == number) calls) refl e
   where
     by : (o : Option Row) → find (λ row. row.0 == number) calls ≡ o → option_map (λ row. row.1) o ≡ Some call
@@ -41,7 +41,8 @@ found number call e = by (find (λ row. row.0 == number) calls) refl e
     by (Some row) f e = (row, f, (cc), found_in calls firsts number row f)
 
 -- no two numbers have one call
-pub only_number : (number other : ℕ) (call : CallNo) → call_of number ≡ Some call → call_of other ≡ Some call
+pub only_number : (number other : ℕ) (call : CallNo) → call_numbered number ≡ Some call → call_numbered other
+    ≡ Some call
     → number ≡ other
 only_number number other call e h =
     let f = found number call e in
@@ -50,7 +51,8 @@ only_number number other call e h =
     cc
 
 -- the name beside a number of this call
-pub name_beside : (number : ℕ) (call : CallNo) → call_of number ≡ Some call → known_name number ≡ Some (name_for call)
+pub name_beside : (number : ℕ) (call : CallNo) → call_numbered number ≡ Some call → known_name number
+    ≡ Some (name_for call)
 unfolding known_name
 name_beside number call e =
     let f = found number call e in
@@ -63,12 +65,12 @@ unfolding call_name
 printed_known number name h = ap (λ o. unwrap_or o (codes "call" ++ decimal number)) h
 
 -- a number that no call has is printed as `call` and the number
-pub printed_unknown : (number : ℕ) → call_of number ≡ None → call_name number ≡ codes "call" ++ decimal number
-unfolding call_of known_name call_name
-printed_unknown number h = by (row_of number) refl h
+pub printed_unknown : (number : ℕ) → call_numbered number ≡ None → call_name number ≡ codes "call" ++ decimal number
+unfolding call_numbered known_name call_name
+printed_unknown number h = by (row_numbered number) refl h
   where
-    by : (o : Option Row) → row_of number ≡ o → option_map (λ row. row.1) o ≡ None
-        → unwrap_or (option_map (λ row. row.2) (row_of number)) (codes "call" ++ decimal number)
+    by : (o : Option Row) → row_numbered number ≡ o → option_map (λ row. row.1) o ≡ None
+        → unwrap_or (option_map (λ row. row.2) (row_numbered number)) (codes "call" ++ decimal number)
         ≡ codes "call" ++ decimal number
     by None e h = ap (λ o. unwrap_or (option_map (λ row. row.2) o) (codes "call" ++ decimal number)) e
     by (Some row) e h = cc

@@ -81,18 +81,18 @@ calls =
 
 -- the row for a number, if there is one
 -- Linux's asm-generic/unistd.h
-unfoldable pub row_of : ℕ → Option Row
-row_of number = find (λ row. row.0 == number) calls
+unfoldable pub row_numbered : ℕ → Option Row
+row_numbered number = find (λ row. row.0 == number) calls
 
 -- the call with a number, or None where the table has no row for it
 -- Linux's asm-generic/unistd.h
-unfoldable pub call_of : ℕ → Option CallNo
-call_of number = option_map (λ row. row.1) (row_of number)
+unfoldable pub call_numbered : ℕ → Option CallNo
+call_numbered number = option_map (λ row. row.1) (row_numbered number)
 
 -- the name of the call with a number, or None where the table has no row for it
 -- Linux's asm-generic/unistd.h
 unfoldable pub known_name : ℕ → Option (List ℕ)
-known_name number = option_map (λ row. row.2) (row_of number)
+known_name number = option_map (λ row. row.2) (row_numbered number)
 
 -- the first row with a call: its only one
 -- Linux's asm-generic/unistd.h

@@ -1,7 +1,7 @@
 //! The table of system calls: names and numbers.
 
 ghost use Rattle.std.specs.Prelude.{◌≡◌, ℕ};
-ghost use Rattle.sn_errno.specs.Calls.{call_of, known_name, name_for};
+ghost use Rattle.sn_errno.specs.Calls.{call_numbered, known_name, name_for};
 
 /// The system calls of the table, by their names and numbers.
 ///
@@ -65,9 +65,9 @@ pub enum CallNo {
 
 impl CallNo {
     /// The call with this number, or `None` where the table has no row for it. Any number may be asked for.
-    #[tactic(auto, unfolding(crate::specs::Calls::call_of, crate::specs::Calls::row_of))]
+    #[tactic(auto, unfolding(crate::specs::Calls::call_numbered, crate::specs::Calls::row_numbered))]
     pub fn of(number: u64) -> Option<CallNo>
-        ensures { result ≡ call_of number }
+        ensures { result ≡ call_numbered number }
     {
         match number {
             17 => Some(CallNo::Getcwd),
@@ -130,16 +130,16 @@ impl CallNo {
     /// The call's number.
     #[tactic(auto, using(crate::proofs::CallLaws::only_number))]
     pub fn number(self) -> u64
-        ensures row { call_of result ≡ Some self }
-        ensures only { (number : ℕ) → call_of number ≡ Some self → number ≡ result }
+        ensures row { call_numbered result ≡ Some self }
+        ensures only { (number : ℕ) → call_numbered number ≡ Some self → number ≡ result }
     {
         self.as_number()
     }
 
     /// The number that the list above has beside the call: the number of its row.
-    #[tactic(auto, unfolding(crate::specs::Calls::call_of, crate::specs::Calls::row_of))]
+    #[tactic(auto, unfolding(crate::specs::Calls::call_numbered, crate::specs::Calls::row_numbered))]
     fn as_number(self) -> u64
-        ensures { call_of result ≡ Some self }
+        ensures { call_numbered result ≡ Some self }
     {
         self as u64
     }
@@ -147,7 +147,7 @@ impl CallNo {
     /// The call's name: the one that the table has beside the call's number.
     #[tactic(auto, using(crate::proofs::CallLaws::name_beside))]
     pub fn name(self) -> &'static str
-        ensures { (number : ℕ) → call_of number ≡ Some self → known_name number ≡ Some result.now }
+        ensures { (number : ℕ) → call_numbered number ≡ Some self → known_name number ≡ Some result.now }
     {
         self.name_in_row()
     }

@@ -1,6 +1,6 @@
 use Rattle.std.proofs.Common.{◌≡◌, ℕ, List, Bool, true, false, Some, None}
 use Rattle.std.specs.Prelude.{if◌then◌else◌}
-use Rattle.sn_text.specs.Names.{name_fault_of, IsFaultOf}
+use Rattle.sn_text.specs.Names.{name_fault_of, IsNameFaultOf}
 use Rattle.sn_text.specs.declared.fault.NameFault.{NameFault}
 use Rattle.sn_text.specs.declared.fault.NameFault.TheVariants.{Empty, Long, Slash, Nul, Dot, Memory}
 
@@ -20,7 +20,7 @@ unfolding name_fault_of
 never_Memory bytes h = five_choices _ _ _ _ _ h
 
 -- the first fault is one that a call may tell
-pub fault_of_first : (bytes : List ℕ) (e : NameFault) → name_fault_of bytes ≡ Some e → IsFaultOf bytes e
+pub fault_of_first : (bytes : List ℕ) (e : NameFault) → name_fault_of bytes ≡ Some e → IsNameFaultOf bytes e
 fault_of_first bytes Empty h = h
 fault_of_first bytes Long h = h
 fault_of_first bytes Slash h = h

@@ -5,6 +5,7 @@ use Rattle.std.specs.List.{list_any}
 use Rattle.std.specs.Str.{bytes_eq}
 use Rattle.sn_text.specs.declared.fault.NameFault.{NameFault}
 use Rattle.sn_text.specs.declared.fault.NameFault.TheVariants.{Empty, Long, Slash, Nul, Dot, Memory}
+use Rattle.sn_text.specs.declared.fault.TheConstants.{NAME_MAX}
 
 -- a byte stands among the bytes
 -- POSIX.1-2017, Base Definitions, Filename: what a name may not contain
@@ -21,7 +22,7 @@ is_dots bytes = bytes_eq bytes (46 ∷ []) || bytes_eq bytes (46 ∷ 46 ∷ [])
 unfoldable pub name_fault_of : List ℕ → Option NameFault
 name_fault_of bytes =
     if nat_eq (length bytes) 0 then Some Empty
-    else if nat_lt 255 (length bytes) then Some Long
+    else if nat_lt NAME_MAX (length bytes) then Some Long
     else if has_byte 47 bytes then Some Slash
     else if has_byte 0 bytes then Some Nul
     else if is_dots bytes then Some Dot
@@ -34,6 +35,6 @@ IsName bytes = name_fault_of bytes ≡ None
 
 -- what a refusal may tell of these bytes: their first fault, or want of memory where they are a name
 -- POSIX.1-2017, Base Definitions, Filename; malloc(3), ENOMEM; order of the faults: profile
-abbrev pub IsFaultOf : List ℕ → NameFault → Type 0
-IsFaultOf bytes Memory = IsName bytes
-IsFaultOf bytes fault = name_fault_of bytes ≡ Some fault
+abbrev pub IsNameFaultOf : List ℕ → NameFault → Type 0
+IsNameFaultOf bytes Memory = IsName bytes
+IsNameFaultOf bytes fault = name_fault_of bytes ≡ Some fault

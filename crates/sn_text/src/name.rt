@@ -3,7 +3,7 @@
 ghost use Rattle.std.specs.Prelude.{◌≡◌, ◌↔◌, IsTrue, IfOk, IfErr};
 ghost use Rattle.std.specs.Str.{bytes_eq};
 ghost use lib.Pointwise.{pointwise};
-ghost use Rattle.sn_text.specs.Names.{name_fault_of, IsName, IsFaultOf};
+ghost use Rattle.sn_text.specs.Names.{name_fault_of, IsName, IsNameFaultOf};
 ghost use Rattle.sn_text.specs.declared.fault.NameFault.{NameFault as Fault};
 
 use crate::fault::{NameFault, name_fault};
@@ -65,7 +65,7 @@ impl Name {
 #[tactic(auto, using(crate::proofs::NameFaults::fault_of_first))]
 pub fn name_of(alloc: Global, bytes: &[u8]) -> Result<Name, NameFault>
     ensures ok { IfOk result (λ n. (n ≡ bytes.now) × IsName bytes.now) }
-    ensures fault { IfErr result (IsFaultOf bytes.now) }
+    ensures fault { IfErr result (IsNameFaultOf bytes.now) }
     ensures faulty { (e : Fault) → name_fault_of bytes.now ≡ Some e → result ≡ Err e }
 {
     match name_fault(bytes) {

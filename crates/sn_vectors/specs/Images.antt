@@ -22,8 +22,8 @@ identification =
 -- e_type ET_EXEC, e_machine EM_RISCV, e_version, e_entry behind the headers, e_phoff, e_shoff, e_flags, e_ehsize,
 -- e_phentsize, e_phnum, e_shentsize, e_shnum, e_shstrndx
 -- ELF-64 Object File Format, File Header; RISC-V ELF psABI, File Header
-abbrev pub file_header : List ℕ
-file_header =
+abbrev pub file_header_bytes : List ℕ
+file_header_bytes =
     identification ++ number 2 2 ++ number 2 243 ++ number 4 1 ++
     number 8 (65536 + 120) ++ number 8 64 ++ number 8 0 ++ number 4 0 ++
     number 2 64 ++ number 2 56 ++ number 2 1 ++ number 2 0 ++ number 2 0 ++ number 2 0
@@ -31,12 +31,12 @@ file_header =
 -- p_type PT_LOAD, p_flags PF_R and PF_X, p_offset, p_vaddr, p_paddr, p_filesz, p_memsz, p_align: a file of that size
 -- is loaded whole at 65,536
 -- ELF-64 Object File Format, Program Header
-abbrev pub program_header : ℕ → List ℕ
-program_header size =
+abbrev pub program_header_bytes : ℕ → List ℕ
+program_header_bytes size =
     number 4 1 ++ number 4 5 ++ number 8 0 ++ number 8 65536 ++ number 8 65536 ++ number 8 size ++ number 8 size ++
     number 8 4096
 
 -- the file of a program: headers and words, and nothing else
 -- ELF-64 Object File Format, Overview of an ELF file
 abbrev pub image : List ℕ → List ℕ
-image words = file_header ++ program_header (120 + 4 * length words) ++ code words
+image words = file_header_bytes ++ program_header_bytes (120 + 4 * length words) ++ code words

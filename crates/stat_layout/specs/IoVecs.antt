@@ -40,7 +40,7 @@ IsTooLong buffers = 2 ^ 63 - 1 < total_of buffers
 
 -- what a refusal may tell of the records in some bytes: that they are too long, or want of memory where they aren't
 -- readv(2), ERRORS; malloc(3), ENOMEM; order of the errors: profile
-abbrev pub IsFaultOf : List ℕ → IoVecErr → Type 0
-IsFaultOf bytes Count = ⊥
-IsFaultOf bytes Sum = IsTooLong (iovecs_in bytes)
-IsFaultOf bytes Memory = total_of (iovecs_in bytes) ≤ 2 ^ 63 - 1
+abbrev pub IsVectorFaultOf : List ℕ → IoVecErr → Type 0
+IsVectorFaultOf bytes Count = ⊥
+IsVectorFaultOf bytes Sum = IsTooLong (iovecs_in bytes)
+IsVectorFaultOf bytes Memory = total_of (iovecs_in bytes) ≤ 2 ^ 63 - 1

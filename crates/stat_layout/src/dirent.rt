@@ -1,6 +1,7 @@
 //! What a call tells of an entry of a directory, as the bytes of struct linux_dirent64.
 
 ghost use Rattle.std.specs.Prelude.{◌≡◌, ◌+◌, ◌%◌, ◌<◌, ◌≤◌, ◌++◌, length, take, drop, OnOk, OnErr};
+ghost use Rattle.sn_text.specs.declared.fault.TheConstants.{NAME_MAX};
 ghost use Rattle.stat_layout.specs.Dirents.{DirEntry, HasDirentFields, dirent_length, dirent_record};
 
 use crate::kind::FileKind;
@@ -19,7 +20,7 @@ pub struct Dirent<'a> {
     pub next: u64,
     /// The type of the node: `d_type`.
     pub kind: FileKind,
-    /// At most 255 bytes: `d_name`.
+    /// At most `NAME_MAX` bytes: `d_name`.
     pub name: &'a [u8],
 }
 
@@ -39,7 +40,7 @@ const LONGEST: usize = 280;
 
 /// How many bytes the record of a name takes.
 pub fn dirent_length(name_length: usize) -> usize
-    requires { name_length ≤ 255 }
+    requires { name_length ≤ NAME_MAX }
     ensures value { result ≡ dirent_length name_length }
     ensures multiple { result % 8 ≡ 0 }
     ensures room { 19 + name_length + 1 ≤ result }
@@ -51,7 +52,7 @@ pub fn dirent_length(name_length: usize) -> usize
 /// Adds the record of an entry at the end. An `Err` leaves the bytes as they were.
 #[tactic(auto, using(crate::proofs::FieldsRead::fields_added))]
 pub fn put_dirent(out: &mut List<u8>, entry: &Dirent<'_>) -> Result<(), Memory>
-    requires { length entry.now.name ≤ 255 }
+    requires { length entry.now.name ≤ NAME_MAX }
     ensures ok { OnOk result (out.new ≡ out.old ++ dirent_record entry.now) }
     ensures length { OnOk result (length out.new ≡ length out.old + dirent_length (length entry.now.name)) }
     ensures fields { OnOk result (HasDirentFields entry.now (drop (length out.old) out.new)) }
@@ -65,7 +66,7 @@ pub fn put_dirent(out: &mut List<u8>, entry: &Dirent<'_>) -> Result<(), Memory>
 /// The record of an entry, and zeros behind it.
 #[tactic(auto, using(crate::proofs::Layouts::dirent_laid_out, crate::proofs::FieldsRead::dirent_fields))]
 fn longest_record(ino: u64, next: u64, kind: FileKind, name: &[u8]) -> [u8; LONGEST]
-    requires { length name.now ≤ 255 }
+    requires { length name.now ≤ NAME_MAX }
     ensures record { let entry : DirEntry = record { ino = ino; next = next; kind = kind; name = name.now } in
         take (dirent_length (length name.now)) result ≡ dirent_record entry }
     ensures fields { let entry : DirEntry = record { ino = ino; next = next; kind = kind; name = name.now } in

@@ -3,7 +3,7 @@
 ghost use Rattle.std.specs.Prelude.{◌≡◌, ◌↔◌, ◌+◌, ◌-◌, ◌*◌, ◌/◌, ◌^◌, ◌≤◌, length, nat_le, if◌then◌else◌, IfOk, IfErr};
 ghost use Rattle.std.specs.Prelude.{OnOk};
 ghost use Rattle.sn_base.specs.Sums.{capped};
-ghost use Rattle.stat_layout.specs.IoVecs.{IsFaultOf, IsOutOfRange, IsTooLong, iovec_at, iovecs_in, total_of};
+ghost use Rattle.stat_layout.specs.IoVecs.{IsVectorFaultOf, IsOutOfRange, IsTooLong, iovec_at, iovecs_in, total_of};
 ghost use Rattle.stat_layout.specs.declared.iovec.IoVecErr.TheVariants.{Memory as WantOfMemory};
 
 use sn_base::{List, Memory, capped_add};
@@ -70,7 +70,7 @@ pub fn iovecs(alloc: Global, records: &[u8]) -> Result<List<IoVec>, IoVecErr>
     ensures ok { IfOk result (λ buffers. buffers ≡ iovecs_in records.now) }
     ensures count { IfOk result (λ buffers. length buffers ≡ length records.now / 16) }
     ensures sum { OnOk result (total_of (iovecs_in records.now) ≤ 2 ^ 63 - 1) }
-    ensures fault { IfErr result (IsFaultOf records.now) }
+    ensures fault { IfErr result (IsVectorFaultOf records.now) }
     ensures faulty { IsTooLong (iovecs_in records.now) → result ≡ Err IoVecErr.Sum }
 {
     if capped_total(records) > LONGEST {

@@ -17,7 +17,7 @@ use Rattle.task_table.specs.declared.task.Group.{Group}
 use Rattle.task_table.specs.declared.task.Status.{Status}
 use Rattle.task_table.specs.declared.task.ReapEnd.TheVariants.{NotYet, Reaped}
 use Rattle.task_table.specs.Entries.{passes, numbers_where, changed_at, each_changed}
-use Rattle.task_table.specs.Reaps.{is_child, is_waited, children, end_among, none_ended, orphaned, reaped, status_of}
+use Rattle.task_table.specs.Reaps.{is_child, is_waited, children, end_among, none_ended, orphaned, reaped, status_of_group}
 use Rattle.task_table.specs.Table.{has_ended, has_parent}
 use Rattle.task_table.proofs.Changes.{changed_along, changed_along_all, get-changed_after, get-changed_at}
 use Rattle.task_table.proofs.Changes.{keys-changed_at, get-each_changed, keys-each_changed}
@@ -237,7 +237,7 @@ reaped_at groups parent which numbers i group status h none child ended =
     ap (λ o. option_map_or (λ (g : Group). is_some g.ended) o false) there.1 ∙ ap is_some ended in
     let found = found_at (is_child groups parent which) (has_ended groups) numbers i n h refl none there.0 has in
     sym (
-    ap (λ o. option_map_or (λ m. reaped m (status_of groups m)) o
+    ap (λ o. option_map_or (λ m. reaped m (status_of_group groups m)) o
     (none_ended (filter (is_child groups parent which) numbers))) found
     ∙ ap (reaped n) (ap (option_and_then (λ (g : Group). g.ended)) there.1 ∙ ended))
 

@@ -28,8 +28,8 @@ children groups parent which = filter (is_child groups parent which) (keys group
 
 -- how a thread group ended, if it has
 -- wait4(2), wstatus
-abbrev pub status_of : FinMap nat_cmp Group → ℕ → Option Status
-status_of groups n = option_and_then (λ group. group.ended) (get groups n)
+abbrev pub status_of_group : FinMap nat_cmp Group → ℕ → Option Status
+status_of_group groups n = option_and_then (λ group. group.ended) (get groups n)
 
 -- what is answered where none of these children has ended
 -- wait4(2), ERRORS, ECHILD
@@ -47,7 +47,7 @@ reaped n (Some status) = Reaped n status
 -- wait4(2), RETURN VALUE and ERRORS; profile: the lowest number
 abbrev pub end_among : FinMap nat_cmp Group → List ℕ → ReapEnd
 end_among groups waited =
-    option_map_or (λ n. reaped n (status_of groups n)) (find (has_ended groups) waited) (none_ended waited)
+    option_map_or (λ n. reaped n (status_of_group groups n)) (find (has_ended groups) waited) (none_ended waited)
 
 -- what waiting comes to
 -- wait4(2), RETURN VALUE and ERRORS

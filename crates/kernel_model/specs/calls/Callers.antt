@@ -36,14 +36,14 @@ in_memory task group g registers space =
       space = s;
     }) space
 
-abbrev pub with_memory : (task group : ℕ) → Group → Option Regs → Prog (Option Caller)
-with_memory task group g None = done None
-with_memory task group g (Some registers) =
+abbrev pub caller_with_memory : (task group : ℕ) → Group → Option Regs → Prog (Option Caller)
+caller_with_memory task group g None = done None
+caller_with_memory task group g (Some registers) =
     look (OfSpace g.memory) (λ space. done (in_memory task group g registers space))
 
 abbrev pub in_group : (task group : ℕ) → Option Group → Prog (Option Caller)
 in_group task group None = done None
-in_group task group (Some g) = look (OfTask task) (with_memory task group g)
+in_group task group (Some g) = look (OfTask task) (caller_with_memory task group g)
 
 abbrev pub among : (task : ℕ) → TaskTable → Prog (Option Caller)
 among task list =

@@ -21,8 +21,8 @@ use Rattle.kernel_model.specs.entries.Parts.{Change, Prog, done, ◌>>=◌}
 
 -- a call on a table replies, and leaves the table so, with other changes
 -- dup(2), close(2), RETURN VALUE
-abbrev pub leaves : Caller → (reply : ℕ) → Table → List Change → Answer
-leaves c reply table changes = replies (pos reply) ((OfTable c.table, Some table) ∷ changes)
+abbrev pub leaves_table : Caller → (reply : ℕ) → Table → List Change → Answer
+leaves_table c reply table changes = replies (pos reply) ((OfTable c.table, Some table) ∷ changes)
 
 -- ---- dup and dup3
 
@@ -35,7 +35,7 @@ replaced (Some d) = dropped d.description
 abbrev pub gives : Caller → (cloexec : Bool) → Table → Descriptor → (number : ℕ) → Prog Answer
 gives c cloexec table d number =
     followed (counted d.description) (replaced (map.get table number))
-    >>= λ changes. done (leaves c number (map.insert table number (with_mark d cloexec)) changes)
+    >>= λ changes. done (leaves_table c number (map.insert table number (with_mark d cloexec)) changes)
 
 -- the lowest free number at or above another
 -- dup(2), EMFILE; fcntl(2), F_DUPFD
@@ -99,7 +99,7 @@ by_command command argument fd c table d =
     if command == 0 then dupfd_of argument false c table d
     else if command == 1030 then dupfd_of argument true c table d
     else if command == 1 then done (replies (pos (mark_of d)) [])
-    else if command == 2 then done (leaves c 0 (marked table fd (argument % 2 == 1)) [])
+    else if command == 2 then done (leaves_table c 0 (marked table fd (argument % 2 == 1)) [])
     else if command == 3 then with_file d.description tells_status
     else if command == 4 then with_file d.description (sets_status d argument)
     else done (refuses EINVAL)
@@ -120,4 +120,4 @@ ioctl_row fd c = with_descriptor c fd (λ table d. done (refuses ENOTTY))
 abbrev pub close_row : (fd : ℕ) → Caller → Prog Answer
 close_row fd c =
     with_descriptor c fd (λ table d. dropped d.description
-    >>= λ changes. done (leaves c 0 (map.remove table (descriptor fd)) changes))
+    >>= λ changes. done (leaves_table c 0 (map.remove table (descriptor fd)) changes))

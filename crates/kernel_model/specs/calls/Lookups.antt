@@ -29,8 +29,8 @@ or_refuse errno row (Some x) = row x
 
 -- the caller's table; where that is not there nothing is open
 -- open(2), DESCRIPTION
-abbrev pub with_table : Caller → (Table → Prog Answer) → Prog Answer
-with_table c row = look (OfTable c.table) (or_refuse EBADF row)
+abbrev pub with_callers_table : Caller → (Table → Prog Answer) → Prog Answer
+with_callers_table c row = look (OfTable c.table) (or_refuse EBADF row)
 
 -- the lowest number at or above another that is not open
 -- open(2), DESCRIPTION; dup(2); fcntl(2), F_DUPFD
@@ -40,7 +40,7 @@ lowest_free table from = find (λ n. not (map.contains_key table n)) (range_with
 -- what a register's descriptor stands for, or EBADF
 -- close(2), dup(2), fcntl(2), ioctl(2), lseek(2), ERRORS: EBADF
 abbrev pub with_descriptor : Caller → (fd : ℕ) → (Table → Descriptor → Prog Answer) → Prog Answer
-with_descriptor c fd row = with_table c (λ table. or_refuse EBADF (row table) (map.get table (descriptor fd)))
+with_descriptor c fd row = with_callers_table c (λ table. or_refuse EBADF (row table) (map.get table (descriptor fd)))
 
 abbrev pub with_file : Made → (OpenFile → Prog Answer) → Prog Answer
 with_file name row = look (OfDescription name) (or_refuse EBADF row)

@@ -11,7 +11,7 @@ use Rattle.mm_areas.specs.declared.fault.AreaErr.TheVariants.{Invalid, Hole, Lim
 use Rattle.mm_areas.specs.declared.page.Backing.{Backing}
 use Rattle.mm_areas.specs.declared.page.Backing.TheVariants.{Zeros, Of}
 use Rattle.mm_areas.specs.declared.rights.Rights.{Rights}
-use Rattle.mm_areas.specs.Mappings.{pages_in, is_no_place, place_in, address_of, map_fault, unmap_fault, protect_fault}
+use Rattle.mm_areas.specs.Mappings.{pages_in, is_no_place, first_page_for, address_of, map_fault, unmap_fault, protect_fault}
 use Rattle.mm_space.specs.Changes.{broken_in, mapped_in, unmapped_in, righted_in}
 use Rattle.mm_space.specs.Handed.{zero_area}
 use Rattle.mm_space.specs.Spaces.{AddressSpace}
@@ -147,7 +147,7 @@ maps_at context c address length protection flags =
 -- where it goes
 -- mmap(2), RETURN VALUE
 abbrev pub address_in : AddressSpace → (asked : Option ℕ) → (length : ℕ) → ℕ
-address_in space asked length = unwrap_or (address_of (place_in space.mapping.pages asked (pages_in length))) 0
+address_in space asked length = unwrap_or (address_of (first_page_for space.mapping.pages asked (pages_in length))) 0
 
 -- mmap(address, length, protection, flags, fd, offset)
 -- mmap(2), ERRORS: EINVAL, EBADF, ENODEV, ENOMEM; their order: profile

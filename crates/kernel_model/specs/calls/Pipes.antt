@@ -20,7 +20,7 @@ use Rattle.kernel_model.specs.declared.kernel.Part.TheVariants.{OfTable, OfDescr
 use Rattle.kernel_model.specs.descriptors.OpenFiles.{descriptor_of, new_file}
 use Rattle.kernel_model.specs.calls.Answers.{Answer, replies, refuses}
 use Rattle.kernel_model.specs.calls.Callers.{Context}
-use Rattle.kernel_model.specs.calls.Lookups.{lowest_free, or_refuse, with_table}
+use Rattle.kernel_model.specs.calls.Lookups.{lowest_free, or_refuse, with_callers_table}
 use Rattle.kernel_model.specs.entries.Areas.{access_row, reach_changes, written_with}
 use Rattle.kernel_model.specs.entries.Parts.{Change, Prog, done, ◌>>=◌}
 
@@ -79,7 +79,7 @@ pipe2_of context c buffer flags =
     if not (are_pipe_flags flags)
     then done (refuses EINVAL)
     else access_row writable c.space buffer 8
-    >>= or_refuse EFAULT (λ hand. with_table c
+    >>= or_refuse EFAULT (λ hand. with_callers_table c
     (λ table. or_refuse EMFILE (λ fds. done (pipe_made context c buffer flags hand table fds)) (two_free table)))
 
 abbrev pub pipe2_row : Context → (buffer flags : ℕ) → Caller → Prog Answer

@@ -9,7 +9,7 @@ use Rattle.sn_errno.specs.declared.calls.CallNo.TheVariants.{Getgid, Getegid, Ge
 use Rattle.sn_errno.specs.declared.calls.CallNo.TheVariants.{Getrandom}
 use Rattle.sn_errno.specs.declared.calls.CallNo.TheVariants.{Dup, Dup3, Fcntl, Ioctl, Close, Lseek, Pread64, Pwrite64}
 use Rattle.sn_errno.specs.declared.calls.CallNo.TheVariants.{Pipe2, Read, Readv, Writev}
-use Rattle.sn_errno.specs.Calls.{call_of}
+use Rattle.sn_errno.specs.Calls.{call_numbered}
 use Rattle.kernel_model.specs.declared.caller.Caller.{Caller}
 use Rattle.kernel_model.specs.declared.entry.Args.{Args}
 use Rattle.kernel_model.specs.calls.Answers.{Answer, refuses}
@@ -75,4 +75,4 @@ row_if_known context caller args None = done (refuses ENOSYS)
 row_if_known context caller args (Some call) = row_of_call context caller args call
 
 abbrev pub call_row : Context → Caller → (number : ℕ) → Args → Prog Answer
-call_row context caller number args = row_if_known context caller args (call_of number)
+call_row context caller number args = row_if_known context caller args (call_numbered number)

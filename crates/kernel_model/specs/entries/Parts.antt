@@ -138,6 +138,6 @@ changed (change ∷ changes) k = changed changes (put change.0 change.1 k)
 
 -- the parts of changes
 -- profile
-abbrev pub parts_of : List Change → List Part
-parts_of [] = []
-parts_of (change ∷ changes) = change.0 ∷ parts_of changes
+abbrev pub parts_changed : List Change → List Part
+parts_changed [] = []
+parts_changed (change ∷ changes) = change.0 ∷ parts_changed changes

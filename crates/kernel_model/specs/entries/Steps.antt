@@ -38,7 +38,7 @@ use Rattle.kernel_model.specs.entries.Areas.{Stands, next_row, area_changes}
 use Rattle.kernel_model.specs.entries.Given.{has_any, is_in_order, above_last, Nodes_so_far, number_all, node_changes}
 use Rattle.kernel_model.specs.entries.Given.{faulted, is_quiet, may_meet}
 use Rattle.kernel_model.specs.entries.Parts.{parts, Prog, done, look, outcome_in, uses, ◌>>=◌, Change, changed}
-use Rattle.kernel_model.specs.entries.Parts.{parts_of}
+use Rattle.kernel_model.specs.entries.Parts.{parts_changed}
 use Rattle.kernel_model.specs.entries.Waiting.{Wait, Awake, Asleep, Woken, wait_of}
 
 -- a task has these registers
@@ -132,11 +132,11 @@ failing c reply given = faulted given >>= λ changes. done (refused_with c reply
 abbrev pub is_key : Fresh → Key → Bool
 is_key f key = (f.dir == key.dir) && bytes_eq f.name key.name
 
-abbrev pub are_named : List Fresh → List Key → Bool
-are_named fresh keys = list_all (λ f. list_any (is_key f) keys) fresh
+abbrev pub are_named_fresh : List Fresh → List Key → Bool
+are_named_fresh fresh keys = list_all (λ f. list_any (is_key f) keys) fresh
 
 abbrev pub are_just : List Fresh → List Key → Bool
-are_just fresh keys = are_named fresh keys && (length fresh == length keys)
+are_just fresh keys = are_named_fresh fresh keys && (length fresh == length keys)
 
 -- a call that drew a number above the greatest: nothing is left of it but the numbers up to that
 -- openat(2), ERRORS, ENFILE; profile
@@ -155,7 +155,7 @@ numbering c reply given answer = number_all given.fresh [] >>= λ nodes. done (r
 abbrev pub by_answer : Caller → ℤ → Given → Answer → Prog (Option (List Change))
 by_answer c reply given answer =
     if list_any above_last given.fresh
-    then (if are_named given.fresh answer.fresh then exhausted c reply given else done None)
+    then (if are_named_fresh given.fresh answer.fresh then exhausted c reply given else done None)
     else (if are_just given.fresh answer.fresh then numbering c reply given answer else done None)
 
 -- a call by what it met: with a rise it failed
@@ -277,7 +277,7 @@ used k entry = uses (parts k) (entry_row (context_of k) entry)
 
 abbrev pub touched : Option (List Change) → List Part
 touched None = []
-touched (Some changes) = parts_of changes
+touched (Some changes) = parts_changed changes
 
 abbrev pub touches : Kernel → Entry → List Part
 touches k entry = touched (outcome_in (parts k) (entry_row (context_of k) entry))

@@ -4,7 +4,7 @@ use Rattle.std.specs.Prelude.{if◌then◌else◌, option_map}
 use Rattle.std.specs.Ordering.{nat_cmp}
 use Rattle.std.specs.Str.{bytes_eq}
 use Rattle.std.specs.FinMap as map
-use Rattle.host_node.specs.Tree.{Shape, mode_of, faults_of, with_faults, child_of, with_child, lend_child}
+use Rattle.host_node.specs.Tree.{Shape, permissions_of, faults_of, with_faults, child_of, with_child, lend_child}
 use Rattle.kernel_model.specs.declared.kernel.Node.{Node}
 use Rattle.kernel_model.specs.declared.kernel.Numbered.{Numbered}
 
@@ -60,7 +60,7 @@ numbered_in dir name ino = record {
 -- the owner may search a directory, or execute a file
 -- inode(7), S_IXUSR 0100
 abbrev pub owner_executes : Shape → Bool
-owner_executes shape = mode_of shape / 64 % 2 == 1
+owner_executes shape = permissions_of shape / 64 % 2 == 1
 
 -- a child that has a number, back in its place
 -- inode(7)

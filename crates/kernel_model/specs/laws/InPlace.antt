@@ -12,8 +12,8 @@ use Rattle.kernel_model.specs.entries.Parts.{parts, Prog, outcome_in, Change, ch
 
 -- the kernel that a piece leaves
 -- profile
-abbrev pub done_by : Prog (List Change) → Kernel → Kernel
-done_by piece k = changed (outcome_in (parts k) piece) k
+abbrev pub kernel_left : Prog (List Change) → Kernel → Kernel
+kernel_left piece k = changed (outcome_in (parts k) piece) k
 
 -- the kernel after changes, or None where there are none to do
 -- profile

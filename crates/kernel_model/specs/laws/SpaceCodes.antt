@@ -20,18 +20,18 @@ abbrev pub parted : Held → List ℕ ⊎ (Area × ℕ)
 parted (Bytes bytes) = inl bytes
 parted (PageOf area number) = inr (area, number)
 
-abbrev pub joined : List ℕ ⊎ (Area × ℕ) → Held
-joined (inl bytes) = Bytes bytes
-joined (inr page) = PageOf page.0 page.1
+abbrev pub joined_held : List ℕ ⊎ (Area × ℕ) → Held
+joined_held (inl bytes) = Bytes bytes
+joined_held (inr page) = PageOf page.0 page.1
 
-pub joined_parted : (held : Held) → joined (parted held) ≡ held
+pub joined_parted : (held : Held) → joined_held (parted held) ≡ held
 joined_parted (Bytes bytes) = refl
 joined_parted (PageOf area number) = refl
 
 abbrev pub coded_held : Coded Held
 coded_held =
     code_by (List ℕ ⊎ (Area × ℕ)) (coded⊎ (coded_list coded_ℕ) (coded× of_area.the_row.coded coded_ℕ))
-    parted joined joined_parted
+    parted joined_held joined_parted
 
 -- an address space, as a tuple of its parts
 -- profile

@@ -27,11 +27,11 @@ opening_random seed task = random_bytes seed (opening_stream task)
 
 -- so many words of a stream, from its first on
 -- the same
-unfoldable pub words_of : (seed : List ℕ) → (stream count : ℕ) → List ℕ
-words_of seed stream zero = []
-words_of seed stream (suc n) = words_of seed stream n ++ word_bytes seed stream n
+unfoldable pub stream_words : (seed : List ℕ) → (stream count : ℕ) → List ℕ
+stream_words seed stream zero = []
+stream_words seed stream (suc n) = stream_words seed stream n ++ word_bytes seed stream n
 
 -- so many random bytes for the entry of a place, at most 256: the first of the stream whose number is that place
 -- getrandom(2); that the stream is the place's: profile
 abbrev pub random_at : (seed : List ℕ) → (place count : ℕ) → List ℕ
-random_at seed place count = take count (words_of seed place 64)
+random_at seed place count = take count (stream_words seed place 64)

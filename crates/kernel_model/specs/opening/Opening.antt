@@ -55,11 +55,11 @@ abbrev pub image_within : Option Image → Result Image Errno
 image_within None = Err ENOEXEC
 image_within (Some image) = if has_room image then Ok image else Err ENOMEM
 
-abbrev pub image_in : List ℕ → Result Image Errno
-image_in bytes = if nat_lt LONGEST_IMAGE (length bytes) then Err ENOEXEC else image_within (image_of bytes)
+abbrev pub image_or_errno : List ℕ → Result Image Errno
+image_or_errno bytes = if nat_lt LONGEST_IMAGE (length bytes) then Err ENOEXEC else image_within (image_of bytes)
 
 abbrev pub executed : Shape → Result Image Errno
-executed (file bytes mode faults) = if owner_executes (file bytes mode faults) then image_in bytes else Err EACCES
+executed (file bytes mode faults) = if owner_executes (file bytes mode faults) then image_or_errno bytes else Err EACCES
 executed (link text faults) = Err ELOOP
 executed (directory mode faults entries) = Err EACCES
 executed (lent kind) = Err EACCES
@@ -74,16 +74,16 @@ abbrev pub numbered_image : Option Node → Result Image Errno
 numbered_image None = Err ENOENT
 numbered_image (Some node) = executed node.tree
 
-abbrev pub walked_to : Child → Prog Walked
-walked_to Missing = done (record { draws = false; image = Err ENOENT })
-walked_to (Unnumbered shape) = done (record { draws = true; image = executed shape })
-walked_to (Known ino) = look (OfNode ino) (λ node. done (record { draws = false; image = numbered_image node }))
+abbrev pub walked_to_child : Child → Prog Walked
+walked_to_child Missing = done (record { draws = false; image = Err ENOENT })
+walked_to_child (Unnumbered shape) = done (record { draws = true; image = executed shape })
+walked_to_child (Known ino) = look (OfNode ino) (λ node. done (record { draws = false; image = numbered_image node }))
 
 abbrev pub walked_from : List ℕ → Option Node → Prog Walked
 walked_from name None = done (record { draws = false; image = Err ENOENT })
 walked_from name (Some root) =
     if owner_executes root.tree
-    then walked_to (child_at name root)
+    then walked_to_child (child_at name root)
     else done (record { draws = false; image = Err EACCES })
 
 -- the number of the root of the mount at `/`: roots are numbered 1 up, in order of the mounts

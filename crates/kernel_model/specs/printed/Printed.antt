@@ -14,7 +14,7 @@ use Rattle.kernel_model.specs.declared.entry.Entry.TheVariants.{Run, Call, Sleep
 use Rattle.kernel_model.specs.declared.entry.Args.{Args}
 use Rattle.sn_errno.specs.declared.calls.CallNo.{CallNo}
 use Rattle.sn_errno.specs.declared.calls.CallNo.TheVariants.{Exit, ExitGroup}
-use Rattle.sn_errno.specs.Calls.{call_of, call_name}
+use Rattle.sn_errno.specs.Calls.{call_numbered, call_name}
 
 -- the bytes end with a newline, or there are none
 -- profile
@@ -63,7 +63,7 @@ reply_by (Some ExitGroup) reply = codes "?"
 reply_by _ reply = signed_decimal reply
 
 abbrev pub reply_text : (number : ℕ) → ℤ → List ℕ
-reply_text number reply = reply_by (call_of number) reply
+reply_text number reply = reply_by (call_numbered number) reply
 
 -- the line of an entry at a place, where it has one
 -- profile

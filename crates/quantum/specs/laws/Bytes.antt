@@ -42,7 +42,7 @@ set_elsewhere (y ∷ ys) (suc index) x (suc other) apart =
     set_elsewhere ys index x other (λ same. apart (ap (λ n. suc n) same))
 
 changed_here : (pages : List (List ℕ)) (page : ℕ) (change : List ℕ → List ℕ)
-    → slice_get (frames.with_change pages page change) page ≡ option_map change (slice_get pages page)
+    → slice_get (frames.with_page_changed pages page change) page ≡ option_map change (slice_get pages page)
 changed_here [] page change = refl
 changed_here (p ∷ ps) zero change = refl
 changed_here (p ∷ ps) (suc page) change = changed_here ps page change
@@ -80,15 +80,16 @@ byte_changed None offset value other = barred_stays (offset == other) value
 byte_changed (Some bytes) offset value other = byte_set bytes offset value other
 
 pub byte_in_pages : (pages : List (List ℕ)) (page offset value number other : ℕ)
-    → as_byte (frames.byte_at (frames.with_change pages page (λ bytes. slice_set bytes offset value)) number other)
-    ≡ valued_if ((page == number) && (offset == other)) value (as_byte (frames.byte_at pages number other))
+    → as_byte (frames.byte_of_pages (frames.with_page_changed pages page
+    (λ bytes. slice_set bytes offset value)) number other)
+    ≡ valued_if ((page == number) && (offset == other)) value (as_byte (frames.byte_of_pages pages number other))
 byte_in_pages pages page offset value number other = by (cases_eq page number)
   where
     change : List ℕ → List ℕ
     change bytes = slice_set bytes offset value
 
     new : ℕ → Byte
-    new n = byte_of other (slice_get (frames.with_change pages page change) n)
+    new n = byte_of other (slice_get (frames.with_page_changed pages page change) n)
 
     old : ℕ → Byte
     old n = byte_of other (slice_get pages n)

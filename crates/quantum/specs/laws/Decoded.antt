@@ -10,8 +10,8 @@ use Rattle.rv_table.specs.declared.instr.Instr.TheVariants as instr
 use Rattle.rv_table.specs.Bytes.{Value, loaded}
 use Rattle.rv_table.specs.Table.{instr_of}
 use Rattle.rv_exec.specs.Rows.{AreOfPage, IsOfWord}
-use Rattle.mm_frames.specs.Numbers.{number_in}
-use Rattle.mm_frames.specs.Rows.{row_of}
+use Rattle.mm_frames.specs.Numbers.{little_number_at}
+use Rattle.mm_frames.specs.Rows.{decoded_row}
 use Rattle.mm_areas.specs.Contents.{bytes_at, bytes_mapped}
 use Rattle.mm_areas.specs.DecodedWords.{row_mapped}
 use Rattle.mm_areas.specs.Hints.{allows_at, allows_mapped}
@@ -20,33 +20,34 @@ use Rattle.mm_areas.specs.declared.rights.Rights.{Rights}
 use Rattle.mm_space.specs.Accesses.{byte_at, executable}
 use Rattle.mm_space.specs.Spaces.{Reach}
 use Rattle.mm_space.proofs.Near.{IsPrivate, near_value}
-use Rattle.quantum.specs.Acting.{Acting, has_instrs, instrs_of, is_whole, memory_of}
+use Rattle.quantum.specs.Acting.{Acting, has_instrs, instrs_of, is_whole_page, memory_of}
 
 -- ---- the row of a page's bytes
 
 abbrev word_in : List ℕ → (word : ℕ) → Instr
-word_in bytes k = instr_of (number_in bytes (4 * k) 4)
+word_in bytes k = instr_of (little_number_at bytes (4 * k) 4)
 
-row_length : (bytes : List ℕ) → length (row_of bytes) ≡ 1024
-unfolding row_of
+row_length : (bytes : List ℕ) → length (decoded_row bytes) ≡ 1024
+unfolding decoded_row
 row_length bytes = length-map-range_with_len (word_in bytes) 0 1024
 
-row_word : (bytes : List ℕ) (k : ℕ) → k < 1024 → slice_index_or (row_of bytes) k instr.Illegal ≡ word_in bytes k
-unfolding row_of
+row_word : (bytes : List ℕ) (k : ℕ) → k < 1024 → slice_index_or (decoded_row bytes) k instr.Illegal ≡ word_in bytes k
+unfolding decoded_row
 row_word bytes k small = get_or-map-range_with_len (word_in bytes) 0 1024 k k instr.Illegal small (omega arith)
 
 module _ (r : Reach) (page : ℕ) (bytes : List ℕ) (low : page < 2 ^ 52) where
   word_there : IsPrivate executable r page bytes → (k : ℕ) → k < 1024
-      → loaded (byte_at executable r) (4096 * page + 4 * k) 4 ≡ Value (number_in bytes (4 * k) 4)
+      → loaded (byte_at executable r) (4096 * page + 4 * k) 4 ≡ Value (little_number_at bytes (4 * k) 4)
   word_there private k small =
       let at_page : page ≡ (4096 * page + 4 * k) / 4096 = omega arith in
       let at_place : 4 * k ≡ (4096 * page + 4 * k) % 4096 = omega arith in
-      near_value executable r bytes (4096 * page + 4 * k) 4 (number_in bytes (4 * k) 4) (omega (arith, low, small))
+      near_value executable r bytes (4096 * page + 4 * k) 4 (little_number_at bytes (4 * k) 4)
+      (omega (arith, low, small))
       (subst (λ (n : ℕ). IsPrivate executable r n bytes) at_page private)
       (omega (arith, small))
-      (ap (λ (offset : ℕ). number_in bytes offset 4) at_place)
+      (ap (λ (offset : ℕ). little_number_at bytes offset 4) at_place)
 
-  row_there : IsPrivate executable r page bytes → AreOfPage (byte_at executable r) page (row_of bytes)
+  row_there : IsPrivate executable r page bytes → AreOfPage (byte_at executable r) page (decoded_row bytes)
   row_there private = record {
     whole = row_length bytes;
     each = λ k small.
@@ -62,18 +63,18 @@ module _ (r : Reach) (page : ℕ) (words : List Instr) where
   held_words : (rights : Rights) (held : Held) → page < 2 ^ 52
       → map.get pages page ≡ Some (record { rights = rights; held = held })
       → allows_mapped (Some (record { rights = rights; held = held })) executable ≡ true
-      → is_whole (bytes_mapped (Some (record { rights = rights; held = held }))) ≡ true
+      → is_whole_page (bytes_mapped (Some (record { rights = rights; held = held }))) ≡ true
       → row_mapped (Some (record { rights = rights; held = held })) ≡ Some words
       → AreOfPage (byte_at executable r) page words
   held_words rights (Bytes bytes) low there allowed long row =
-      let same : row_of bytes ≡ words = cc row in
+      let same : decoded_row bytes ≡ words = cc row in
       subst (AreOfPage (byte_at executable r) page) same
       (row_there r page bytes low
       (record { rights = rights; there = there; allowed = allowed; whole = eqb-true (length bytes) 4096 long }))
   held_words rights (PageOf name number) low there allowed long row = absurd (false≢true long)
 
   mapped_words : (found : Option Mapped) → page < 2 ^ 52 → map.get pages page ≡ found
-      → allows_mapped found executable ≡ true → is_whole (bytes_mapped found) ≡ true
+      → allows_mapped found executable ≡ true → is_whole_page (bytes_mapped found) ≡ true
       → row_mapped found ≡ Some words
       → AreOfPage (byte_at executable r) page words
   mapped_words None low there allowed long row = absurd (false≢true allowed)
@@ -85,8 +86,8 @@ module _ (r : Reach) (page : ℕ) (words : List Instr) where
   tested false has row = absurd (cc row)
   tested true has row =
       let low
-      = and_parts (nat_lt page (2 ^ 52)) (allows_at pages page executable && is_whole (bytes_at pages page)) has in
-      let right = and_parts (allows_at pages page executable) (is_whole (bytes_at pages page)) low.1 in
+      = and_parts (nat_lt page (2 ^ 52)) (allows_at pages page executable && is_whole_page (bytes_at pages page)) has in
+      let right = and_parts (allows_at pages page executable) (is_whole_page (bytes_at pages page)) low.1 in
       mapped_words (map.get pages page) (ltb-true page (2 ^ 52) low.0) refl right.0 right.1 row
 
 pub decoded : (acting : Acting) (page : ℕ) (words : List Instr)

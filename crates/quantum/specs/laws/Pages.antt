@@ -6,7 +6,7 @@ use Rattle.std.specs.FinMap as map
 use Rattle.std.proofs.lemmas.Bool.{cases_eq}
 use Rattle.sn_base.proofs.Maps.{get-insert_same, get-insert_other}
 use Rattle.mm_areas.specs.declared.page.SharedPage.{SharedPage}
-use Rattle.mm_areas.specs.Contents.{changed, changed_at, changed_held, with_change}
+use Rattle.mm_areas.specs.Contents.{with_bytes_changed, bytes_changed_at, changed_held, with_change}
 use Rattle.mm_areas.specs.Pages.{Held, Bytes, PageOf, Mapped, Pages}
 use Rattle.mm_space.specs.Accesses.{page_number, page_offset}
 use Rattle.mm_space.specs.Places.{shared_at, shared_held}
@@ -18,21 +18,21 @@ use Rattle.quantum.specs.Acting.{is_same_held, is_same_mapped}
 -- ---- a page, and the others
 
 pub changed_here : (pages : Pages) (page : ℕ) (change : List ℕ → List ℕ)
-    → map.get (with_change pages page change) page ≡ option_map (changed change) (map.get pages page)
+    → map.get (with_change pages page change) page ≡ option_map (with_bytes_changed change) (map.get pages page)
 changed_here pages page change = by (map.get pages page) refl
   where
     by : (found : Option Mapped) → map.get pages page ≡ found
-        → map.get (changed_at change page found pages) page ≡ option_map (changed change) found
+        → map.get (bytes_changed_at change page found pages) page ≡ option_map (with_bytes_changed change) found
     by None is = is
-    by (Some m) is = get-insert_same pages page (changed change m)
+    by (Some m) is = get-insert_same pages page (with_bytes_changed change m)
 
 pub changed_apart : (pages : Pages) (page : ℕ) (change : List ℕ → List ℕ) (other : ℕ) → (page ≡ other → ⊥)
     → map.get (with_change pages page change) other ≡ map.get pages other
 changed_apart pages page change other apart = by (map.get pages page)
   where
-    by : (found : Option Mapped) → map.get (changed_at change page found pages) other ≡ map.get pages other
+    by : (found : Option Mapped) → map.get (bytes_changed_at change page found pages) other ≡ map.get pages other
     by None = refl
-    by (Some m) = get-insert_other pages page other (changed change m) apart
+    by (Some m) = get-insert_other pages page other (with_bytes_changed change m) apart
 
 -- ---- which pages are of areas
 
@@ -42,7 +42,7 @@ shared_held_stays change (Bytes bytes) = refl
 shared_held_stays change (PageOf name number) = refl
 
 shared_stays : (change : List ℕ → List ℕ) (found : Option Mapped)
-    → shared_at (option_map (changed change) found) ≡ shared_at found
+    → shared_at (option_map (with_bytes_changed change) found) ≡ shared_at found
 shared_stays change None = refl
 shared_stays change (Some m) = shared_held_stays change m.held
 

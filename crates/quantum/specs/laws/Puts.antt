@@ -7,7 +7,7 @@ use Rattle.std.proofs.lemmas.Bool.{cases_eq}
 use Rattle.rv_table.specs.declared.error.Area.{Area}
 use Rattle.rv_table.specs.Bytes.{Byte, Barred, InArea}
 use Rattle.mm_areas.specs.declared.rights.Rights.{Rights}
-use Rattle.mm_areas.specs.Contents.{changed, with_change}
+use Rattle.mm_areas.specs.Contents.{with_bytes_changed, with_change}
 use Rattle.mm_areas.specs.Pages.{Held, Bytes, PageOf, Mapped, Pages}
 use Rattle.mm_areas.specs.Rights.{has}
 use Rattle.mm_space.specs.Accesses.{area_byte, byte_at, mapped_byte, page_number, page_offset}
@@ -76,7 +76,7 @@ module _ (right : Rights) (task at value : ℕ) (r : Reach) (address : ℕ) wher
     private_here same =
         ap (λ n. byte_of (changed_page n)) (sym same)
         ∙ ap byte_of (changed_here pages (page_number at) change)
-        ∙ ap (λ (found : Option Mapped). byte_of (option_map (changed change) found)) is
+        ∙ ap (λ (found : Option Mapped). byte_of (option_map (with_bytes_changed change) found)) is
         ∙ seen_by_right (has rights right) (page_offset at == page_offset address) value _ _
         (byte_set bytes (page_offset at) value (page_offset address))
         ∙ ap (λ (test : Bool). valued_if test value (byte_of (mapped_as rights (Bytes bytes))))

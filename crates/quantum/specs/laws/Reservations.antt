@@ -11,13 +11,13 @@ use Rattle.rv_atomic.specs.Reservations.{after_store, granule, is_held, meets, r
 
 -- whether a reservation is a task's, and of so much
 -- profile
-abbrev is_own : (task address width : ℕ) → Reservation → Bool
-is_own task address width r = (r.task == task) && ((r.address == address) && (r.width == width))
+abbrev is_own_reservation : (task address width : ℕ) → Reservation → Bool
+is_own_reservation task address width r = (r.task == task) && ((r.address == address) && (r.width == width))
 
 abbrev is_own_here : (task granule : ℕ) → AreaReservation → Bool
 is_own_here task granule r = (r.task == task) && (r.granule == granule)
 
-own_task : (task address width : ℕ) (r : Reservation) → is_own task address width r ≡ true
+own_task : (task address width : ℕ) (r : Reservation) → is_own_reservation task address width r ≡ true
     → (r.task == task) ≡ true
 own_task task address width r own = (and_parts (r.task == task) ((r.address == address) && (r.width == width)) own).0
 
@@ -26,7 +26,7 @@ own_task task address width r own = (and_parts (r.task == task) ((r.address == a
 pub store_keeps : (rs : List Reservation) (task at width address size : ℕ)
     → is_held (after_store rs task at width) task address size ≡ is_held rs task address size
 store_keeps rs task at width address size =
-    any-filter_same (is_own task address size)
+    any-filter_same (is_own_reservation task address size)
     (λ (r : Reservation). (r.task == task) || not (meets (granule r.address) at width)) true
     (λ r held. or_left (r.task == task) (not (meets (granule r.address) at width)) (own_task task address size r held))
     rs
@@ -43,7 +43,7 @@ store_keeps_here rs task at width granule =
 pub without_ends : (rs : List Reservation) (task address size : ℕ)
     → is_held (without rs task) task address size ≡ false
 without_ends rs task address size =
-    any-filter_same (is_own task address size) (λ (r : Reservation). not (r.task == task)) false
+    any-filter_same (is_own_reservation task address size) (λ (r : Reservation). not (r.task == task)) false
     (λ r held. not_from_true (r.task == task) (own_task task address size r held)) rs
 
 -- ---- a task that has reserved has just that
@@ -55,7 +55,7 @@ one_held task at width address size = grind (arith, nat_tests)
 pub just_reserved : (rs : List Reservation) (task at width address size : ℕ)
     → is_held (reserved rs task at width) task address size ≡ ((address == at) && (size == width))
 just_reserved rs task at width address size =
-    list_any-append (is_own task address size) (without rs task)
+    list_any-append (is_own_reservation task address size) (without rs task)
     (record { task = task; address = at; width = width } ∷ [])
     ∙ ap (λ b. b || (((task == task) && ((at == address) && (width == size))) || false))
     (without_ends rs task address size)

@@ -31,7 +31,7 @@ module _ (change : AreaState → AreaState) (leaves : (area : AreaState) → (ch
   changed_byte name number offset false state = refl
   changed_byte name number offset true None = refl
   changed_byte name number offset true (Some area) =
-      ap (λ (pages : List (List ℕ)). as_byte (frames.byte_at pages number offset)) (leaves area)
+      ap (λ (pages : List (List ℕ)). as_byte (frames.byte_of_pages pages number offset)) (leaves area)
 
   area_stays : (other name : Area) (number offset : ℕ) (hand : List InHand)
       → area_byte name number offset (area_in name (with_area other change hand))

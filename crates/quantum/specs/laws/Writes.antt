@@ -1,13 +1,13 @@
 -- After a write of a task's instruction, what it reaches is what the write says.
 use Rattle.rv_exec.specs.Writes.{Write, Stores, Reserves, Releases, IsAfter}
 use Rattle.mm_space.specs.Accesses.{executable, readable, writable}
-use Rattle.quantum.specs.Acting.{Acting, after_write, is_same, memory_of}
+use Rattle.quantum.specs.Acting.{Acting, acting_after_write, is_same, memory_of}
 use Rattle.quantum.specs.laws.Held.{held_stored}
 use Rattle.quantum.specs.laws.Reserving.{bytes_left, bytes_reserved, held_reserved, none_held}
 use Rattle.quantum.specs.laws.Stores.{bytes_stored}
 
 pub written : (acting : Acting) (write : Write)
-    → IsAfter (is_same acting) write (memory_of acting) (memory_of (after_write write acting))
+    → IsAfter (is_same acting) write (memory_of acting) (memory_of (acting_after_write write acting))
 written acting (Stores at width value) = record {
   code = λ address small. bytes_stored executable acting.task at width value acting.reach address;
   data_ = λ address small. bytes_stored readable acting.task at width value acting.reach address;

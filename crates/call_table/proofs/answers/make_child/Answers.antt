@@ -8,7 +8,7 @@ use Rattle.std.specs.FinMap as map
 use Rattle.task_table.specs.Table.{TaskTable}
 use Rattle.kernel_model.specs.declared.caller.Caller.{Caller}
 use Rattle.kernel_model.specs.declared.kernel.Kernel.{Kernel}
-use Rattle.kernel_calls.specs.Making.{with_child}
+use Rattle.kernel_calls.specs.Making.{with_new_child}
 use Rattle.proc_cells.specs.Beside.{AreAtHome, nothing_beside}
 use Rattle.proc_cells.specs.Cells.{kernel_of}
 use Rattle.proc_cells.proofs.Homes.{at_home}
@@ -34,7 +34,7 @@ invariant_of-cells c =
           (both_err _ _ c.make.result c.make.ensures.err
           (both_err _ _ c.make.result c.make.ensures.err_registers c.make.ensures.err_spaces))
           (λ does.
-          let is : with_child c.into_inner.result c.args.context.now.place x k
+          let is : with_new_child c.into_inner.result c.args.context.now.place x k
           ≡ record k {
             tasks = c.make.new.tasks;
             registers = c.make.new.registers;
@@ -74,7 +74,7 @@ returns-clause-does c =
           ∙ ap (λ v. map.insert c.make.new.registers c.args.context.now.task (replied c.args.registers v))
           (to_z-of_z fits ∙ c.from-value.ensures ∙ ap (λ n. pos (n + 1)) c.last.ensures),
       λ x k task memory table tasks registers spaces areas files.
-          ap (λ child. with_child child c.args.context.now.place x k) (sym c.into_inner.ensures)
+          ap (λ child. with_new_child child c.args.context.now.place x k) (sym c.into_inner.ensures)
           ∙ c.in_ok-make.ensures.ok x k task memory table tasks registers spaces areas files
           ∙ ap (λ t. record k {
             tasks = t;

@@ -16,7 +16,7 @@ use Rattle.kernel_model.specs.calls.Pipes.{pipe_made}
 use Rattle.kernel_model.specs.calls.Table.{call_row}
 use Rattle.kernel_model.specs.entries.Steps.{step}
 use Rattle.kernel_model.proofs.NamedMaps.{get-with_same}
-use Rattle.kernel_calls.specs.Making.{with_child}
+use Rattle.kernel_calls.specs.Making.{with_new_child}
 use Rattle.kernel_calls.specs.Prepared.{with_effect}
 use Rattle.kernel_calls.specs.declared.prepared.Called.TheVariants.{Replies, Makes, Sleeps, Waits}
 use Rattle.call_fs.specs.Called.{IsApartIn}
@@ -167,7 +167,7 @@ returns-in_ok-make_child-in-Of-Makes-clause-step c = λ beside n seed place.
     (record { fresh = []; rises = [] }) (pos (p.tasks.last + 1)) makes.changes h does.0
     c.make_child.new.cells.registers beside n c.requires.awake c.requires.calls refl refl refl makes.row_is
     (makes.done_is
-    ∙ ap (λ pl. with_child c.in-Of-Makes.child pl x k) place
+    ∙ ap (λ pl. with_new_child c.in-Of-Makes.child pl x k) place
     ∙ does.2 x k refl (sym c.requires.known.memory) (sym c.requires.known.table) refl refl
     (sym (own_same p c.args.context.now.task c.args.standing c.requires.stands c.in-Some.space.now c.call.new.space
     c.in-Some.ensures.value apart.0))

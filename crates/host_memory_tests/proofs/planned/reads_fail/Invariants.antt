@@ -1,11 +1,11 @@
 -- The node is a file that is open.
 use Rattle.std.proofs.Common.{◌≡◌}
-use Rattle.host_node.specs.Tree.{file, bytes_of, faults_of}
+use Rattle.host_node.specs.Tree.{file, file_bytes, faults_of}
 use Rattle.host_memory.specs.declared.node.Access.TheVariants.{Reading}
 use Rattle.host_memory_tests.proofs.planned.reads_fail.Given as goal
 
 abbrev pub invariant-loop-call : goal.invariant-loop-call
 invariant-loop-call l = record {
-  is_file : l.node.tree ≡ file (bytes_of l.node.tree) 420 (faults_of l.node.tree);
+  is_file : l.node.tree ≡ file (file_bytes l.node.tree) 420 (faults_of l.node.tree);
   is_open : l.node.access ≡ Reading;
 }

@@ -1,6 +1,6 @@
 -- A walk goes on from a root that its owner may search: to a child that was lent before, or to one that is lent now.
 use Rattle.std.proofs.Common.{refl, ap, sym, ◌∙◌, arith}
-use Rattle.image_walk.specs.Granted.{place_of, told_of}
+use Rattle.image_walk.specs.Granted.{place_of_child, told_of}
 use Rattle.image_walk.proofs.Going.{known_here, walks_known, can_lend_then, walks_ok, searched_none}
 use Rattle.image_walk.proofs.walk.walk.Goals as goal
 
@@ -9,19 +9,20 @@ load_known-requires-clause-here g c κs within =
     let told = g.N.HostNode.told in
     known_here c.args.granted.now.numbers c.args.name.now (told c.args.granted.now.root)
     (told_of told c.args.granted.now.lent.items)
-    c.in-Some-place_of.place c.requires.grant
-    (sym (c.in-Some-place_of.ensures.place
-    ∙ ap (λ l. place_of c.args.name.now (told_of told l)) c.as_slice.ensures.value))
+    c.in-Some-place_of_child.place c.requires.grant
+    (sym (c.in-Some-place_of_child.ensures.place
+    ∙ ap (λ l. place_of_child c.args.name.now (told_of told l)) c.as_slice.ensures.value))
 
-pub returns-in-Some-place_of-clause-walks : goal.returns-in-Some-place_of-clause-walks
-returns-in-Some-place_of-clause-walks g c =
+pub returns-in-Some-place_of_child-clause-walks : goal.returns-in-Some-place_of_child-clause-walks
+returns-in-Some-place_of_child-clause-walks g c =
     let told = g.N.HostNode.told in
     walks_known c.args.granted.now.numbers c.args.name.now (told c.args.granted.now.root) (told c.search.new.root)
-    (told_of told c.args.granted.now.lent.items) (told_of told c.load_known.new.lent.items) c.in-Some-place_of.place
+    (told_of told c.args.granted.now.lent.items) (told_of told c.load_known.new.lent.items)
+    c.in-Some-place_of_child.place
     _ (searched_none (told c.args.granted.now.root) (told c.search.new.root) c.search.result c.search.ensures
     c.in_default.not-Some)
-    (sym (c.in-Some-place_of.ensures.place
-    ∙ ap (λ l. place_of c.args.name.now (told_of told l)) c.as_slice.ensures.value)) refl (omega arith)
+    (sym (c.in-Some-place_of_child.ensures.place
+    ∙ ap (λ l. place_of_child c.args.name.now (told_of told l)) c.as_slice.ensures.value)) refl (omega arith)
     c.load_known.ensures.loads
 
 pub lend_program-requires-clause-lend : goal.lend_program-requires-clause-lend
@@ -32,7 +33,7 @@ lend_program-requires-clause-lend g c κs within =
     (searched_none (told c.args.granted.now.root) (told c.search.new.root) c.search.result c.search.ensures
     c.in_default.not-Some)
     (sym (c.in-None.ensures.place
-    ∙ ap (λ l. place_of c.args.name.now (told_of told l)) c.as_slice.ensures.value))
+    ∙ ap (λ l. place_of_child c.args.name.now (told_of told l)) c.as_slice.ensures.value))
 
 pub returns-clause-walks : goal.returns-clause-walks
 returns-clause-walks g c =
@@ -43,5 +44,5 @@ returns-clause-walks g c =
     (searched_none (told c.args.granted.now.root) (told c.search.new.root) c.search.result c.search.ensures
     c.in_default.not-Some)
     (sym (c.in-None.ensures.place
-    ∙ ap (λ l. place_of c.args.name.now (told_of told l)) c.as_slice.ensures.value))
+    ∙ ap (λ l. place_of_child c.args.name.now (told_of told l)) c.as_slice.ensures.value))
     c.lend_program.ensures.lends

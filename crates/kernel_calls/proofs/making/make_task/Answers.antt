@@ -7,7 +7,7 @@ use Rattle.kernel_model.specs.Names.{has_named, with_named}
 use Rattle.kernel_model.specs.calls.Clone.{made_for_child}
 use Rattle.kernel_model.specs.declared.open_files.OpenFiles.{OpenFiles}
 use Rattle.kernel_model.specs.laws.Files.{with_copy}
-use Rattle.kernel_calls.specs.Making.{with_task, with_words}
+use Rattle.kernel_calls.specs.Making.{with_new_task, with_words}
 use Rattle.kernel_calls.proofs.Children.{has_still, other_name, same_name, words_behind, words_hidden}
 use Rattle.kernel_calls.proofs.making.make_task.Goals as goal
 
@@ -39,7 +39,7 @@ returns-then-eq-clause-ok c caller k task memory table tasks spaces areas files 
     let context = a.context.now in
     let same =
     same_name context.memory.place context.memory.index context.place 0 (sym c.eq.ensures ∙ c.if-eq.true) in
-    ap (λ m. with_task context.place m a.child.clear caller (with_words a.child.words caller k)) c.in-Some.is
+    ap (λ m. with_new_task context.place m a.child.clear caller (with_words a.child.words caller k)) c.in-Some.is
     ∙ words_hidden caller k context.place a.child.clear c.in-Some.memory a.child.words c.make_process.new.tasks
     c.make_process.new.spaces c.put_areas.new.areas c.make_process.new.files
     (subst (λ (m : Made). (m.place ≡ context.place) × (m.index ≡ 0)) (sym memory) same)
@@ -57,7 +57,7 @@ returns-else-eq-clause-ok c caller k task memory table tasks spaces areas files 
     let context = a.context.now in
     let other =
     other_name context.memory.place context.memory.index context.place 0 (sym c.eq.ensures ∙ c.if-eq.false) in
-    ap (λ m. with_task context.place m a.child.clear caller (with_words a.child.words caller k)) c.in-Some.is
+    ap (λ m. with_new_task context.place m a.child.clear caller (with_words a.child.words caller k)) c.in-Some.is
     ∙ words_behind caller k context.place a.child.clear c.in-Some.memory a.child.words c.make_process.new.tasks
     c.make_process.new.spaces c.put_words-else-eq.new.spaces c.put_words-else-eq.new.areas c.make_process.new.files
     (subst (λ (m : Made). (m.place ≢ context.place) ⊎ ((m.place ≡ context.place) × (m.index ≢ 0))) (sym memory) other)

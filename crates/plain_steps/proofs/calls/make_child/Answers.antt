@@ -4,7 +4,7 @@ use mir.Syntax.{w64}
 use Rattle.std.proofs.Common.{◌+◌, pos, Some, refl, ap, sym, ◌∙◌, rules}
 use Rattle.std.proofs.Math.Facts.{to_z-of_z}
 use Rattle.std.proofs.lemmas.Bool.Decides.{Decides-int_eq}
-use Rattle.kernel_calls.specs.Making.{with_child}
+use Rattle.kernel_calls.specs.Making.{with_new_child}
 use Rattle.kernel_model.specs.declared.kernel.Kernel.{Kernel}
 use Rattle.kernel_model.specs.declared.kernel.Part.TheVariants.{OfTask}
 use Rattle.kernel_model.specs.entries.Parts.{put}
@@ -34,9 +34,9 @@ returns c = λ changes told.
     ((Decides-int_eq c.args.reply (pos (c.args.kernel.now.tasks.last + 1))).1 (sym (to_z-of_z c.ranges.reply)
     ∙ ap (to_z w64) c.if-reply-number.false ∙ to_z-of_z fits ∙ c.next_number-number.ensures))
     (told
-    ∙ ap (λ child. with_child child (c.args.kernel.now.entries + 1) c.args.caller.now c.args.kernel.now)
+    ∙ ap (λ child. with_new_child child (c.args.kernel.now.entries + 1) c.args.caller.now c.args.kernel.now)
     (sym c.into_inner.ensures)
-    ∙ ap (λ place. with_child c.into_inner.result place c.args.caller.now c.args.kernel.now)
+    ∙ ap (λ place. with_new_child c.into_inner.result place c.args.caller.now c.args.kernel.now)
     (sym c.context-context.ensures.place)
     ∙ c.in_ok-make.ensures.ok c.args.caller.now c.args.kernel.now (sym c.context-context.ensures.task)
     (sym c.context-context.ensures.memory) (sym c.context-context.ensures.table) refl refl refl refl refl)

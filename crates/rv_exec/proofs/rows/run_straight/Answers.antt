@@ -1,5 +1,5 @@
 use Rattle.std.proofs.Common.{ℕ, ◌-◌, ◌/◌, ◌%◌, refl, ap, ◌∙◌, arith}
-use Rattle.rv_exec.specs.Courses.{going, ran}
+use Rattle.rv_exec.specs.Courses.{going, after_instructions}
 use Rattle.rv_exec.specs.declared.outcome.Step.TheVariants as outcomes
 use Rattle.rv_exec.proofs.Courses.{ran_still}
 use Rattle.rv_exec.proofs.InRows.{one_more_ran, one_more_jumped}
@@ -21,7 +21,8 @@ loop-index-init g c = record {
 
 pub returns-in-Jump-clause-ran : goal.returns-in-Jump-clause-ran
 returns-in-Jump-clause-ran g c =
-    ap (λ (n : ℕ). ran g.M.Mem.seen g.M.Mem.after n (going (g.M.Mem.told c.args.mem.now) c.args.regs.now))
+    ap (λ (n : ℕ). after_instructions g.M.Mem.seen g.M.Mem.after n
+    (going (g.M.Mem.told c.args.mem.now) c.args.regs.now))
     c.left.ensures.count
     ∙ one_more_jumped g.M.Mem.seen g.M.Mem.after outcomes.Next
     (c.loop-index.index - c.args.regs.now.pc % 4096 / 4)
@@ -33,7 +34,8 @@ returns-in-Jump-clause-ran g c =
 pub loop-index-preserved : goal.loop-index-preserved
 loop-index-preserved g c = record {
   has_run =
-      ap (λ (n : ℕ). ran g.M.Mem.seen g.M.Mem.after n (going (g.M.Mem.told c.args.mem.now) c.args.regs.now))
+      ap (λ (n : ℕ). after_instructions g.M.Mem.seen g.M.Mem.after n
+      (going (g.M.Mem.told c.args.mem.now) c.args.regs.now))
       (omega (arith, c.loop-index.invariant.begun))
       ∙ one_more_ran g.M.Mem.seen g.M.Mem.after outcomes.Next
       (c.loop-index.index - c.args.regs.now.pc % 4096 / 4)

@@ -80,8 +80,8 @@ returns-in-Err-opened-clause-ended g c = λ others t are e after gives.
     let f = trees_told others root children in
     subst (λ (x : End). EndsTold m f t after c.unbegun.result.opening c.unbegun.result.trace x)
     (sym c.unbegun.ensures.end)
-    (ended_stopped m others t c.in-Err-opened.why c.open_tasks-opened.new.tasks.items root children c.unbegun.result.opening
-    c.unbegun.result.trace c.open_tasks-opened.ensures.recorded
+    (ended_stopped m others t c.in-Err-opened.why c.open_tasks-opened.new.tasks.items root children
+    c.unbegun.result.opening c.unbegun.result.trace c.open_tasks-opened.ensures.recorded
     (c.unbegun.ensures.opening
     ∙ ap (λ (o : Opening). record o { tasks = c.from_vec.result }) c.in-Ok.ensures
     ∙ ap (record_with c.args.mounts.now) c.from_vec.ensures) c.unbegun.ensures.trace

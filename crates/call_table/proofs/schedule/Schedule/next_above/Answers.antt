@@ -27,7 +27,7 @@ returns-in-None-Some c =
     let cells = c.args.self.now.cells in
     let none = subst (keys.IsLeastAbove c.args.self.now.parking.awake c.args.after) c.in-None-Some.is-0
     c.first_above-awake.ensures in
-    let woken = subst (least.IsLeastAbove cells.sleepers.woken c.args.after) c.in-None-Some.is-1
+    let woken = subst (least.IsNextAmong cells.sleepers.woken c.args.after) c.in-None-Some.is-1
     c.woken_above-woken.ensures.least in (
       woken.0,
       woken_is cells.sleepers c.in-None-Some.task c.woken_above-woken.ensures.once woken.1,
@@ -40,7 +40,7 @@ returns-in-Some-Some c =
     let cells = c.args.self.now.cells in
     let awake = subst (keys.IsLeastAbove c.args.self.now.parking.awake c.args.after) c.in-Some-Some.is-0
     c.first_above-awake.ensures in
-    let woken = subst (least.IsLeastAbove cells.sleepers.woken c.args.after) c.in-Some-Some.is-1
+    let woken = subst (least.IsNextAmong cells.sleepers.woken c.args.after) c.in-Some-Some.is-1
     c.woken_above-woken.ensures.least in (
       woken.0,
       woken_is cells.sleepers c.in-Some-Some.task c.woken_above-woken.ensures.once woken.1,

@@ -10,7 +10,7 @@ use Rattle.kernel_model.specs.entries.Ready.{ready_numbers}
 use Rattle.kernel_model.specs.entries.Steps.{step, task_of}
 use Rattle.proc_cells.specs.Beside.{Beside}
 use Rattle.proc_cells.specs.Cells.{kernel_of as kernel_of_cells}
-use Rattle.call_table.specs.Turns.{AreInTurn, last_turn, next_of}
+use Rattle.call_table.specs.Turns.{AreInTurn, last_turn, next_task_of}
 use Rattle.call_table.proofs.Histories.{last_more, replay_more, turns_more, whole_more}
 use Rattle.call_table.proofs.Results.{is_some_of}
 use Rattle.call_table.proofs.schedule.Schedule.take_turns.Goals as goal
@@ -38,7 +38,8 @@ loop-place-preserved c =
     let numbers = is_some_of c.in_ok-entry.field-0 (λ e. numbers_in e ≡ []) entry c.in-Some.is
     c.in_ok-entry.ensures.numbers in
     let turned = is_some_of c.in_ok-entry.field-0 (λ e. (beside : Beside) (n : ℕ) →
-    next_of c.loop-place.last (ready_numbers (kernel_of_cells before beside n)) ≡ Some (task_of e)) entry c.in-Some.is
+    next_task_of c.loop-place.last (ready_numbers (kernel_of_cells before beside n))
+    ≡ Some (task_of e)) entry c.in-Some.is
     c.in_ok-entry.ensures.turn in
     record {
       count = longer ∙ place;
@@ -55,7 +56,7 @@ loop-place-preserved c =
           (kernel_of_cells after beside (length c.loop-place.trace + 1)) c.loop-place.trace entry
           (c.loop-place.invariant.turns beside seed) (c.loop-place.invariant.state beside seed)
           (steps beside (length c.loop-place.trace) seed place)
-          (ap (λ m. next_of m (ready_numbers (kernel_of_cells before beside (length c.loop-place.trace))))
+          (ap (λ m. next_task_of m (ready_numbers (kernel_of_cells before beside (length c.loop-place.trace))))
           (sym c.loop-place.invariant.last)
           ∙ turned beside (length c.loop-place.trace)));
       last = sym (ap (last_turn 0) grown ∙ last_more 0 c.loop-place.trace entry ∙ sym c.task-last.ensures);

@@ -1,5 +1,5 @@
 use Rattle.std.proofs.Common.{List, ℕ, sym}
-use Rattle.mm_frames.specs.Numbers.{IsInPage, number_in}
+use Rattle.mm_frames.specs.Numbers.{IsInPage, little_number_at}
 use Rattle.mm_areas.specs.Hints.{is_hint}
 use Rattle.mm_areas.proofs.WriteLaws.{put_near, near_number}
 use Rattle.mm_areas.proofs.areas.Areas.number_near.Goals as goal
@@ -13,4 +13,4 @@ returns c =
     c.index-region.ensures c.index.ensures in
     near_number c.number_allowed.result c.args.page page page rs _ (is_hint c.args.self.now c.args.hint c.args.page)
     c.args.right (IsInPage c.args.offset c.args.width)
-    (λ (bytes : List ℕ). number_in bytes c.args.offset c.args.width) are near c.number_allowed.ensures
+    (λ (bytes : List ℕ). little_number_at bytes c.args.offset c.args.width) are near c.number_allowed.ensures

@@ -1,5 +1,5 @@
 use Rattle.std.proofs.Common.{◌≡◌, ℕ, ◌-◌, ◌≤◌, true}
-use Rattle.mm_space.specs.Places.{is_ready, is_ready_at}
+use Rattle.mm_space.specs.Places.{takes_no_memory, is_ready_at}
 use Rattle.mm_space.specs.Spaces.{reach}
 use Rattle.mm_space.proofs.space.Space.own_run.Given as goal
 
@@ -7,7 +7,7 @@ abbrev pub invariant-loop-done : goal.invariant-loop-done
 invariant-loop-done l = record {
   within : l.done ≤ l.count;
   same : reach l.self l.handed ≡ reach l.initial.self l.initial.handed;
-  ready : is_ready l.self l.handed l.at l.done ≡ true;
+  ready : takes_no_memory l.self l.handed l.at l.done ≡ true;
   still : (other : ℕ) → is_ready_at l.initial.self l.initial.handed other ≡ true
       → is_ready_at l.self l.handed other ≡ true;
 }

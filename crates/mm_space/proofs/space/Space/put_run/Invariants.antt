@@ -1,5 +1,5 @@
 use Rattle.std.proofs.Common.{◌≡◌, ◌-◌, ◌≤◌, true, length, take}
-use Rattle.mm_space.specs.Places.{AreAsReady, is_ready}
+use Rattle.mm_space.specs.Places.{AreAsReady, takes_no_memory}
 use Rattle.mm_space.specs.Puts.{put_run}
 use Rattle.mm_space.specs.Spaces.{reach}
 use Rattle.mm_space.proofs.space.Space.put_run.Given as goal
@@ -8,7 +8,7 @@ abbrev pub invariant-loop-done : goal.invariant-loop-done
 invariant-loop-done l = record {
   within : l.done ≤ length l.bytes;
   put : reach l.self l.handed ≡ put_run l.task l.at (take l.done l.bytes) (reach l.initial.self l.initial.handed);
-  ready : is_ready l.self l.handed l.at (length l.bytes) ≡ true;
+  ready : takes_no_memory l.self l.handed l.at (length l.bytes) ≡ true;
   alike : AreAsReady l.initial.self l.self l.initial.handed l.handed;
 }
 

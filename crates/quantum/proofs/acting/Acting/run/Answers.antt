@@ -1,7 +1,7 @@
 use Rattle.std.proofs.Common.{◌+◌, ◌-◌, arith, refl, sym, subst}
 use Rattle.rv_exec.specs.Courses.{going}
 use Rattle.rv_exec.proofs.Courses.{ran_zero}
-use Rattle.quantum.specs.Acting.{after_write, memory_of}
+use Rattle.quantum.specs.Acting.{acting_after_write, memory_of}
 use Rattle.quantum.specs.Ends.{LacksMemory, Ran}
 use Rattle.quantum.specs.Turns.{TurnsTo, acting_of}
 use Rattle.quantum.proofs.SameTask.{ran_same}
@@ -9,8 +9,11 @@ use Rattle.quantum.proofs.Turned.{ran_stopped, lacks_stopped, ran_then, ran_on}
 use Rattle.quantum.proofs.acting.Acting.run.Goals as goal
 
 pub loop-turn-init : goal.loop-turn-init
-loop-turn-init c =
-    (ran_zero memory_of after_write (going (acting_of c.args.self.now) c.args.regs.now), omega arith, omega arith)
+loop-turn-init c = (
+  ran_zero memory_of acting_after_write (going (acting_of c.args.self.now) c.args.regs.now),
+  omega arith,
+  omega arith,
+)
 
 pub returns-then-count-most-clause-ran : goal.returns-then-count-most-clause-ran
 returns-then-count-most-clause-ran c = c.loop-turn.invariant.0
