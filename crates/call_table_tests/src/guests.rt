@@ -11,7 +11,7 @@ use elf_image::Image;
 use kernel_calls::{is_too_long, read_executable};
 use mount_file::Program;
 use sn_base::List;
-use sn_text::Text;
+use sn_text::{Text, name_of};
 use sn_vectors::image_of;
 use std::alloc::Global;
 use std::test::Fail;
@@ -44,7 +44,7 @@ fn program(alloc: Global) -> Result<Program, Fail>
     let mut args = List::new(alloc);
     args.push(Text::from_slice(alloc, b"a")?)?;
     let program = Program {
-        path: Text::from_slice(alloc, b"/init")?,
+        name: name_of(alloc, b"init")?,
         args,
         env: List::new(alloc),
     };

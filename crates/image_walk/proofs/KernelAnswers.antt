@@ -104,69 +104,69 @@ pub record Failed (num : Numbering) (k : Kernel) (p : Program) (given : Given) (
   pub others : KeepsRoots num k.nodes (changed changes k).nodes
   pub still : AreStill num (changed changes k).failed
 
-module _ (num : Numbering) (facts : IsNumbering num) (k : Kernel) (t : Shape) (names : List (List ℕ)) (name : List ℕ)
-    (given : Given) (answer : Answer)
-    (root : Option Shape) (children : List Child) (p : Program) (path : p.path ≡ 47 ∷ name)
+module _ (num : Numbering) (facts : IsNumbering num) (k : Kernel) (t : Shape) (names : List (List ℕ))
+    (given : Given) (answer : Answer) (root : Option Shape) (children : List Child) (p : Program)
     (a : AreNodes num k.nodes t names) (failed : k.failed ≡ map.empty) (room : length names + num.first ≤ LAST_NUMBER)
-    (e : Executes num (is_too_long p.args p.env) t names name given answer root children) where
-  drawing : Draws num t names name e.drawn
+    (e : Executes num (is_too_long p.args p.env) t names p.name given answer root children) where
+  drawing : Draws num t names p.name e.drawn
   drawing = record {
     unnumbered = e.unnumbered;
-    there = there_drawn e.drawn t names name e.stands.there;
+    there = there_drawn e.drawn t names p.name e.stands.there;
     room = room;
   }
 
   has : HasNodes num (parts k) t names
-  has = has_nodes num k t names a (there_before e.drawn t names name e.stands.there)
+  has = has_nodes num k t names a (there_before e.drawn t names p.name e.stands.there)
 
   abbrev walked : Walked
-  walked = if is_too_long p.args p.env then unwalked else walked_among num t names name
+  walked = if is_too_long p.args p.env then unwalked else walked_among num t names p.name
 
   abbrev drawn_changes : List Change
-  drawn_changes = node_changes (nodes_then num e.drawn t names name)
+  drawn_changes = node_changes (nodes_then num e.drawn t names p.name)
 
-  left : Leaves num k (changed drawn_changes k) t (named_then e.drawn names name)
-  left = leaves num facts.1 e.drawn k t names name a drawing
+  left : Leaves num k (changed drawn_changes k) t (named_then e.drawn names p.name)
+  left = leaves num facts.1 e.drawn k t names p.name a drawing
 
   executed_by : (rises : List Rise) → given.rises ≡ rises
       → outcome_in (parts k) (execve_of num.root p given)
-      ≡ outcome_in (parts k) (by_walk num.root name
-      (record { fresh = fresh_for num e.drawn names name; rises = rises }) walked)
+      ≡ outcome_in (parts k) (by_walk num.root p.name
+      (record { fresh = fresh_for num e.drawn names p.name; rises = rises }) walked)
   executed_by rises r =
-      execve_is num (parts k) t names has p name given path
-      ∙ ap (λ fresh. outcome_in (parts k) (by_walk num.root name
+      execve_is num (parts k) t names has p given
+      ∙ ap (λ fresh. outcome_in (parts k) (by_walk num.root p.name
       (record { fresh = fresh; rises = given.rises }) walked)) e.fresh
       ∙ ap
       (λ rs. outcome_in (parts k)
-      (by_walk num.root name (record { fresh = fresh_for num e.drawn names name; rises = rs }) walked)) r
+      (by_walk num.root p.name (record { fresh = fresh_for num e.drawn names p.name; rises = rs }) walked)) r
 
   -- what was drawn and met may be
   may_by : (rises : List Rise) → given.rises ≡ rises
-      → may_meet k.nodes (record { fresh = fresh_for num e.drawn names name; rises = rises }) ≡ true
+      → may_meet k.nodes (record { fresh = fresh_for num e.drawn names p.name; rises = rises }) ≡ true
       → may_meet k.nodes given ≡ true
   may_by rises r may =
       ap (λ fresh. may_meet k.nodes (record { fresh = fresh; rises = given.rises })) e.fresh
-      ∙ ap (λ rs. may_meet k.nodes (record { fresh = fresh_for num e.drawn names name; rises = rs })) r
+      ∙ ap (λ rs. may_meet k.nodes (record { fresh = fresh_for num e.drawn names p.name; rises = rs })) r
       ∙ may
 
-  answered : AnswersBy num walked e.drawn (length (named_then e.drawn names name)) given.rises answer
+  answered : AnswersBy num walked e.drawn (length (named_then e.drawn names p.name)) given.rises answer
   answered =
-      answers_by num (is_too_long p.args p.env) (walked_among num t names name) e.drawn _ given.rises answer e.answers
+      answers_by num (is_too_long p.args p.env) (walked_among num t names p.name) e.drawn _ given.rises answer e.answers
 
   pub execve_starts : (image : Image) → answer ≡ Starts image
-      → Started num k t (named_then e.drawn names name) p given image
+      → Started num k t (named_then e.drawn names p.name) p given image
   execve_starts image is =
-      by given.rises refl (subst
-      (λ (x : Answer). AnswersBy num walked e.drawn (length (named_then e.drawn names name)) given.rises x) is answered)
+      by given.rises refl
+      (subst (λ (x : Answer). AnswersBy num walked e.drawn (length (named_then e.drawn names p.name)) given.rises x) is
+      answered)
     where
       by : (rises : List Rise) → given.rises ≡ rises
-          → AnswersBy num walked e.drawn (length (named_then e.drawn names name)) rises (Starts image)
-          → Started num k t (named_then e.drawn names name) p given image
+          → AnswersBy num walked e.drawn (length (named_then e.drawn names p.name)) rises (Starts image)
+          → Started num k t (named_then e.drawn names p.name) p given image
       by [] r h = record {
         changes = drawn_changes;
-        may = may_by [] r (may_quiet num k t names name has e.drawn);
+        may = may_by [] r (may_quiet num k t names p.name has e.drawn);
         comes =
-            executed_by [] r ∙ by_walk_quiet num facts (parts k) t names name has e.drawn (Ok image) walked drawing h;
+            executed_by [] r ∙ by_walk_quiet num facts (parts k) t names p.name has e.drawn (Ok image) walked drawing h;
         nodes = left.nodes;
         others = left.others;
         rest = left.rest;
@@ -176,9 +176,9 @@ module _ (num : Numbering) (facts : IsNumbering num) (k : Kernel) (t : Shape) (n
 
   settles_quiet : given.rises ≡ [] → GivesBack root children (tree_now (changed drawn_changes k) no_left num.root)
   settles_quiet r =
-      settles num (changed drawn_changes k) t (named_then e.drawn names name) root children left.nodes
+      settles num (changed drawn_changes k) t (named_then e.drawn names p.name) root children left.nodes
       (ap (λ (x : Kernel). x.failed) left.rest ∙ failed)
-      (subst (λ (rs : List Rise). Stands num t (named_then e.drawn names name) rs root children) r e.stands)
+      (subst (λ (rs : List Rise). Stands num t (named_then e.drawn names p.name) rs root children) r e.stands)
 
   abbrev risen_changes : Rise → List Change
   risen_changes x = drawn_changes ++ (OfFaults, risen (x ∷ []) k.failed) ∷ []
@@ -194,8 +194,8 @@ module _ (num : Numbering) (facts : IsNumbering num) (k : Kernel) (t : Shape) (n
       subst (λ (after : Kernel). GivesBack root children (tree_now after no_left num.root))
       (sym (changed-more drawn_changes (OfFaults, risen (x ∷ []) k.failed) k))
       (settles_risen num (record (changed drawn_changes k) { failed = risen (x ∷ []) k.failed }) t
-      (named_then e.drawn names name) x root children left.nodes (risen_once x)
-      (subst (λ (rs : List Rise). Stands num t (named_then e.drawn names name) rs root children) r e.stands))
+      (named_then e.drawn names p.name) x root children left.nodes (risen_once x)
+      (subst (λ (rs : List Rise). Stands num t (named_then e.drawn names p.name) rs root children) r e.stands))
 
   -- no count of another root rises, where none rose or that of one node that has a number
   still_quiet : AreStill num (changed drawn_changes k).failed
@@ -203,7 +203,7 @@ module _ (num : Numbering) (facts : IsNumbering num) (k : Kernel) (t : Shape) (n
       ap (λ (x : Kernel). map.get x.failed ino) left.rest
       ∙ ap (λ (m : map.FinMap nat_cmp ℕ). map.get m ino) failed ∙ get_of_empty ino
 
-  still_faulted : (x : Rise) → HasNumber num (length (named_then e.drawn names name)) x.ino
+  still_faulted : (x : Rise) → HasNumber num (length (named_then e.drawn names p.name)) x.ino
       → AreStill num (changed (risen_changes x) k).failed
   still_faulted x number = λ ino differs low.
       ap (λ (after : Kernel). map.get after.failed ino)
@@ -219,17 +219,19 @@ module _ (num : Numbering) (facts : IsNumbering num) (k : Kernel) (t : Shape) (n
 
   pub execve_fails : (errno : Errno) → answer ≡ Refuses errno → Failed num k p given errno root children
   execve_fails errno is =
-      by given.rises refl (subst
-      (λ (x : Answer). AnswersBy num walked e.drawn (length (named_then e.drawn names name)) given.rises x) is answered)
+      by given.rises refl
+      (subst (λ (x : Answer). AnswersBy num walked e.drawn (length (named_then e.drawn names p.name)) given.rises x) is
+      answered)
     where
       by : (rises : List Rise) → given.rises ≡ rises
-          → AnswersBy num walked e.drawn (length (named_then e.drawn names name)) rises (Refuses errno)
+          → AnswersBy num walked e.drawn (length (named_then e.drawn names p.name)) rises (Refuses errno)
           → Failed num k p given errno root children
       by [] r h = record {
         changes = drawn_changes;
-        may = may_by [] r (may_quiet num k t names name has e.drawn);
+        may = may_by [] r (may_quiet num k t names p.name has e.drawn);
         comes =
-            executed_by [] r ∙ by_walk_quiet num facts (parts k) t names name has e.drawn (Err errno) walked drawing h;
+            executed_by [] r
+            ∙ by_walk_quiet num facts (parts k) t names p.name has e.drawn (Err errno) walked drawing h;
         settles = settles_quiet r;
         others = left.others;
         still = still_quiet;
@@ -238,10 +240,10 @@ module _ (num : Numbering) (facts : IsNumbering num) (k : Kernel) (t : Shape) (n
           let same : EIO ≡ errno = let refused = h.0 in cc in
           record {
             changes = risen_changes x;
-            may = may_by (x ∷ []) r (may_fail num k t names name has e.drawn x drawing h.2);
+            may = may_by (x ∷ []) r (may_fail num k t names p.name has e.drawn x drawing h.2);
             comes =
                 executed_by (x ∷ []) r
-                ∙ by_walk_failing num facts (parts k) t names name has e.drawn x walked drawing h.1
+                ∙ by_walk_failing num facts (parts k) t names p.name has e.drawn x walked drawing h.1
                 (number_some num facts _ x.ino h.2)
                 ∙ ap (λ errno. opening.Fails errno (risen_changes x)) same;
             settles = settles_faulted x r;

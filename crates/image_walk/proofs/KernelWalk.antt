@@ -18,7 +18,7 @@ use Rattle.kernel_model.specs.entries.Parts.{Parts, parts, outcome_in, done}
 use Rattle.kernel_model.specs.files.FileTree.{Nodes, number_in, known, child_node, owner_executes}
 use Rattle.kernel_model.specs.opening.Arguments.{is_too_long}
 use Rattle.kernel_model.specs.opening.Opening.{Walked, walk_of, walked_from, numbered_image, execve, execve_of, by_walk}
-use Rattle.kernel_model.specs.opening.Opening.{name_in_path, unwalked}
+use Rattle.kernel_model.specs.opening.Opening.{unwalked}
 use Rattle.kernel_model.specs.opening.Opening as opening
 use Rattle.kernel_model.proofs.Trees.{outcome-bind}
 use Rattle.image_walk.specs.declared.granted.Numbering.{Numbering}
@@ -147,10 +147,6 @@ module _ (num : Numbering) (s : Parts) (t : Shape) (names : List (List ℕ)) (ha
       outcome-bind s (walk_of num.root name) (by_walk num.root name given)
       ∙ ap (λ w. outcome_in s (by_walk num.root name given w)) (walk_is name)
 
-  pub execve_is : (p : Program) (name : List ℕ) (given : Given) → p.path ≡ 47 ∷ name
-      → outcome_in s (execve_of num.root p given)
-      ≡ outcome_in s (by_walk num.root name given (walked_for (is_too_long p.args p.env) name))
-  execve_is p name given path =
-      ap (λ (ns : List ℕ). outcome_in s (if is_too_long p.args p.env then by_walk num.root
-      (name_in_path ns) given unwalked
-      else execve num.root (name_in_path ns) given)) path ∙ for_name name given (is_too_long p.args p.env)
+  pub execve_is : (p : Program) (given : Given) → outcome_in s (execve_of num.root p given)
+      ≡ outcome_in s (by_walk num.root p.name given (walked_for (is_too_long p.args p.env) p.name))
+  execve_is p given = for_name p.name given (is_too_long p.args p.env)

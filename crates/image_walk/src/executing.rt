@@ -83,22 +83,21 @@ fn gathered(room: Room, root: u64, drawn: bool, ino: u64, risen: Option<u64>) ->
     }
 }
 
-/// Does the opening execve of a program of that name over a granted folder: where its strings are too long it walks to
-/// nothing, else it walks to the name, and loads the image. An `Err`, want of memory, leaves the folder as it was.
+/// Does the opening execve of a program over a granted folder: where its strings are too long it walks to nothing, else
+/// it walks to the name of its image, and loads it. An `Err`, want of memory, leaves the folder as it was.
 ///
 /// execve(2). E2BIG; EACCES: a root that its owner may not search; ENOENT: no such name; then what the node is.
 pub fn execve<N: HostNode>(
     alloc: Global,
     granted: &mut Granted<N>,
     program: &Program,
-    name: &Name,
 ) -> Result<Executed, Memory>
     requires numbers { IsNumbering granted.old.numbers }
     requires grant { IsGrant granted.old.numbers (N.told granted.old.root) (told_of N.told granted.old.lent.items) }
     ensures same { granted.new.numbers ≡ granted.old.numbers }
     ensures executes { IfOk result (λ e. (t : Shape) (names : Items (Items ℕ)) →
         Stands granted.old.numbers t names [] (N.told granted.old.root) (told_of N.told granted.old.lent.items) →
-        Executes granted.old.numbers (is_too_long program.now.args program.now.env) t names name.now
+        Executes granted.old.numbers (is_too_long program.now.args program.now.env) t names program.now.name
         e.given e.answer (N.told granted.new.root) (told_of N.told granted.new.lent.items)) }
     ensures numbers { IfOk result (λ e. NumbersNext granted.old.numbers (numbers_of e.given.fresh)
         (length granted.old.lent.items) (length granted.new.lent.items)) }
@@ -119,8 +118,8 @@ pub fn execve<N: HostNode>(
         });
     }
     let root = granted.numbers.root;
-    let room = make_room(alloc, name)?;
-    let Step { drawn, ino, loaded } = walk(alloc, granted, name)?;
+    let room = make_room(alloc, &program.name)?;
+    let Step { drawn, ino, loaded } = walk(alloc, granted, &program.name)?;
     let Loaded { risen, answer } = loaded;
     let given = gathered(room, root, drawn, ino, risen);
     Ok(Executed { given, answer })

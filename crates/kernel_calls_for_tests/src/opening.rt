@@ -10,7 +10,7 @@ use kernel_model::GuestSpace;
 use mm_space::Handed;
 use mount_file::Program;
 use sn_base::{List, Memory};
-use sn_text::Text;
+use sn_text::{Text, name_of};
 use std::alloc::Global;
 use std::test::Fail;
 
@@ -31,11 +31,11 @@ fn one_of(alloc: Global, string: &[u8]) -> Result<List<Text>, Fail> {
     Ok(strings)
 }
 
-/// A program of that path, with one argument.
-fn program(alloc: Global, path: &[u8], argument: &[u8]) -> Result<Program, Fail> {
+/// A program of that name, with one argument.
+fn program(alloc: Global, name: &[u8], argument: &[u8]) -> Result<Program, Fail> {
     let args = one_of(alloc, argument)?;
     Ok(Program {
-        path: Text::from_slice(alloc, path)?,
+        name: name_of(alloc, name)?,
         args,
         env: List::new(alloc),
     })
@@ -75,7 +75,7 @@ fn running_short(
 fn opened_of(alloc: Global, number: u32, image: &Image) -> Result<Beginning, Fail>
     requires { HasRoom image.now }
 {
-    let program = program(alloc, b"/init", b"a")?;
+    let program = program(alloc, b"init", b"a")?;
     running_short(alloc, &[0; 32], number, &program, image)
 }
 

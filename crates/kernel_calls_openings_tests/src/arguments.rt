@@ -3,7 +3,7 @@
 use kernel_calls::is_too_long;
 use mount_file::Program;
 use sn_base::List;
-use sn_text::Text;
+use sn_text::{Text, name_of};
 use std::alloc::Global;
 use std::process::Abort;
 use std::test::Fail;
@@ -27,7 +27,7 @@ fn strings(alloc: Global, (count, length): (usize, usize)) -> Result<List<Text>,
 /// A program with these arguments and environment strings.
 fn program(alloc: Global, args: List<Text>, env: List<Text>) -> Result<Program, Fail> {
     Ok(Program {
-        path: Text::from_slice(alloc, b"/init")?,
+        name: name_of(alloc, b"init")?,
         args,
         env,
     })

@@ -1,23 +1,21 @@
 -- A mount file that is read has a mount at `/`, as many mounts as may be, no two of which clash, and no more tasks than
--- may be, each with a path of `/` and a name.
+-- may be.
 use Rattle.std.proofs.Common.{◌≡◌, ℕ, ℤ, pos, negsuc, ◌≤◌, nat_le, List, [], ◌∷◌, length, Bool, true}
-use Rattle.std.proofs.Common.{false, ◌&&◌, ◌==◌, not, Option, Some, None, option_map, option_and_then, is_none}
-use Rattle.std.proofs.Common.{inl, inr, Result, Ok, Err, IfOk, refl, ap, sym, subst, ◌∙◌, arith}
+use Rattle.std.proofs.Common.{false, ◌&&◌, ◌==◌, not, Option, Some, None, option_map, option_and_then}
+use Rattle.std.proofs.Common.{inl, inr, Result, Ok, Err, IfOk, refl, ap, sym, subst, arith}
 use Rattle.std.specs.Prelude.{if◌then◌else◌, codes}
 use Rattle.std.specs.Option.{option_map_or}
 use Rattle.std.proofs.lemmas.Option.{same_Some, option_and_then_some}
 use Rattle.std.proofs.lemmas.Bool.{and_parts, eqb-true, leb-true}
 use Rattle.std.proofs.lemmas.Bool.Decides.{nat_tests}
-use Rattle.sn_text.specs.Names.{name_fault_of, IsName}
-use Rattle.sn_text.specs.declared.fault.NameFault.{NameFault}
-use Rattle.toml.specs.Data.{Members, Items, no_items, item, as_str, as_integer, as_array, as_table, get_member}
-use Rattle.mount_file.specs.Form.{HasForm, IsNamed, AreNamed}
+use Rattle.toml.specs.Data.{Members, as_str, as_integer, as_array, get_member}
+use Rattle.mount_file.specs.Form.{HasForm}
 use Rattle.mount_file.specs.Keys.{has_keys}
 use Rattle.mount_file.specs.MountFile.{ruled, document_read, IsMountFile}
 use Rattle.mount_file.specs.Read.{Reads}
 use Rattle.mount_file.specs.Rules.{has_root, has_clash, has_too_many, rule_broken}
-use Rattle.mount_file.specs.Tables.{each_in, some_tasks, texts_at, mount_in, task_in, mounts_in}
-use Rattle.mount_file.specs.Values.{entries_in, seed_in, hex_bytes, path_in, is_name}
+use Rattle.mount_file.specs.Tables.{each_in, some_tasks, mount_in, task_in, mounts_in}
+use Rattle.mount_file.specs.Values.{entries_in, seed_in, hex_bytes}
 use Rattle.mount_file.specs.declared.mounts.MountFault.{MountFault}
 use Rattle.mount_file.specs.declared.mounts.MountFault.TheVariants.{Field, Range, NoRoot, Twice, TooMany}
 use Rattle.mount_file.specs.declared.mounts.Mounts.{Mounts}
@@ -49,48 +47,15 @@ seed_long digits bytes is =
     let (test, found) = chosen (length digits == 64) (hex_bytes digits) bytes is in
     omega (arith, eqb-true (length digits) 64 test, hex_bytes_length digits bytes found)
 
-no_fault : (o : Option NameFault) → is_none o ≡ true → o ≡ None
-no_fault None is = refl
-no_fault (Some e) is = cc
-
-path_of_name : (bytes path : List ℕ) → path_in bytes ≡ Some path
-    → (name : List ℕ) × IsName name × (path ≡ 47 ∷ name)
-path_of_name [] path is = cc
-path_of_name (slash ∷ name) path is =
-    let (tests, same) = chosen ((slash == 47) && is_name name) (Some (slash ∷ name)) path is in
-    let (first, rest) = and_parts (slash == 47) (is_name name) tests in
-    (name, no_fault (name_fault_of name) rest, sym (same_Some _ _ same) ∙ ap (λ s. s ∷ name) (eqb-true slash 47 first))
-
-task_named : (members : Members) (program : Program) → task_in members ≡ Some program → IsNamed program
-task_named members program is =
-    option_and_then_some _ (option_and_then path_in (option_and_then as_str (get_member (codes "path") members)))
-    program is (λ path found more.
-    option_and_then_some _ (texts_at (codes "args") (path ∷ []) members) program more (λ args _ rest.
-    mapped _ (texts_at (codes "env") [] members) program rest (λ env _ same.
-    option_and_then_some path_in (option_and_then as_str (get_member (codes "path") members)) path found
-    (λ bytes _ is_path.
-    let (name, is_name, path_is) = path_of_name bytes path is_path in
-    (name, is_name, sym (ap (λ (p : Program). p.path) same) ∙ path_is)))))
-
--- where each of an array's tables is read, each of the tasks has such a path
-each_named : (items : Items) (tasks : List Program) → each_in task_in items ≡ Some tasks → AreNamed tasks
-each_named no_items tasks is = subst AreNamed (same_Some _ _ is) tt
-each_named (item value rest) tasks is =
-    option_and_then_some _ (option_and_then task_in (as_table value)) tasks is (λ task found more.
-    mapped _ (each_in task_in rest) tasks more (λ others read same.
-    option_and_then_some task_in (as_table value) task found (λ members _ task_is.
-    subst AreNamed same (task_named members task task_is, each_named rest others read))))
-
-some_long : (ts us : List Program) → some_tasks ts ≡ Some us → (ts ≡ us) × (1 ≤ length us)
+some_long : (ts us : List Program) → some_tasks ts ≡ Some us → 1 ≤ length us
 some_long [] us is = cc
-some_long (t ∷ ts) us is = let same : (t ∷ ts) ≡ us = same_Some _ _ is in (same, omega (arith, ap length same))
+some_long (t ∷ ts) us is = let same : (t ∷ ts) ≡ us = same_Some _ _ is in omega (arith, ap length same)
 
 -- what a document says, part by part
 record Parts (m : Mounts) : Type 0 where
   pub entries : (1 ≤ m.entries) × (m.entries ≤ MOST_ENTRIES)
   pub seed : length m.seed ≡ 32
   pub some : 1 ≤ length m.tasks
-  pub named : AreNamed m.tasks
 
 parts : (d : Members) (m : Mounts) → mounts_in d ≡ Some m → Parts m
 parts d m is =
@@ -106,16 +71,12 @@ parts d m is =
     (option_and_then (each_in task_in) (option_and_then as_array (get_member (codes "task") d)))) m more''
     (λ tasks t same.
     option_and_then_some some_tasks (option_and_then (each_in task_in)
-    (option_and_then as_array (get_member (codes "task") d))) tasks t (λ all a kept.
-    option_and_then_some (each_in task_in) (option_and_then as_array (get_member (codes "task") d)) all a
-    (λ items _ each.
-    let (all_are, some) = some_long all tasks kept in
+    (option_and_then as_array (get_member (codes "task") d))) tasks t (λ all _ kept.
     subst Parts same (record {
       entries = entries_few z entries few;
       seed = seed_long digits seed long;
-      some = some;
-      named = each_named items tasks (each ∙ ap Some all_are);
-    })))))))))
+      some = some_long all tasks kept;
+    }))))))))
 
 -- mounts that are answered break no rule
 kept : (o : Option MountFault) (n m : Mounts) → option_map_or Err o (Ok n) ≡ Ok m → (o ≡ None) × (n ≡ m)
@@ -156,7 +117,6 @@ form_in d m is =
       few_mounts = few_mounts;
       some_tasks = p.some;
       few_tasks = few_tasks;
-      named = p.named;
     }
 
 pub form_of : (bytes : List ℕ) (m : Mounts) → IsMountFile bytes m → HasForm m

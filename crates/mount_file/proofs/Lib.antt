@@ -3,5 +3,4 @@ pub mod Faults
 pub mod Forms
 pub mod Hex
 pub mod Names
-pub mod Paths
 pub mod Views

@@ -2,7 +2,7 @@
 use Rattle.std.specs.Prelude.{ℕ, List, [], ◌∷◌, Bool, false, Option, Some, None, option_and_then, option_map, codes}
 use Rattle.std.specs.Option.{option_map_or}
 use Rattle.toml.specs.Data.{Items, no_items, item, Members, get_member, as_integer, as_str, as_bool, as_array, as_table}
-use Rattle.mount_file.specs.Values.{entries_in, seed_in, place_in, folder_in, path_in, texts_in}
+use Rattle.mount_file.specs.Values.{entries_in, seed_in, place_in, folder_in, image_name_in, texts_in}
 use Rattle.mount_file.specs.declared.mounts.Mounts.{Mounts}
 use Rattle.mount_file.specs.declared.mounts.Mount.{Mount}
 use Rattle.mount_file.specs.declared.mounts.Program.{Program}
@@ -39,10 +39,10 @@ mount_in members =
 -- execve(2), argv[0]; what is left out: profile
 abbrev pub task_in : Members → Option Program
 task_in members =
-    option_and_then (λ path. option_and_then (λ args. option_map (λ env. record { path = path; args = args; env = env })
+    option_and_then (λ name. option_and_then (λ args. option_map (λ env. record { name = name; args = args; env = env })
     (texts_at (codes "env") [] members))
-    (texts_at (codes "args") (path ∷ []) members))
-    (option_and_then path_in (option_and_then as_str (get_member (codes "path") members)))
+    (texts_at (codes "args") ((47 ∷ name) ∷ []) members))
+    (option_and_then image_name_in (option_and_then as_str (get_member (codes "path") members)))
 
 -- the tasks: one or more
 -- profile

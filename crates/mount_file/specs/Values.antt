@@ -65,11 +65,11 @@ abbrev pub folder_in : List ℕ → Option FolderPath
 folder_in [] = None
 folder_in (byte ∷ bytes) = if byte == 47 then folder_from true bytes else folder_from false (byte ∷ bytes)
 
--- the path of a task's image: so far `/` and a name
+-- the name of a task's image, by its path: so far `/` and a name
 -- execve(2); that it is absolute: profile
-abbrev pub path_in : List ℕ → Option (List ℕ)
-path_in [] = None
-path_in (slash ∷ name) = if (slash == 47) && is_name name then Some (slash ∷ name) else None
+abbrev pub image_name_in : List ℕ → Option (List ℕ)
+image_name_in [] = None
+image_name_in (slash ∷ name) = if (slash == 47) && is_name name then Some name else None
 
 -- a text that a task may be given: one without a NUL, which ends it
 -- execve(2), argv and envp

@@ -44,10 +44,10 @@ pub fn copied_mounts(alloc: Global, mounts: &[Mount]) -> Result<List<Mount>, Mem
     Ok(copies)
 }
 
-/// A task of the mount file: the path of its image, its arguments and its environment.
+/// A task of the mount file: the name of its image, which stands in `/`, its arguments and its environment.
 #[derive(Drop)]
 pub struct Program {
-    pub path: Text,
+    pub name: Name,
     pub args: List<Text>,
     pub env: List<Text>,
 }

@@ -1,6 +1,6 @@
 //! Mounts and tasks, from tables that have their keys.
 
-ghost use Rattle.std.specs.Prelude.{◌≡◌, [], codes, option_and_then};
+ghost use Rattle.std.specs.Prelude.{◌≡◌, [], ◌∷◌, codes, option_and_then, IfOk};
 ghost use Rattle.mount_file.specs.Read.{Gives};
 ghost use Rattle.mount_file.specs.Tables.{each_in, texts_at, write_at, mount_in, task_in, some_tasks, mounts_in};
 ghost use Rattle.toml.specs.Data.{as_table};
@@ -8,9 +8,9 @@ ghost use Rattle.toml.specs.View.{view, items_view, table_view};
 
 use crate::fields::{integer_at, items_at, items_of, string_at, value_at};
 use crate::mounts::{Mount, MountFault, Mounts, Program};
-use crate::values::{entries_in, folder_in, path_in, place_in, seed_in, texts_in};
-use sn_base::List;
-use sn_text::Text;
+use crate::values::{entries_in, folder_in, image_name_in, place_in, seed_in, texts_in};
+use sn_base::{List, Memory};
+use sn_text::{Name, Text};
 use std::alloc::Global;
 use toml::{Table, Value};
 
@@ -60,6 +60,15 @@ fn mount_in(alloc: Global, table: &Table) -> Result<Mount, MountFault>
     Ok(Mount { at, folder, write })
 }
 
+/// The path of what has that name in `/`.
+fn path_to(alloc: Global, name: &Name) -> Result<Text, Memory>
+    ensures { IfOk result (λ path. path ≡ 47 ∷ name.now) }
+{
+    let mut path = Text::from_slice(alloc, b"/")?;
+    path.extend(name.as_bytes())?;
+    Ok(path)
+}
+
 /// The task of a table: where `args` is left out its path is its one argument, and where `env` is it has no
 /// environment.
 fn task_in(alloc: Global, table: &Table) -> Result<Program, MountFault>
@@ -68,12 +77,12 @@ fn task_in(alloc: Global, table: &Table) -> Result<Program, MountFault>
     let Some(path) = string_at(table, "path") else {
         return Err(MountFault::Range);
     };
-    let path = path_in(alloc, path)?;
+    let name = image_name_in(alloc, path)?;
     let mut alone = List::new(alloc);
-    alone.push(path.copy(alloc)?)?;
+    alone.push(path_to(alloc, &name)?)?;
     let args = texts_at(alloc, table, "args", alone)?;
     let env = texts_at(alloc, table, "env", List::new(alloc))?;
-    Ok(Program { path, args, env })
+    Ok(Program { name, args, env })
 }
 
 /// The mount of an item of `mount`.

@@ -1,15 +1,15 @@
 //! The values of a mount file: numbers, seeds, places, folders, paths and texts.
 
-ghost use Rattle.std.specs.Prelude.{◌≡◌, ◌<◌, ◌∷◌, length, IfOk, None, Some, is_some, if◌then◌else◌};
+ghost use Rattle.std.specs.Prelude.{◌≡◌, ◌<◌, ◌∷◌, length, IfOk, None, Some, if◌then◌else◌};
 ghost use Rattle.mount_file.specs.Read.{Gives, hex_byte};
 ghost use Rattle.mount_file.specs.Values.{entries_in, hex_value, hex_bytes, seed_in, place_in, names_in, folder_from};
-ghost use Rattle.mount_file.specs.Values.{folder_in, is_name, path_in, text_in, texts_in};
+ghost use Rattle.mount_file.specs.Values.{folder_in, image_name_in, is_name, text_in, texts_in};
 ghost use Rattle.toml.specs.Data.{string};
 ghost use Rattle.toml.specs.View.{view, items_view};
 
 use crate::mounts::MountFault;
 use sn_base::List;
-use sn_text::{Folder, Name, Route, Text, name_fault, name_of};
+use sn_text::{Folder, Name, Route, Text, name_of};
 use std::alloc::Global;
 use toml::Value;
 
@@ -137,22 +137,13 @@ pub(crate) fn folder_in(alloc: Global, folder: &str) -> Result<Folder, MountFaul
     }
 }
 
-/// The path of a task: `/` and a name.
-#[tactic(auto, using(crate::proofs::Paths::path_chosen))]
-pub(crate) fn path_in(alloc: Global, path: &str) -> Result<Text, MountFault>
-    ensures { Gives (path_in path.now) result }
+/// The name of the image at a task's path, which is `/` and that name.
+pub(crate) fn image_name_in(alloc: Global, path: &str) -> Result<Name, MountFault>
+    ensures { Gives (image_name_in path.now) result }
 {
-    let path = path.as_bytes();
-    text_where(alloc, is_path(path), path)
-}
-
-/// Whether bytes are the path of a task.
-fn is_path(path: &[u8]) -> bool
-    ensures { result ≡ is_some (path_in path.now) }
-{
-    match path {
-        [b'/', name @ ..] => name_fault(name).is_none(),
-        _ => false,
+    match path.as_bytes() {
+        [b'/', name @ ..] => name_in(alloc, name),
+        _ => Err(MountFault::Range),
     }
 }
 

@@ -30,9 +30,9 @@ fn are(texts: &List<Text>, expected: &[&str]) -> bool {
             .all(|(text, bytes)| text.as_bytes() == bytes.as_bytes())
 }
 
-/// Whether a task has this path, these arguments and this environment.
-fn is_task(task: &Program, path: &str, args: &[&str], env: &[&str]) -> bool {
-    task.path.as_bytes() == path.as_bytes() && are(&task.args, args) && are(&task.env, env)
+/// Whether a task's image has this name, and it has these arguments and this environment.
+fn is_task(task: &Program, name: &str, args: &[&str], env: &[&str]) -> bool {
+    task.name.is(name.as_bytes()) && are(&task.args, args) && are(&task.env, env)
 }
 
 /// A seed, and its bytes.
@@ -129,11 +129,11 @@ const GIVEN: &[(&str, &[&str], &[&str])] = &[
     ("env = [\"A\"]\nargs = [\"a\"]\n", &["a"], &["A"]),
 ];
 
-/// Whether a file whose task has these lines has that task alone, `/init`, with these arguments and this environment.
+/// Whether a file whose task has these lines has that task alone, `init`, with these arguments and this environment.
 fn is_given(alloc: Global, lines: &str, args: &[&str], env: &[&str]) -> Result<bool, Fail> {
     let mounts = read_with(alloc, &TASK_END, lines)?;
     match mounts.tasks.as_slice() {
-        [task] => Ok(is_task(task, "/init", args, env)),
+        [task] => Ok(is_task(task, "init", args, env)),
         _ => Ok(false),
     }
 }
@@ -146,11 +146,11 @@ fn a_task_is_given_its_arguments_and_its_environment(rt: HostRuntime) -> Result<
     Ok(())
 }
 
-/// Whether a file has two tasks: `/init`, and `/second` with an argument and an environment.
+/// Whether a file has two tasks: `init`, and `second` with an argument and an environment.
 fn are_two(mounts: &Mounts) -> bool {
     match mounts.tasks.as_slice() {
         [task, other] => {
-            is_task(task, "/init", &["/init"], &[]) && is_task(other, "/second", &["b"], &["B=2"])
+            is_task(task, "init", &["/init"], &[]) && is_task(other, "second", &["b"], &["B=2"])
         }
         _ => false,
     }
@@ -170,10 +170,10 @@ fn read_tasks(alloc: Global, count: usize) -> Result<Mounts, Fail> {
     read(alloc, [ENTRIES, SEED, MOUNT, tasks.as_str()])
 }
 
-/// Whether a task has the path `/task` with this number.
+/// Whether a task's image has the name `task` with this number.
 fn is_numbered(alloc: Global, task: &Program, number: usize) -> Result<bool, Fail> {
-    let path = format!(in alloc; "/task{number}")?;
-    Ok(task.path.as_bytes() == path.as_bytes())
+    let name = format!(in alloc; "task{number}")?;
+    Ok(task.name.is(name.as_bytes()))
 }
 
 fn expect_numbered(rt: &impl Abort, alloc: Global, tasks: &[Program]) -> Result<(), Fail> {
@@ -184,7 +184,7 @@ fn expect_numbered(rt: &impl Abort, alloc: Global, tasks: &[Program]) -> Result<
 }
 
 #[test]
-fn sixty_four_tasks_are_read_each_with_its_path(rt: HostRuntime) -> Result<(), Fail> {
+fn sixty_four_tasks_are_read_each_with_its_name(rt: HostRuntime) -> Result<(), Fail> {
     let mounts = read_tasks(rt.alloc(), 64)?;
     assert_eq!(rt; mounts.tasks.len(), 64);
     expect_numbered(&rt, rt.alloc(), mounts.tasks.as_slice())

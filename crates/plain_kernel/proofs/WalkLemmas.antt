@@ -15,7 +15,6 @@ use Rattle.kernel_model.specs.entries.Given.{Nodes_so_far, has_any, is_in_order,
 use Rattle.kernel_model.specs.entries.Given.{faulted, may_meet, ascend_from, numbers_of}
 use Rattle.kernel_model.specs.opening.Opening.{Walked, walk_of, by_walk, draws_just, Executed, Starts, Fails, Unfit}
 use Rattle.kernel_model.specs.opening.Opening.{failed_by, by_image, by_numbers, execve, execve_of, root_of, unwalked}
-use Rattle.kernel_model.specs.opening.Opening.{name_in_path}
 use Rattle.kernel_model.specs.opening.Arguments.{is_too_long}
 use Rattle.mount_file.specs.declared.mounts.Program.{Program}
 use Rattle.kernel_model.specs.entries.Parts.{Parts, parts, done, outcome_in, ◌>>=◌, Change, changed}
@@ -38,23 +37,21 @@ goes k name given walked = outcome_in (parts k) (by_walk (slash k) name given wa
 -- an execve that is not refused before it walks does as its walk comes out
 pub execve_is : (k : Kernel) (program : Program) (given : Given) (draws : Bool) (image : Result Image Errno)
     → is_too_long program.args program.env ≡ false
-    → outcome_in (parts k) (walk_of (slash k) (name_in_path program.path)) ≡ record { draws = draws; image = image }
+    → outcome_in (parts k) (walk_of (slash k) program.name) ≡ record { draws = draws; image = image }
     → outcome_in (parts k) (execve_of (slash k) program given)
-    ≡ goes k (name_in_path program.path) given (record { draws = draws; image = image })
+    ≡ goes k program.name given (record { draws = draws; image = image })
 execve_is k program given draws image short walks =
-    ap (λ b. outcome_in (parts k) (cond b (by_walk (slash k) (name_in_path program.path) given unwalked)
-    (execve (slash k) (name_in_path program.path) given))) short
-    ∙ outcome-bind (parts k) (walk_of (slash k) (name_in_path program.path))
-    (by_walk (slash k) (name_in_path program.path) given)
-    ∙ ap (λ w. goes k (name_in_path program.path) given w) walks
+    ap (λ b. outcome_in (parts k) (cond b (by_walk (slash k) program.name given unwalked)
+    (execve (slash k) program.name given))) short
+    ∙ outcome-bind (parts k) (walk_of (slash k) program.name) (by_walk (slash k) program.name given)
+    ∙ ap (λ w. goes k program.name given w) walks
 
 -- one that is refused before does as if it had walked to nothing
 pub execve_long : (k : Kernel) (program : Program) (given : Given) → is_too_long program.args program.env ≡ true
-    → outcome_in (parts k) (execve_of (slash k) program given)
-    ≡ goes k (name_in_path program.path) given unwalked
+    → outcome_in (parts k) (execve_of (slash k) program given) ≡ goes k program.name given unwalked
 execve_long k program given long =
-    ap (λ b. outcome_in (parts k) (cond b (by_walk (slash k) (name_in_path program.path) given unwalked)
-    (execve (slash k) (name_in_path program.path) given))) long
+    ap (λ b. outcome_in (parts k) (cond b (by_walk (slash k) program.name given unwalked)
+    (execve (slash k) program.name given))) long
 
 -- the numbers that a walk draws ascend: there is at most one
 just_ascend : (root : ℕ) (draws : Bool) (name : List ℕ) (fresh : List Fresh) → draws_just root draws name fresh ≡ true
@@ -182,15 +179,13 @@ fitting_starts program image (Ok answers.Unfit) short room from = tt
 -- what an execve in place does where its strings are too long
 pub as_refused : (k after : Kernel) (program : Program) (name : List ℕ) (given : Given) (draws : Bool)
     (image : Result Image Errno) (r : Result Execved Memory) → is_too_long program.args program.env ≡ true
-    → name ≡ name_in_path program.path
+    → name ≡ program.name
     → record { draws = draws; image = image } ≡ unwalked
     → IfOk r (Executes (goes k name given (record { draws = draws; image = image })) k after)
     → IfOk r (Executes (outcome_in (parts k) (execve_of (slash k) program given)) k after)
 as_refused k after program name given draws image r long named walk does =
     subst (λ (d : Executed). IfOk r (Executes d k after)) (sym (execve_long k program given long))
-    (subst
-    (λ (w : Walked). IfOk r (Executes (goes k (name_in_path program.path) given w) k after))
-    walk
+    (subst (λ (w : Walked). IfOk r (Executes (goes k program.name given w) k after)) walk
     (subst
     (λ (n : List ℕ). IfOk r (Executes (goes k n given (record { draws = draws; image = image }))
     k after)) named does))
@@ -198,7 +193,7 @@ as_refused k after program name given draws image r long named walk does =
 -- and where they are not
 pub as_walked : (k after : Kernel) (program : Program) (name : List ℕ) (given : Given) (draws : Bool)
     (image : Result Image Errno) (r : Result Execved Memory) → is_too_long program.args program.env ≡ false
-    → name ≡ name_in_path program.path
+    → name ≡ program.name
     → outcome_in (parts k) (walk_of (slash k) name) ≡ record { draws = draws; image = image }
     → IfOk r (Executes (goes k name given (record { draws = draws; image = image })) k after)
     → IfOk r (Executes (outcome_in (parts k) (execve_of (slash k) program given)) k after)
@@ -259,14 +254,13 @@ module _ (s : Parts) (k : Kernel) (elf : Image) (changes : List Change) where
   execve_starts program given = by (is_too_long program.args program.env)
     where
       by : (long : Bool)
-          → outcome_in s (cond long (by_walk (slash k) (name_in_path program.path) given unwalked)
-          (execve (slash k) (name_in_path program.path) given)) ≡ Starts elf changes
+          → outcome_in s (cond long (by_walk (slash k) program.name given unwalked)
+          (execve (slash k) program.name given)) ≡ Starts elf changes
           → (changed changes k).tasks ≡ k.tasks
-      by true e = walk_starts (name_in_path program.path) given unwalked e
+      by true e = walk_starts program.name given unwalked e
       by false e =
-          walk_starts (name_in_path program.path) given (outcome_in s (walk_of (slash k) (name_in_path program.path)))
-          (sym (outcome-bind s (walk_of (slash k) (name_in_path program.path))
-          (by_walk (slash k) (name_in_path program.path) given)) ∙ e)
+          walk_starts program.name given (outcome_in s (walk_of (slash k) program.name))
+          (sym (outcome-bind s (walk_of (slash k) program.name) (by_walk (slash k) program.name given)) ∙ e)
 
 -- so the tasks are those before, after an execve in place that starts
 pub tasks_stay : (k after : Kernel) (program : Program) (given : Given) (answer : Execved) (image : Image)

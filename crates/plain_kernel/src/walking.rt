@@ -6,7 +6,7 @@ ghost use Rattle.std.specs.List.{list_any};
 ghost use Rattle.kernel_model.specs.files.FileTree.{owner_executes};
 ghost use Rattle.kernel_model.specs.entries.Given.{has_any, above_last, may_meet};
 ghost use Rattle.kernel_model.specs.opening.Opening.{image_or_errno, executed, numbered_image, walk_of, draws_just};
-ghost use Rattle.kernel_model.specs.opening.Opening.{by_walk, name_in_path, root_of, execve_of};
+ghost use Rattle.kernel_model.specs.opening.Opening.{by_walk, root_of, execve_of};
 ghost use Rattle.kernel_model.specs.entries.Parts.{parts, outcome_in as outcome};
 ghost use Rattle.kernel_model.specs.laws.Room.{fits};
 ghost use Rattle.plain_kernel.specs.OpeningTasks.{Executes, IsFrom, MayStart};
@@ -19,7 +19,6 @@ use mount_file::Program;
 use node_numbers::{faulted, is_in_order, number_all, number_of};
 use sn_base::Memory;
 use sn_errno::Errno;
-use sn_text::Text;
 use std::alloc::Global;
 
 /// What a walk comes to: whether it is to a child without a number, and its image or error.
@@ -113,16 +112,6 @@ fn draws_just(kernel: &Kernel, draws: bool, name: &[u8], fresh: &[Fresh]) -> boo
     }
 }
 
-/// The name in a path of `/` and one name.
-fn name_in_path(path: &Text) -> &[u8]
-    ensures { result.now ≡ name_in_path path.now }
-{
-    match path.as_bytes() {
-        [] => &[],
-        [_, name @ ..] => name,
-    }
-}
-
 fn any_above_last(fresh: &[Fresh]) -> bool
     ensures { result ≡ list_any above_last fresh.now }
 {
@@ -182,7 +171,7 @@ pub(crate) fn execve(
         kernel.old kernel.new) }
     ensures may { IfOk result (MayStart program.now) }
 {
-    let name = name_in_path(&program.path);
+    let name = program.name.as_bytes();
     if is_too_long(program) {
         return execve_walked(alloc, kernel, name, given, Walk::refused(Errno::E2BIG));
     }

@@ -93,10 +93,10 @@ fn letters(alloc: Global, count: usize) -> Result<List<Text>, Fail> {
     Ok(one_of(alloc, letters.as_slice())?)
 }
 
-/// The program `/init` with a task's strings.
+/// The program `init` with a task's strings.
 fn program(alloc: Global, task: &Task) -> Result<Program, Fail> {
     Ok(Program {
-        path: Text::from_slice(alloc, b"/init")?,
+        name: name_of(alloc, b"init")?,
         args: one_of(alloc, task.argument)?,
         env: letters(alloc, task.environment)?,
     })

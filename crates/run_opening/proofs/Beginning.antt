@@ -74,11 +74,11 @@ if_any (Some a) = tt
 -- ---- an execve
 
 -- what an execve did, for each tree that its nodes may tell
-abbrev pub ExecutesFor : Numbering → Program → (name : List ℕ) → Given → Answer → (root root' : Option Shape)
+abbrev pub ExecutesFor : Numbering → Program → Given → Answer → (root root' : Option Shape)
     → (children children' : List Child) → Type 0
-ExecutesFor num program name given answer root root' children children' =
+ExecutesFor num program given answer root root' children children' =
     (t : Shape) (names : List (List ℕ)) → Stands num t names [] root children
-    → Executes num (is_too_long program.args program.env) t names name given answer root' children'
+    → Executes num (is_too_long program.args program.env) t names program.name given answer root' children'
 
 -- the numbers of the names that an execve leaves
 named_few : (drawn : Bool) (names : List (List ℕ)) (name : List ℕ) → length (named_then drawn names name)
@@ -100,10 +100,10 @@ none_told m others p root children fact e =
     subst (λ (o : Option Shape). IfSome (kernel_told m (trees_told others o children) p 0) fact) (sym e) tt
 
 module _ (m : Mounts) (others : Others) (is : AreOthers m.mounts others) (t : Shape) (names : List (List ℕ)) (i : ℕ)
-    (tasks tasks' : List Opened) (p : Processes) (program : Program) (name : List ℕ) (o : Opened)
+    (tasks tasks' : List Opened) (p : Processes) (program : Program) (o : Opened)
     (root root' : Option Shape) (children children' : List Child)
     (s : Stands (numbering_of m.mounts) t names [] root children) (at : slice_get m.tasks i ≡ Some program)
-    (path : program.path ≡ 47 ∷ name) (drawn : length children ≤ i) (few : i < 64) (pushed : tasks' ≡ tasks ++ o ∷ [])
+    (drawn : length children ≤ i) (few : i < 64) (pushed : tasks' ≡ tasks ++ o ∷ [])
     (facts : IsNumbering (numbering_of m.mounts)) where
   abbrev num : Numbering
   num = numbering_of m.mounts
@@ -138,16 +138,15 @@ module _ (m : Mounts) (others : Others) (is : AreOthers m.mounts others) (t : Sh
   -- ---- it starts an image
 
   module _ (image : Executable) (more : Processes)
-      (e : Executes num (is_too_long program.args program.env) t names name o.given (answers.Starts image) root'
-      children')
+      (e : Executes num (is_too_long program.args program.env) t names program.name o.given (answers.Starts image)
+      root' children')
       (last : p.cells.tasks.last ≡ i)
       (begun : (beside : Beside) (n : ℕ) → beside.seed ≡ m.seed → root_of beside.mounts ≡ root_of m.mounts
       → kernel_of_processes more beside n ≡ with_task (p.cells.tasks.last + 1) program image
       (kernel_of_processes p beside n)) where
-    started : Started num k t (named_then e.drawn names name) program o.given image
+    started : Started num k t (named_then e.drawn names program.name) program o.given image
     started =
-        execve_starts num facts k t names name o.given
-        (answers.Starts image) root' children' program path h.are refl room e
+        execve_starts num facts k t names o.given (answers.Starts image) root' children' program h.are refl room e
         image refl
 
     abbrev nodes' : Nodes
@@ -165,8 +164,8 @@ module _ (m : Mounts) (others : Others) (is : AreOthers m.mounts others) (t : Sh
     tells_after : kernel_told m (trees_told others root' children') more 0 ≡ Some k'
     tells_after =
         ap (option_map (λ nodes. kernel_of_processes more (beside_of m nodes) 0))
-        (told_nodes m.mounts others is t (named_then e.drawn names name) nodes' root' children'
-        (stands_on num (is_too_long program.args program.env) t names name o.given image root' children' e)
+        (told_nodes m.mounts others is t (named_then e.drawn names program.name) nodes' root' children'
+        (stands_on num (is_too_long program.args program.env) t names program.name o.given image root' children' e)
         started.nodes (λ ino differs low. started.others ino differs low ∙ h.kept ino differs low))
 
     begins : HasBegun m i (i + 1) tasks tasks' k k'
@@ -190,12 +189,11 @@ module _ (m : Mounts) (others : Others) (is : AreOthers m.mounts others) (t : Sh
   -- ---- it fails
 
   module _ (errno : Errno)
-      (e : Executes num (is_too_long program.args program.env) t names name o.given (answers.Refuses errno) root'
-      children') where
+      (e : Executes num (is_too_long program.args program.env) t names program.name o.given (answers.Refuses errno)
+      root' children') where
     failed : Failed num k program o.given errno root' children'
     failed =
-        execve_fails num facts k t names name o.given
-        (answers.Refuses errno) root' children' program path h.are refl room e
+        execve_fails num facts k t names o.given (answers.Refuses errno) root' children' program h.are refl room e
         errno refl
 
     refused : (task : ℕ) → task ≡ i + 1
@@ -269,12 +267,12 @@ lacks_then num long t names name given answer root children (inr lacks) e =
 -- ---- what comes of the answer
 
 -- what is told by the numbers of the folder, by those of the mount file
-pub executes_as : (m : Mounts) (num : Numbering) (program : Program) (name : List ℕ) (given : Given) (answer : Answer)
+pub executes_as : (m : Mounts) (num : Numbering) (program : Program) (given : Given) (answer : Answer)
     (root root' : Option Shape) (children children' : List Child) → num ≡ numbering_of m.mounts
-    → ExecutesFor num program name given answer root root' children children'
-    → ExecutesFor (numbering_of m.mounts) program name given answer root root' children children'
-executes_as m num program name given answer root root' children children' numbered e =
-    subst (λ (x : Numbering). ExecutesFor x program name given answer root root' children children') numbered e
+    → ExecutesFor num program given answer root root' children children'
+    → ExecutesFor (numbering_of m.mounts) program given answer root root' children children'
+executes_as m num program given answer root root' children children' numbered e =
+    subst (λ (x : Numbering). ExecutesFor x program given answer root root' children children') numbered e
 
 pub begins_as : (m : Mounts) (num : Numbering) (seed : List ℕ) (program : Program) (answer : Answer) (p : Processes)
     (result : Result Processes OpenErr) → num ≡ numbering_of m.mounts → seed ≡ m.seed
@@ -294,12 +292,10 @@ pub record Deed (m : Mounts) (i : ℕ) (tasks tasks' : List Opened) (p : Process
     (children children' : List Child) (result : Result Processes OpenErr) : Type 0 where
   pub program : Program
   pub at : slice_get m.tasks i ≡ Some program
-  pub name : List ℕ
-  pub path : program.path ≡ 47 ∷ name
   pub opened : Opened
   pub pushed : tasks' ≡ tasks ++ opened ∷ []
   pub answer : Answer
-  pub executes : ExecutesFor (numbering_of m.mounts) program name opened.given answer root root' children children'
+  pub executes : ExecutesFor (numbering_of m.mounts) program opened.given answer root root' children children'
   pub begins : Begins m.seed (root_of m.mounts) program answer p result
   pub last : p.cells.tasks.last ≡ i
   pub few : i < 64
@@ -321,9 +317,9 @@ module _ (m : Mounts) (i : ℕ) (tasks tasks' : List Opened) (p : Processes) (ro
   begun_then (Ok q) d = λ others is. elim (before numbers root children d.grant) [
     | inl none ↦ none_told m others p root children _ none
     | inr g ↦
-        task_begins m others is g.0 g.1 i tasks tasks' p d.program d.name d.opened root root' children children' g.2
-        d.at d.path d.drawn d.few d.pushed d.facts d.begins.0 q
-        (subst (λ (x : Answer). Executes numbers (is_too_long d.program.args d.program.env) g.0 g.1 d.name
+        task_begins m others is g.0 g.1 i tasks tasks' p d.program d.opened root root' children children' g.2
+        d.at d.drawn d.few d.pushed d.facts d.begins.0 q
+        (subst (λ (x : Answer). Executes numbers (is_too_long d.program.args d.program.env) g.0 g.1 d.program.name
         d.opened.given x root' children') d.begins.1 (d.executes g.0 g.1 g.2)) d.last d.begins.3
   ]
 
@@ -336,9 +332,9 @@ module _ (m : Mounts) (i : ℕ) (tasks tasks' : List Opened) (p : Processes) (ro
   stopped_then (Err (Image task errno)) d = λ others is. elim (before numbers root children d.grant) [
     | inl none ↦ none_told m others p root children _ none
     | inr g ↦
-        task_refused m others is g.0 g.1 i tasks tasks' p d.program d.name d.opened root root' children children' g.2
-        d.at d.path d.drawn d.few d.pushed d.facts errno
-        (subst (λ (x : Answer). Executes numbers (is_too_long d.program.args d.program.env) g.0 g.1 d.name
+        task_refused m others is g.0 g.1 i tasks tasks' p d.program d.opened root root' children children' g.2
+        d.at d.drawn d.few d.pushed d.facts errno
+        (subst (λ (x : Answer). Executes numbers (is_too_long d.program.args d.program.env) g.0 g.1 d.program.name
         d.opened.given x root' children') d.begins.1 (d.executes g.0 g.1 g.2)) task
         (d.begins.0 ∙ ap (λ n. n + 1) d.last)
   ]
@@ -349,23 +345,23 @@ module _ (m : Mounts) (i : ℕ) (tasks tasks' : List Opened) (p : Processes) (ro
       → IfOk result (λ q. (t : Shape) → StandsStill numbers t root children → StandsStill numbers t root' children')
   stands_still (Err e) d = tt
   stands_still (Ok q) d = λ t s.
-      stands_then numbers (is_too_long d.program.args d.program.env) t s.names d.name d.opened.given d.begins.0 d.answer
-      root' children' d.begins.1 (d.executes t s.names s.stands)
+      stands_then numbers (is_too_long d.program.args d.program.env) t s.names d.program.name d.opened.given
+      d.begins.0 d.answer root' children' d.begins.1 (d.executes t s.names s.stands)
 
 -- what an execve that did not begin leaves of the folder
-pub stands_err : (m : Mounts) (seed : List ℕ) (at : ℕ) (program : Program) (name : List ℕ) (given : Given)
-    (answer : Answer) (p : Processes) (root root' : Option Shape) (children children' : List Child)
-    → ExecutesFor (numbering_of m.mounts) program name given answer root root' children children'
+pub stands_err : (m : Mounts) (seed : List ℕ) (at : ℕ) (program : Program) (given : Given) (answer : Answer)
+    (p : Processes) (root root' : Option Shape) (children children' : List Child)
+    → ExecutesFor (numbering_of m.mounts) program given answer root root' children children'
     → (result : Result Processes OpenErr) → Begins seed at program answer p result
     → IfErr result (λ e. (t : Shape) → StandsStill (numbering_of m.mounts) t root children
     → StandsAfter e (numbering_of m.mounts) t root' children')
-stands_err m seed at program name given answer p root root' children children' executes (Ok q) b = tt
-stands_err m seed at program name given answer p root root' children children' executes (Err (Image task errno)) b =
+stands_err m seed at program given answer p root root' children children' executes (Ok q) b = tt
+stands_err m seed at program given answer p root root' children children' executes (Err (Image task errno)) b =
     λ t s.
-    standing (numbering_of m.mounts) (is_too_long program.args program.env) t s.names name given answer root' children'
-    (executes t s.names s.stands)
-stands_err m seed at program name given answer p root root' children children' executes (Err Memory) b = λ t s.
-    lacks_then (numbering_of m.mounts) (is_too_long program.args program.env) t s.names name given answer root'
+    standing (numbering_of m.mounts) (is_too_long program.args program.env) t s.names program.name given answer root'
+    children' (executes t s.names s.stands)
+stands_err m seed at program given answer p root root' children children' executes (Err Memory) b = λ t s.
+    lacks_then (numbering_of m.mounts) (is_too_long program.args program.env) t s.names program.name given answer root'
     children' b (executes t s.names s.stands)
 
 -- a folder that is as it was stands as it did

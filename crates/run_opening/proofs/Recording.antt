@@ -1,12 +1,11 @@
 -- The record of an opening grows by one task.
-use Rattle.std.proofs.Common.{◌≡◌, ℕ, zero, suc, ◌+◌, ◌<◌, ◌≤◌, List, [], ◌∷◌, ◌++◌, map, take, length, refl}
+use Rattle.std.proofs.Common.{◌≡◌, ℕ, ◌+◌, ◌<◌, ◌≤◌, List, [], ◌∷◌, ◌++◌, map, take, length, refl}
 use Rattle.std.proofs.Common.{ap, sym, ◌∙◌}
 use Rattle.std.proofs.Common.{subst, arith}
 use Rattle.std.specs.Prelude.{Some, Result, Ok, Err, IfOk, slice_get}
 use Rattle.std.proofs.lemmas.Grind.{flat_map-append}
 use Rattle.std.proofs.lemmas.List.{map-append, take_more, append-nil}
-use Rattle.std.proofs.lemmas.Option.{get_or_from_slice_get, slice_get_within, same_Some}
-use Rattle.mount_file.specs.Form.{IsNamed, AreNamed}
+use Rattle.std.proofs.lemmas.Option.{get_or_from_slice_get, slice_get_within}
 use Rattle.mount_file.specs.declared.mounts.Mounts.{Mounts}
 use Rattle.mount_file.specs.declared.mounts.Program.{Program}
 use Rattle.kernel_model.specs.declared.opening.Opened.{Opened}
@@ -17,13 +16,6 @@ use Rattle.image_walk.specs.Walking.{NumbersNext}
 use Rattle.image_walk.proofs.Firsts.{count_up-more}
 use Rattle.run_opening.specs.Openings.{numbering_of}
 use Rattle.run_opening.specs.Records.{IsRecord, IsRecorded, numbers_of_tasks}
-
--- each of the programs has a path of `/` and a name
-pub named_at : (programs : List Program) (i : ℕ) (p : Program) → AreNamed programs → slice_get programs i ≡ Some p
-    → IsNamed p
-named_at [] i p h e = cc
-named_at (q ∷ programs) zero p h e = subst IsNamed (same_Some q p e) h.0
-named_at (q ∷ programs) (suc i) p h e = named_at programs i p h.1 e
 
 -- the programs up to one more
 pub taken_more : (programs : List Program) (i : ℕ) (p : Program) → slice_get programs i ≡ Some p

@@ -1,11 +1,10 @@
 //! The opening execve of one program, and its record.
 
-ghost use Rattle.std.specs.Prelude.{◌≡◌, ℕ, List as Items, [], ◌∷◌, length, None, true, IfOk, OnErr};
+ghost use Rattle.std.specs.Prelude.{◌≡◌, ℕ, List as Items, [], length, None, true, IfOk, OnErr};
 ghost use Rattle.host_node.specs.Tree.{Shape};
 ghost use Rattle.sn_errno.specs.declared.errno.Errno.TheVariants.{E2BIG};
 ghost use Rattle.kernel_model.specs.entries.Given.{numbers_of};
 ghost use Rattle.kernel_model.specs.opening.Arguments.{is_too_long};
-ghost use Rattle.mount_file.specs.Form.{IsNamed};
 ghost use Rattle.image_walk.specs.Executing.{Executes};
 ghost use Rattle.image_walk.specs.Granted.{told_of};
 ghost use Rattle.image_walk.specs.Loading.{is_roomy};
@@ -17,7 +16,7 @@ use image_walk::{Answer, Executed, Granted, execve};
 use kernel_model::Opened;
 use mount_file::Program;
 use sn_base::{List, Memory};
-use sn_text::{Name, Text, name_of};
+use sn_text::Text;
 use std::alloc::Global;
 
 /// An opening execve that was done: its record, and what it answers.
@@ -26,18 +25,6 @@ pub(crate) struct Done {
     pub(crate) opened: Opened,
     pub(crate) answer: Answer,
     ghost pages: { is_roomy answer ≡ true },
-}
-
-/// The name of a program: its path without the slash.
-fn program_name(alloc: Global, program: &Program) -> Result<Name, Memory>
-    requires { IsNamed program.now }
-    ensures { IfOk result (λ name. program.now.path ≡ 47 ∷ name) }
-{
-    let path = program.path.as_bytes();
-    match name_of(alloc, &path[1..]) {
-        Ok(name) => Ok(name),
-        Err(_) => Err(Memory),
-    }
 }
 
 fn copied_words(alloc: Global, words: &[Text]) -> Result<List<Text>, Memory>
@@ -58,13 +45,11 @@ pub(crate) fn execute<N: HostNode>(
 ) -> Result<Done, Memory>
     requires numbers { IsNumbering granted.old.numbers }
     requires grant { IsGrant granted.old.numbers (N.told granted.old.root) (told_of N.told granted.old.lent.items) }
-    requires named { IsNamed program.now }
     ensures same { granted.new.numbers ≡ granted.old.numbers }
     ensures words { IfOk result (λ d. d.opened.words ≡ program.now.args) }
-    ensures executes { IfOk result (λ d. (name : Items ℕ) → program.now.path ≡ 47 ∷ name →
-        (t : Shape) (names : Items (Items ℕ)) →
+    ensures executes { IfOk result (λ d. (t : Shape) (names : Items (Items ℕ)) →
         Stands granted.old.numbers t names [] (N.told granted.old.root) (told_of N.told granted.old.lent.items) →
-        Executes granted.old.numbers (is_too_long program.now.args program.now.env) t names name
+        Executes granted.old.numbers (is_too_long program.now.args program.now.env) t names program.now.name
         d.opened.given d.answer (N.told granted.new.root) (told_of N.told granted.new.lent.items)) }
     ensures numbers { IfOk result (λ d. NumbersNext granted.old.numbers (numbers_of d.opened.given.fresh)
         (length granted.old.lent.items) (length granted.new.lent.items)) }
@@ -75,9 +60,8 @@ pub(crate) fn execute<N: HostNode>(
     ensures err { OnErr result (N.told granted.new.root ≡ N.told granted.old.root) }
     ensures err_lent { OnErr result (told_of N.told granted.new.lent.items ≡ told_of N.told granted.old.lent.items) }
 {
-    let name = program_name(alloc, program)?;
     let words = copied_words(alloc, program.args.as_slice())?;
-    let Executed { given, answer } = execve(alloc, granted, program, &name)?;
+    let Executed { given, answer } = execve(alloc, granted, program)?;
     Ok(Done {
         opened: Opened { words, given },
         answer,

@@ -8,7 +8,7 @@ ghost use Rattle.kernel_model.proofs.OpenedTasks.{AreOpened};
 ghost use Rattle.kernel_model.specs.laws.Room.{MayOpen};
 ghost use Rattle.kernel_model.specs.opening.Arguments.{is_too_long};
 ghost use Rattle.kernel_model.specs.opening.Opening.{bare};
-ghost use Rattle.mount_file.specs.Form.{AreNamed, HasForm};
+ghost use Rattle.mount_file.specs.Form.{HasForm};
 ghost use Rattle.mount_file.specs.declared.rules.TheConstants.{MOST_TASKS};
 ghost use Rattle.image_walk.specs.Granted.{told_of};
 ghost use Rattle.image_walk.specs.Loading.{is_roomy};
@@ -97,7 +97,6 @@ fn open_task<N: HostNode>(
 ) -> Result<Processes, OpenErr>
     requires within { index < length mounts.now.tasks }
     requires few { length mounts.now.tasks ≤ MOST_TASKS }
-    requires named { AreNamed mounts.now.tasks }
     requires numbers { granted.old.numbers ≡ numbering_of mounts.now.mounts }
     requires known { IsNumbering granted.old.numbers }
     requires grant { IsGrant granted.old.numbers (N.told granted.old.root) (told_of N.told granted.old.lent.items) }
@@ -149,8 +148,8 @@ fn open_task<N: HostNode>(
 }
 
 /// Opens the tasks of a mount file in order, over the granted folder of the mount at `/`, and records what each execve
-/// drew and met. On an `Err` no task is left, and the children that were lent can go back; where that is want of memory,
-/// no call of a node has failed.
+/// drew and met. On an `Err` no task is left, and the children that were lent can go back; where that is want of
+/// memory, no call of a node has failed.
 ///
 /// execve(2).
 pub fn open_tasks<N: HostNode>(

@@ -155,12 +155,12 @@ fn environment(alloc: Global, count: usize) -> Result<List<Text>, Fail> {
     Ok(strings)
 }
 
-/// A program without arguments, with that in its environment. Its path is not looked at.
-fn program(alloc: Global, count: usize) -> Result<Program, Fail> {
-    let path = Text::from_slice(alloc, b"/program")?;
+/// A program of that name without arguments, with one string of so many letters in its environment, if any.
+fn program(alloc: Global, name: &[u8], count: usize) -> Result<Program, Fail> {
+    let name = name_of(alloc, name)?;
     let env = environment(alloc, count)?;
     Ok(Program {
-        path,
+        name,
         args: List::new(alloc),
         env,
     })
@@ -220,9 +220,8 @@ fn failed(execution: &Execution) -> u64 {
 fn executed(alloc: Global, world: &mut World, execution: &Execution) -> Result<Executed, Fail>
     requires { none_lent world.old.tree ≡ true }
 {
-    let program = program(alloc, execution.environment)?;
-    let name = name_of(alloc, execution.name)?;
-    execute_in(alloc, world, execution.numbers, &program, &name)
+    let program = program(alloc, execution.name, execution.environment)?;
+    execute_in(alloc, world, execution.numbers, &program)
 }
 
 /// That it comes to that over a host, and leaves the folder as it was.

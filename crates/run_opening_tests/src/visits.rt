@@ -16,7 +16,6 @@ use kernel_model::Opened;
 use mount_file::{Mounts, Program};
 use run_opening::{OpenErr, numbering, open_tasks};
 use sn_base::Memory;
-use sn_text::Name;
 use std::alloc::Global;
 use std::test::Fail;
 
@@ -25,13 +24,12 @@ fn executed<N: HostNode>(
     alloc: Global,
     granted: &mut Granted<N>,
     program: &Program,
-    name: &Name,
 ) -> Result<Executed, Memory>
     requires numbers { IsNumbering granted.old.numbers }
     requires grant { IsGrant granted.old.numbers (N.told granted.old.root) (told_of N.told granted.old.lent.items) }
     ensures { OnOk result (CanGiveBack (N.told granted.new.root) (told_of N.told granted.new.lent.items)) }
 {
-    let executed = execve(alloc, granted, program, name)?;
+    let executed = execve(alloc, granted, program)?;
     Ok(executed)
 }
 
@@ -41,13 +39,12 @@ fn execute<N: HostNode>(
     root: N,
     numbers: Numbering,
     program: &Program,
-    name: &Name,
 ) -> Result<(N, Executed), Memory>
     requires numbers { IsNumbering numbers }
     requires root { IsRoot (N.told root) }
 {
     let mut granted = Granted::new(alloc, root, numbers);
-    let executed = executed(alloc, &mut granted, program, name)?;
+    let executed = executed(alloc, &mut granted, program)?;
     Ok((granted.give_back(), executed))
 }
 
@@ -57,7 +54,6 @@ pub fn execute_in(
     world: &mut World,
     numbers: Numbering,
     program: &Program,
-    name: &Name,
 ) -> Result<Executed, Fail>
     requires { none_lent world.old.tree ≡ true }
 {
@@ -66,7 +62,7 @@ pub fn execute_in(
     }
     let folder = root_folder(alloc)?;
     let root = granted(world, &folder)?;
-    let (root, executed) = execute(alloc, root, numbers, program, name)?;
+    let (root, executed) = execute(alloc, root, numbers, program)?;
     world.settle(&folder, root);
     Ok(executed)
 }

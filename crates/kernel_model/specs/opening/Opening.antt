@@ -1,5 +1,5 @@
 -- The opening: the state after the opening execves, from the mount file, the granted trees and the record of both.
-use Rattle.std.specs.Prelude.{ℕ, ◌+◌, ◌*◌, ◌==◌, nat_lt, nat_le, List, [], ◌∷◌, length, drop, Bool, true, false}
+use Rattle.std.specs.Prelude.{ℕ, ◌+◌, ◌*◌, ◌==◌, nat_lt, nat_le, List, [], ◌∷◌, length, Bool, true, false}
 use Rattle.std.specs.Prelude.{◌&&◌, not, Option, Some, None, is_some, Result, Ok, Err, if◌then◌else◌}
 use Rattle.std.specs.List.{list_any}
 use Rattle.std.specs.Str.{bytes_eq}
@@ -140,11 +140,6 @@ by_walk root name given walked =
 abbrev pub execve : (root : ℕ) → List ℕ → Given → Prog Executed
 execve root name given = walk_of root name >>= by_walk root name given
 
--- the name in a path of `/` and one name
--- path_resolution(7)
-abbrev pub name_in_path : List ℕ → List ℕ
-name_in_path path = drop 1 path
-
 -- what comes of it where its strings are too long: nothing is walked to
 -- execve(2), E2BIG
 abbrev pub unwalked : Walked
@@ -155,8 +150,8 @@ unwalked = record { draws = false; image = Err E2BIG }
 abbrev pub execve_of : (root : ℕ) → Program → Given → Prog Executed
 execve_of root program given =
     if is_too_long program.args program.env
-    then by_walk root (name_in_path program.path) given unwalked
-    else execve root (name_in_path program.path) given
+    then by_walk root program.name given unwalked
+    else execve root program.name given
 
 -- the nodes of the roots, numbered in order of the mounts
 -- profile

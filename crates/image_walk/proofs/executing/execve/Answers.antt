@@ -8,11 +8,12 @@ use Rattle.image_walk.proofs.executing.execve.Goals as goal
 pub returns-clause-executes : goal.returns-clause-executes
 returns-clause-executes g c = λ t names st.
     let told = g.N.HostNode.told in
-    subst (λ (long : Bool). Executes c.args.granted.now.numbers long t names c.args.name.now c.gathered-given.result
-    c.in_ok-drawn.field-0.loaded.answer (told c.walk.new.granted.root) (told_of told c.walk.new.granted.lent.items))
+    subst (λ (long : Bool). Executes c.args.granted.now.numbers long t names c.args.program.now.name
+    c.gathered-given.result c.in_ok-drawn.field-0.loaded.answer (told c.walk.new.granted.root)
+    (told_of told c.walk.new.granted.lent.items))
     (sym c.if-is_too_long.false ∙ c.is_too_long.ensures)
-    (executes_by c.args.granted.now.numbers c.requires.numbers t names c.args.name.now (told c.args.granted.now.root)
-    (told_of told c.args.granted.now.lent.items) st
+    (executes_by c.args.granted.now.numbers c.requires.numbers t names c.args.program.now.name
+    (told c.args.granted.now.root) (told_of told c.args.granted.now.lent.items) st
     (told c.walk.new.granted.root) (told_of told c.walk.new.granted.lent.items) c.in_ok-drawn.field-0
     c.gathered-given.result c.in_ok-drawn.ensures.walks
     (c.gathered-given.ensures.fresh

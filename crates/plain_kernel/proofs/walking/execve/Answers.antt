@@ -5,9 +5,9 @@ use Rattle.plain_kernel.proofs.walking.execve.Goals as goal
 
 pub returns-clause-does : goal.returns-clause-does
 returns-clause-does c =
-    as_walked c.args.kernel.now c.execve_walked-2.new.kernel c.args.program.now c.name_in_path-name.result.now
+    as_walked c.args.kernel.now c.execve_walked-2.new.kernel c.args.program.now c.as_bytes-name.result.now
     c.args.given.now c.in_ok-walk.walk.draws c.in_ok-walk.walk.image c.execve_walked-2.result
-    (sym c.if-is_too_long.ensures) c.name_in_path-name.ensures c.in_ok-walk.ensures c.execve_walked-2.ensures.does
+    (sym c.if-is_too_long.ensures) c.as_bytes-name.ensures.value c.in_ok-walk.ensures c.execve_walked-2.ensures.does
 
 pub returns-then-is_too_long-clause-may : goal.returns-then-is_too_long-clause-may
 returns-then-is_too_long-clause-may c =

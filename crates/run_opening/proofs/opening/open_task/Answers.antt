@@ -10,7 +10,7 @@ use Rattle.run_opening.specs.Openings.{numbering_of}
 use Rattle.run_opening.specs.Records.{IsRecord}
 use Rattle.run_opening.proofs.Beginning.{Deed, begins_as, begun_then, executes_as, opened_then}
 use Rattle.run_opening.proofs.Beginning.{stands_err, stands_kept, stands_still, stopped_then}
-use Rattle.run_opening.proofs.Recording.{any_ok, named_at, record_more, recorded}
+use Rattle.run_opening.proofs.Recording.{any_ok, record_more, recorded}
 use Rattle.run_opening.proofs.opening.open_task.Goals as goal
 use Rattle.run_opening.proofs.opening.open_task.Goals.{After-begin}
 
@@ -42,22 +42,19 @@ deed g c =
     let told = g.N.HostNode.told in
     let m = c.args.mounts.now in
     let program = c.at-program.result.now in
-    let named = named_at m.tasks c.args.index program c.requires.named c.at-program.ensures in
     let root = told c.args.granted.now.root in
     let children = told_of told c.args.granted.now.lent.items in
     record {
       program = program;
       at = c.at-program.ensures;
-      name = named.0;
-      path = named.2;
       opened = c.in_ok-opened.field-0.opened;
       pushed = pushed g c;
       answer = c.in_ok-opened.field-0.answer;
       executes =
-          executes_as m c.args.granted.now.numbers program named.0 c.in_ok-opened.field-0.opened.given
+          executes_as m c.args.granted.now.numbers program c.in_ok-opened.field-0.opened.given
           c.in_ok-opened.field-0.answer (told c.args.granted.now.root) (told c.execute.new.granted.root)
           (told_of told c.args.granted.now.lent.items) (told_of told c.execute.new.granted.lent.items)
-          c.requires.numbers (c.in_ok-opened.ensures.executes named.0 named.2);
+          c.requires.numbers c.in_ok-opened.ensures.executes;
       begins =
           begins_as m c.args.granted.now.numbers c.as_slice.result.now program c.in_ok-opened.field-0.answer
           c.args.processes c.begin.result c.requires.numbers c.as_slice.ensures c.begin.ensures;
@@ -72,10 +69,6 @@ deed g c =
     }
 
 -- ---- the goals
-
-pub execute-requires-clause-named : goal.execute-requires-clause-named
-execute-requires-clause-named g c κs within =
-    named_at c.args.mounts.now.tasks c.args.index c.at-program.result.now c.requires.named c.at-program.ensures
 
 pub returns-in_err-opened-clause-standing : goal.returns-in_err-opened-clause-standing
 returns-in_err-opened-clause-standing g c =
@@ -116,5 +109,5 @@ returns-clause-stopped g c =
 pub returns-clause-standing : goal.returns-clause-standing
 returns-clause-standing g c =
     let d = deed g (goal.at.returns-clause-standing g c).After-begin in
-    stands_err c.args.mounts.now _ _ d.program d.name d.opened.given d.answer c.args.processes _ _ _ _ d.executes
+    stands_err c.args.mounts.now _ _ d.program d.opened.given d.answer c.args.processes _ _ _ _ d.executes
     c.begin.result d.begins
