@@ -1,6 +1,6 @@
 //! dup, dup3, fcntl, ioctl and close.
 
-ghost use Rattle.std.specs.Prelude.{◌≡◌, ◌≢◌, ℕ, None};
+ghost use Rattle.std.specs.Prelude.{◌≡◌, ◌≢◌, None};
 ghost use Rattle.std.specs.FinMap as map;
 ghost use Rattle.fd_table.specs.Tables.{dup3_fault};
 ghost use Rattle.kernel_model.specs.declared.caller.Caller.{Caller as ACaller};

@@ -1,7 +1,6 @@
 //! What a caller's descriptors stand for.
 
 ghost use Rattle.std.specs.Prelude.{◌≡◌, None, IfSome, IfNone};
-ghost use Rattle.fd_table.specs.Tables.{IsWithinLimit};
 ghost use Rattle.kernel_model.specs.Names.{get_named};
 ghost use Rattle.kernel_model.specs.declared.caller.Caller.{Caller as ACaller};
 ghost use Rattle.kernel_model.specs.declared.kernel.Kernel.{Kernel as AKernel};

@@ -1,6 +1,6 @@
 //! What a read or a write comes to, before it is done, and the doing of it.
 
-ghost use Rattle.std.specs.Prelude.{◌≡◌, ℕ, ◌+◌, ◌≤◌, length, pos, [], OnOk, OnErr};
+ghost use Rattle.std.specs.Prelude.{◌≡◌, pos, [], OnOk, OnErr};
 ghost use Rattle.kernel_model.specs.declared.caller.Caller.{Caller as ACaller};
 ghost use Rattle.kernel_model.specs.declared.kernel.Kernel.{Kernel as AKernel};
 ghost use Rattle.mm_space.specs.Handed.{AreaState};

@@ -1,18 +1,15 @@
 //! The state of a run: the cells that its tasks share, and the tasks that are opened in them.
 
-ghost use Rattle.std.specs.Prelude.{◌≡◌, ◌<◌, ℕ, ◌+◌, [], true, false, IsTrue, IfOk, OnErr, OnOk};
+ghost use Rattle.std.specs.Prelude.{◌≡◌, ◌<◌, ℕ, ◌+◌, [], false, IfOk, OnOk};
 ghost use Rattle.std.specs.FinMap as map;
 ghost use Rattle.kernel_model.specs.Names.{with_named};
-ghost use Rattle.kernel_model.specs.entries.Steps.{task_of};
-ghost use Rattle.kernel_model.specs.files.Numbers.{numbers_in};
 ghost use Rattle.kernel_model.specs.opening.Arguments.{is_too_long};
 ghost use Rattle.kernel_model.specs.laws.Room.{HasRoom, MayOpen};
 ghost use Rattle.kernel_model.specs.opening.Opening.{files_opened, made_by, root_of, with_task};
 ghost use Rattle.task_table.specs.Clones.{opened as opened_task};
-ghost use Rattle.task_table.specs.Table.{is_live, no_tasks};
+ghost use Rattle.task_table.specs.Table.{no_tasks};
 ghost use Rattle.proc_cells.specs.Beside.{Beside, kernel_with, nothing_held};
-ghost use Rattle.proc_cells.specs.Cells.{AreKept, held_by, kernel_of as kernel_of_cells};
-ghost use Rattle.call_table.specs.Entries.{HasRunPart, IfEntered, IfParked, IsWholeTo, ReadyIs, StepsTo};
+ghost use Rattle.proc_cells.specs.Cells.{held_by, kernel_of as kernel_of_cells};
 
 use elf_image::Image;
 use file_changes::open_files;

@@ -1,6 +1,6 @@
 //! Executable images, and how one is read from a file.
 
-ghost use Rattle.std.specs.Prelude.{◌≡◌, ◌+◌, ◌*◌, ◌≤◌, IfOk, IfErr, OnOk, ◌∷◌, [], ◌++◌, false, length, AllPairs};
+ghost use Rattle.std.specs.Prelude.{◌≡◌, ◌+◌, ◌*◌, ◌≤◌, IfOk, IfErr, OnOk, ◌∷◌, [], false, length, AllPairs};
 ghost use Rattle.std.specs.List.{list_any};
 ghost use Rattle.elf_image.specs.Faults.{is_misplaced, image_fault, IsImageFaultOf};
 ghost use Rattle.elf_image.specs.Loadable.{AreApart, StartsInCode};

@@ -1,6 +1,6 @@
 //! Bytes of guests' buffers that go into pipes, with no buffer between.
 
-ghost use Rattle.std.specs.Prelude.{◌≡◌, ℕ, ◌+◌, ◌≤◌, [], length, IfOk, OnErr};
+ghost use Rattle.std.specs.Prelude.{◌≡◌, ◌+◌, ◌≤◌, [], length, IfOk, OnErr};
 ghost use Rattle.mm_space.specs.Accesses.{byte_at, readable};
 ghost use Rattle.mm_space.specs.Handed.{hand_of};
 ghost use Rattle.mm_space.specs.Runs.{bytes_from};

@@ -4,7 +4,7 @@ use crate::one_byte::{OneByte, exhausted, refused};
 use std::alloc::{Allocator, Global};
 use std::fs::{Files, Metadata, OpenOptions};
 use std::io;
-use std::io::{Cursor, ErrorKind};
+use std::io::ErrorKind;
 use std::sync::atomic::{AtomicU64, Ordering};
 
 /// A call of the system, and what it answers. A look follows no link.

@@ -6,7 +6,7 @@ ghost use Rattle.host_memory.specs.Plans.{lines_beside};
 ghost use Rattle.host_memory.specs.declared.plan.PlanErr.TheVariants.{Memory as WantOfMemory};
 
 use sn_base::Memory;
-use sn_text::{Name, Route, same_names};
+use sn_text::{Route, same_names};
 use std::alloc::Global;
 use std::marker::Model;
 use std::mem;

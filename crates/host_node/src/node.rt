@@ -1,6 +1,6 @@
 //! The calls of a directory, a file or a link of a host, and what each owes its holder.
 
-ghost use Rattle.std.specs.Prelude.{◌≡◌, ◌≤◌, ℕ, length, Option, Some, None, IfOk, IfSome, IfNone, OnOk, OnErr};
+ghost use Rattle.std.specs.Prelude.{◌≡◌, ◌≤◌, ℕ, length, Option, IfOk, IfSome, IfNone, OnOk, OnErr};
 ghost use Rattle.host_node.specs.declared.kind.Kind.{Kind};
 ghost use Rattle.host_node.specs.Tree.{Shape};
 ghost use Rattle.host_node.specs.Faults.{host_failed};

@@ -7,7 +7,7 @@ ghost use Rattle.mm_frames.specs.Frames.{bytes_of};
 ghost use Rattle.mm_areas.specs.Pages.{mapped_by};
 ghost use Rattle.mm_areas.specs.Mappings.{mapping, unmapped_from, with_pages};
 ghost use Rattle.image_load.specs.Pages.{byte_over, image_byte, image_page, page_bytes, run_of, segments_laid};
-ghost use Rattle.image_load.specs.Pages.{stack_byte, stack_count, stack_first, stack_page};
+ghost use Rattle.image_load.specs.Pages.{stack_count, stack_first, stack_page};
 
 use crate::counts::MOST_IMAGE_PAGES;
 use crate::places::{first_page, page_count, rights_at};

@@ -1,6 +1,6 @@
 //! The words that a program finds from the stack pointer up.
 
-ghost use Rattle.std.specs.Prelude.{◌≡◌, ◌+◌, ◌^◌, ◌<◌, ◌≤◌, All, [], ◌∷◌, ◌++◌, length, OnOk};
+ghost use Rattle.std.specs.Prelude.{◌≡◌, ◌+◌, ◌^◌, ◌<◌, ◌≤◌, All, [], ◌∷◌, ◌++◌, OnOk};
 ghost use Rattle.std.specs.List.{flat_map};
 ghost use Rattle.sn_bytes.specs.Fields.{little_bytes};
 ghost use Rattle.image_load.specs.Stacks.{addresses, auxiliary_vector, pointer_words, strings_length};

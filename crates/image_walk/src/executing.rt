@@ -1,6 +1,6 @@
 //! The opening execve of a program, over a granted folder.
 
-ghost use Rattle.std.specs.Prelude.{◌≡◌, ◌<◌, ℕ, List as Items, [], length, None, true, IfOk, OnErr};
+ghost use Rattle.std.specs.Prelude.{◌≡◌, ◌<◌, ℕ, List as Items, [], length, true, IfOk, OnErr};
 ghost use Rattle.std.specs.Prelude.{vec_len, vec_capacity};
 ghost use Rattle.host_node.specs.Tree.{Shape};
 ghost use Rattle.sn_errno.specs.declared.errno.Errno.TheVariants.{E2BIG};

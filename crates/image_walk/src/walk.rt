@@ -3,7 +3,7 @@
 ghost use Rattle.std.specs.Prelude.{◌≡◌, ◌<◌, ◌∷◌, [], length, None, Some, true, false, IfOk, IfSome, OnErr, slice_get};
 ghost use Rattle.host_node.specs.Told.{CanLend};
 ghost use Rattle.image_walk.specs.Granted.{place_of_child, told_of};
-ghost use Rattle.image_walk.specs.Loading.{IsHere, is_roomy};
+ghost use Rattle.image_walk.specs.Loading.{IsHere};
 ghost use Rattle.image_walk.specs.Standing.{IsNumbering};
 ghost use Rattle.image_walk.specs.Walking.{DrawsNext, IsGrant, LendsWhere, LoadsAt, SearchedFor, WalksWhere};
 

@@ -1,6 +1,6 @@
 //! Random bytes: words of the ChaCha20 stream whose key is the mount file's seed.
 
-ghost use Rattle.std.specs.Prelude.{◌≡◌, ℕ, ◌<◌, ◌≤◌, ◌^◌, ◌%◌, min, slice_index, IfOk, OnErr};
+ghost use Rattle.std.specs.Prelude.{◌≡◌, ℕ, ◌<◌, ◌≤◌, ◌%◌, min, slice_index, IfOk, OnErr};
 ghost use Rattle.futex_core.specs.Waiters.{FutexList};
 ghost use Rattle.task_table.specs.Table.{TaskTable};
 ghost use Rattle.kernel_model.specs.declared.caller.Caller.{Caller as ACaller};

@@ -1,6 +1,6 @@
 //! A shared area, as the kernel has it.
 
-ghost use Rattle.std.specs.Prelude.{◌≡◌, IfOk, ℕ};
+ghost use Rattle.std.specs.Prelude.{◌≡◌, IfOk};
 
 use mm_space::SharedArea;
 use sn_base::Memory;

@@ -1,6 +1,6 @@
 //! The areas of an address space.
 
-ghost use Rattle.std.specs.Prelude.{◌≡◌, ℕ, ◌+◌, ◌-◌, ◌≤◌, ◌<◌, ◌%◌, ◌^◌, true, false};
+ghost use Rattle.std.specs.Prelude.{◌≡◌, ℕ, ◌+◌, ◌-◌, ◌≤◌, ◌<◌, ◌^◌, true, false};
 ghost use Rattle.std.specs.FinMap as map_of;
 ghost use Rattle.mm_areas.specs.Order.{are_from};
 ghost use Rattle.mm_areas.specs.Regions.{pages_of};

@@ -1,6 +1,6 @@
 //! The bytes of private pages: to read, and to write in place.
 
-ghost use Rattle.std.specs.Prelude.{◌≡◌, ℕ, ◌+◌, ◌-◌, ◌^◌, ◌<◌, ◌≤◌, ◌↔◌, true, false, length, is_some, IsTrue, OnOk};
+ghost use Rattle.std.specs.Prelude.{◌≡◌, ℕ, ◌+◌, ◌-◌, ◌<◌, ◌≤◌, ◌↔◌, true, false, length, is_some, IsTrue, OnOk};
 ghost use Rattle.std.specs.Prelude.{OnErr, Some, None, [], SomeIff, unwrap_or, option_and_then, slice_get};
 ghost use Rattle.std.specs.Bool.{OnTrue, OnFalse};
 ghost use Rattle.rv_table.specs.Words.{IsWidth};
@@ -102,7 +102,7 @@ impl Page {
 }
 
 impl Areas {
-    ghost use Rattle.std.specs.Prelude.{Ok, Err};
+    ghost use Rattle.std.specs.Prelude.{Ok};
     ghost use Rattle.std.specs.FinMap as map_of;
     ghost use Rattle.mm_areas.specs.Contents.{bytes_at, with_change};
     ghost use Rattle.mm_areas.specs.Mappings.{mapping, with_pages};

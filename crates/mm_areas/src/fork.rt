@@ -1,6 +1,6 @@
 //! A copy of an address space, whose pages share their bytes with the first until one of the two is written.
 
-ghost use Rattle.std.specs.Prelude.{◌≡◌, ℕ, ◌+◌, ◌<◌, ◌≤◌, false, length, map, IfOk, OnOk, OnErr};
+ghost use Rattle.std.specs.Prelude.{◌≡◌, ℕ, ◌<◌, false, map, IfOk, OnOk};
 ghost use Rattle.mm_areas.specs.Pages.{mapped_by, held_in};
 ghost use Rattle.mm_areas.specs.Own.{is_own_content};
 ghost use Rattle.mm_areas.specs.Shares.{seen_by, AreShared, AreSharedIn};

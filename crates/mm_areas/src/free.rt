@@ -1,6 +1,6 @@
 //! Searches among regions in order: free ranges, covered ones, and how much of a range is mapped.
 
-ghost use Rattle.std.specs.Prelude.{◌≡◌, ℕ, ◌+◌, ◌-◌, ◌*◌, ◌^◌, ◌<◌, ◌≤◌, true, false, length, min, max};
+ghost use Rattle.std.specs.Prelude.{◌≡◌, ℕ, ◌+◌, ◌-◌, ◌^◌, ◌<◌, ◌≤◌, true, false, length, min, max};
 ghost use Rattle.std.specs.FinMap as map_of;
 ghost use Rattle.mm_areas.specs.Order.{AreFrom};
 ghost use Rattle.mm_areas.specs.Pages.{is_free, is_covered, unmapped};

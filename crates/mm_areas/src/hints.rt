@@ -1,6 +1,6 @@
 //! Numbers of pages by hints: guesses at the region that has a page, which are tested where they are used.
 
-ghost use Rattle.std.specs.Prelude.{◌≡◌, ℕ, ◌+◌, ◌-◌, ◌^◌, ◌<◌, ◌≤◌, ◌↔◌, true, false, length, is_some, IsTrue, Some};
+ghost use Rattle.std.specs.Prelude.{◌≡◌, ℕ, ◌-◌, ◌<◌, ◌↔◌, true, false, length, is_some, IsTrue, Some};
 ghost use Rattle.std.specs.Prelude.{None, [], IfSome, SomeIff, unwrap_or, option_map};
 ghost use Rattle.std.specs.Bool.{OnTrue, OnFalse};
 ghost use Rattle.mm_frames.specs.Numbers.{IsInPage, little_number_at, with_number};

@@ -1,6 +1,6 @@
 //! Loads and fetches.
 
-ghost use Rattle.std.specs.Prelude.{◌≡◌, ◌≢◌, ◌≤◌, ◌<◌, ◌^◌, Err, IfOk, IfSome};
+ghost use Rattle.std.specs.Prelude.{◌≢◌, ◌≤◌, ◌<◌, ◌^◌, Err, IfOk, IfSome};
 ghost use Rattle.rv_table.specs.Bytes.{AnswersAs, loaded};
 ghost use Rattle.rv_table.specs.Words.{IsWidth};
 ghost use Rattle.rv_table.specs.declared.error.MemErr.TheVariants as MemErr;

@@ -1,6 +1,6 @@
 //! Decoded words of pages that may be executed, of which so many are kept.
 
-ghost use Rattle.std.specs.Prelude.{◌≡◌, true, false, is_some, Some, IfSome, IsTrue};
+ghost use Rattle.std.specs.Prelude.{◌≡◌, true, false, is_some, Some, IfSome};
 ghost use Rattle.std.specs.Bool.{OnTrue};
 ghost use Rattle.mm_frames.specs.Rows.{words_of};
 ghost use Rattle.mm_areas.specs.DecodedWords.{has_row_at, row_at};

@@ -1,6 +1,6 @@
 //! Stores.
 
-ghost use Rattle.std.specs.Prelude.{◌≡◌, ◌≢◌, ℕ, ◌≤◌, true, false, List, OnOk, OnErr, Ok, Err};
+ghost use Rattle.std.specs.Prelude.{◌≡◌, ◌≢◌, ℕ, true, false, OnOk, OnErr, Ok, Err};
 ghost use Rattle.std.specs.Bool.{OnTrue};
 ghost use Rattle.std.specs.FinMap as map_of;
 ghost use Rattle.rv_table.specs.Bytes.{AllowsAs, loaded};

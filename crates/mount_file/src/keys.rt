@@ -1,9 +1,9 @@
 //! Which keys the tables of a mount file have, and of which types.
 
 ghost use Rattle.std.specs.Prelude.{◌≡◌, map};
-ghost use Rattle.mount_file.specs.Keys.{is_one_of, has_only, has_key, may_have, is_integer, is_string, is_boolean, are_all};
+ghost use Rattle.mount_file.specs.Keys.{is_one_of, has_only, has_key, may_have, is_integer, is_string, is_boolean};
 ghost use Rattle.mount_file.specs.Keys.{is_array_of, is_table_of, has_mount_keys, has_task_keys, has_keys};
-ghost use Rattle.toml.specs.View.{view, items_view, table_view};
+ghost use Rattle.toml.specs.View.{view, table_view};
 
 use crate::fields::value_at;
 use toml::{Table, Value};

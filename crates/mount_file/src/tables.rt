@@ -1,6 +1,6 @@
 //! Mounts and tasks, from tables that have their keys.
 
-ghost use Rattle.std.specs.Prelude.{◌≡◌, [], ◌∷◌, codes, option_and_then, IfOk};
+ghost use Rattle.std.specs.Prelude.{◌≡◌, [], ◌∷◌, option_and_then, IfOk};
 ghost use Rattle.mount_file.specs.Read.{Gives};
 ghost use Rattle.mount_file.specs.Tables.{each_in, texts_at, write_at, mount_in, task_in, some_tasks, mounts_in};
 ghost use Rattle.toml.specs.Data.{as_table};

@@ -1,21 +1,16 @@
 -- A whole step.
-use Rattle.std.proofs.Common.{◌≡◌, ℕ, ◌+◌, Bool, true, false, cond, List, [], ◌∷◌, Option, Some, None, refl, ap}
-use Rattle.std.proofs.Common.{sym, ◌∙◌, subst, option_map, is_some, unwrap_or}
-use Rattle.std.specs.Prelude.{Result, Ok}
-use Rattle.sn_base.specs.declared.memory.Memory.{Memory}
-use Rattle.futex_core.specs.Waiters.{FutexList, is_asleep, is_woken}
-use Rattle.kernel_model.specs.declared.caller.Caller.{Caller}
+use Rattle.std.proofs.Common.{◌≡◌, ◌+◌, Bool, true, false, cond, List, [], ◌∷◌, Option, Some, None, refl, ap}
+use Rattle.std.proofs.Common.{sym, ◌∙◌, option_map, is_some, unwrap_or}
+use Rattle.std.specs.Prelude.{Ok}
 use Rattle.kernel_model.specs.declared.entry.Entry.{Entry}
 use Rattle.kernel_model.specs.declared.kernel.Kernel.{Kernel}
 use Rattle.kernel_model.specs.declared.kernel.Part.{Part}
 use Rattle.kernel_model.specs.declared.kernel.Part.TheVariants.{OfTasks, OfTask, OfSpace, OfArea, OfTable}
 use Rattle.kernel_model.specs.declared.kernel.Part.TheVariants.{OfDescription}
 use Rattle.kernel_model.specs.declared.kernel.Part.TheVariants.{OfPipe, OfNode, OfSleepers, OfConsole, OfFaults}
-use Rattle.kernel_model.specs.calls.Callers.{context_of, caller_of}
+use Rattle.kernel_model.specs.calls.Callers.{context_of}
 use Rattle.kernel_model.specs.entries.Parts.{Holds, parts, outcome_in, Change, put, changed}
-use Rattle.kernel_model.specs.entries.Steps.{may_enter, row_of, task_of, if_live, entry_row, stepped, step}
-use Rattle.kernel_model.specs.entries.Waiting.{Wait, Awake, Asleep, Woken, wait_of}
-use Rattle.kernel_model.proofs.Trees.{outcome-bind}
+use Rattle.kernel_model.specs.entries.Steps.{may_enter, entry_row, stepped, step}
 use Rattle.plain_steps.specs.Doing.{Does}
 
 entries_put : (p : Part) (content : Holds p) (k : Kernel) → (put p content k).entries ≡ k.entries

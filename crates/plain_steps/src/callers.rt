@@ -1,7 +1,7 @@
 //! Who calls: the live task of a number, as an entry of it finds it; what its call may read beside; and copies of the
 //! shared areas, for it to work on.
 
-ghost use Rattle.std.specs.Prelude.{◌≡◌, Some, IfOk, IfSome, OnSome};
+ghost use Rattle.std.specs.Prelude.{◌≡◌, Some, IfOk, IfSome};
 ghost use Rattle.kernel_model.specs.Names.{get_named};
 ghost use Rattle.kernel_model.specs.calls.Callers.{caller_of};
 ghost use Rattle.kernel_model.specs.entries.Parts.{outcome_in, parts};

@@ -1,6 +1,6 @@
 //! A task's memory, as its instructions use it: an address space, with the shared areas that are handed in.
 
-ghost use Rattle.std.specs.Prelude.{◌≡◌, true};
+ghost use Rattle.std.specs.Prelude.{true};
 ghost use Rattle.mm_space.specs.Spaces.{reach};
 
 use mm_space::{Handed, Hints, Space};

@@ -1,6 +1,6 @@
 //! Runs of a task's instructions over its address space.
 
-ghost use Rattle.std.specs.Prelude.{◌≡◌, ◌<◌, Some};
+ghost use Rattle.std.specs.Prelude.{◌≡◌, Some};
 ghost use Rattle.mm_space.specs.Spaces.{reach};
 ghost use Rattle.quantum.specs.Acting.{acting_on};
 ghost use Rattle.quantum.specs.Ends.{Few, LacksMemory, Ran, Stopped, end_of};

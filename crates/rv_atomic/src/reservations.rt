@@ -1,6 +1,6 @@
 //! The reservations of one address space.
 
-ghost use Rattle.std.specs.Prelude.{◌≡◌, ◌<◌, ◌+◌, ◌^◌, ◌↔◌, [], length, IsTrue, IsFalse, IfOk, OnOk, OnErr, vec_len};
+ghost use Rattle.std.specs.Prelude.{◌≡◌, ◌<◌, ◌^◌, ◌↔◌, [], length, IsTrue, IsFalse, IfOk, OnOk, OnErr, vec_len};
 ghost use Rattle.std.specs.Prelude.{vec_capacity};
 ghost use Rattle.rv_table.specs.Words.{IsWidth};
 ghost use Rattle.rv_atomic.specs.Reservations.{AtMostOneEach, after_run, after_store, is_held, is_reserving, lies_over};

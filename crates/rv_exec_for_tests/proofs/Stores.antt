@@ -1,5 +1,5 @@
 -- Bytes after a store.
-use Rattle.std.proofs.Common.{◌≡◌, ℕ, zero, suc, ◌+◌, ◌/◌, ◌%◌, ◌^◌, ◌<◌, ◌≤◌, Bool, true, false, List, Option, Some}
+use Rattle.std.proofs.Common.{◌≡◌, ℕ, zero, suc, ◌+◌, ◌/◌, ◌%◌, ◌^◌, ◌<◌, Bool, true, false, List, Option, Some}
 use Rattle.std.proofs.Common.{None, length, refl, ap, sym, ◌∙◌, arith}
 use Rattle.std.specs.Prelude.{nat_eq, nat_lt, ◌&&◌, slice_index, if◌then◌else◌}
 use Rattle.std.specs.Option.{option_map_or}
@@ -7,7 +7,7 @@ use Rattle.std.proofs.Math.Path.{fun_ext}
 use Rattle.std.proofs.lemmas.Bool.{and_parts, ltb-true}
 use Rattle.rv_table.specs.declared.error.Area.{Area}
 use Rattle.rv_table.specs.Bytes.{Byte, Barred, Holds, InArea, Memory, behind}
-use Rattle.rv_exec.specs.Writes.{Stores, stored_byte, with_value}
+use Rattle.rv_exec.specs.Writes.{Stores, stored_byte}
 use Rattle.rv_exec_for_tests.specs.MemoryAfter.{memory_after}
 use Rattle.rv_exec_for_tests.specs.Places.{allows, distance, in_run, reached}
 

@@ -1,10 +1,10 @@
 -- The decoded words of a page, one more at a time.
-use Rattle.std.proofs.Common.{◌≡◌, ℕ, suc, ◌+◌, ◌*◌, ◌^◌, ◌<◌, true, List, [], ◌∷◌, ◌++◌, Option, Some, None, refl, ap}
+use Rattle.std.proofs.Common.{◌≡◌, ℕ, suc, ◌+◌, ◌*◌, ◌^◌, ◌<◌, true, List, [], ◌∷◌, ◌++◌, Some, None, refl, ap}
 use Rattle.std.proofs.Common.{sym, ◌∙◌, add-one}
 use Rattle.std.specs.Prelude.{nat_lt, ◌&&◌, if◌then◌else◌}
 use Rattle.std.proofs.lemmas.Bool.{and_from, lt-ltb}
 use Rattle.rv_table.specs.declared.instr.Instr.{Instr}
-use Rattle.rv_table.specs.Bytes.{Accessed, Byte, Value, loaded}
+use Rattle.rv_table.specs.Bytes.{Byte, Value, loaded}
 use Rattle.rv_table.specs.Table.{instr_of}
 use Rattle.rv_exec_for_tests.specs.Pages.{are_words, instr_read, instrs_from, page_instrs, is_value}
 

@@ -99,7 +99,7 @@ impl<const C: usize> Small<C> {
 }
 
 impl<const C: usize> Mem for Small<C> {
-    ghost use Rattle.std.specs.Prelude.{Bool, true, false, nat_eq, ◌==◌, ◌&&◌};
+    ghost use Rattle.std.specs.Prelude.{true, false, nat_eq, ◌==◌, ◌&&◌};
     ghost use Rattle.std.specs.Option.{option_map_or};
     ghost use Rattle.rv_table.specs.Bytes.{Memory as Seen};
     ghost use Rattle.rv_exec_for_tests.specs.MemoryAfter.{is_memory_after, memory_after};

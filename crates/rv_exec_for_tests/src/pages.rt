@@ -3,7 +3,7 @@
 ghost use Rattle.std.specs.Prelude.{◌≡◌, ◌<◌, ◌*◌, ◌^◌, IfOk, IfSome, Some};
 ghost use Rattle.rv_exec_for_tests.specs.Pages.{page_instrs};
 
-use crate::bytes::{Bytes, Right, Run, access};
+use crate::bytes::{Bytes, Run, access};
 use crate::memory::Small;
 use rv_table::{Instr, decode};
 use std::alloc::{AllocFailed, Global};

@@ -1,11 +1,11 @@
 //! The decoder: a word to its instruction.
 
 ghost use Rattle.std.specs.Prelude.{◌≡◌, option_to_list, ◌++◌};
-ghost use Rattle.rv_table.specs.Fields.{funct3_of, funct5_of, funct6_of, funct7_of, rs2_of};
-ghost use Rattle.rv_table.specs.Table.{by_funct3, by_two, by_three, rows_at, r_format, i_format, s_format, b_format};
-ghost use Rattle.rv_table.specs.Table.{shift_format, word_shift_format, load_reserved_format, jumps, branches, load_rows};
-ghost use Rattle.rv_table.specs.Table.{store_rows, immediates, shifts, registers, word_immediates, word_shifts};
-ghost use Rattle.rv_table.specs.Table.{word_registers, load_reserveds, atomics, fences, systems, rows_of, IsOnly};
+ghost use Rattle.rv_table.specs.Fields.{funct3_of, funct6_of};
+ghost use Rattle.rv_table.specs.Table.{by_funct3, by_two, rows_at, i_format, s_format, b_format};
+ghost use Rattle.rv_table.specs.Table.{shift_format, jumps, branches, load_rows};
+ghost use Rattle.rv_table.specs.Table.{store_rows, immediates, shifts};
+ghost use Rattle.rv_table.specs.Table.{fences, systems, rows_of, IsOnly};
 ghost use Rattle.rv_table.specs.Table.{instr_of};
 
 use crate::Instr;

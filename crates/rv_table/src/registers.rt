@@ -1,7 +1,7 @@
 //! The registers of a task.
 
 ghost use Rattle.std.specs.Prelude.{◌≡◌, ◌<◌, ◌==◌, if◌then◌else◌};
-ghost use Rattle.rv_table.specs.Registers.{reg, with_reg, at_pc, gone_on};
+ghost use Rattle.rv_table.specs.Registers.{reg, with_reg, gone_on};
 
 use crate::Reg;
 

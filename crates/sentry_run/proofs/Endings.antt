@@ -17,7 +17,7 @@ use Rattle.kernel_model.specs.files.FileTree.{Nodes}
 use Rattle.kernel_model.specs.files.Settled.{tree_now}
 use Rattle.kernel_model.specs.opening.Opening.{bare, opening_of, root_of, rooted, tasks_begun, Opens}
 use Rattle.image_walk.specs.declared.granted.Numbering.{Numbering}
-use Rattle.image_walk.specs.Granted.{Child, CanGiveBack, GivesBack, put_all}
+use Rattle.image_walk.specs.Granted.{Child, CanGiveBack, GivesBack}
 use Rattle.image_walk.specs.Standing.{AreNodes, KeepsRoots, no_left}
 use Rattle.image_walk.proofs.OutAgain.{can_give_back}
 use Rattle.image_walk.proofs.Back.{back_same}

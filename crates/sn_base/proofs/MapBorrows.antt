@@ -1,14 +1,12 @@
 -- What a map ends as after a `&mut` to one of its values.
 use mathlib.Core.Path.{fun_ext}
 use borrow.Follows.Closed.{read_of}
-use Rattle.std.proofs.Common.{◌≡◌, ℕ, ◌⊎◌, inl, inr, refl, ap, sym, ◌∙◌}
+use Rattle.std.proofs.Common.{◌≡◌, inl, inr, refl, ap}
 use Rattle.std.specs.Prelude.{Option, Some, None, IsSome}
 use Rattle.std.specs.Option.{ghost_name_of, option_copied_mut}
 use Rattle.std.specs.Borrow.{MutBor}
 use Rattle.std.specs.FinMap as map
-use Rattle.std.specs.Ordering.{nat_cmp}
 use Rattle.std.specs.BTreeMap as tree
-use Rattle.sn_base.proofs.Maps.{get_entry, one_inserted}
 
 -- a borrow ends alike by two functions of what it shows last that are alike where there is a borrow
 pub read_alike : {D E : Type 0} (r : Option (MutBor E)) (F G : E → D) (v w : D) → (IsSome r → (x : E) → F x ≡ G x)

@@ -1,6 +1,6 @@
 //! The calls of a source or a sink in memory that are to fail, and how calls and faults are counted.
 
-ghost use Rattle.std.specs.Prelude.{◌≡◌, ◌<◌, OnOk, OnErr, IsTrue, IsFalse, ◌||◌, Ok, Err, is_err, if◌then◌else◌, ◌==◌};
+ghost use Rattle.std.specs.Prelude.{◌≡◌, ◌<◌, OnOk, OnErr, IsTrue, ◌||◌, Ok, Err, is_err, ◌==◌};
 ghost use Rattle.std.specs.List.{list_any};
 ghost use Rattle.sn_base.specs.Faults.{HasCause};
 ghost use Rattle.sn_edge.specs.Errors.{has_failed};
@@ -19,7 +19,7 @@ pub(crate) struct Plan {
 }
 
 impl Plan {
-    ghost use Rattle.sn_edge.specs.Plan.{no_plan, next_call, fails_next, fails_no_more, with_failing, plan_after};
+    ghost use Rattle.sn_edge.specs.Plan.{no_plan, fails_next, fails_no_more, with_failing, plan_after};
 
     pub(crate) fn new(alloc: Global) -> Self
         ensures { result ≡ no_plan }

@@ -1,6 +1,6 @@
 //! The table of tasks and thread groups, and its calls.
 
-ghost use Rattle.std.specs.Prelude.{◌≡◌, ℕ, ◌+◌, ◌<◌, ◌≤◌, ◌↔◌, find, nat_le, nat_lt};
+ghost use Rattle.std.specs.Prelude.{◌≡◌, ℕ, ◌+◌, ◌<◌, ◌↔◌, find, nat_le, nat_lt};
 ghost use Rattle.std.specs.Prelude.{IsTrue, IsFalse, IfOk, OnOk, OnErr, None, option_copied};
 ghost use Rattle.std.specs.FinMap as map;
 ghost use Rattle.task_table.specs.Clones.{MadeFrom, WasMade, forked, opened, threaded, with_group};

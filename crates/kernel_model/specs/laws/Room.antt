@@ -1,5 +1,5 @@
 -- What may begin: the images that have room, and a task where there is room for one more.
-use Rattle.std.specs.Prelude.{◌≡◌, ◌<◌, ◌-◌, ◌^◌, Bool, true, Result, Ok, Err}
+use Rattle.std.specs.Prelude.{◌≡◌, ◌<◌, Bool, true, Result, Ok, Err}
 use Rattle.sn_errno.specs.declared.errno.Errno.{Errno}
 use Rattle.elf_image.specs.declared.image.Image.{Image as AnImage}
 use Rattle.mount_file.specs.declared.rules.TheConstants.{MOST_TASKS}

@@ -1,5 +1,5 @@
 -- The instructions of a page's words are those of the bytes that a fetch gets there.
-use Rattle.std.proofs.Common.{◌≡◌, ℕ, ◌+◌, ◌*◌, ◌/◌, ◌%◌, ◌^◌, ◌<◌, nat_lt, Bool, true, false, ◌&&◌, List, [], ◌∷◌}
+use Rattle.std.proofs.Common.{◌≡◌, ℕ, ◌+◌, ◌*◌, ◌/◌, ◌%◌, ◌^◌, ◌<◌, nat_lt, Bool, true, false, ◌&&◌, List}
 use Rattle.std.proofs.Common.{length, Option, Some, None, refl, ap, sym, subst, subst₂, arith, eqb-true, ltb-true}
 use Rattle.std.specs.Prelude.{if◌then◌else◌, slice_index_or}
 use Rattle.std.specs.FinMap as map

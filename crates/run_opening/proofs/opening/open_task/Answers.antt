@@ -1,10 +1,10 @@
 -- A task more has begun as its execve answered, and the record has it.
-use Rattle.std.proofs.Common.{◌≡◌, ◌+◌, List, [], ◌∷◌, ◌++◌, length, ap, sym, ◌∙◌, subst, arith}
+use Rattle.std.proofs.Common.{◌≡◌, ◌+◌, List, [], ◌∷◌, ◌++◌, length, ap, ◌∙◌, subst, arith}
 use Rattle.kernel_model.specs.declared.opening.Opened.{Opened}
 use Rattle.std.proofs.lemmas.List.{length-map}
 use Rattle.image_walk.specs.declared.granted.Numbering.{Numbering}
 use Rattle.image_walk.specs.Granted.{told_of}
-use Rattle.image_walk.specs.Standing.{IsNumbering, Stands}
+use Rattle.image_walk.specs.Standing.{IsNumbering}
 use Rattle.image_walk.specs.Walking.{IsGrant}
 use Rattle.run_opening.specs.Openings.{numbering_of}
 use Rattle.run_opening.specs.Records.{IsRecord}
