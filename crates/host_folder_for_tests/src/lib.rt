@@ -16,6 +16,7 @@
 mod held;
 mod machine;
 mod made;
+mod names;
 mod one_byte;
 mod scripted;
 mod scripts;

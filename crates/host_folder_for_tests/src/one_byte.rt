@@ -7,7 +7,7 @@ use std::io;
 use std::io::{ErrorKind, Read, Seek, SeekFrom, Write};
 
 /// A call that ends with an error of a kind.
-fn failed<T>(kind: ErrorKind) -> io::Result<T>
+pub fn failed<T>(kind: ErrorKind) -> io::Result<T>
     ensures { IsErr result }
 {
     Err(io::Error::from(kind))
@@ -30,8 +30,9 @@ pub fn exhausted<T>() -> io::Result<T>
 /// A file of which one byte is read, and no more.
 #[derive(Drop)]
 pub struct OneByte {
+    can_seek: bool,
     is_read: bool,
-    /// What the error of each further read is.
+    /// What the error of each further read is, and of each seek where it can't seek.
     end: ErrorKind,
 }
 
@@ -39,6 +40,7 @@ impl OneByte {
     /// One that refuses further reads.
     pub fn new() -> OneByte {
         OneByte {
+            can_seek: true,
             is_read: false,
             end: ErrorKind::PermissionDenied,
         }
@@ -47,8 +49,18 @@ impl OneByte {
     /// One that has no memory for them.
     pub fn exhausted() -> OneByte {
         OneByte {
+            can_seek: true,
             is_read: false,
             end: ErrorKind::OutOfMemory,
+        }
+    }
+
+    /// One that is read as well, but in which each seek is an error of a kind.
+    pub fn unseekable(end: ErrorKind) -> OneByte {
+        OneByte {
+            can_seek: false,
+            is_read: false,
+            end,
         }
     }
 }
@@ -76,7 +88,11 @@ impl Write for OneByte {
 
 impl Seek for OneByte {
     fn seek(&mut self, _to: SeekFrom) -> io::Result<u64> {
-        Ok(0)
+        if self.can_seek {
+            Ok(0)
+        } else {
+            failed(self.end)
+        }
     }
 }
 

@@ -1,5 +1,6 @@
 //! A system that knows which calls it is to be asked for, in order.
 
+use crate::names::Names;
 use crate::one_byte::{OneByte, exhausted, refused};
 use std::alloc::{Allocator, Global};
 use std::fs::{Files, Metadata, OpenOptions};
@@ -30,12 +31,16 @@ pub enum Call {
     Write,
     /// A directory is opened, which has these names, each with a NUL behind it.
     List(&'static [u8]),
+    /// The same, and behind the names an error of that kind.
+    ListThen(&'static [u8], ErrorKind),
     /// A file or a directory is opened, which is refused.
     Locked,
     /// A file or a directory is opened, for which there is no memory.
     FullOpen,
     /// A file is opened, and there is no memory for its second read.
     FullRead,
+    /// A file is opened, in which each seek is an error of that kind.
+    Unseekable(ErrorKind),
 }
 
 /// A call, and the path that it is for.
@@ -97,22 +102,24 @@ impl Alloc for Scripted<'_> {
 impl Files for Scripted<'_> {
     type File = OneByte;
 
-    type Dir = Cursor<Vec<u8>>;
+    type Dir = Names;
 
     fn open_file(&self, how: &OpenOptions, path: &str) -> io::Result<OneByte> {
         match self.next(path) {
             Some(Call::Read) if leaves_it(how) && !how.asks_write() => Ok(OneByte::new()),
             Some(Call::Write) if leaves_it(how) && how.asks_write() => Ok(OneByte::new()),
             Some(Call::FullRead) if leaves_it(how) => Ok(OneByte::exhausted()),
+            Some(Call::Unseekable(error)) if leaves_it(how) => Ok(OneByte::unseekable(error)),
             Some(Call::Locked) => refused(),
             Some(Call::FullOpen) => exhausted(),
             _ => self.astray(),
         }
     }
 
-    fn open_dir(&self, path: &str) -> io::Result<Cursor<Vec<u8>>> {
+    fn open_dir(&self, path: &str) -> io::Result<Names> {
         match self.next(path) {
-            Some(Call::List(names)) => Ok(Cursor::new(Vec::from_slice(self.alloc(), names)?)),
+            Some(Call::List(names)) => Names::new(self.alloc(), names, None),
+            Some(Call::ListThen(names, error)) => Names::new(self.alloc(), names, Some(error)),
             Some(Call::Locked) => refused(),
             Some(Call::FullOpen) => exhausted(),
             _ => self.astray(),

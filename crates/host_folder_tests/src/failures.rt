@@ -4,6 +4,7 @@ use host_folder_for_tests::{
     Ask, Call, Line, Row, Trial, expect_not_granted, expect_script, expect_trials,
 };
 use host_node::HostErr;
+use std::io::ErrorKind;
 use std::test::Fail;
 
 /// A listing that fails, and is counted.
@@ -145,14 +146,16 @@ fn want_of_memory_is_not_counted(rt: HostRuntime) -> Result<(), Fail> {
     expect_not_granted(rt, "any/full", &script, HostErr::Memory, 0)
 }
 
-/// What a look finds at the folder, and at a file of it.
+/// What a look finds at the folder, and at two files of it.
 const ANY: Line = (Call::Directory, "./any");
 
 const FILE: Line = (Call::File, "./any/file");
 
+const MORE: Line = (Call::File, "./any/more");
+
 /// A call of the system for which there is no memory, and the same call refused: the look at a stat, at a loan, at an
-/// opening and at a listing, the listing itself, the look at an entry of it, the opening of a file, and a read of one
-/// that is open for reading, or for writing too.
+/// opening and at a listing, the listing itself, the look at an entry of it, what comes behind two of its entries, the
+/// opening of a file, and of one that is open for reading, or for writing too, a read, and the seek to its offset.
 #[rattlefmt::skip]
 const REFUSED: &[Trial] = &[
     (&[ANY, (Call::Full, "./any")], &[(None, &[Ask::Stats(Err(HostErr::Memory)), Ask::Faults(0)])]),
@@ -175,6 +178,11 @@ const REFUSED: &[Trial] = &[
     (&[ANY, ANY, (Call::List(b"file\0"), "./any/"), (Call::Hidden, "./any/file")],
         &[(None, &[Ask::Lists(Err(HostErr::Failed), &[]), Ask::Faults(1)])]),
 
+    (&[ANY, ANY, (Call::ListThen(b"file\0more\0", ErrorKind::OutOfMemory), "./any/"), FILE, MORE],
+        &[(None, &[Ask::Lists(Err(HostErr::Memory), &[]), Ask::Faults(0)])]),
+    (&[ANY, ANY, (Call::ListThen(b"file\0more\0", ErrorKind::PermissionDenied), "./any/"), FILE, MORE],
+        &[(None, &[Ask::Lists(Err(HostErr::Failed), &[]), Ask::Faults(1)])]),
+
     (&[ANY, FILE, FILE, (Call::FullOpen, "./any/file")],
         &[(Some("file"), &[Ask::Opens(false, Err(HostErr::Memory)), Ask::Faults(0)])]),
     (&[ANY, FILE, FILE, (Call::Locked, "./any/file")],
@@ -189,6 +197,16 @@ const REFUSED: &[Trial] = &[
         &[(Some("file"), &[Ask::Opens(true, Ok(())), Ask::Reads(0, 2, Err(HostErr::Memory)), Ask::Faults(0)])]),
     (&[ANY, FILE, FILE, (Call::Write, "./any/file")],
         &[(Some("file"), &[Ask::Opens(true, Ok(())), Ask::Reads(0, 2, Err(HostErr::Failed)), Ask::Faults(1)])]),
+
+    (&[ANY, FILE, FILE, (Call::Unseekable(ErrorKind::OutOfMemory), "./any/file")],
+        &[(Some("file"), &[Ask::Opens(false, Ok(())), Ask::Reads(7, 1, Err(HostErr::Memory)), Ask::Faults(0)])]),
+    (&[ANY, FILE, FILE, (Call::Unseekable(ErrorKind::PermissionDenied), "./any/file")],
+        &[(Some("file"), &[Ask::Opens(false, Ok(())), Ask::Reads(7, 1, Err(HostErr::Failed)), Ask::Faults(1)])]),
+
+    (&[ANY, FILE, FILE, (Call::Unseekable(ErrorKind::OutOfMemory), "./any/file")],
+        &[(Some("file"), &[Ask::Opens(true, Ok(())), Ask::Reads(7, 1, Err(HostErr::Memory)), Ask::Faults(0)])]),
+    (&[ANY, FILE, FILE, (Call::Unseekable(ErrorKind::PermissionDenied), "./any/file")],
+        &[(Some("file"), &[Ask::Opens(true, Ok(())), Ask::Reads(7, 1, Err(HostErr::Failed)), Ask::Faults(1)])]),
 ];
 
 #[test]
