@@ -7,7 +7,7 @@ use Rattle.guest_access.specs.Lending.{AreAlike}
 use Rattle.guest_access.proofs.Runs.{ran_none}
 use Rattle.proc_cells.specs.declared.cells.Cells.{Cells}
 use Rattle.proc_cells.specs.declared.cells.Standing.{Standing}
-use Rattle.proc_cells.specs.Beside.{Beside, Held, found_in, kernel_with}
+use Rattle.proc_cells.specs.Beside.{Beside, HeldParts, found_in, kernel_with}
 use Rattle.proc_cells.specs.Cells.{AreKept, StandsAs, caller_in, caller_with, held_by, kernel_of}
 use Rattle.call_table.specs.Entries.{HasRunPart, RunsIn, ReadyIs}
 use Rattle.kernel_model.specs.declared.kernel.Kernel.{Kernel}
@@ -97,7 +97,7 @@ part_behind p q r task kept part = record {
 pub kernel_kept : (p q : Cells) → AreKept p q → (beside : Beside) (n : ℕ)
     → kernel_of q beside n ≡ kernel_of p beside n
 kernel_kept p q kept beside n =
-    ap (λ (h : Held). kernel_with h beside n) (
+    ap (λ (h : HeldParts). kernel_with h beside n) (
     ap (λ x. record (held_by q) { tasks = x }) kept.tasks
     ∙ ap (λ x. record (held_by q) { tasks = p.tasks; registers = x }) kept.registers
     ∙ ap (λ x. record (held_by q) { tasks = p.tasks; registers = p.registers; spaces = x }) kept.spaces

@@ -27,7 +27,7 @@ use Rattle.proc_cells.specs.declared.cells.Cells.{Cells}
 use Rattle.proc_cells.specs.Cells.{AreKept, IsAwake}
 use Rattle.parked_tasks.specs.Untouched.{FilesMove, changes_list}
 use Rattle.parked_tasks.specs.Used.{same_made}
-use Rattle.call_table.specs.Moves.{Moves, puts_to_sleep}
+use Rattle.call_table.specs.Moves.{LeavesRest, puts_to_sleep}
 use Rattle.call_table.specs.declared.entered.Entered.{Entered}
 use Rattle.call_table.proofs.MovedParts.{Left, Lists, left_after, left_same, list_stays, lists_after}
 use Rattle.call_table.proofs.OffList.{left_off, off_before_leave, off_before_sleep, off_leave, off_sleep, sleeper_on}
@@ -118,7 +118,7 @@ module _ (task : ℕ) (memory : Made) (made : Entered) (p q : Cells) where
   moves_left : Left (lists_of p) (lists_of q) → IsAwake p task → puts_to_sleep made.entry ≡ false
       → (made.tasks ≡ false → q.tasks ≡ p.tasks) → (made.areas ≡ false → q.areas ≡ p.areas)
       → (made.tasks ≡ false → FilesMove made.touched p.files q.files) → Others task memory p q
-      → Moves task memory made p q
+      → LeavesRest task memory made p q
   moves_left left awake entered tasks areas files others = record {
     tasks = tasks;
     registers = λ same. others.registers;
@@ -136,7 +136,7 @@ module _ (task : ℕ) (memory : Made) (made : Entered) (p q : Cells) where
   -- one that leaves the task list and the futex list
   pub moves_alone : q.tasks ≡ p.tasks → q.sleepers ≡ p.sleepers → IsAwake p task → puts_to_sleep made.entry ≡ false
       → (made.areas ≡ false → q.areas ≡ p.areas) → FilesMove made.touched p.files q.files → Others task memory p q
-      → Moves task memory made p q
+      → LeavesRest task memory made p q
   moves_alone tasks sleepers awake entered areas files others =
       moves_left (subst (Left (lists_of p)) (sym same) (left_same (lists_of p))) awake entered (λ e. tasks) areas
       (λ e. files) others
@@ -151,7 +151,7 @@ module _ (task : ℕ) (memory : Made) (made : Entered) (p q : Cells) where
       → EndsOnly effect task → EndsEach effect task group p.tasks → IsAwake p task → puts_to_sleep made.entry ≡ false
       → made.tasks ≡ changes_list effect → (made.areas ≡ false → q.areas ≡ p.areas)
       → (changes_list effect ≡ false → FilesMove made.touched p.files q.files) → Others task memory p q
-      → Moves task memory made p q
+      → LeavesRest task memory made p q
   moves_done effect group is own ended awake entered told areas files others =
       moves_left (subst (Left (lists_of p)) (sym is) (left_after task group (lists_of p) effect own ended)) awake
       entered (λ e. ap (λ (l : Lists). l.tasks) is ∙ list_stays task group (lists_of p) effect (sym told ∙ e)) areas
@@ -159,7 +159,7 @@ module _ (task : ℕ) (memory : Made) (made : Entered) (p q : Cells) where
 
   -- one that makes a child
   pub moves_child : OneMore p.tasks q.tasks → q.sleepers ≡ p.sleepers → IsAwake p task
-      → puts_to_sleep made.entry ≡ false → made.tasks ≡ true → made.areas ≡ true → Moves task memory made p q
+      → puts_to_sleep made.entry ≡ false → made.tasks ≡ true → made.areas ≡ true → LeavesRest task memory made p q
   moves_child more sleepers awake entered told areas = record {
     tasks = λ same. absurd (cc (told, same));
     registers = λ same. absurd (cc (told, same));
@@ -177,7 +177,7 @@ module _ (task : ℕ) (memory : Made) (made : Entered) (p q : Cells) where
   -- that of a task that was woken
   pub moves_woken : q.tasks ≡ p.tasks → q.sleepers ≡ after_leave p.sleepers task → puts_to_sleep made.entry ≡ false
       → q.areas ≡ p.areas → FilesMove made.touched p.files q.files → Others task memory p q
-      → Moves task memory made p q
+      → LeavesRest task memory made p q
   moves_woken tasks sleepers entered areas files others = record {
     tasks = λ same. tasks;
     registers = λ same. others.registers;
@@ -198,7 +198,7 @@ module _ (task : ℕ) (memory : Made) (made : Entered) (p q : Cells) where
   pub moves_asleep : (key : FutexKey) → q.tasks ≡ p.tasks → q.sleepers ≡ after_sleep p.sleepers task key
       → puts_to_sleep made.entry ≡ true → q.areas ≡ p.areas → FilesMove made.touched p.files q.files
       → Others task memory p q
-      → Moves task memory made p q
+      → LeavesRest task memory made p q
   moves_asleep key tasks sleepers entered areas files others = record {
     tasks = λ same. tasks;
     registers = λ same. others.registers;
@@ -217,9 +217,9 @@ module _ (task : ℕ) (memory : Made) (made : Entered) (p q : Cells) where
   }
 
 -- one that was made behind cells that differ in the task's own memory alone, or in shared areas too, where that is told
-pub moves_behind : (task : ℕ) (memory own : Made) (made : Entered) (p b q : Cells) → Moves task own made b q
+pub moves_behind : (task : ℕ) (memory own : Made) (made : Entered) (p b q : Cells) → LeavesRest task own made b q
     → own ≡ memory → b.tasks ≡ p.tasks → b.sleepers ≡ p.sleepers → (made.areas ≡ false → b.areas ≡ p.areas)
-    → b.files ≡ p.files → Others task memory p b → Moves task memory made p q
+    → b.files ≡ p.files → Others task memory p b → LeavesRest task memory made p q
 moves_behind task memory own made p b q did known tasks sleepers areas files others = record {
   tasks = λ e. moves.tasks e ∙ tasks;
   registers = λ e other apart. moves.registers e other apart ∙ others.registers other apart;
@@ -237,12 +237,12 @@ moves_behind task memory own made p b q did known tasks sleepers areas files oth
   asleep = moves.asleep;
 }
   where
-    moves : Moves task memory made b q
-    moves = subst (λ (m : Made). Moves task m made b q) known did
+    moves : LeavesRest task memory made b q
+    moves = subst (λ (m : Made). LeavesRest task m made b q) known did
 
 -- or in nothing
 pub moves_kept : (task : ℕ) (memory : Made) (made : Entered) (p b q : Cells) → AreKept p b
-    → Moves task memory made b q → Moves task memory made p q
+    → LeavesRest task memory made b q → LeavesRest task memory made p q
 moves_kept task memory made p b q kept did =
     moves_behind task memory memory made p b q did refl kept.tasks kept.sleepers (λ e. kept.areas) kept.files (record {
       registers = λ other apart. ap (λ m. map.get m other) kept.registers;

@@ -10,11 +10,11 @@ use Rattle.kernel_model.specs.Names.{with_named}
 use Rattle.kernel_model.specs.opening.Opening.{files_opened, made_by, registers_opened, root_of, space_opened}
 use Rattle.kernel_model.specs.opening.Opening.{with_task}
 use Rattle.proc_cells.specs.declared.cells.Cells.{Cells}
-use Rattle.proc_cells.specs.Beside.{Beside, Held, kernel_with}
+use Rattle.proc_cells.specs.Beside.{Beside, HeldParts, kernel_with}
 use Rattle.proc_cells.specs.Cells.{held_by, kernel_of}
 
 -- what cells hold with a task more, of that number, that begins in that directory with this
-abbrev held_with : Cells → (number root : ℕ) → Regs → AddressSpace → Held
+abbrev held_with : Cells → (number root : ℕ) → Regs → AddressSpace → HeldParts
 held_with p number root r space = record (held_by p) {
   tasks = opened p.tasks (made_by number) (made_by number) root;
   registers = map.insert p.registers number r;

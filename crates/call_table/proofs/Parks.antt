@@ -44,7 +44,7 @@ use Rattle.parked_tasks.specs.Used.{same_made, uses_areas}
 use Rattle.parked_tasks.specs.declared.touched.Touched.{Touched}
 use Rattle.parked_tasks.specs.declared.used.Spot.{Spot}
 use Rattle.call_table.specs.Entries.{IsNextOf, IsOf, NextIn, ReadyIs, is_touching}
-use Rattle.call_table.specs.Moves.{Moves}
+use Rattle.call_table.specs.Moves.{LeavesRest}
 use Rattle.call_table.specs.Parks.{Parks}
 use Rattle.call_table.specs.declared.entered.Entered.{Entered}
 use Rattle.call_table.proofs.Kept.{caller_kept, kept_back}
@@ -231,7 +231,7 @@ areas_on true false before after unchanged stays used = stays refl
 areas_on false changed before after unchanged stays used = absurd (cc used)
 
 pub parks_on : (task : ℕ) (memory : Made) (made : Entered) (before after : Cells) (other : ℕ) (spot : Spot)
-    → Moves task memory made before after → made.tasks ≡ false → task ≢ other
+    → LeavesRest task memory made before after → made.tasks ≡ false → task ≢ other
     → (uses_areas spot && made.areas) ≡ false → same_made spot.memory memory ≡ false
     → is_touched made.touched spot ≡ false → Parks before other spot → Parks after other spot
 parks_on task memory made before after other spot moves same apart unchanged elsewhere untouched parks =

@@ -15,7 +15,7 @@ use Rattle.parked_tasks.specs.Touched.{is_touched}
 use Rattle.parked_tasks.specs.Used.{same_made, uses_areas}
 use Rattle.parked_tasks.specs.declared.used.Spot.{Spot}
 use Rattle.parked_tasks.specs.declared.parking.Parking.{Parking}
-use Rattle.call_table.specs.Moves.{Moves, is_woken_by, puts_to_sleep}
+use Rattle.call_table.specs.Moves.{LeavesRest, is_woken_by, puts_to_sleep}
 use Rattle.call_table.specs.Parks.{Parks}
 use Rattle.call_table.specs.Schedules.{AreParked, AreParkedBut, is_last_made, is_watched, is_off}
 use Rattle.call_table.specs.declared.entered.Entered.{Entered}
@@ -54,7 +54,7 @@ stays_none false o e = e
 -- ---- an entry of a task with a memory
 
 module _ (task : ℕ) (memory : Made) (made : Entered) (before after : Cells)
-    (moves : Moves task memory made before after) (p q : Parking) (but : AreParkedBut task before p)
+    (moves : LeavesRest task memory made before after) (p q : Parking) (but : AreParkedBut task before p)
     (woken : ℕ → Bool)
     (passing : (t : ℕ) (spot : Spot) → parked_at p t ≡ Some spot → is_woken_by made memory spot ≡ true
     → woken t ≡ true)
@@ -239,7 +239,7 @@ module _ (task : ℕ) (memory : Made) (made : Entered) (before after : Cells)
 -- ---- by what the calls leave
 
 module _ (task : ℕ) (memory : Made) (made : Entered) (before after : Cells)
-    (moves : Moves task memory made before after) (p r s q : Parking) (but : AreParkedBut task before p) (last : ℕ)
+    (moves : LeavesRest task memory made before after) (p r s q : Parking) (but : AreParkedBut task before p) (last : ℕ)
     (same : last ≡ before.tasks.last) (did : AreWoken (is_woken_by made memory) s q) (parked : AreParkedAlike p s)
     (rested : r.awake ≡ (if puts_to_sleep made.entry then map.remove p.awake task else p.awake))
     (child : (t : ℕ) → map.contains_key s.awake t ≡ (map.contains_key r.awake t || is_last_made after last t)) where

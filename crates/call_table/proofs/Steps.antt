@@ -11,7 +11,7 @@ use Rattle.rv_table.specs.declared.registers.Regs.{Regs}
 use Rattle.rv_table.specs.declared.error.Area.{Area}
 use Rattle.mm_space.specs.Handed.{AreaState}
 use Rattle.mm_space.specs.Spaces.{AddressSpace}
-use Rattle.quantum.specs.Instructions.{Going, ran}
+use Rattle.quantum.specs.Instructions.{GoingTask, ran}
 use Rattle.task_table.specs.declared.task.Group.{Group}
 use Rattle.sn_base.specs.declared.made.Made.{Made}
 use Rattle.task_table.specs.declared.task.Status.TheVariants.{Killed}
@@ -63,7 +63,7 @@ use Rattle.guest_access.proofs.Runs.{alone_ran, alone_short, alone_touching, not
 use Rattle.guest_access.proofs.Runs.{row_ran, stands_alone}
 use Rattle.proc_cells.specs.declared.cells.Cells.{Cells}
 use Rattle.proc_cells.specs.declared.cells.Standing.{Standing}
-use Rattle.proc_cells.specs.Beside.{Beside, Held, nothing_beside, nothing_held, kernel_with, found_in}
+use Rattle.proc_cells.specs.Beside.{Beside, HeldParts, nothing_beside, nothing_held, kernel_with, found_in}
 use Rattle.proc_cells.specs.Cells.{held_by, kernel_of, caller_with, StandsAs, IsAwake}
 use Rattle.proc_cells.proofs.Found.{Parted, found_by, parted}
 use Rattle.call_table.specs.Entries.{RunsIn, NextIn, IsNextOf, IsOf, ReadyIs, is_touching}
@@ -81,7 +81,7 @@ args_same args = simp nat_same
 
 -- ---- a live task is found, whatever stands beside the cells
 
-module _ (h : Held) (beside : Beside) (n task : ℕ) where
+module _ (h : HeldParts) (beside : Beside) (n task : ℕ) where
   s : Parts
   s = parts (kernel_with h beside n)
 
@@ -356,10 +356,10 @@ module _ (p : Cells) (task : ℕ) (standing : Standing) (stands : StandsAs p tas
     ran_here = ap (λ a. ran count (going_in task a standing.registers)) (sym same_space) ∙ runs.steps
 
     -- what the cells hold then
-    abbrev pub held_run : Held
+    abbrev pub held_run : HeldParts
     held_run = record (held_by p) { registers = map.insert p.registers task after; spaces = spaces' }
 
-    pub step_run : (h : Held) (beside : Beside) (n : ℕ) → IsAwake p task → 1 ≤ count → count ≤ 10000 → h ≡ held_run
+    pub step_run : (h : HeldParts) (beside : Beside) (n : ℕ) → IsAwake p task → 1 ≤ count → count ≤ 10000 → h ≡ held_run
         → step (kernel_of p beside n) (Run task count) ≡ Some (kernel_with h beside (n + 1))
     step_run h beside n awake low high e =
         step_found (kernel_of p beside n) (Run task count) c Awake
@@ -408,12 +408,12 @@ module _ (p : Cells) (task : ℕ) (standing : Standing) (stands : StandsAs p tas
         (stands_alone c (parts (kernel_of p beside n)) Goes (goes low high (next_in c) refl) refl)
 
     -- what its task is then
-    found_after : (h : Held) (beside : Beside) (n : ℕ) → h ≡ held_run
+    found_after : (h : HeldParts) (beside : Beside) (n : ℕ) → h ≡ held_run
         → outcome_in (parts (kernel_with h beside n)) (caller_of task)
         ≡ Some (caller_with task (record standing { registers = after }) runs.left)
     found_after h beside n e =
         found_beside h beside n task
-        ∙ ap (λ (x : Held). found_in x.tasks x.registers x.spaces task) e
+        ∙ ap (λ (x : HeldParts). found_in x.tasks x.registers x.spaces task) e
         ∙ ap (λ x. found_in p.tasks (map.insert p.registers task after) x task) runs.put
         ∙ found_by p.tasks (map.insert p.registers task after)
         (with_named p.spaces standing.memory.place standing.memory.index runs.left) task before.group after runs.left
@@ -430,7 +430,7 @@ module _ (p : Cells) (task : ℕ) (standing : Standing) (stands : StandsAs p tas
         memory = ap (λ (x : Caller). x.memory) before.is
 
     -- a run that stopped is whole
-    pub whole_run : (h : Held) (beside : Beside) (n : ℕ) (before : Kernel) (told : Next) → h ≡ held_run
+    pub whole_run : (h : HeldParts) (beside : Beside) (n : ℕ) (before : Kernel) (told : Next) → h ≡ held_run
         → StopsAt 10000 count told (next_of (acting_in task runs.left) after)
         → is_whole (Run task count) before (kernel_with h beside n) ≡ true
     whole_run h beside n before told e = by told
@@ -463,15 +463,15 @@ module _ (p : Cells) (task : ℕ) (standing : Standing) (stands : StandsAs p tas
     nothing none = nothing_ran count _ _ ran_here (omega arith)
 
     pub registers_left : count ≡ 0 → map.insert p.registers task after ≡ p.registers
-    registers_left none = registers_same after (ap (λ (g : Going). g.registers) (nothing none))
+    registers_left none = registers_same after (ap (λ (g : GoingTask). g.registers) (nothing none))
 
     pub spaces_left : count ≡ 0 → spaces' ≡ p.spaces
-    spaces_left none = runs.put ∙ space_same runs.left (ap (λ (g : Going). g.acting.reach.space) (nothing none))
+    spaces_left none = runs.put ∙ space_same runs.left (ap (λ (g : GoingTask). g.acting.reach.space) (nothing none))
 
     next_alone : (told : Next) → count ≡ 0 → StopsAt 10000 count told (next_of (acting_in task runs.left) after)
         → next_in c ≡ told
     next_alone told none stop =
-        sym (ap (λ (g : Going). next_of g.acting g.registers) (nothing none)) ∙ sym (stop_none count told _ stop none)
+        sym (ap (λ (g : GoingTask). next_of g.acting g.registers) (nothing none)) ∙ sym (stop_none count told _ stop none)
 
     pub next_left : (told : Next) → count ≡ 0 → StopsAt 10000 count told (next_of (acting_in task runs.left) after)
         → touches_area told ≡ false → NextIn p task told
@@ -492,7 +492,7 @@ module _ (p : Cells) (task : ℕ) (standing : Standing) (stands : StandsAs p tas
         let touched = area_touched (next_in c) (sym (ap touches_next stands.found) ∙ touching) in
         alone_touching c touched.0 touched.1
 
-    pub step_touching : (after : Regs) (space : AddressSpace) (areas : NamedMap AreaState) (h : Held)
+    pub step_touching : (after : Regs) (space : AddressSpace) (areas : NamedMap AreaState) (h : HeldParts)
         (beside : Beside) (n : ℕ) → IsAwake p task → Steps c (kernel_of p beside n) after space areas
         → h ≡ record (held_by p) {
           registers = map.insert p.registers task after;
@@ -523,7 +523,7 @@ module _ (p : Cells) (task : ℕ) (standing : Standing) (stands : StandsAs p tas
       (ap (λ x. nat_eq x number) (sym is) ∙ nat_same number)
       ∙ ap (λ x. same_args x args) (sym same) ∙ args_same args
 
-  pub step_call : (number : ℕ) (args : Args) (given : Given) (value : ℤ) (changes : List Change) (h : Held)
+  pub step_call : (number : ℕ) (args : Args) (given : Given) (value : ℤ) (changes : List Change) (h : HeldParts)
       (between registers : map.FinMap nat_cmp Regs) (beside : Beside) (n : ℕ) → IsAwake p task → NextIn p task Calls
       → number ≡ call_of standing.registers → args ≡ args_of standing.registers
       → given ≡ record { fresh = []; rises = [] }
@@ -614,7 +614,7 @@ module _ (p : Cells) (task : ℕ) (standing : Standing) (stands : StandsAs p tas
 
   -- ---- ends
 
-  pub step_end : (signal : ℕ) (h : Held) (beside : Beside) (n : ℕ) → IsAwake p task → NextIn p task (Traps signal)
+  pub step_end : (signal : ℕ) (h : HeldParts) (beside : Beside) (n : ℕ) → IsAwake p task → NextIn p task (Traps signal)
       → changed (outcome_in (parts (kernel_of p beside n)) (group_end c (Killed signal))) (kernel_of p beside n)
       ≡ kernel_with h beside n
       → step (kernel_of p beside n) (End task signal) ≡ Some (kernel_with h beside (n + 1))

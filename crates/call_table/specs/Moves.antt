@@ -28,7 +28,7 @@ puts_to_sleep (Sleep task) = true
 -- above all. Who was off the futex list is off it, but for the task itself where it was put to sleep, and who lives and
 -- is off it was.
 -- profile
-pub record Moves (task : ℕ) (memory : Made) (made : Entered) (before after : Cells) : Type 0 where
+pub record LeavesRest (task : ℕ) (memory : Made) (made : Entered) (before after : Cells) : Type 0 where
   pub tasks : made.tasks ≡ false → after.tasks ≡ before.tasks
   pub registers : made.tasks ≡ false → (other : ℕ) → task ≢ other
       → map.get after.registers other ≡ map.get before.registers other

@@ -16,7 +16,7 @@ ghost use Rattle.kernel_calls.specs.Making.{with_new_child};
 ghost use Rattle.kernel_calls.specs.Prepared.{EndsEach, EndsLive, EndsOnly, with_effect};
 ghost use Rattle.proc_cells.specs.Cells.{AreKept, IsAwake};
 ghost use Rattle.parked_tasks.specs.Untouched.{changes_list};
-ghost use Rattle.call_table.specs.Moves.{Moves};
+ghost use Rattle.call_table.specs.Moves.{LeavesRest};
 ghost use Rattle.sn_base.specs.declared.made.Made.{Made as AMade};
 
 use crate::entered::Entered;
@@ -87,7 +87,7 @@ pub(crate) fn finish(
         } }
     ensures entry { result.entry ≡ ACall context.now.task (call_of registers) (args_of registers)
         (record { fresh = []; rises = [] }) prepared.reply }
-    ensures moves { Moves context.now.task context.now.memory result cells.old cells.new }
+    ensures moves { LeavesRest context.now.task context.now.memory result cells.old cells.new }
     ensures told { result.areas ≡ true }
     ensures registers { cells.new.registers
         ≡ map.insert cells.old.registers context.now.task (replied registers prepared.reply) }
@@ -163,7 +163,7 @@ pub(crate) fn make_child(
     ensures entry { IfOk result (λ made. made.entry ≡ ACall context.now.task (call_of registers) (args_of registers)
         (record { fresh = []; rises = [] }) (pos (cells.old.tasks.last + 1))) }
     ensures moves { IfOk result (λ made.
-        Moves context.now.task context.now.memory made cells.old cells.new) }
+        LeavesRest context.now.task context.now.memory made cells.old cells.new) }
     ensures sleepers { cells.new.sleepers ≡ cells.old.sleepers }
     ensures console { cells.new.console ≡ cells.old.console }
     ensures err { OnErr result (AreKept cells.old cells.new) }
@@ -194,7 +194,7 @@ pub(crate) fn put_to_sleep(cells: &mut Cells, task: u32, key: FutexKey) -> Resul
     requires { IsAwake cells.old task }
     ensures sleeps { IfOk result (λ _. cells.new.sleepers ≡ after_sleep cells.old.sleepers task key) }
     ensures entry { IfOk result (λ made. made.entry ≡ ASleep task) }
-    ensures moves { IfOk result (λ made. (memory : AMade) → Moves task memory made cells.old cells.new) }
+    ensures moves { IfOk result (λ made. (memory : AMade) → LeavesRest task memory made cells.old cells.new) }
     ensures registers { cells.new.registers ≡ cells.old.registers }
     ensures tasks { cells.new.tasks ≡ cells.old.tasks }
     ensures spaces { cells.new.spaces ≡ cells.old.spaces }

@@ -16,7 +16,7 @@ ghost use Rattle.proc_cells.specs.Beside.{Beside};
 ghost use Rattle.proc_cells.specs.Cells.{AreKept, IsAwake, StandsAs, kernel_of};
 ghost use Rattle.call_table.specs.Entries.{HasRunPart, IfEnters, IfTurnWaits, IsOf};
 ghost use Rattle.call_table.specs.Entries.{IsWholeTo, NextIn, ReadyIs, RunsIn, StepsTo, is_touching};
-ghost use Rattle.call_table.specs.Moves.{Moves};
+ghost use Rattle.call_table.specs.Moves.{LeavesRest};
 ghost use Rattle.call_table.specs.Parks.{Parks};
 
 use crate::answers::{call_entry, finish, go_on, make_child, put_to_sleep};
@@ -82,7 +82,7 @@ pub(crate) fn advance(
     ensures task { IfEnters result (λ made. task_of made.entry ≡ task) }
     ensures numbers { IfEnters result (λ made. numbers_in made.entry ≡ []) }
     ensures ready { IfEnters result (λ made. ReadyIs cells.old task true) }
-    ensures moves { IfEnters result (λ made. Moves task standing.memory made cells.old cells.new) }
+    ensures moves { IfEnters result (λ made. LeavesRest task standing.memory made cells.old cells.new) }
     ensures waits { IfTurnWaits result (λ _. ReadyIs cells.old task false) }
     ensures parks { IfTurnWaits result (Parks cells.old task) }
     ensures kept { IfTurnWaits result (λ _. AreKept cells.old cells.new) }
@@ -129,7 +129,7 @@ pub(crate) fn go_on_woken(
     ensures whole { (before after : AKernel) → is_whole result.entry before after ≡ true }
     ensures task { task_of result.entry ≡ task }
     ensures numbers { numbers_in result.entry ≡ [] }
-    ensures moves { Moves task standing.memory result cells.old cells.new }
+    ensures moves { LeavesRest task standing.memory result cells.old cells.new }
 {
     cells.sleepers.leave(task);
     go_on(cells, task, standing.registers, 0);
@@ -156,7 +156,7 @@ fn run_standing(
         step (kernel_of cells.old beside n) (Entry.Run task r.count) ≡ Some (kernel_of cells.new beside (n + 1))) }
     ensures whole { IfOk result (λ r. (beside : Beside) (n m : ℕ) →
         is_whole (Entry.Run task r.count) (kernel_of cells.old beside n) (kernel_of cells.new beside m) ≡ true) }
-    ensures moves { IfOk result (λ r. Moves task standing.memory
+    ensures moves { IfOk result (λ r. LeavesRest task standing.memory
         (record { entry = Entry.Run task r.count; tasks = false; areas = false; touched = None }) cells.old cells.new) }
     ensures none { IfOk result (λ r. r.count ≡ 0 → AreKept cells.old cells.new) }
     ensures next { IfOk result (λ r. r.count ≡ 0 → touches_area r.next ≡ false → NextIn cells.old task r.next) }
@@ -200,7 +200,7 @@ fn touch(
     ensures numbers { IfEnters result (λ made. numbers_in made.entry ≡ []) }
     ensures ready { IfEnters result (λ made. ReadyIs cells.old context.now.task true) }
     ensures moves { IfEnters result (λ made.
-        Moves context.now.task standing.memory made cells.old cells.new) }
+        LeavesRest context.now.task standing.memory made cells.old cells.new) }
     ensures waits { IfTurnWaits result (λ _. ReadyIs cells.old context.now.task false) }
     ensures parks { IfTurnWaits result (Parks cells.old context.now.task) }
     ensures kept { IfTurnWaits result (λ _. AreKept cells.old cells.new) }
@@ -235,7 +235,7 @@ fn step_standing(
     ensures ready { IfOk result (λ next. next ≡ Next.Goes → ReadyIs cells.old task true) }
     ensures step { IfOk result (λ next. next ≡ Next.Goes → (beside : Beside) (n : ℕ) →
         step (kernel_of cells.old beside n) (Entry.Run task 1) ≡ Some (kernel_of cells.new beside (n + 1))) }
-    ensures moves { IfOk result (λ next. Moves task standing.memory
+    ensures moves { IfOk result (λ next. LeavesRest task standing.memory
         (record { entry = Entry.Run task 1; tasks = false; areas = true; touched = None }) cells.old cells.new) }
     ensures next { IfOk result (λ next. NextIn cells.old task next) }
     ensures told { IfOk result (λ next. touches_area next ≡ false) }
@@ -280,7 +280,7 @@ fn answer(
     ensures numbers { IfEnters result (λ made. numbers_in made.entry ≡ []) }
     ensures ready { IfEnters result (λ made. ReadyIs cells.old context.now.task true) }
     ensures moves { IfEnters result (λ made.
-        Moves context.now.task standing.memory made cells.old cells.new) }
+        LeavesRest context.now.task standing.memory made cells.old cells.new) }
     ensures waits { IfTurnWaits result (λ _. ReadyIs cells.old context.now.task false) }
     ensures parks { IfTurnWaits result (Parks cells.old context.now.task) }
     ensures kept { IfTurnWaits result (λ _. AreKept cells.old cells.new) }
@@ -366,7 +366,7 @@ fn end(
     ensures numbers { IfOk result (λ made. numbers_in made.entry ≡ []) }
     ensures ready { IfOk result (λ made. ReadyIs cells.old context.now.task true) }
     ensures moves { IfOk result (λ made.
-        Moves context.now.task standing.memory made cells.old cells.new) }
+        LeavesRest context.now.task standing.memory made cells.old cells.new) }
     ensures memory { OnErr result (HasRunPart context.now.task cells.old cells.new) }
 {
     let Some(space) = cells

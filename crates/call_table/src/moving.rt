@@ -16,7 +16,7 @@ ghost use Rattle.call_fs.specs.Called.{MayLack};
 ghost use Rattle.call_fs.specs.Pipes.{MakesPipe};
 ghost use Rattle.call_fs.specs.Transfers.{FitsPipe, after_transfer};
 ghost use Rattle.proc_cells.specs.Cells.{AreKept, IsAwake};
-ghost use Rattle.call_table.specs.Moves.{Moves};
+ghost use Rattle.call_table.specs.Moves.{LeavesRest};
 ghost use Rattle.call_table.specs.Moving.{IsMaking, may_have_read, one_pipe, touched_by_pipe, touched_by_transfer};
 
 use crate::answers::{call_entry, go_on};
@@ -50,7 +50,7 @@ pub(crate) fn move_bytes(
     ensures entry { IfOk result (λ made. made.entry ≡ ACall context.now.task (call_of registers) (args_of registers)
         (record { fresh = []; rises = [] }) value) }
     ensures moves { IfOk result (λ made.
-        Moves context.now.task context.now.memory made cells.old cells.new) }
+        LeavesRest context.now.task context.now.memory made cells.old cells.new) }
     ensures told { IfOk result (λ made. made.areas ≡ may_have_read transfer) }
     ensures registers { IfOk result (λ _. cells.new.registers
         ≡ map.insert cells.old.registers context.now.task (replied registers value)) }
@@ -103,7 +103,7 @@ pub(crate) fn open_pipe(
         (record { fresh = []; rises = [] }) (pos 0)) }
     ensures moves { IfOk result (λ made. (row : Prog Answer) (of_row : RowContext) (c : ACaller) (k : AKernel) →
         MakesPipe row new of_row c k → IsMaking context.now cells.old of_row c k →
-        Moves context.now.task context.now.memory made cells.old cells.new) }
+        LeavesRest context.now.task context.now.memory made cells.old cells.new) }
     ensures registers { IfOk result (λ _. cells.new.registers
         ≡ map.insert cells.old.registers context.now.task (replied registers (pos 0))) }
     ensures tasks { cells.new.tasks ≡ cells.old.tasks }

@@ -15,7 +15,7 @@ ghost use Rattle.proc_cells.specs.declared.cells.Cells.{Cells as ACells};
 ghost use Rattle.proc_cells.specs.Cells.{AreKept, StandsAs, kernel_of};
 ghost use Rattle.parked_tasks.specs.Parking.{AreParkedAlike, AreWoken};
 ghost use Rattle.call_table.specs.Entries.{IfEntered, IfParked, IsWholeTo, ReadyIs, StepsTo};
-ghost use Rattle.call_table.specs.Moves.{Moves, is_woken_by, puts_to_sleep};
+ghost use Rattle.call_table.specs.Moves.{LeavesRest, is_woken_by, puts_to_sleep};
 ghost use Rattle.call_table.specs.Schedules.{AreParked, AreParkedBut, IsCandidate, IsNextAbove, is_last_made, is_off};
 
 use crate::entered::{Entered, Turn};
@@ -190,7 +190,7 @@ fn settle(
     made: &Entered,
 ) -> Result<(), Memory>
     ensures { OnOk result ((before : ACells) → last ≡ before.tasks.last →
-        Moves task memory made.now before cells.now → AreParkedBut task before parking.old →
+        LeavesRest task memory made.now before cells.now → AreParkedBut task before parking.old →
         AreParked cells.now parking.new) }
 {
     rest_asleep(parking, task, &made.entry);

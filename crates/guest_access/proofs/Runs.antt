@@ -23,7 +23,7 @@ use Rattle.mm_space.specs.Spaces.{AddressSpace, Reach}
 use Rattle.quantum.specs.Acting.{Acting, acting_on, memory_of, acting_after_write}
 use Rattle.rv_exec.specs.Courses as courses
 use Rattle.rv_exec.specs.Courses.{after_instructions as ran_over}
-use Rattle.quantum.specs.Instructions.{Going, ran}
+use Rattle.quantum.specs.Instructions.{GoingTask, ran}
 use Rattle.kernel_model.specs.declared.caller.Caller.{Caller}
 use Rattle.kernel_model.specs.declared.kernel.Part.TheVariants.{OfSpace, OfArea}
 use Rattle.kernel_model.specs.declared.traps.Next.{Next}
@@ -41,23 +41,23 @@ use Rattle.guest_access.specs.Lending.{names}
 
 -- a task after an instruction's work, and after one instruction
 -- RISC-V Unprivileged ISA 20191213, 1.2
-abbrev pub went_by : Acting → Done → Option Going
+abbrev pub went_by : Acting → Done → Option GoingTask
 went_by a done = courses.went_by acting_after_write a done
 
-abbrev pub one_more : Going → Option Going
+abbrev pub one_more : GoingTask → Option GoingTask
 one_more g = courses.one_instruction_more memory_of acting_after_write g
 
 -- no instruction changes nothing
-pub ran_none : (g : Going) → ran 0 g ≡ Some g
+pub ran_none : (g : GoingTask) → ran 0 g ≡ Some g
 unfolding ran_over
 ran_none g = refl
 
 -- the last of so many instructions runs behind the others
-ran_suc : (n : ℕ) (g : Going) → ran (suc n) g ≡ option_and_then one_more (ran n g)
+ran_suc : (n : ℕ) (g : GoingTask) → ran (suc n) g ≡ option_and_then one_more (ran n g)
 unfolding ran_over
 ran_suc n g = refl
 
-pub ran_last : (n : ℕ) (g : Going) → ran (n + 1) g ≡ option_and_then one_more (ran n g)
+pub ran_last : (n : ℕ) (g : GoingTask) → ran (n + 1) g ≡ option_and_then one_more (ran n g)
 ran_last n g = ap (λ m. ran m g) (add-one n) ∙ ran_suc n g
 
 -- what stops runs no further
@@ -67,18 +67,18 @@ none_further a done.Calls stopped = refl
 none_further a (done.Traps signal) stopped = refl
 none_further a (done.Touches area) stopped = refl
 
-stops : (g : Going) → goes_on (next_of g.acting g.registers) ≡ false → one_more g ≡ None
+stops : (g : GoingTask) → goes_on (next_of g.acting g.registers) ≡ false → one_more g ≡ None
 stops g stopped = none_further g.acting (exec (memory_of g.acting) g.registers) stopped
 
 -- behind an instruction that does not go on, none goes on
-none_goes_on : (n j : ℕ) (g : Going) → ran n g ≡ None → ran (n + j) g ≡ None
+none_goes_on : (n j : ℕ) (g : GoingTask) → ran n g ≡ None → ran (n + j) g ≡ None
 none_goes_on n zero g e = ap (λ m. ran m g) (add-zero n) ∙ e
 none_goes_on n (suc j) g e =
     let further : n + suc j ≡ n + j + 1 = omega arith in
     ap (λ m. ran m g) further ∙ ran_last (n + j) g ∙ ap (option_and_then one_more) (none_goes_on n j g e)
 
 -- a run that stopped early is none of so many instructions
-ran_short : (n count : ℕ) (g h : Going) → ran n g ≡ Some h → n < count
+ran_short : (n count : ℕ) (g h : GoingTask) → ran n g ≡ Some h → n < count
     → goes_on (next_of h.acting h.registers) ≡ false → ran count g ≡ None
 ran_short n count g h so_far short stopped =
     let further : n + 1 + (count - (n + 1)) ≡ count = omega arith in
@@ -154,21 +154,21 @@ writes_names : (ws : List Write) (a : Acting) → names (all_after acting_after_
 writes_names [] a = refl
 writes_names (w ∷ ws) a = writes_names ws (acting_after_write w a) ∙ write_names w a
 
-one_names : (a : Acting) (done : Done) (h : Going) → went_by a done ≡ Some h
+one_names : (a : Acting) (done : Done) (h : GoingTask) → went_by a done ≡ Some h
     → names h.acting.reach.hand ≡ names a.reach.hand
 one_names a (done.Goes r ws) h e =
     let is : h ≡ record { acting = all_after acting_after_write ws a; registers = r } = cc e in
-    ap (λ (g : Going). names g.acting.reach.hand) is ∙ writes_names ws a
+    ap (λ (g : GoingTask). names g.acting.reach.hand) is ∙ writes_names ws a
 one_names a done.Calls h e = absurd (cc e)
 one_names a (done.Traps signal) h e = absurd (cc e)
 one_names a (done.Touches area) h e = absurd (cc e)
 
-pub ran_names : (n : ℕ) (g h : Going) → ran n g ≡ Some h → names h.acting.reach.hand ≡ names g.acting.reach.hand
+pub ran_names : (n : ℕ) (g h : GoingTask) → ran n g ≡ Some h → names h.acting.reach.hand ≡ names g.acting.reach.hand
 ran_names zero g h e =
-    let is : h ≡ g = cc (e, ran_none g) in ap (λ (x : Going). names x.acting.reach.hand) is
+    let is : h ≡ g = cc (e, ran_none g) in ap (λ (x : GoingTask). names x.acting.reach.hand) is
 ran_names (suc n) g h e = by (ran n g) (λ m so_far. ran_names n g m so_far) (sym (ran_suc n g) ∙ e)
   where
-    by : (o : Option Going) → ((m : Going) → o ≡ Some m → names m.acting.reach.hand ≡ names g.acting.reach.hand)
+    by : (o : Option GoingTask) → ((m : GoingTask) → o ≡ Some m → names m.acting.reach.hand ≡ names g.acting.reach.hand)
         → option_and_then one_more o ≡ Some h → names h.acting.reach.hand ≡ names g.acting.reach.hand
     by None before e = absurd (cc e)
     by (Some m) before e = one_names m.acting (exec (memory_of m.acting) m.registers) h e ∙ before m refl
@@ -178,7 +178,7 @@ unnamed : (hand : List InHand) → names hand ≡ [] → hand ≡ []
 unnamed [] e = refl
 unnamed (h ∷ hs) e = absurd (cc e)
 
-ran_alone : (n : ℕ) (g h : Going) → g.acting.reach.hand ≡ [] → ran n g ≡ Some h → h.acting.reach.hand ≡ []
+ran_alone : (n : ℕ) (g h : GoingTask) → g.acting.reach.hand ≡ [] → ran n g ≡ Some h → h.acting.reach.hand ≡ []
 ran_alone n g h none e = unnamed h.acting.reach.hand (ran_names n g h e ∙ ap names none)
 
 -- ---- what a run tells of the kernel
@@ -208,7 +208,7 @@ next_in_space n task a b r r' none told =
     (sym (alone task b (ran_alone n _ (record { acting = acting_on task b; registers = r' }) none told)))
 
 -- nothing ran, so that all is as it was
-pub nothing_ran : (count : ℕ) (g h : Going) → ran count g ≡ Some h → count < 1 → h ≡ g
+pub nothing_ran : (count : ℕ) (g h : GoingTask) → ran count g ≡ Some h → count < 1 → h ≡ g
 nothing_ran count g h told few =
     let none : count ≡ 0 = omega arith in
     let start : ran count g ≡ Some g = ap (λ n. ran n g) none ∙ ran_none g in
@@ -217,7 +217,7 @@ nothing_ran count g h told few =
 -- ---- the row of a run
 
 module _ (n : ℕ) (c : Caller) (after : AddressSpace) (r : Regs) where
-  abbrev start : Going
+  abbrev start : GoingTask
   start = going_in c.task c.space c.registers
 
   -- of so many instructions
@@ -267,7 +267,7 @@ module _ (n : ℕ) (c : Caller) (alone : run_alone n c ≡ None) where
 -- ---- the next instruction, with the areas that it touches
 
 -- an instruction that does not go on is no run
-pub stopped_none : (g : Going) → goes_on (next_of g.acting g.registers) ≡ false → ran 1 g ≡ None
+pub stopped_none : (g : GoingTask) → goes_on (next_of g.acting g.registers) ≡ false → ran 1 g ≡ None
 stopped_none g stopped = ran_last 0 g ∙ ap (option_and_then one_more) (ran_none g) ∙ stops g stopped
 
 -- one that touches a shared area does not run alone

@@ -13,7 +13,7 @@ use Rattle.quantum.specs.Acting.{Acting, memory_of}
 use Rattle.quantum.specs.declared.run.QuantumEnd.{QuantumEnd}
 use Rattle.quantum.specs.declared.run.QuantumEnd.TheVariants as ends
 use Rattle.quantum.specs.Ends.{Few, LacksMemory, Ran, Stopped}
-use Rattle.quantum.specs.Instructions.{Going, ran, next_done}
+use Rattle.quantum.specs.Instructions.{GoingTask, ran, next_done}
 use Rattle.kernel_model.specs.Names.{NamedMap, get_named, with_named}
 use Rattle.kernel_model.specs.declared.caller.Caller.{Caller}
 use Rattle.kernel_model.specs.declared.kernel.Kernel.{Kernel}
@@ -35,19 +35,19 @@ use Rattle.guest_access.proofs.Tries.{comes_at_once, lacks_more, lacks_there, th
 
 -- ---- one instruction with what is in hand
 
-went_goes : (a : Acting) (done : Done) (h : Going) → went_by a done ≡ Some h → next_by done ≡ Goes
+went_goes : (a : Acting) (done : Done) (h : GoingTask) → went_by a done ≡ Some h → next_by done ≡ Goes
 went_goes a (done.Goes r ws) h e = refl
 went_goes a done.Calls h e = absurd (cc e)
 went_goes a (done.Traps signal) h e = absurd (cc e)
 went_goes a (done.Touches area) h e = absurd (cc e)
 
 -- what ran as one instruction goes on
-pub one_goes : (count : ℕ) (g h : Going) → ran count g ≡ Some h → count ≡ 1 → next_of g.acting g.registers ≡ Goes
+pub one_goes : (count : ℕ) (g h : GoingTask) → ran count g ≡ Some h → count ≡ 1 → next_of g.acting g.registers ≡ Goes
 one_goes count g h told one =
     went_goes g.acting (exec (memory_of g.acting) g.registers) h
     (sym (ran_last 0 g ∙ ap (option_and_then one_more) (ran_none g)) ∙ ap (λ n. ran n g) (sym one) ∙ told)
 
-pub one_ran : (count : ℕ) (g h : Going) → ran count g ≡ Some h → count ≡ 1 → ran 1 g ≡ Some h
+pub one_ran : (count : ℕ) (g h : GoingTask) → ran count g ≡ Some h → count ≡ 1 → ran 1 g ≡ Some h
 one_ran count g h told one = ap (λ n. ran n g) (sym one) ∙ told
 
 -- what was stopped before it has left all as it was
@@ -56,16 +56,16 @@ pub none_ran : (count task : ℕ) (space space' : AddressSpace) (hand hand' : Li
     → (r' ≡ r) × (space' ≡ space) × (hand' ≡ hand)
 none_ran count task space space' hand hand' r r' told few =
     let same : going_with task space' hand' r' ≡ going_with task space hand r = nothing_ran count _ _ told few in (
-      ap (λ (g : Going). g.registers) same,
-      ap (λ (g : Going). g.acting.reach.space) same,
-      ap (λ (g : Going). g.acting.reach.hand) same,
+      ap (λ (g : GoingTask). g.registers) same,
+      ap (λ (g : GoingTask). g.acting.reach.space) same,
+      ap (λ (g : GoingTask). g.acting.reach.hand) same,
     )
 
 pub none_next : (count task : ℕ) (space space' : AddressSpace) (hand hand' : List InHand) (r r' : Regs)
     → ran count (going_with task space hand r) ≡ Some (going_with task space' hand' r') → count < 1
     → next_of (acting_with task space hand) r ≡ next_by (next_done (going_with task space' hand' r'))
 none_next count task space space' hand hand' r r' told few =
-    sym (ap (λ (g : Going). next_by (next_done g)) (nothing_ran count _ _ told few))
+    sym (ap (λ (g : GoingTask). next_by (next_done g)) (nothing_ran count _ _ told few))
 
 -- what a run of at most one tells of the next instruction: `own` is the address space as it was
 module _ (end : QuantumEnd) (task : ℕ) (own space space' : AddressSpace) (same : own ≡ space)

@@ -5,9 +5,9 @@ use Rattle.host_node.specs.Tree.{Shape, child_of, with_child}
 use Rattle.host_node.proofs.TreeLemmas.{with_child_found}
 use Rattle.kernel_model.specs.files.FileTree.{with_plain}
 use Rattle.image_walk.specs.declared.granted.Numbering.{Numbering}
-use Rattle.image_walk.specs.Granted.{Child, GivesBack, put_all}
+use Rattle.image_walk.specs.Granted.{LentChild, GivesBack, put_all}
 use Rattle.image_walk.specs.Loading.{faulted_by}
-use Rattle.image_walk.specs.Standing.{StandUnlent, Stands, lend_all, lent_from}
+use Rattle.image_walk.specs.Standing.{StandUnlent, StandsLent, lend_all, lent_from}
 use Rattle.image_walk.proofs.Commuting.{put_all_lent}
 use Rattle.image_walk.proofs.Places.{IsThere, root_is}
 use Rattle.image_walk.proofs.Trees.{faulted_by_none}
@@ -26,9 +26,9 @@ put_all_found n t (name ∷ names) h =
     ∙ put_all_found (n + 1) t names h.2
 
 -- the root tells the granted tree then
-pub back_same : (num : Numbering) (t : Shape) (names : List (List ℕ)) (root : Option Shape) (children : List Child)
-    → Stands num t names [] root children → GivesBack root children (Some t)
+pub back_same : (num : Numbering) (t : Shape) (names : List (List ℕ)) (root : Option Shape) (children : List LentChild)
+    → StandsLent num t names [] root children → GivesBack root children (Some t)
 back_same num t names root children s =
     subst (λ (o : Option Shape). GivesBack o children (Some t)) (sym (root_is num t names root children s))
-    (subst (λ (cs : List Child). Some t ≡ Some (put_all cs (lend_all names t))) (sym s.children_tell)
+    (subst (λ (cs : List LentChild). Some t ≡ Some (put_all cs (lend_all names t))) (sym s.children_tell)
     (ap Some (sym (put_all_lent num.first t [] names t s.there s.there ∙ put_all_found num.first t names s.there))))

@@ -17,9 +17,9 @@ use Rattle.image_walk.specs.declared.loading.Answer.TheVariants.{Starts, Refuses
 use Rattle.image_walk.specs.declared.walk.Step.{Step}
 use Rattle.image_walk.specs.Executing.{walked_by, walked_to, walked_among, fresh_for, fresh_by, rises_by, named_then}
 use Rattle.image_walk.specs.Executing.{HasNumber, AnswersBy, Executes}
-use Rattle.image_walk.specs.Granted.{Child, place_of_child}
+use Rattle.image_walk.specs.Granted.{LentChild, place_of_child}
 use Rattle.image_walk.specs.Loading.{Loads, LoadsWhere, faulted_by}
-use Rattle.image_walk.specs.Standing.{IsNumbering, Stands, lend_all, lent_from, numbers_from}
+use Rattle.image_walk.specs.Standing.{IsNumbering, StandsLent, lend_all, lent_from, numbers_from}
 use Rattle.image_walk.specs.Walking.{NotSearched, LendsNone, LendsBy, LoadsAt, Walks, Unsearched, Known, Lent}
 use Rattle.image_walk.specs.Walking.{WalksWhere}
 use Rattle.image_walk.proofs.Lending.{child_of-lend_all, owner_executes-lend_all}
@@ -38,11 +38,11 @@ set_found xs i x e = ap (slice_set xs i) (sym (get_or_from_slice_get xs i x x e)
 
 module _ (num : Numbering) (is : IsNumbering num) (t : Shape) (names : List (List ℕ)) (name : List ℕ) where
   -- what an execve did, by whether it drew a number, the node that it came to, and by how much that node's count rose
-  pub record Did (after : Option Shape) (children : List Child) (drawn : Bool) (ino : ℕ) (risen : Option ℕ)
+  pub record Did (after : Option Shape) (children : List LentChild) (drawn : Bool) (ino : ℕ) (risen : Option ℕ)
       (answer : Answer) : Type 0 where
     pub next : drawn ≡ true → ino ≡ length names + num.first
     pub unnumbered : drawn ≡ true → number_in name (numbers_from num.first names) ≡ None
-    pub stands : Stands num t (named_then drawn names name) (rises_by ino risen) after children
+    pub stands : StandsLent num t (named_then drawn names name) (rises_by ino risen) after children
     pub answers : AnswersBy num (walked_among num t names name) drawn (length (named_then drawn names name))
         (rises_by ino risen) answer
 
@@ -76,17 +76,17 @@ module _ (num : Numbering) (is : IsNumbering num) (t : Shape) (names : List (Lis
       walk_searched x ∙ ap (λ o. walked_to o (walked_by (child_of name t))) n
       ∙ ap (λ o. walked_to (Some ino) (walked_by o)) e
 
-  module _ (root : Option Shape) (children : List Child) (st : Stands num t names [] root children) where
+  module _ (root : Option Shape) (children : List LentChild) (st : StandsLent num t names [] root children) where
     -- ---- nothing changed
 
-    still : (after : Option Shape) (children' : List Child) → after ≡ Some (lend_all names t) → children' ≡ children
-        → Stands num t names [] after children'
+    still : (after : Option Shape) (children' : List LentChild) → after ≡ Some (lend_all names t) → children' ≡ children
+        → StandsLent num t names [] after children'
     still after children' a c =
-        subst (λ (cs : List Child). Stands num t names [] after cs) (sym c)
-        (subst (λ (o : Option Shape). Stands num t names [] o children)
+        subst (λ (cs : List LentChild). StandsLent num t names [] after cs) (sym c)
+        (subst (λ (o : Option Shape). StandsLent num t names [] o children)
         (root_is num t names root children st ∙ sym a) st)
 
-    did_nothing : (after : Option Shape) (children' : List Child) (answer : Answer) → after ≡ Some (lend_all names t)
+    did_nothing : (after : Option Shape) (children' : List LentChild) (answer : Answer) → after ≡ Some (lend_all names t)
         → children' ≡ children → AnswersBy num (walked_among num t names name) false (length names) [] answer
         → Did after children' false num.root None answer
     did_nothing after children' answer a c answers = record {
@@ -96,15 +96,15 @@ module _ (num : Numbering) (is : IsNumbering num) (t : Shape) (names : List (Lis
       answers = answers;
     }
 
-    did_fail : (after : Option Shape) (children' : List Child) (d : ℕ) (errno : Errno) → errno ≡ EIO → 0 < d
+    did_fail : (after : Option Shape) (children' : List LentChild) (d : ℕ) (errno : Errno) → errno ≡ EIO → 0 < d
         → after ≡ Some (faulted_by d (lend_all names t)) → children' ≡ children
         → Did after children' false num.root (Some d) (Refuses errno)
     did_fail after children' d errno e h a c = record {
       next = λ f. absurd (cc f);
       unnumbered = λ f. absurd (cc f);
       stands =
-          subst (λ (cs : List Child). Stands num t names (record { ino = num.root; count = d } ∷ []) after cs) (sym c)
-          (subst (λ (o : Option Shape). Stands num t names (record { ino = num.root; count = d } ∷ []) o children)
+          subst (λ (cs : List LentChild). StandsLent num t names (record { ino = num.root; count = d } ∷ []) after cs) (sym c)
+          (subst (λ (o : Option Shape). StandsLent num t names (record { ino = num.root; count = d } ∷ []) o children)
           (sym a)
           (stands_root_risen num is.1 t names root children (record { ino = num.root; count = d }) st refl));
       answers = (ap (λ (x : Errno). Refuses x) e, h, inl refl);
@@ -115,7 +115,7 @@ module _ (num : Numbering) (is : IsNumbering num) (t : Shape) (names : List (Lis
     executes_root : (b : Bool) → owner_executes (lend_all names t) ≡ b → owner_executes t ≡ b
     executes_root b x = sym (owner_executes-lend_all names t) ∙ x
 
-    pub did_unsearched : (after : Option Shape) (children' : List Child) (risen : Option ℕ) (answer : Answer)
+    pub did_unsearched : (after : Option Shape) (children' : List LentChild) (risen : Option ℕ) (answer : Answer)
         → NotSearched (lend_all names t) after risen answer → children' ≡ children
         → Did after children' false num.root risen answer
     did_unsearched after children' None (Refuses errno) h c =
@@ -129,7 +129,7 @@ module _ (num : Numbering) (is : IsNumbering num) (t : Shape) (names : List (Lis
 
     -- ---- a name that the root lacks
 
-    did_missing : (after : Option Shape) (children' : List Child) (risen : Option ℕ) (answer : Answer)
+    did_missing : (after : Option Shape) (children' : List LentChild) (risen : Option ℕ) (answer : Answer)
         → owner_executes (lend_all names t) ≡ true → place_of_child name children ≡ None
         → LendsNone (lend_all names t) name after risen answer → children' ≡ children
         → Did after children' false num.root risen answer
@@ -163,7 +163,7 @@ module _ (num : Numbering) (is : IsNumbering num) (t : Shape) (names : List (Lis
         walk_known s (place + num.first) (executes_root true x)
         (placed num t names root children name place st p).number e
 
-    known_still : (after : Option Shape) (children' : List Child) (place : ℕ) (s : Shape) (told : Option Shape)
+    known_still : (after : Option Shape) (children' : List LentChild) (place : ℕ) (s : Shape) (told : Option Shape)
         (answer : Answer) → after ≡ Some (lend_all names t) → place_of_child name children ≡ Some place
         → children' ≡ slice_set children place (name, told) → child_of name t ≡ Some s → told ≡ Some s
         → AnswersBy num (walked_among num t names name) false (length names) [] answer
@@ -180,7 +180,7 @@ module _ (num : Numbering) (is : IsNumbering num) (t : Shape) (names : List (Lis
           answers = answers;
         }
 
-    known_by : (after : Option Shape) (children' : List Child) (place : ℕ) (s : Shape) (told : Option Shape)
+    known_by : (after : Option Shape) (children' : List LentChild) (place : ℕ) (s : Shape) (told : Option Shape)
         (risen : Option ℕ) (answer : Answer) → owner_executes (lend_all names t) ≡ true
         → after ≡ Some (lend_all names t) → place_of_child name children ≡ Some place
         → children' ≡ slice_set children place (name, told) → child_of name t ≡ Some s → Loads s told risen answer
@@ -197,9 +197,9 @@ module _ (num : Numbering) (is : IsNumbering num) (t : Shape) (names : List (Lis
       next = λ f. absurd (cc f);
       unnumbered = λ f. absurd (cc f);
       stands =
-          subst (λ (cs : List Child). Stands num t names (record { ino = place + num.first; count = d } ∷ []) after cs)
+          subst (λ (cs : List LentChild). StandsLent num t names (record { ino = place + num.first; count = d } ∷ []) after cs)
           (sym (c ∙ ap (λ o. slice_set children place (name, o)) h.2))
-          (subst (λ (o : Option Shape). Stands num t names (record { ino = place + num.first; count = d } ∷ []) o
+          (subst (λ (o : Option Shape). StandsLent num t names (record { ino = place + num.first; count = d } ∷ []) o
           (slice_set children place (name, Some (faulted_by d s))))
           (root_is num t names root children st ∙ sym a)
           (stands_child_risen num is.1 t names root children name place s
@@ -213,7 +213,7 @@ module _ (num : Numbering) (is : IsNumbering num) (t : Shape) (names : List (Lis
     known_by after children' place s told (Some d) Memory x a p c e h = absurd h
     known_by after children' place s told (Some d) (Starts image) x a p c e h = absurd h
 
-    pub did_known : (after : Option Shape) (children' : List Child) (place : ℕ) (risen : Option ℕ) (answer : Answer)
+    pub did_known : (after : Option Shape) (children' : List LentChild) (place : ℕ) (risen : Option ℕ) (answer : Answer)
         → owner_executes (lend_all names t) ≡ true → after ≡ Some (lend_all names t)
         → place_of_child name children ≡ Some place → LoadsAt place children children' risen answer
         → Did after children' false (place + num.first) risen answer
@@ -226,14 +226,14 @@ module _ (num : Numbering) (is : IsNumbering num) (t : Shape) (names : List (Lis
         child = same_Some _ _ (sym loads.at ∙ found.child)
 
         whole : LoadsWhere (child_of name t) loads.told risen answer
-        whole = subst (λ (c : Child). LoadsWhere c.1 loads.told risen answer) child loads.loads
+        whole = subst (λ (c : LentChild). LoadsWhere c.1 loads.told risen answer) child loads.loads
 
         by : (o : Option Shape) → child_of name t ≡ o → IsThere o → LoadsWhere o loads.told risen answer
             → Did after children' false (place + num.first) risen answer
         by None e there h = absurd there
         by (Some s) e there h =
             known_by after children' place s loads.told risen answer x a p
-            (loads.set ∙ ap (λ (c : Child). slice_set children place (c.0, loads.told)) child) e h.1
+            (loads.set ∙ ap (λ (c : LentChild). slice_set children place (c.0, loads.told)) child) e h.1
 
     -- ---- a child that is lent now
 
@@ -242,7 +242,7 @@ module _ (num : Numbering) (is : IsNumbering num) (t : Shape) (names : List (Lis
     lent_walk s x p e =
         walk_drawn s (executes_root true x) (unplaced num t names [] root children name st p).unnumbered e
 
-    lent_still : (after : Option Shape) (children' : List Child) (ino : ℕ) (s : Shape) (told : Option Shape)
+    lent_still : (after : Option Shape) (children' : List LentChild) (ino : ℕ) (s : Shape) (told : Option Shape)
         (answer : Answer) → place_of_child name children ≡ None → child_of name t ≡ Some s → faults_of s < 2 ^ 64
         → after ≡ Some (lend_child name (lend_all names t)) → children' ≡ children ++ (name, told) ∷ []
         → ino ≡ length names + num.first → told ≡ Some s
@@ -252,16 +252,16 @@ module _ (num : Numbering) (is : IsNumbering num) (t : Shape) (names : List (Lis
       next = λ f. i;
       unnumbered = λ f. (unplaced num t names [] root children name st p).unnumbered;
       stands =
-          subst (λ (cs : List Child). Stands num t (names ++ name ∷ []) [] after cs)
+          subst (λ (cs : List LentChild). StandsLent num t (names ++ name ∷ []) [] after cs)
           (sym (c ∙ ap (λ o. children ++ (name, o) ∷ []) same))
-          (subst (λ (o : Option Shape). Stands num t (names ++ name ∷ []) [] o (children ++ (name, Some s) ∷ []))
+          (subst (λ (o : Option Shape). StandsLent num t (names ++ name ∷ []) [] o (children ++ (name, Some s) ∷ []))
           (sym a)
           (stands_more num t names name s root children st
           (unplaced num t names [] root children name st p).new e small));
       answers = answers;
     }
 
-    lent_by : (after : Option Shape) (children' : List Child) (ino : ℕ) (s : Shape) (told : Option Shape)
+    lent_by : (after : Option Shape) (children' : List LentChild) (ino : ℕ) (s : Shape) (told : Option Shape)
         (risen : Option ℕ) (answer : Answer) → owner_executes (lend_all names t) ≡ true → place_of_child name children
         ≡ None
         → child_of name t ≡ Some s → faults_of s < 2 ^ 64 → after ≡ Some (lend_child name (lend_all names t))
@@ -281,10 +281,10 @@ module _ (num : Numbering) (is : IsNumbering num) (t : Shape) (names : List (Lis
           next = λ f. i;
           unnumbered = λ f. (unplaced num t names [] root children name st p).unnumbered;
           stands =
-              subst (λ (cs : List Child). Stands num t (names ++ name ∷ [])
+              subst (λ (cs : List LentChild). StandsLent num t (names ++ name ∷ [])
               (record { ino = ino; count = d } ∷ []) after cs)
               (sym (c ∙ ap (λ o. children ++ (name, o) ∷ []) h.2))
-              (subst (λ (o : Option Shape). Stands num t (names ++ name ∷ []) (record { ino = ino; count = d } ∷ []) o
+              (subst (λ (o : Option Shape). StandsLent num t (names ++ name ∷ []) (record { ino = ino; count = d } ∷ []) o
               (children ++ (name, Some (faulted_by d s)) ∷ [])) (sym a)
               (stands_more_risen num is.1 t names name s root children (record { ino = ino; count = d }) st
               (unplaced num t names [] root children name st p).new e small i));
@@ -293,7 +293,7 @@ module _ (num : Numbering) (is : IsNumbering num) (t : Shape) (names : List (Lis
     lent_by after children' ino s told (Some d) Memory x p e small a c i h = absurd h
     lent_by after children' ino s told (Some d) (Starts image) x p e small a c i h = absurd h
 
-    pub did_lent : (drawn : Bool) (after : Option Shape) (children' : List Child) (ino : ℕ) (risen : Option ℕ)
+    pub did_lent : (drawn : Bool) (after : Option Shape) (children' : List LentChild) (ino : ℕ) (risen : Option ℕ)
         (answer : Answer) → owner_executes (lend_all names t) ≡ true → place_of_child name children ≡ None
         → LendsBy num drawn (lend_all names t) name children children' after ino risen answer
         → Did after children' drawn ino risen answer
@@ -309,7 +309,7 @@ module _ (num : Numbering) (is : IsNumbering num) (t : Shape) (names : List (Lis
 
     -- ---- the walk, whichever way it went
 
-    by_walk : (after : Option Shape) (children' : List Child) (step : Step)
+    by_walk : (after : Option Shape) (children' : List LentChild) (step : Step)
         → Walks num (lend_all names t) name children children' after step
         → Did after children' step.drawn step.ino step.loaded.risen step.loaded.answer
     by_walk after children' step (Unsearched h c d i) =
@@ -323,7 +323,7 @@ module _ (num : Numbering) (is : IsNumbering num) (t : Shape) (names : List (Lis
     by_walk after children' step (Lent x p h) =
         did_lent step.drawn after children' step.ino step.loaded.risen step.loaded.answer x p h
 
-    pub did : (after : Option Shape) (children' : List Child) (step : Step)
+    pub did : (after : Option Shape) (children' : List LentChild) (step : Step)
         → WalksWhere num root name children children' after step
         → Did after children' step.drawn step.ino step.loaded.risen step.loaded.answer
     did after children' step walks =
@@ -336,7 +336,7 @@ module _ (num : Numbering) (is : IsNumbering num) (t : Shape) (names : List (Lis
     drawn_as true ino next = ap (λ (n : ℕ). record { dir = num.root; name = name; ino = n } ∷ []) (next refl)
     drawn_as false ino next = refl
 
-    pub executes_by : (after : Option Shape) (children' : List Child) (step : Step) (given : Given)
+    pub executes_by : (after : Option Shape) (children' : List LentChild) (step : Step) (given : Given)
         → WalksWhere num root name children children' after step
         → given.fresh ≡ fresh_by num.root step.drawn step.ino name
         → given.rises ≡ rises_by step.ino step.loaded.risen
@@ -347,7 +347,7 @@ module _ (num : Numbering) (is : IsNumbering num) (t : Shape) (names : List (Lis
           fresh = fresh ∙ drawn_as step.drawn step.ino d.next;
           unnumbered = d.unnumbered;
           stands =
-              subst (λ (rs : List Rise). Stands num t (named_then step.drawn names name) rs after children') (sym rises)
+              subst (λ (rs : List Rise). StandsLent num t (named_then step.drawn names name) rs after children') (sym rises)
               d.stands;
           answers =
               subst (λ (rs : List Rise). AnswersBy num (walked_among num t names name) step.drawn

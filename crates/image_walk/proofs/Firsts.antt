@@ -6,11 +6,11 @@ use Rattle.host_node.specs.Tree.{Shape, faults_of, none_lent}
 use Rattle.kernel_model.specs.entries.Given.{numbers_of}
 use Rattle.kernel_model.specs.files.Numbers.{count_up}
 use Rattle.image_walk.specs.declared.granted.Numbering.{Numbering}
-use Rattle.image_walk.specs.Standing.{Stands}
+use Rattle.image_walk.specs.Standing.{StandsLent}
 use Rattle.image_walk.specs.Executing.{fresh_for}
 use Rattle.image_walk.proofs.Trees.{faulted_by_none}
 
-pub first_stands : (num : Numbering) (t : Shape) → faults_of t < 2 ^ 64 → none_lent t ≡ true → Stands num t [] []
+pub first_stands : (num : Numbering) (t : Shape) → faults_of t < 2 ^ 64 → none_lent t ≡ true → StandsLent num t [] []
     (Some t) []
 first_stands num t h free = record {
   small = h;

@@ -7,11 +7,11 @@ use Rattle.host_node.specs.Tree.{Shape, with_child, is_lent}
 use Rattle.host_node.specs.Told.{CanTakeBack, TakesBack}
 use Rattle.host_node.proofs.TreeLemmas.{child_of-with_other}
 use Rattle.image_walk.specs.declared.granted.Lent.{Lent}
-use Rattle.image_walk.specs.Granted.{Child, IsNew, AreOut, CanGiveBack, GivesBack, put_all, told_of}
+use Rattle.image_walk.specs.Granted.{LentChild, IsNew, AreOut, CanGiveBack, GivesBack, put_all, told_of}
 use Rattle.kernel_model.specs.files.FileTree.{with_plain}
 
 -- the others stay out
-still_out : (name : List ℕ) (s t : Shape) (children : List Child) → IsNew name children → AreOut t children
+still_out : (name : List ℕ) (s t : Shape) (children : List LentChild) → IsNew name children → AreOut t children
     → AreOut (with_child name s t) children
 still_out name s t [] new out = tt
 still_out name s t (c ∷ children) new out = (
@@ -22,17 +22,17 @@ still_out name s t (c ∷ children) new out = (
   still_out name s t children new.1 out.3,
 )
 
-pub can_take : (root : Option Shape) (c : Child) (children : List Child) → CanGiveBack root (c ∷ children)
+pub can_take : (root : Option Shape) (c : LentChild) (children : List LentChild) → CanGiveBack root (c ∷ children)
     → CanTakeBack c.0 root
 can_take None c children can = tt
 can_take (Some t) c children can = can.0
 
 -- what is left after one child went back
-pub record Rest (root root' : Option Shape) (c : Child) (children : List Child) : Type 0 where
+pub record Rest (root root' : Option Shape) (c : LentChild) (children : List LentChild) : Type 0 where
   pub can : CanGiveBack root' children
   pub leads : (after : Option Shape) → GivesBack root' children after → GivesBack root (c ∷ children) after
 
-pub one_back : (root root' : Option Shape) (c : Child) (children : List Child) → CanGiveBack root (c ∷ children)
+pub one_back : (root root' : Option Shape) (c : LentChild) (children : List LentChild) → CanGiveBack root (c ∷ children)
     → TakesBack c.0 root c.1 root' → Rest root root' c children
 one_back None root' c children can back = record {
   can = subst (λ (o : Option Shape). CanGiveBack o children) (sym back) tt;

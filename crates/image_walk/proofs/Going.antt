@@ -11,28 +11,28 @@ use Rattle.host_node.specs.Told.{CanLend, ComesFrom, TellsLent}
 use Rattle.image_walk.specs.declared.granted.Numbering.{Numbering}
 use Rattle.image_walk.specs.declared.loading.Loaded.{Loaded}
 use Rattle.image_walk.specs.declared.walk.Step.{Step}
-use Rattle.image_walk.specs.Granted.{Child, place_of_child, told_of}
+use Rattle.image_walk.specs.Granted.{LentChild, place_of_child, told_of}
 use Rattle.image_walk.specs.declared.granted.Lent.{Lent as LentChild}
 use Rattle.image_walk.specs.Loading.{IsHere, LoadsWhere}
-use Rattle.image_walk.specs.Standing.{Stands}
+use Rattle.image_walk.specs.Standing.{StandsLent}
 use Rattle.image_walk.specs.Walking.{IsGrant, TellNothing, SearchedFor, LendsWhere, LoadsAt, Known, Lent, WalksWhere}
 use Rattle.image_walk.proofs.Places.{IsThere, root_is, unplaced, can_lend, placed}
 
 -- ---- children of nodes that tell nothing
 
-nothing_here : (children : List Child) (i : ℕ) → TellNothing children
+nothing_here : (children : List LentChild) (i : ℕ) → TellNothing children
     → IfSome (slice_get children i) (λ c. IsHere c.1)
 nothing_here [] i h = tt
 nothing_here (c ∷ children) zero h = subst IsHere (sym h.0) tt
 nothing_here (c ∷ children) (suc i) h = nothing_here children i h.1
 
-nothing_set : (children : List Child) (i : ℕ) (child : Child) (told : Option Shape) → TellNothing children
+nothing_set : (children : List LentChild) (i : ℕ) (child : LentChild) (told : Option Shape) → TellNothing children
     → slice_get children i ≡ Some child → (child.1 ≡ None → told ≡ None)
     → TellNothing (slice_set children i (child.0, told))
 nothing_set [] i child told h e f = tt
 nothing_set (c ∷ children) zero child told h e f =
     let same : c ≡ child = same_Some c child e in
-    (f (ap (λ (x : Child). x.1) (sym same) ∙ h.0), h.1)
+    (f (ap (λ (x : LentChild). x.1) (sym same) ∙ h.0), h.1)
 nothing_set (c ∷ children) (suc i) child told h e f = (h.0, nothing_set children i child told h.1 e f)
 
 -- a root that was not refused
@@ -56,15 +56,15 @@ there_here : (o : Option Shape) → IsThere o → IsHere o
 there_here None h = tt
 there_here (Some s) h = h.0
 
-pub known_here : (num : Numbering) (name : List ℕ) (root : Option Shape) (children : List Child) (i : ℕ)
+pub known_here : (num : Numbering) (name : List ℕ) (root : Option Shape) (children : List LentChild) (i : ℕ)
     → IsGrant num root children
     → place_of_child name children ≡ Some i → IfSome (slice_get children i) (λ c. IsHere c.1)
 known_here num name None children i grant e = nothing_here children i grant
 known_here num name (Some r) children i grant e =
     let p = placed num grant.0 grant.1 (Some r) children name i grant.3 e in
-    subst (λ (o : Option Child). IfSome o (λ c. IsHere c.1)) (sym p.child) (there_here (child_of name grant.0) p.there)
+    subst (λ (o : Option LentChild). IfSome o (λ c. IsHere c.1)) (sym p.child) (there_here (child_of name grant.0) p.there)
 
-pub walks_known : (num : Numbering) (name : List ℕ) (told after : Option Shape) (children children' : List Child)
+pub walks_known : (num : Numbering) (name : List ℕ) (told after : Option Shape) (children children' : List LentChild)
     (place : ℕ)
     (step : Step) → SearchedFor told after None → place_of_child name children ≡ Some place → step.drawn ≡ false
     → step.ino ≡ place + num.first → LoadsAt place children children' step.loaded.risen step.loaded.answer
@@ -80,19 +80,19 @@ walks_known num name (Some t) after children children' place step searched e dra
 
 -- ---- a child that was not
 
-pub can_lend_then : (num : Numbering) (name : List ℕ) (told after : Option Shape) (children : List Child)
+pub can_lend_then : (num : Numbering) (name : List ℕ) (told after : Option Shape) (children : List LentChild)
     → IsGrant num told children
     → SearchedFor told after None → place_of_child name children ≡ None → CanLend name after
 can_lend_then num name None after children grant searched e =
     subst (λ (o : Option Shape). CanLend name o) (sym searched) tt
 can_lend_then num name (Some r) after children grant searched e =
-    let s : Stands num grant.0 grant.1 [] (Some r) children = grant.3 in
+    let s : StandsLent num grant.0 grant.1 [] (Some r) children = grant.3 in
     let u = unplaced num grant.0 grant.1 [] (Some r) children name s e in
     subst (λ (o : Option Shape). CanLend name o) (sym (searched.1 ∙ root_is num grant.0 grant.1 (Some r) children s))
     (can_lend grant.0 grant.1 name s.free grant.2 u.new)
 
 pub walks_lent : (num : Numbering) (name : List ℕ) (told between after : Option Shape)
-    (children children' : List Child) (step : Step)
+    (children children' : List LentChild) (step : Step)
     → SearchedFor told between None → place_of_child name children ≡ None
     → LendsWhere num between name children children' after step → WalksWhere num told name children children' after step
 walks_lent num name None between after children children' step searched e lends =
@@ -103,14 +103,14 @@ walks_lent num name (Some t) between after children children' step searched e le
 
 -- ---- a child that is lent now
 
-nothing_more : (children : List Child) (child : Child) → child.1 ≡ None → TellNothing children
+nothing_more : (children : List LentChild) (child : LentChild) → child.1 ≡ None → TellNothing children
     → TellNothing (children ++ child ∷ [])
 nothing_more [] child e h = (e, tt)
 nothing_more (c ∷ children) child e h = (h.0, nothing_more children child e h.1)
 
 pub lends_child : (num : Numbering) (told root' child child' : Option Shape) (name : List ℕ) (count : ℕ) (what : Kind)
     (ino : ℕ)
-    (loaded : Loaded) (children children' : List Child) → TellsLent name told child count what
+    (loaded : Loaded) (children children' : List LentChild) → TellsLent name told child count what
     → root' ≡ option_map (lend_child name) told → LoadsWhere child child' loaded.risen loaded.answer
     → children' ≡ children ++ (name, child') ∷ [] → ino ≡ length children + num.first
     → LendsWhere num told name children children' root' (record { drawn = true; ino = ino; loaded = loaded })
@@ -143,7 +143,7 @@ lends_child num (Some t) root' child child' name count what ino loaded children 
 -- ---- the walk as a result
 
 pub walks_ok : {E : Type 0} (num : Numbering) (name : List ℕ) (told between after : Option Shape)
-    (children children' : List Child)
+    (children children' : List LentChild)
     (result : Result Step E) → SearchedFor told between None → place_of_child name children ≡ None
     → IfOk result (LendsWhere num between name children children' after)
     → IfOk result (WalksWhere num told name children children' after)

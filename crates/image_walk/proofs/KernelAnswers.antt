@@ -25,10 +25,10 @@ use Rattle.kernel_model.specs.opening.Opening as opening
 use Rattle.image_walk.specs.declared.granted.Numbering.{Numbering}
 use Rattle.image_walk.specs.declared.loading.Answer.{Answer}
 use Rattle.image_walk.specs.declared.loading.Answer.TheVariants.{Starts, Refuses}
-use Rattle.image_walk.specs.Granted.{Child, GivesBack}
-use Rattle.image_walk.specs.Standing.{IsNumbering, IsNoneOf, AreNodes, StandUnlent, KeepsRoots, Stands}
+use Rattle.image_walk.specs.Granted.{LentChild, GivesBack}
+use Rattle.image_walk.specs.Standing.{IsNumbering, IsNoneOf, AreNodes, StandUnlent, KeepsRoots, StandsLent}
 use Rattle.image_walk.specs.Standing.{no_left}
-use Rattle.image_walk.specs.Executing.{HasNumber, walked_among, fresh_for, named_then, AnswersBy, Answers, Executes}
+use Rattle.image_walk.specs.Executing.{HasNumber, walked_among, fresh_for, named_then, AnswersBy, AnswersExecve, Executes}
 use Rattle.image_walk.proofs.Places.{IsThere}
 use Rattle.image_walk.proofs.KernelWalk.{has_nodes, execve_is, HasNodes}
 use Rattle.image_walk.proofs.KernelNumbers.{nodes_then, Draws, by_walk_quiet, by_walk_failing, number_some}
@@ -65,7 +65,7 @@ there_drawn false t names name h e = absurd (cc e)
 -- where the strings are too long, what is answered is that of no walk
 answers_by : (num : Numbering) (long : Bool) (walked : Walked) (drawn : Bool) (count : ℕ) (rises : List Rise)
     (answer : Answer)
-    → Answers num long walked drawn count rises answer
+    → AnswersExecve num long walked drawn count rises answer
     → AnswersBy num (if long then unwalked else walked) drawn count rises answer
 answers_by num false walked drawn count rises answer h = h
 answers_by num true walked drawn count rises answer h =
@@ -96,7 +96,7 @@ pub record Started (num : Numbering) (k : Kernel) (t : Shape) (names : List (Lis
 -- the execve fails: what was drawn and met may be, the changes that it leaves, that the root's tree then is what the
 -- nodes give back, and that the other roots stand
 pub record Failed (num : Numbering) (k : Kernel) (p : Program) (given : Given) (errno : Errno) (root : Option Shape)
-    (children : List Child) : Type 0 where
+    (children : List LentChild) : Type 0 where
   pub changes : List Change
   pub may : may_meet k.nodes given ≡ true
   pub comes : outcome_in (parts k) (execve_of num.root p given) ≡ opening.Fails errno changes
@@ -105,7 +105,7 @@ pub record Failed (num : Numbering) (k : Kernel) (p : Program) (given : Given) (
   pub still : AreStill num (changed changes k).failed
 
 module _ (num : Numbering) (facts : IsNumbering num) (k : Kernel) (t : Shape) (names : List (List ℕ))
-    (given : Given) (answer : Answer) (root : Option Shape) (children : List Child) (p : Program)
+    (given : Given) (answer : Answer) (root : Option Shape) (children : List LentChild) (p : Program)
     (a : AreNodes num k.nodes t names) (failed : k.failed ≡ map.empty) (room : length names + num.first ≤ LAST_NUMBER)
     (e : Executes num (is_too_long p.args p.env) t names p.name given answer root children) where
   drawing : Draws num t names p.name e.drawn
@@ -178,7 +178,7 @@ module _ (num : Numbering) (facts : IsNumbering num) (k : Kernel) (t : Shape) (n
   settles_quiet r =
       settles num (changed drawn_changes k) t (named_then e.drawn names p.name) root children left.nodes
       (ap (λ (x : Kernel). x.failed) left.rest ∙ failed)
-      (subst (λ (rs : List Rise). Stands num t (named_then e.drawn names p.name) rs root children) r e.stands)
+      (subst (λ (rs : List Rise). StandsLent num t (named_then e.drawn names p.name) rs root children) r e.stands)
 
   abbrev risen_changes : Rise → List Change
   risen_changes x = drawn_changes ++ (OfFaults, risen (x ∷ []) k.failed) ∷ []
@@ -195,7 +195,7 @@ module _ (num : Numbering) (facts : IsNumbering num) (k : Kernel) (t : Shape) (n
       (sym (changed-more drawn_changes (OfFaults, risen (x ∷ []) k.failed) k))
       (settles_risen num (record (changed drawn_changes k) { failed = risen (x ∷ []) k.failed }) t
       (named_then e.drawn names p.name) x root children left.nodes (risen_once x)
-      (subst (λ (rs : List Rise). Stands num t (named_then e.drawn names p.name) rs root children) r e.stands))
+      (subst (λ (rs : List Rise). StandsLent num t (named_then e.drawn names p.name) rs root children) r e.stands))
 
   -- no count of another root rises, where none rose or that of one node that has a number
   still_quiet : AreStill num (changed drawn_changes k).failed
@@ -255,7 +255,7 @@ module _ (num : Numbering) (facts : IsNumbering num) (k : Kernel) (t : Shape) (n
 -- where the image begins nothing rose, and the next execve begins with the folder as it then stands
 pub starts_quiet : (num : Numbering) (long : Bool) (t : Shape) (names : List (List ℕ)) (name : List ℕ) (given : Given)
     (image : Image)
-    (root : Option Shape) (children : List Child)
+    (root : Option Shape) (children : List LentChild)
     → Executes num long t names name given (Starts image) root children → given.rises ≡ []
 starts_quiet num long t names name given image root children e =
     by given.rises (answers_by num long (walked_among num t names name) e.drawn (length (named_then e.drawn names name))
@@ -271,9 +271,9 @@ starts_quiet num long t names name given image root children e =
 
 pub stands_on : (num : Numbering) (long : Bool) (t : Shape) (names : List (List ℕ)) (name : List ℕ) (given : Given)
     (image : Image)
-    (root : Option Shape) (children : List Child)
+    (root : Option Shape) (children : List LentChild)
     → (e : Executes num long t names name given (Starts image) root children)
-    → Stands num t (named_then e.drawn names name) [] root children
+    → StandsLent num t (named_then e.drawn names name) [] root children
 stands_on num long t names name given image root children e =
-    subst (λ (rs : List Rise). Stands num t (named_then e.drawn names name) rs root children)
+    subst (λ (rs : List Rise). StandsLent num t (named_then e.drawn names name) rs root children)
     (starts_quiet num long t names name given image root children e) e.stands

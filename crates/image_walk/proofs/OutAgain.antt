@@ -5,9 +5,9 @@ use Rattle.host_node.specs.Tree.{Shape, faults_of, with_faults, child_of, is_len
 use Rattle.kernel_model.specs.declared.opening.Rise.{Rise}
 use Rattle.kernel_model.specs.files.Settled.{rise_in}
 use Rattle.image_walk.specs.declared.granted.Numbering.{Numbering}
-use Rattle.image_walk.specs.Granted.{Child, IsNew, AreOut, CanGiveBack}
+use Rattle.image_walk.specs.Granted.{LentChild, IsNew, AreOut, CanGiveBack}
 use Rattle.image_walk.specs.Loading.{faulted_by}
-use Rattle.image_walk.specs.Standing.{lend_all, IsNoneOf, StandUnlent, lent_from, Stands}
+use Rattle.image_walk.specs.Standing.{lend_all, IsNoneOf, StandUnlent, lent_from, StandsLent}
 use Rattle.image_walk.proofs.Trees.{child_of-faults}
 use Rattle.image_walk.proofs.Lending.{AreLent, all_lent}
 
@@ -41,9 +41,9 @@ lent_faulted n t (name ∷ names) l = (
 )
 
 pub can_give_back : (num : Numbering) (t : Shape) (names : List (List ℕ)) (rises : List Rise) (root : Option Shape)
-    (children : List Child) → Stands num t names rises root children → CanGiveBack root children
+    (children : List LentChild) → StandsLent num t names rises root children → CanGiveBack root children
 can_give_back num t names rises root children s =
-    subst (λ (cs : List Child). CanGiveBack root cs) (sym s.children_tell)
+    subst (λ (cs : List LentChild). CanGiveBack root cs) (sym s.children_tell)
     (subst (λ (o : Option Shape). CanGiveBack o (lent_from num.first t names rises)) (sym s.root_tells)
     (out_from (faulted_by (rise_in num.root rises) (lend_all names t)) t num.first names rises
     (lent_faulted _ (lend_all names t) names (all_lent names t s.there)) s.there))

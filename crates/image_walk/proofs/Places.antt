@@ -11,9 +11,9 @@ use Rattle.host_node.specs.Told.{CanLend}
 use Rattle.kernel_model.specs.declared.opening.Rise.{Rise}
 use Rattle.kernel_model.specs.files.FileTree.{number_in}
 use Rattle.image_walk.specs.declared.granted.Numbering.{Numbering}
-use Rattle.image_walk.specs.Granted.{Child, place_of_child}
+use Rattle.image_walk.specs.Granted.{LentChild, place_of_child}
 use Rattle.image_walk.specs.Loading.{faulted_by}
-use Rattle.image_walk.specs.Standing.{lend_all, IsNoneOf, StandUnlent, lent_from, numbers_from, Stands}
+use Rattle.image_walk.specs.Standing.{lend_all, IsNoneOf, StandUnlent, lent_from, numbers_from, StandsLent}
 use Rattle.host_node.proofs.Apart.{apart}
 use Rattle.image_walk.proofs.Trees.{faulted_by_none, free_child}
 use Rattle.image_walk.proofs.Lending.{faults_of-lend_all, is_directory-lend_all, child_of-lend_all}
@@ -23,8 +23,8 @@ abbrev pub IsThere : Option Shape → Type 0
 IsThere o = IsSomeAnd o (λ s. (is_lent s ≡ false) × (faults_of s < 2 ^ 64))
 
 -- where nothing rose, the root tells the tree without its children
-pub root_is : (num : Numbering) (t : Shape) (names : List (List ℕ)) (root : Option Shape) (children : List Child)
-    → Stands num t names [] root children → root ≡ Some (lend_all names t)
+pub root_is : (num : Numbering) (t : Shape) (names : List (List ℕ)) (root : Option Shape) (children : List LentChild)
+    → StandsLent num t names [] root children → root ≡ Some (lend_all names t)
 root_is num t names root children s =
     s.root_tells
     ∙ ap Some (faulted_by_none (lend_all names t)
@@ -77,11 +77,11 @@ unplaced_from name n t (other ∷ names) rises e =
     by false d e more = unplaced_more name n other names d (more (mapped_none _ e))
 
 pub unplaced : (num : Numbering) (t : Shape) (names : List (List ℕ)) (rises : List Rise) (root : Option Shape)
-    (children : List Child)
-    (name : List ℕ) → Stands num t names rises root children → place_of_child name children ≡ None
+    (children : List LentChild)
+    (name : List ℕ) → StandsLent num t names rises root children → place_of_child name children ≡ None
     → Unplaced name num.first names
 unplaced num t names rises root children name s e =
-    unplaced_from name num.first t names rises (subst (λ (cs : List Child). place_of_child name cs
+    unplaced_from name num.first t names rises (subst (λ (cs : List LentChild). place_of_child name cs
     ≡ None) s.children_tell e)
 
 -- its child in the tree without its children is that of the tree, and can be lent
@@ -95,7 +95,7 @@ can_lend t names name free d new = (
 
 -- ---- a child has that name
 
-pub record Placed (t : Shape) (name : List ℕ) (n : ℕ) (names : List (List ℕ)) (children : List Child)
+pub record Placed (t : Shape) (name : List ℕ) (n : ℕ) (names : List (List ℕ)) (children : List LentChild)
     (i : ℕ) : Type 0 where
   pub number : number_in name (numbers_from n names) ≡ Some (i + n)
   pub there : IsThere (child_of name t)
@@ -158,19 +158,19 @@ placed_from t name n (other ∷ names) i h e =
         let found = mapped_some (place_of_child name (lent_from (n + 1) t names [])) i e in
         placed_more t name n other names i found.0 d found.2 (more found.0 found.1)
 
-pub placed : (num : Numbering) (t : Shape) (names : List (List ℕ)) (root : Option Shape) (children : List Child)
+pub placed : (num : Numbering) (t : Shape) (names : List (List ℕ)) (root : Option Shape) (children : List LentChild)
     (name : List ℕ) (i : ℕ)
-    → Stands num t names [] root children → place_of_child name children ≡ Some i
+    → StandsLent num t names [] root children → place_of_child name children ≡ Some i
     → Placed t name num.first names children i
 placed num t names root children name i s e =
-    subst (λ (cs : List Child). Placed t name num.first names cs i) (sym s.children_tell)
+    subst (λ (cs : List LentChild). Placed t name num.first names cs i) (sym s.children_tell)
     (placed_from t name num.first names i s.there
-    (subst (λ (cs : List Child). place_of_child name cs ≡ Some i) s.children_tell e))
+    (subst (λ (cs : List LentChild). place_of_child name cs ≡ Some i) s.children_tell e))
 
 -- the same of a name that no child has
 pub can_lend_new : (num : Numbering) (t : Shape) (names : List (List ℕ)) (rises : List Rise) (root : Option Shape)
-    (children : List Child)
-    (name : List ℕ) → Stands num t names rises root children → is_directory t ≡ true → place_of_child name children
+    (children : List LentChild)
+    (name : List ℕ) → StandsLent num t names rises root children → is_directory t ≡ true → place_of_child name children
     ≡ None
     → CanLend name (Some (lend_all names t))
 can_lend_new num t names rises root children name s d e =
@@ -178,8 +178,8 @@ can_lend_new num t names rises root children name s d e =
 
 -- its child in the tree without its children is that of the tree
 pub child_of-new : (num : Numbering) (t : Shape) (names : List (List ℕ)) (rises : List Rise) (root : Option Shape)
-    (children : List Child)
-    (name : List ℕ) → Stands num t names rises root children → place_of_child name children ≡ None
+    (children : List LentChild)
+    (name : List ℕ) → StandsLent num t names rises root children → place_of_child name children ≡ None
     → child_of name (lend_all names t) ≡ child_of name t
 child_of-new num t names rises root children name s e =
     child_of-lend_all name names t (unplaced num t names rises root children name s e).new

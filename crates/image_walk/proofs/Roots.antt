@@ -6,17 +6,17 @@ use Rattle.host_node.specs.declared.kind.Kind.{Kind}
 use Rattle.host_node.specs.Told.{TellsItself}
 use Rattle.host_node.specs.Tree.{Shape}
 use Rattle.image_walk.specs.declared.granted.Numbering.{Numbering}
-use Rattle.image_walk.specs.Standing.{Stands}
+use Rattle.image_walk.specs.Standing.{StandsLent}
 use Rattle.image_walk.specs.Walking.{IsGrant, IsRoot}
 use Rattle.image_walk.proofs.Firsts.{first_stands}
 
 pub root_stands : (num : Numbering) (told : Option Shape) (count : ℕ) (what : Kind) → IsRoot told
     → TellsItself told count what
-    → count < 2 ^ 64 → (t : Shape) → told ≡ Some t → Stands num t [] [] told []
+    → count < 2 ^ 64 → (t : Shape) → told ≡ Some t → StandsLent num t [] [] told []
 root_stands num None count what root itself small t e = absurd (cc e)
 root_stands num (Some r) count what root itself small t e =
     let same : r ≡ t = same_Some r t e in
-    subst (λ (x : Shape). Stands num x [] [] (Some r) []) same
+    subst (λ (x : Shape). StandsLent num x [] [] (Some r) []) same
     (first_stands num r (subst (λ (n : ℕ). n < 2 ^ 64) (sym itself.0) small) root.1)
 
 pub root_grants : (num : Numbering) (told : Option Shape) (count : ℕ) (what : Kind) → IsRoot told

@@ -13,9 +13,9 @@ use Rattle.kernel_model.specs.declared.opening.Rise.{Rise}
 use Rattle.kernel_model.specs.files.FileTree.{Nodes, plain, plain_node, put_back, child_node}
 use Rattle.kernel_model.specs.files.Settled.{rise_in, count_now, tree_now}
 use Rattle.image_walk.specs.declared.granted.Numbering.{Numbering}
-use Rattle.image_walk.specs.Granted.{Child, GivesBack, put_all}
+use Rattle.image_walk.specs.Granted.{LentChild, GivesBack, put_all}
 use Rattle.image_walk.specs.Loading.{faulted_by}
-use Rattle.image_walk.specs.Standing.{lend_all, lent_from, numbers_from, HaveNodes, AreNodes, Stands, no_left}
+use Rattle.image_walk.specs.Standing.{lend_all, lent_from, numbers_from, HaveNodes, AreNodes, StandsLent, no_left}
 use Rattle.image_walk.proofs.StandingMore.{rise_here, rise_elsewhere}
 
 -- counts that rose by these rises
@@ -56,17 +56,17 @@ module _ (num : Numbering) (t : Shape) (rises : List Rise) (count : ℕ → ℕ 
       ∙ ap Some (all_back depth num.first names _ a.children)
       ∙ ap (λ (x : Shape). Some (put_all (lent_from num.first t names rises) x)) (counted num.root (lend_all names t))
 
-gives : (root root' : Option Shape) (children children' : List Child) (after : Option Shape) (tree : Shape)
+gives : (root root' : Option Shape) (children children' : List LentChild) (after : Option Shape) (tree : Shape)
     → root ≡ Some tree → children ≡ children' → after ≡ Some (put_all children' tree) → GivesBack root children after
 gives root root' children children' after tree r c e =
     subst (λ (o : Option Shape). GivesBack o children after) (sym r)
-    (subst (λ (cs : List Child). after ≡ Some (put_all cs tree)) (sym c) e)
+    (subst (λ (cs : List LentChild). after ≡ Some (put_all cs tree)) (sym c) e)
 
 -- with counts that rose by the rises that the nodes met
 pub settles_by : (num : Numbering) (k : Kernel) (t : Shape) (names : List (List ℕ)) (rises : List Rise)
     (root : Option Shape)
-    (children : List Child) → AreNodes num k.nodes t names → CountsBy rises (count_now k no_left)
-    → Stands num t names rises root children → GivesBack root children (tree_now k no_left num.root)
+    (children : List LentChild) → AreNodes num k.nodes t names → CountsBy rises (count_now k no_left)
+    → StandsLent num t names rises root children → GivesBack root children (tree_now k no_left num.root)
 settles_by num k t names rises root children a counts s =
     gives root root children (lent_from num.first t names rises) (tree_now k no_left num.root)
     (faulted_by (rise_in num.root rises) (lend_all names t)) s.root_tells s.children_tell
@@ -80,8 +80,8 @@ counts_still k f ino granted =
     ap (λ o. capped (granted + unwrap_or o 0 + 0)) none ∙ ap capped same
 
 pub settles : (num : Numbering) (k : Kernel) (t : Shape) (names : List (List ℕ)) (root : Option Shape)
-    (children : List Child)
-    → AreNodes num k.nodes t names → k.failed ≡ map.empty → Stands num t names [] root children
+    (children : List LentChild)
+    → AreNodes num k.nodes t names → k.failed ≡ map.empty → StandsLent num t names [] root children
     → GivesBack root children (tree_now k no_left num.root)
 settles num k t names root children a f s = settles_by num k t names [] root children a (counts_still k f) s
 
@@ -113,8 +113,8 @@ counts_risen k r f ino granted = by (cases_eq r.ino ino)
         ∙ ap (λ d. capped (granted + d)) (sym (rise_elsewhere ino r h))
 
 pub settles_risen : (num : Numbering) (k : Kernel) (t : Shape) (names : List (List ℕ)) (r : Rise) (root : Option Shape)
-    (children : List Child) → AreNodes num k.nodes t names
-    → k.failed ≡ map.insert map.empty r.ino (capped (0 + r.count)) → Stands num t names (r ∷ []) root children
+    (children : List LentChild) → AreNodes num k.nodes t names
+    → k.failed ≡ map.insert map.empty r.ino (capped (0 + r.count)) → StandsLent num t names (r ∷ []) root children
     → GivesBack root children (tree_now k no_left num.root)
 settles_risen num k t names r root children a f s =
     settles_by num k t names (r ∷ []) root children a (counts_risen k r f) s

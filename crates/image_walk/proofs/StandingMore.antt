@@ -9,9 +9,9 @@ use Rattle.host_node.proofs.TreeLemmas.{is_lent-none_lent, none_lent-child_of}
 use Rattle.kernel_model.specs.declared.opening.Rise.{Rise}
 use Rattle.kernel_model.specs.files.Settled.{rise_in}
 use Rattle.image_walk.specs.declared.granted.Numbering.{Numbering}
-use Rattle.image_walk.specs.Granted.{Child, place_of_child}
+use Rattle.image_walk.specs.Granted.{LentChild, place_of_child}
 use Rattle.image_walk.specs.Loading.{faulted_by}
-use Rattle.image_walk.specs.Standing.{lend_all, IsNoneOf, StandUnlent, lent_from, Stands}
+use Rattle.image_walk.specs.Standing.{lend_all, IsNoneOf, StandUnlent, lent_from, StandsLent}
 use Rattle.host_node.proofs.Apart.{apart}
 use Rattle.image_walk.proofs.Trees.{faulted_by_none}
 use Rattle.image_walk.proofs.Lending.{faults_of-lend_all, lend_all-more}
@@ -37,7 +37,7 @@ lent_from-below n t (name ∷ names) r h =
     ap
     (λ d. (name, option_map (faulted_by d) (child_of name t)) ∷ lent_from (n + 1) t names (r ∷ []))
     (rise_elsewhere n r differs)
-    ∙ ap (λ (cs : List Child). (name, option_map (faulted_by 0) (child_of name t)) ∷ cs)
+    ∙ ap (λ (cs : List LentChild). (name, option_map (faulted_by 0) (child_of name t)) ∷ cs)
     (lent_from-below (n + 1) t names r next)
 
 pub lent_from-above : (n : ℕ) (t : Shape) (names : List (List ℕ)) (r : Rise) → n + length names ≤ r.ino
@@ -50,7 +50,7 @@ lent_from-above n t (name ∷ names) r h =
     ap
     (λ d. (name, option_map (faulted_by d) (child_of name t)) ∷ lent_from (n + 1) t names (r ∷ []))
     (rise_elsewhere n r differs)
-    ∙ ap (λ (cs : List Child). (name, option_map (faulted_by 0) (child_of name t)) ∷ cs)
+    ∙ ap (λ (cs : List LentChild). (name, option_map (faulted_by 0) (child_of name t)) ∷ cs)
     (lent_from-above (n + 1) t names r next)
 
 -- ---- one more child
@@ -74,7 +74,7 @@ lent_from-more n t [] name rises =
     ap (λ ino. (name, option_map (faulted_by (rise_in ino rises)) (child_of name t)) ∷ []) same
 lent_from-more n t (other ∷ names) name rises =
     let same : length names + (n + 1) ≡ suc (length names) + n = omega arith in
-    ap (λ (cs : List Child). (other, option_map (faulted_by (rise_in n rises)) (child_of other t)) ∷ cs)
+    ap (λ (cs : List LentChild). (other, option_map (faulted_by (rise_in n rises)) (child_of other t)) ∷ cs)
     (lent_from-more (n + 1) t names name rises
     ∙ ap
     (λ ino. lent_from (n + 1) t names rises
@@ -101,16 +101,16 @@ root_more num t names name rises h e =
 -- one more child was lent,
 pub stands_more : (num : Numbering) (t : Shape) (names : List (List ℕ)) (name : List ℕ) (s : Shape)
     (root : Option Shape)
-    (children : List Child) → Stands num t names [] root children → IsNoneOf name names → child_of name t ≡ Some s
+    (children : List LentChild) → StandsLent num t names [] root children → IsNoneOf name names → child_of name t ≡ Some s
     → faults_of s < 2 ^ 64
-    → Stands num t (names ++ name ∷ []) [] (Some (lend_child name (lend_all names t))) (children ++ (name, Some s) ∷ [])
+    → StandsLent num t (names ++ name ∷ []) [] (Some (lend_child name (lend_all names t))) (children ++ (name, Some s) ∷ [])
 stands_more num t names name s root children st new e h = record {
   small = st.small;
   free = st.free;
   there = there_more t names name st.there new (is_there t name s st.free e h);
   root_tells = root_more num t names name [] st.small refl;
   children_tell =
-      ap (λ (cs : List Child). cs ++ (name, Some s) ∷ []) st.children_tell
+      ap (λ (cs : List LentChild). cs ++ (name, Some s) ∷ []) st.children_tell
       ∙ sym (lent_from-more num.first t names name []
       ∙ ap (λ (o : Option Shape). lent_from num.first t names [] ++ (name, option_map (faulted_by 0) o) ∷ []) e
       ∙ ap (λ (x : Shape). lent_from num.first t names [] ++ (name, Some x) ∷ []) (faulted_by_none s h));
@@ -119,9 +119,9 @@ stands_more num t names name s root children st new e h = record {
 -- and it has met a fault
 pub stands_more_risen : (num : Numbering) (low : num.root < num.first) (t : Shape) (names : List (List ℕ))
     (name : List ℕ) (s : Shape) (root : Option Shape)
-    (children : List Child) (r : Rise) → Stands num t names [] root children → IsNoneOf name names
+    (children : List LentChild) (r : Rise) → StandsLent num t names [] root children → IsNoneOf name names
     → child_of name t ≡ Some s → faults_of s < 2 ^ 64 → r.ino ≡ length names + num.first
-    → Stands num t (names ++ name ∷ []) (r ∷ []) (Some (lend_child name (lend_all names t)))
+    → StandsLent num t (names ++ name ∷ []) (r ∷ []) (Some (lend_child name (lend_all names t)))
     (children ++ (name, Some (faulted_by r.count s)) ∷ [])
 stands_more_risen num low t names name s root children r st new e h i = record {
   small = st.small;
@@ -132,10 +132,10 @@ stands_more_risen num low t names name s root children r st new e h i = record {
       root_more num t names name (r ∷ []) st.small (rise_elsewhere num.root r differs);
   children_tell =
       let above : num.first + length names ≤ r.ino = omega arith in
-      ap (λ (cs : List Child). cs ++ (name, Some (faulted_by r.count s)) ∷ []) st.children_tell
+      ap (λ (cs : List LentChild). cs ++ (name, Some (faulted_by r.count s)) ∷ []) st.children_tell
       ∙ sym (lent_from-more num.first t names name (r ∷ [])
       ∙ ap
-      (λ (cs : List Child). cs
+      (λ (cs : List LentChild). cs
       ++ (name, option_map (faulted_by (rise_in (length names + num.first) (r ∷ []))) (child_of name t)) ∷ [])
       (lent_from-above num.first t names r above)
       ∙ ap
@@ -147,9 +147,9 @@ stands_more_risen num low t names name s root children r st new e h i = record {
 
 -- the root has met a fault
 pub stands_root_risen : (num : Numbering) (low : num.root < num.first) (t : Shape) (names : List (List ℕ))
-    (root : Option Shape) (children : List Child) (r : Rise)
-    → Stands num t names [] root children → r.ino ≡ num.root
-    → Stands num t names (r ∷ []) (Some (faulted_by r.count (lend_all names t))) children
+    (root : Option Shape) (children : List LentChild) (r : Rise)
+    → StandsLent num t names [] root children → r.ino ≡ num.root
+    → StandsLent num t names (r ∷ []) (Some (faulted_by r.count (lend_all names t))) children
 stands_root_risen num low t names root children r st i = record {
   small = st.small;
   free = st.free;
@@ -167,28 +167,28 @@ set_risen : (n : ℕ) (t : Shape) (names : List (List ℕ)) (name : List ℕ) (s
     ≡ slice_set (lent_from n t names []) i (name, Some (faulted_by r.count s))
 set_risen n t [] name s i r g e h = absurd (cc g)
 set_risen n t (other ∷ names) name s zero r g e h =
-    let same : other ≡ name = ap (λ (c : Child). c.0) (same_Some _ (name, child_of name t) g) in
+    let same : other ≡ name = ap (λ (c : LentChild). c.0) (same_Some _ (name, child_of name t) g) in
     let here : r.ino ≡ n = omega arith in
     let below : r.ino < n + 1 = omega arith in
     ap (λ d. (other, option_map (faulted_by d) (child_of other t)) ∷ lent_from (n + 1) t names (r ∷ []))
     (rise_here n r here)
     ∙ ap (λ (m : List ℕ). (m, option_map (faulted_by r.count) (child_of m t)) ∷ lent_from (n + 1) t names (r ∷ [])) same
     ∙ ap (λ (o : Option Shape). (name, option_map (faulted_by r.count) o) ∷ lent_from (n + 1) t names (r ∷ [])) e
-    ∙ ap (λ (cs : List Child). (name, Some (faulted_by r.count s)) ∷ cs) (lent_from-below (n + 1) t names r below)
+    ∙ ap (λ (cs : List LentChild). (name, Some (faulted_by r.count s)) ∷ cs) (lent_from-below (n + 1) t names r below)
 set_risen n t (other ∷ names) name s (suc i) r g e h =
     let differs : r.ino ≢ n = λ same. absurd (omega arith) in
     let next : r.ino ≡ i + (n + 1) = omega arith in
     ap (λ d. (other, option_map (faulted_by d) (child_of other t)) ∷ lent_from (n + 1) t names (r ∷ []))
     (rise_elsewhere n r differs)
-    ∙ ap (λ (cs : List Child). (other, option_map (faulted_by 0) (child_of other t)) ∷ cs)
+    ∙ ap (λ (cs : List LentChild). (other, option_map (faulted_by 0) (child_of other t)) ∷ cs)
     (set_risen (n + 1) t names name s i r g e next)
 
 pub stands_child_risen : (num : Numbering) (low : num.root < num.first) (t : Shape) (names : List (List ℕ))
-    (root : Option Shape) (children : List Child)
-    (name : List ℕ) (i : ℕ) (s : Shape) (r : Rise) → Stands num t names [] root children → place_of_child name children
+    (root : Option Shape) (children : List LentChild)
+    (name : List ℕ) (i : ℕ) (s : Shape) (r : Rise) → StandsLent num t names [] root children → place_of_child name children
     ≡ Some i
     → child_of name t ≡ Some s → r.ino ≡ i + num.first
-    → Stands num t names (r ∷ []) root (slice_set children i (name, Some (faulted_by r.count s)))
+    → StandsLent num t names (r ∷ []) root (slice_set children i (name, Some (faulted_by r.count s)))
 stands_child_risen num low t names root children name i s r st p e h =
     let found = placed num t names root children name i st p in record {
       small = st.small;
@@ -198,8 +198,8 @@ stands_child_risen num low t names root children name i s r st p e h =
           let differs : r.ino ≢ num.root = λ one. absurd (omega arith) in
           st.root_tells ∙ ap (λ d. Some (faulted_by d (lend_all names t))) (sym (rise_elsewhere num.root r differs));
       children_tell =
-          ap (λ (cs : List Child). slice_set cs i (name, Some (faulted_by r.count s))) st.children_tell
+          ap (λ (cs : List LentChild). slice_set cs i (name, Some (faulted_by r.count s))) st.children_tell
           ∙ sym (set_risen num.first t names name s i r
-          (subst (λ (cs : List Child). slice_get cs i ≡ Some (name, child_of name t)) st.children_tell found.child) e
+          (subst (λ (cs : List LentChild). slice_get cs i ≡ Some (name, child_of name t)) st.children_tell found.child) e
           h);
     }

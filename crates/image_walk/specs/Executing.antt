@@ -11,8 +11,8 @@ use Rattle.kernel_model.specs.opening.Opening.{Walked, executed}
 use Rattle.image_walk.specs.declared.granted.Numbering.{Numbering}
 use Rattle.image_walk.specs.declared.loading.Answer.{Answer}
 use Rattle.image_walk.specs.declared.loading.Answer.TheVariants.{Starts, Refuses, Memory}
-use Rattle.image_walk.specs.Granted.{Child}
-use Rattle.image_walk.specs.Standing.{Stands, numbers_from}
+use Rattle.image_walk.specs.Granted.{LentChild}
+use Rattle.image_walk.specs.Standing.{StandsLent, numbers_from}
 
 -- what a look for a name comes to
 -- path_resolution(7), ENOENT
@@ -69,21 +69,21 @@ AnswersBy num walked drawn count (rise ∷ other ∷ rises) answer = ⊥
 
 -- the same, where nothing is walked to if the strings are too long
 -- execve(2), E2BIG
-abbrev pub Answers : Numbering → (long : Bool) → Walked → (drawn : Bool) → (count : ℕ) → List Rise
+abbrev pub AnswersExecve : Numbering → (long : Bool) → Walked → (drawn : Bool) → (count : ℕ) → List Rise
     → Answer → Type 0
-Answers num true walked drawn count rises answer = (drawn ≡ false) × (rises ≡ []) × (answer ≡ Refuses E2BIG)
-Answers num false walked drawn count rises answer = AnswersBy num walked drawn count rises answer
+AnswersExecve num true walked drawn count rises answer = (drawn ≡ false) × (rises ≡ []) × (answer ≡ Refuses E2BIG)
+AnswersExecve num false walked drawn count rises answer = AnswersBy num walked drawn count rises answer
 
 -- what an opening execve of a name drew, met and answered, over a granted tree of which these children were lent, and
 -- what the nodes tell then
 -- execve(2)
 pub record Executes (num : Numbering) (long : Bool) (t : Shape) (names : List (List ℕ)) (name : List ℕ)
-    (given : Given) (answer : Answer) (root : Option Shape) (children : List Child) : Type 0 where
+    (given : Given) (answer : Answer) (root : Option Shape) (children : List LentChild) : Type 0 where
   pub drawn : Bool
   pub fresh : given.fresh ≡ fresh_for num drawn names name
   pub unnumbered : drawn ≡ true → number_in name (numbers_from num.first names) ≡ None
-  pub stands : Stands num t (named_then drawn names name) given.rises root children
-  pub answers : Answers num long (walked_among num t names name) drawn (length (named_then drawn names name))
+  pub stands : StandsLent num t (named_then drawn names name) given.rises root children
+  pub answers : AnswersExecve num long (walked_among num t names name) drawn (length (named_then drawn names name))
       given.rises answer
 
 -- a child that got a number, and a rise of the count of the node of a number

@@ -12,7 +12,7 @@ use Rattle.kernel_model.specs.files.FileTree.{Nodes, child_node}
 use Rattle.kernel_model.specs.files.Settled.{rise_in}
 use Rattle.image_walk.specs.declared.granted.Numbering.{Numbering}
 use Rattle.image_walk.specs.declared.granted.TheConstants.{MOST_ROOTS}
-use Rattle.image_walk.specs.Granted.{Child}
+use Rattle.image_walk.specs.Granted.{LentChild}
 use Rattle.image_walk.specs.Loading.{faulted_by}
 
 -- the numbers of a granted folder: the root's, and those of children from the first on, which are above those of roots
@@ -42,7 +42,7 @@ StandUnlent t (name ∷ names) =
 
 -- what the nodes under these names tell, numbered from that number on, after these rises of counts
 -- profile
-abbrev pub lent_from : (number : ℕ) → Shape → (names : List (List ℕ)) → List Rise → List Child
+abbrev pub lent_from : (number : ℕ) → Shape → (names : List (List ℕ)) → List Rise → List LentChild
 lent_from n t [] rises = []
 lent_from n t (name ∷ names) rises =
     (name, option_map (faulted_by (rise_in n rises)) (child_of name t)) ∷ lent_from (n + 1) t names rises
@@ -50,8 +50,8 @@ lent_from n t (name ∷ names) rises =
 -- a granted tree of which these children were lent: what its root and the children, numbered in order, tell after these
 -- rises of counts
 -- profile
-pub record Stands (num : Numbering) (t : Shape) (names : List (List ℕ)) (rises : List Rise) (root : Option Shape)
-    (children : List Child) : Type 0 where
+pub record StandsLent (num : Numbering) (t : Shape) (names : List (List ℕ)) (rises : List Rise) (root : Option Shape)
+    (children : List LentChild) : Type 0 where
   pub small : faults_of t < 2 ^ 64
   pub free : none_lent t ≡ true
   pub there : StandUnlent t names

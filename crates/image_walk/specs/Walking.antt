@@ -10,22 +10,22 @@ use Rattle.image_walk.specs.declared.loading.Answer.{Answer}
 use Rattle.image_walk.specs.declared.loading.Answer.TheVariants.{Refuses, Memory}
 use Rattle.image_walk.specs.declared.loading.Loaded.{Loaded}
 use Rattle.image_walk.specs.declared.walk.Step.{Step}
-use Rattle.image_walk.specs.Granted.{Child, place_of_child}
+use Rattle.image_walk.specs.Granted.{LentChild, place_of_child}
 use Rattle.image_walk.specs.Loading.{Loads, LoadsWhere, faulted_by}
-use Rattle.image_walk.specs.Standing.{Stands}
+use Rattle.image_walk.specs.Standing.{StandsLent}
 
 -- no child tells itself
 -- profile
-abbrev pub TellNothing : List Child → Type 0
+abbrev pub TellNothing : List LentChild → Type 0
 TellNothing [] = ⊤
 TellNothing (c ∷ children) = (c.1 ≡ None) × TellNothing children
 
 -- a granted folder of which these children were lent, and none of whose nodes failed so far; or its nodes tell nothing
 -- profile
-abbrev pub IsGrant : Numbering → (root : Option Shape) → List Child → Type 0
+abbrev pub IsGrant : Numbering → (root : Option Shape) → List LentChild → Type 0
 IsGrant num None children = TellNothing children
 IsGrant num (Some r) children =
-    (t : Shape) × (names : List (List ℕ)) × (is_directory t ≡ true) × Stands num t names [] (Some r) children
+    (t : Shape) × (names : List (List ℕ)) × (is_directory t ≡ true) × StandsLent num t names [] (Some r) children
 
 -- a walk that draws a number draws the next, for a child that is then behind the others
 -- inode(7), st_ino
@@ -42,7 +42,7 @@ NumbersNext num (n ∷ m ∷ numbers) before after = ⊥
 
 -- the nodes of a granted folder tell nothing
 -- profile
-abbrev pub IsSilent : (root : Option Shape) → List Child → Type 0
+abbrev pub IsSilent : (root : Option Shape) → List LentChild → Type 0
 IsSilent root children = (root ≡ None) × TellNothing children
 
 -- a root as it is granted: where it tells itself, it is a directory of which nothing is lent
@@ -78,7 +78,7 @@ LendsNone t name after _ _ = ⊥
 
 -- the root lent the child of that name, which was loaded
 -- execve(2)
-pub record LendsChild (t : Shape) (name : List ℕ) (children children' : List Child) (after : Option Shape)
+pub record LendsChild (t : Shape) (name : List ℕ) (children children' : List LentChild) (after : Option Shape)
     (risen : Option ℕ) (answer : Answer) : Type 0 where
   pub child : Shape
   pub there : child_of name t ≡ Some child
@@ -88,14 +88,14 @@ pub record LendsChild (t : Shape) (name : List ℕ) (children children' : List C
   pub pushed : children' ≡ children ++ (name, told) ∷ []
   pub loads : Loads child told risen answer
 
-abbrev pub LendsBy : Numbering → (drawn : Bool) → Shape → (name : List ℕ) → (children children' : List Child)
+abbrev pub LendsBy : Numbering → (drawn : Bool) → Shape → (name : List ℕ) → (children children' : List LentChild)
     → (after : Option Shape) → (ino : ℕ) → (risen : Option ℕ) → Answer → Type 0
 LendsBy num true t name children children' after ino risen answer =
     LendsChild t name children children' after risen answer × (ino ≡ length children + num.first)
 LendsBy num false t name children children' after ino risen answer =
     LendsNone t name after risen answer × (children' ≡ children) × (ino ≡ num.root)
 
-abbrev pub LendsWhere : Numbering → (told : Option Shape) → (name : List ℕ) → (children children' : List Child)
+abbrev pub LendsWhere : Numbering → (told : Option Shape) → (name : List ℕ) → (children children' : List LentChild)
     → (after : Option Shape) → Step → Type 0
 LendsWhere num None name children children' after step =
     (after ≡ None) × (TellNothing children → TellNothing children')
@@ -104,8 +104,8 @@ LendsWhere num (Some t) name children children' after step =
 
 -- the child at a place was loaded again
 -- execve(2)
-pub record LoadsAt (place : ℕ) (children children' : List Child) (risen : Option ℕ) (answer : Answer) : Type 0 where
-  pub child : Child
+pub record LoadsAt (place : ℕ) (children children' : List LentChild) (risen : Option ℕ) (answer : Answer) : Type 0 where
+  pub child : LentChild
   pub at : slice_get children place ≡ Some child
   pub told : Option Shape
   pub set : children' ≡ slice_set children place (child.0, told)
@@ -113,7 +113,7 @@ pub record LoadsAt (place : ℕ) (children children' : List Child) (risen : Opti
 
 -- how a walk went over a root that tells itself
 -- path_resolution(7); execve(2)
-pub data Walks (num : Numbering) (t : Shape) (name : List ℕ) (children children' : List Child) (after : Option Shape)
+pub data Walks (num : Numbering) (t : Shape) (name : List ℕ) (children children' : List LentChild) (after : Option Shape)
     (step : Step) : Type 0 where
   Unsearched : NotSearched t after step.loaded.risen step.loaded.answer → children' ≡ children → step.drawn ≡ false
       → step.ino ≡ num.root → Walks num t name children children' after step
@@ -127,7 +127,7 @@ pub data Walks (num : Numbering) (t : Shape) (name : List ℕ) (children childre
 
 -- the same, where the root tells itself
 -- profile
-abbrev pub WalksWhere : Numbering → (told : Option Shape) → (name : List ℕ) → (children children' : List Child)
+abbrev pub WalksWhere : Numbering → (told : Option Shape) → (name : List ℕ) → (children children' : List LentChild)
     → (after : Option Shape) → Step → Type 0
 WalksWhere num None name children children' after step =
     (after ≡ None) × (TellNothing children → TellNothing children')

@@ -9,7 +9,7 @@ ghost use Rattle.kernel_model.specs.opening.Arguments.{is_too_long};
 ghost use Rattle.image_walk.specs.Executing.{Executes, fresh_by, rises_by};
 ghost use Rattle.image_walk.specs.Granted.{told_of};
 ghost use Rattle.image_walk.specs.Loading.{is_roomy};
-ghost use Rattle.image_walk.specs.Standing.{IsNumbering, Stands};
+ghost use Rattle.image_walk.specs.Standing.{IsNumbering, StandsLent};
 ghost use Rattle.image_walk.specs.Walking.{IsGrant, IsSilent, NumbersNext};
 
 use crate::granted::Granted;
@@ -96,7 +96,7 @@ pub fn execve<N: HostNode>(
     requires grant { IsGrant granted.old.numbers (N.told granted.old.root) (told_of N.told granted.old.lent.items) }
     ensures same { granted.new.numbers ≡ granted.old.numbers }
     ensures executes { IfOk result (λ e. (t : Shape) (names : Items (Items ℕ)) →
-        Stands granted.old.numbers t names [] (N.told granted.old.root) (told_of N.told granted.old.lent.items) →
+        StandsLent granted.old.numbers t names [] (N.told granted.old.root) (told_of N.told granted.old.lent.items) →
         Executes granted.old.numbers (is_too_long program.now.args program.now.env) t names program.now.name
         e.given e.answer (N.told granted.new.root) (told_of N.told granted.new.lent.items)) }
     ensures numbers { IfOk result (λ e. NumbersNext granted.old.numbers (numbers_of e.given.fresh)

@@ -35,7 +35,7 @@ pub struct Granted<N: Drop> {
 
 impl<N: HostNode> Granted<N> {
     ghost use Rattle.std.specs.Prelude.{None, Some};
-    ghost use Rattle.image_walk.specs.Standing.{Stands};
+    ghost use Rattle.image_walk.specs.Standing.{StandsLent};
     ghost use Rattle.image_walk.specs.Walking.{IsGrant, IsRoot};
 
     /// A root as it is granted, with nothing lent, whose nodes have these numbers.
@@ -47,7 +47,7 @@ impl<N: HostNode> Granted<N> {
         ensures numbers { result.numbers ≡ numbers }
         ensures lent { result.lent.items ≡ [] }
         ensures stands { (t : Shape) → N.told root ≡ Some t →
-            Stands numbers t [] [] (N.told result.root) (told_of N.told result.lent.items) }
+            StandsLent numbers t [] [] (N.told result.root) (told_of N.told result.lent.items) }
         ensures faults { N.count result.root ≡ N.count root }
     {
         let _faults = root.faults();

@@ -34,7 +34,7 @@ use Rattle.task_table.specs.Ends.{ended_tasks, exited, group_ended, is_itself, i
 use Rattle.task_table.specs.Reaps.{after_reap, reap_end}
 use Rattle.task_table.specs.Status.{status_number}
 use Rattle.task_table.specs.Table.{TaskTable}
-use Rattle.quantum.specs.Instructions.{Going, ran}
+use Rattle.quantum.specs.Instructions.{GoingTask, ran}
 use Rattle.mm_space.specs.Spaces.{AddressSpace, Reach, unreserved}
 use Rattle.futex_core.specs.declared.keys.FutexKey.{FutexKey}
 use Rattle.futex_core.specs.Waiters.{FutexList, after_leave, after_sleep}
@@ -429,7 +429,7 @@ module _ (k : Kernel) (dir : ℕ) (name : List ℕ) (shape : Shape) where
     untouched changes leaves = more_keep [] changes leaves there
 
     -- instructions, and the end of a group
-    run_keeps : (c : Caller) (after : Option Going) → KeepsIf (option_map (run_changes c) after)
+    run_keeps : (c : Caller) (after : Option GoingTask) → KeepsIf (option_map (run_changes c) after)
     run_keeps c None = tt
     run_keeps c (Some g) = untouched (run_changes c g) none
       where

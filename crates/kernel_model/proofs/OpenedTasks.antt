@@ -3,7 +3,7 @@ use Rattle.std.proofs.Common.{◌≡◌, ℕ, ◌+◌, ◌<◌, List, [], ◌∷
 use Rattle.std.proofs.Common.{length-append, None}
 use Rattle.sn_base.specs.declared.made.Made.{Made}
 use Rattle.task_table.specs.Clones.{opened}
-use Rattle.task_table.specs.Kept.{IsSound}
+use Rattle.task_table.specs.Kept.{IsSoundTable}
 use Rattle.task_table.specs.Table.{TaskTable, no_tasks, live_count}
 use Rattle.task_table.proofs.Keeping.{sound_empty, sound_with_group}
 use Rattle.kernel_model.specs.laws.Room.{MayOpen}
@@ -12,7 +12,7 @@ use Rattle.kernel_model.specs.laws.Room.{MayOpen}
 pub record AreOpened (n : ℕ) (list : TaskTable) : Type 0 where
   pub live : List ℕ
   pub children : List ℕ
-  pub sound : IsSound list live children
+  pub sound : IsSoundTable list live children
   pub all : length live ≡ n
   pub last : list.last ≡ n
 

@@ -19,23 +19,23 @@ use Rattle.kernel_model.specs.opening.Opening.{tasks_begun, opening_of}
 use Rattle.kernel_model.specs.opening.Records.{is_of}
 use Rattle.kernel_model.specs.entries.Given.{may_meet}
 use Rattle.kernel_model.specs.entries.Parts.{parts, outcome_in, changed}
-use Rattle.plain_kernel.specs.OpeningTasks.{Executes, IsRefusedBy}
+use Rattle.plain_kernel.specs.OpeningTasks.{ExecutesInPlace, IsRefusedBy}
 
 -- an execve that failed refuses the opening
 pub fails_refused : (does : Executed) (before after : Kernel) (answer : Execved) (errno : Errno) (rest : Kernel
-    → Begun) (begin : Image → Kernel → Kernel) (number : ℕ) → Executes does before after answer
+    → Begun) (begin : Image → Kernel → Kernel) (number : ℕ) → ExecutesInPlace does before after answer
     → answer ≡ answers.Fails errno
     → (k : Kernel) × (task_begun rest begin number before does ≡ Refuses k number errno)
 fails_refused does before after answer errno rest begin number e is =
-    let (changes, fails, left) = subst (Executes does before after) is e in
+    let (changes, fails, left) = subst (ExecutesInPlace does before after) is e in
     (changed changes before, ap (task_begun rest begin number before) fails)
 
 -- and one that started goes on from the kernel that has its task
 pub starts_begun : (does : Executed) (before after left : Kernel) (answer : Execved) (image : Image) (rest : Kernel
-    → Begun) (begin : Image → Kernel → Kernel) (number : ℕ) → Executes does before after answer
+    → Begun) (begin : Image → Kernel → Kernel) (number : ℕ) → ExecutesInPlace does before after answer
     → answer ≡ answers.Starts image → left ≡ begin image after → task_begun rest begin number before does ≡ rest left
 starts_begun does before after left answer image rest begin number e is adds =
-    let (changes, starts, stays) = subst (Executes does before after) is e in
+    let (changes, starts, stays) = subst (ExecutesInPlace does before after) is e in
     ap (task_begun rest begin number before) starts ∙ ap (λ k. rest (begin image k)) (sym stays) ∙ ap rest (sym adds)
 
 -- an opening that begins with a task of one number begins with it by another that is the same

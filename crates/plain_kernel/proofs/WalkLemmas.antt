@@ -22,7 +22,7 @@ use Rattle.kernel_model.specs.laws.InPlace.{with_nodes, numbered, changed_by}
 use Rattle.plain_kernel.specs.declared.walking.Execved.{Execved}
 use Rattle.plain_kernel.specs.declared.walking.Execved.TheVariants as answers
 use Rattle.kernel_model.specs.laws.Room.{fits}
-use Rattle.plain_kernel.specs.OpeningTasks.{Executes, IsByImage, IsFrom, MayStart}
+use Rattle.plain_kernel.specs.OpeningTasks.{ExecutesInPlace, IsByImage, IsFrom, MayStart}
 use Rattle.node_numbers.specs.Unused.{AreUnused}
 use Rattle.kernel_model.proofs.Trees.{outcome-bind}
 use Rattle.node_numbers.proofs.NodesSoFar.{with_nodes_first, all_numbered_is}
@@ -151,7 +151,7 @@ module _ (k : Kernel) (name : List ℕ) (given : Given) (draws : Bool) (image : 
 -- what an execve in place answers by its image is what it does
 pub executes_by : (does : Executed) (before after : Kernel) (image : Result Image Errno) (answer : Execved)
     → IsByImage image answer → (changes : List Change) × (does ≡ by_image image changes)
-    × (after ≡ changed changes before) → Executes does before after answer
+    × (after ≡ changed changes before) → ExecutesInPlace does before after answer
 executes_by does before after image (answers.Starts elf) is (changes, e, a) =
     (changes, e ∙ ap (λ i. by_image i changes) is, a)
 executes_by does before after image (answers.Fails errno) is (changes, e, a) =
@@ -181,13 +181,13 @@ pub as_refused : (k after : Kernel) (program : Program) (name : List ℕ) (given
     (image : Result Image Errno) (r : Result Execved Memory) → is_too_long program.args program.env ≡ true
     → name ≡ program.name
     → record { draws = draws; image = image } ≡ unwalked
-    → IfOk r (Executes (goes k name given (record { draws = draws; image = image })) k after)
-    → IfOk r (Executes (outcome_in (parts k) (execve_of (slash k) program given)) k after)
+    → IfOk r (ExecutesInPlace (goes k name given (record { draws = draws; image = image })) k after)
+    → IfOk r (ExecutesInPlace (outcome_in (parts k) (execve_of (slash k) program given)) k after)
 as_refused k after program name given draws image r long named walk does =
-    subst (λ (d : Executed). IfOk r (Executes d k after)) (sym (execve_long k program given long))
-    (subst (λ (w : Walked). IfOk r (Executes (goes k program.name given w) k after)) walk
+    subst (λ (d : Executed). IfOk r (ExecutesInPlace d k after)) (sym (execve_long k program given long))
+    (subst (λ (w : Walked). IfOk r (ExecutesInPlace (goes k program.name given w) k after)) walk
     (subst
-    (λ (n : List ℕ). IfOk r (Executes (goes k n given (record { draws = draws; image = image }))
+    (λ (n : List ℕ). IfOk r (ExecutesInPlace (goes k n given (record { draws = draws; image = image }))
     k after)) named does))
 
 -- and where they are not
@@ -195,15 +195,15 @@ pub as_walked : (k after : Kernel) (program : Program) (name : List ℕ) (given 
     (image : Result Image Errno) (r : Result Execved Memory) → is_too_long program.args program.env ≡ false
     → name ≡ program.name
     → outcome_in (parts k) (walk_of (slash k) name) ≡ record { draws = draws; image = image }
-    → IfOk r (Executes (goes k name given (record { draws = draws; image = image })) k after)
-    → IfOk r (Executes (outcome_in (parts k) (execve_of (slash k) program given)) k after)
+    → IfOk r (ExecutesInPlace (goes k name given (record { draws = draws; image = image })) k after)
+    → IfOk r (ExecutesInPlace (outcome_in (parts k) (execve_of (slash k) program given)) k after)
 as_walked k after program name given draws image r short named walks does =
-    subst (λ (d : Executed). IfOk r (Executes d k after))
+    subst (λ (d : Executed). IfOk r (ExecutesInPlace d k after))
     (sym
     (execve_is k program given draws image short (subst (λ (n : List ℕ). outcome_in (parts k) (walk_of (slash k) n)
     ≡ record { draws = draws; image = image }) named walks)))
     (subst
-    (λ (n : List ℕ). IfOk r (Executes (goes k n given (record { draws = draws; image = image }))
+    (λ (n : List ℕ). IfOk r (ExecutesInPlace (goes k n given (record { draws = draws; image = image }))
     k after)) named does)
 
 -- ---- what an execve that starts leaves
@@ -264,9 +264,9 @@ module _ (s : Parts) (k : Kernel) (elf : Image) (changes : List Change) where
 
 -- so the tasks are those before, after an execve in place that starts
 pub tasks_stay : (k after : Kernel) (program : Program) (given : Given) (answer : Execved) (image : Image)
-    → answer ≡ answers.Starts image → Executes (outcome_in (parts k) (execve_of (slash k) program given)) k after answer
+    → answer ≡ answers.Starts image → ExecutesInPlace (outcome_in (parts k) (execve_of (slash k) program given)) k after answer
     → after.tasks ≡ k.tasks
 tasks_stay k after program given answer image is does =
     let (changes, starts, left) =
-    subst (Executes (outcome_in (parts k) (execve_of (slash k) program given)) k after) is does in
+    subst (ExecutesInPlace (outcome_in (parts k) (execve_of (slash k) program given)) k after) is does in
     ap (λ (m : Kernel). m.tasks) left ∙ execve_starts (parts k) k image changes program given starts

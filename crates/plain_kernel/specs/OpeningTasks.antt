@@ -15,12 +15,12 @@ use Rattle.kernel_model.specs.opening.Opening.{Executed, Starts, Fails, Unfit, B
 
 -- an execve in place answers what it does, and does its changes
 -- execve(2)
-abbrev pub Executes : Executed → Kernel → Kernel → Execved → Type 0
-Executes does before after (answers.Starts image) =
+abbrev pub ExecutesInPlace : Executed → Kernel → Kernel → Execved → Type 0
+ExecutesInPlace does before after (answers.Starts image) =
     (changes : List Change) × (does ≡ Starts image changes) × (after ≡ changed changes before)
-Executes does before after (answers.Fails errno) =
+ExecutesInPlace does before after (answers.Fails errno) =
     (changes : List Change) × (does ≡ Fails errno changes) × (after ≡ changed changes before)
-Executes does before after answers.Unfit = does ≡ Unfit
+ExecutesInPlace does before after answers.Unfit = does ≡ Unfit
 
 -- an execve answers with its image or its error
 -- execve(2)

@@ -9,7 +9,7 @@ ghost use Rattle.kernel_model.specs.opening.Opening.{image_or_errno, executed, n
 ghost use Rattle.kernel_model.specs.opening.Opening.{by_walk, root_of, execve_of};
 ghost use Rattle.kernel_model.specs.entries.Parts.{parts, outcome_in as outcome};
 ghost use Rattle.kernel_model.specs.laws.Room.{fits};
-ghost use Rattle.plain_kernel.specs.OpeningTasks.{Executes, IsFrom, MayStart};
+ghost use Rattle.plain_kernel.specs.OpeningTasks.{ExecutesInPlace, IsFrom, MayStart};
 
 use elf_image::Image;
 use host_node::{Kind, Tree};
@@ -167,7 +167,7 @@ pub(crate) fn execve(
 ) -> Result<Execved, Memory>
     requires { may_meet kernel.old.nodes given.now ≡ true }
     ensures does { IfOk result
-        (Executes (outcome (parts kernel.old) (execve_of (root_of kernel.old.mounts) program.now given.now))
+        (ExecutesInPlace (outcome (parts kernel.old) (execve_of (root_of kernel.old.mounts) program.now given.now))
         kernel.old kernel.new) }
     ensures may { IfOk result (MayStart program.now) }
 {
@@ -188,7 +188,7 @@ fn execve_walked(
     walk: Walk,
 ) -> Result<Execved, Memory>
     requires { may_meet kernel.old.nodes given.now ≡ true }
-    ensures does { IfOk result (Executes (outcome (parts kernel.old)
+    ensures does { IfOk result (ExecutesInPlace (outcome (parts kernel.old)
         (by_walk (root_of kernel.old.mounts) name.now given.now
         (record { draws = walk.draws; image = walk.image }))) kernel.old kernel.new) }
     ensures from { IfOk result (IsFrom walk.image) }
@@ -215,7 +215,7 @@ fn execve_unfailed(
 ) -> Result<Execved, Memory>
     requires may { may_meet kernel.old.nodes given.now ≡ true }
     requires unfailed { has_any given.now.rises ≡ false }
-    ensures does { IfOk result (Executes (outcome (parts kernel.old)
+    ensures does { IfOk result (ExecutesInPlace (outcome (parts kernel.old)
         (by_walk (root_of kernel.old.mounts) name.now given.now
         (record { draws = walk.draws; image = walk.image }))) kernel.old kernel.new) }
     ensures from { IfOk result (IsFrom walk.image) }

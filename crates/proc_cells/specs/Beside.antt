@@ -31,7 +31,7 @@ nothing_beside = record { nodes = map.empty; failed = map.empty; mounts = []; se
 -- what cells hold: the task list, registers by task, address spaces and shared areas by name, what is open, the futex
 -- list, and the console
 -- profile
-pub record Held : Type 0 where
+pub record HeldParts : Type 0 where
   pub tasks : TaskTable
   pub registers : map.FinMap nat_cmp Regs
   pub spaces : NamedMap AddressSpace
@@ -40,7 +40,7 @@ pub record Held : Type 0 where
   pub sleepers : FutexList
   pub console : List ℕ
 
-abbrev pub nothing_held : Held
+abbrev pub nothing_held : HeldParts
 nothing_held = record {
   tasks = no_tasks;
   registers = map.empty;
@@ -53,7 +53,7 @@ nothing_held = record {
 
 -- a kernel of these parts, after so many entries
 -- profile
-abbrev pub kernel_with : Held → Beside → (entries : ℕ) → Kernel
+abbrev pub kernel_with : HeldParts → Beside → (entries : ℕ) → Kernel
 kernel_with held beside entries = record {
   tasks = held.tasks;
   registers = held.registers;

@@ -7,11 +7,11 @@ use Rattle.kernel_model.specs.declared.kernel.Kernel.{Kernel}
 use Rattle.kernel_model.specs.entries.Waiting.{Awake, wait_of}
 use Rattle.proc_cells.specs.declared.cells.Cells.{Cells}
 use Rattle.proc_cells.specs.declared.cells.Standing.{Standing}
-use Rattle.proc_cells.specs.Beside.{Beside, Held, kernel_with, found_in}
+use Rattle.proc_cells.specs.Beside.{Beside, HeldParts, kernel_with, found_in}
 
 -- what cells hold, and the kernel that they are with this beside them, after so many entries
 -- profile
-abbrev pub held_by : Cells → Held
+abbrev pub held_by : Cells → HeldParts
 held_by p = record {
   tasks = p.tasks;
   registers = p.registers;

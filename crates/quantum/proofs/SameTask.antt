@@ -7,7 +7,7 @@ use Rattle.rv_exec.specs.Execution.{Done, Goes, Calls, Traps, Touches, exec}
 use Rattle.rv_exec.specs.Writes.{Write, Stores, Reserves, Releases, all_after}
 use Rattle.rv_exec.proofs.Courses.{ran_suc, ran_zero}
 use Rattle.quantum.specs.Acting.{Acting, acting_after_write, memory_of}
-use Rattle.quantum.specs.Instructions.{Going, ran}
+use Rattle.quantum.specs.Instructions.{GoingTask, ran}
 
 wrote : (write : Write) (a : Acting) → (acting_after_write write a).task ≡ a.task
 wrote (Stores at width value) a = refl
@@ -19,22 +19,22 @@ all_wrote [] a = refl
 all_wrote (w ∷ ws) a = all_wrote ws (acting_after_write w a) ∙ wrote w a
 
 -- the number of a task that may not be there
-abbrev number_of : Option Going → ℕ
+abbrev number_of : Option GoingTask → ℕ
 number_of None = 0
 number_of (Some g) = g.acting.task
 
-went : (done : Done) (a : Acting) (h : Going) → courses.went_by acting_after_write a done ≡ Some h → h.acting.task
+went : (done : Done) (a : Acting) (h : GoingTask) → courses.went_by acting_after_write a done ≡ Some h → h.acting.task
     ≡ a.task
 went (Goes r ws) a h is = sym (ap number_of is) ∙ all_wrote ws a
 went Calls a h is = absurd (none-some h is)
 went (Traps signal) a h is = absurd (none-some h is)
 went (Touches area) a h is = absurd (none-some h is)
 
-pub ran_same : (n : ℕ) (g h : Going) → ran n g ≡ Some h → h.acting.task ≡ g.acting.task
+pub ran_same : (n : ℕ) (g h : GoingTask) → ran n g ≡ Some h → h.acting.task ≡ g.acting.task
 ran_same zero g h is = sym (ap number_of (sym (ran_zero memory_of acting_after_write g) ∙ is))
 ran_same (suc n) g h is = by (λ between. ran_same n g between) (ran n g) refl
   where
-    by : ((between : Going) → ran n g ≡ Some between → between.acting.task ≡ g.acting.task) → (o : Option Going)
+    by : ((between : GoingTask) → ran n g ≡ Some between → between.acting.task ≡ g.acting.task) → (o : Option GoingTask)
         → ran n g ≡ o → h.acting.task ≡ g.acting.task
     by rest None at =
         absurd (none-some h

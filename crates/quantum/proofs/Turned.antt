@@ -11,13 +11,13 @@ use Rattle.rv_exec.specs.declared.outcome.Step.TheVariants as steps
 use Rattle.rv_exec.proofs.Courses.{ran_add, ran_still, ran_suc, ran_zero}
 use Rattle.quantum.specs.Acting.{Acting, acting_after_write, memory_of}
 use Rattle.quantum.specs.Ends.{LacksMemory, Ran, end_of}
-use Rattle.quantum.specs.Instructions.{Going, ran}
+use Rattle.quantum.specs.Instructions.{GoingTask, ran}
 use Rattle.quantum.specs.Turns.{TurnsTo}
 use Rattle.quantum.specs.declared.turn.Stop.{Stop}
 use Rattle.quantum.specs.declared.turn.Stop.TheVariants as stops
 
 -- instructions behind others, so many in all
-pub ran_then : (n m k : ℕ) (start between end : Going) → n + m ≡ k → ran n start ≡ Some between
+pub ran_then : (n m k : ℕ) (start between end : GoingTask) → n + m ≡ k → ran n start ≡ Some between
     → ran m between ≡ Some end → ran k start ≡ Some end
 ran_then n m k start between end is first then_ =
     ap (λ j. ran j start) (sym is) ∙ ran_add memory_of acting_after_write n m start between end first then_
@@ -91,7 +91,7 @@ halted k old new before after step is did apart =
     still k old new before after is same.0 same.1
 
 -- a run that something stops ends rightly
-pub ran_stopped : (stop : Stop) (n m count : ℕ) (start between end : Going) → n + m ≡ count → ran n start ≡ Some between
+pub ran_stopped : (stop : Stop) (n m count : ℕ) (start between end : GoingTask) → n + m ≡ count → ran n start ≡ Some between
     → ran m between ≡ Some end
     → Ran start end (end_of count stop)
 ran_stopped stops.Call n m count start between end is first then_ = ran_then n m count start between end is first then_
@@ -101,7 +101,7 @@ ran_stopped (stops.Shared area) n m count start between end is first then_ =
     ran_then n m count start between end is first then_
 ran_stopped stops.Memory n m count start between end is first then_ = tt
 
-pub lacks_stopped : (stop : Stop) (n m count most left : ℕ) (start between end : Going) → n + m ≡ count
+pub lacks_stopped : (stop : Stop) (n m count most left : ℕ) (start between end : GoingTask) → n + m ≡ count
     → n + left ≡ most → ran n start ≡ Some between → ran m between ≡ Some end
     → TurnsTo end m left (Some stop) → LacksMemory start end most (end_of count stop)
 lacks_stopped stops.Call n m count most left start between end is rest first then_ turned = tt
@@ -111,7 +111,7 @@ lacks_stopped stops.Memory n m count most left start between end is rest first t
     (count, omega (arith, is, rest, turned), ran_then n m count start between end is first then_)
 
 -- a turn that nothing stopped has run at least one instruction, and no more than it might
-pub ran_on : (after : Going) (count most : ℕ) (stop : Option Stop) → TurnsTo after count most stop → (stop ≡ None)
+pub ran_on : (after : GoingTask) (count most : ℕ) (stop : Option Stop) → TurnsTo after count most stop → (stop ≡ None)
     → (1 ≤ count) × (count ≤ most)
 ran_on after count most None turned is = turned
 ran_on after count most (Some stop) turned is = absurd (none-some stop (sym is))

@@ -5,11 +5,11 @@ use Rattle.quantum.specs.declared.run.QuantumEnd.{QuantumEnd}
 use Rattle.quantum.specs.declared.run.QuantumEnd.TheVariants as ends
 use Rattle.quantum.specs.declared.turn.Stop.{Stop}
 use Rattle.quantum.specs.declared.turn.Stop.TheVariants as stops
-use Rattle.quantum.specs.Instructions.{Going, next_done, ran}
+use Rattle.quantum.specs.Instructions.{GoingTask, next_done, ran}
 
 -- so many instructions as the end tells lead from one state to the other
 -- RISC-V Unprivileged ISA 20191213, 1.2
-abbrev pub Ran : (old new : Going) → QuantumEnd → Type 0
+abbrev pub Ran : (old new : GoingTask) → QuantumEnd → Type 0
 Ran old new (ends.Ended count) = ran count old ≡ Some new
 Ran old new (ends.Call count) = ran count old ≡ Some new
 Ran old new (ends.Trap count signal) = ran count old ≡ Some new
@@ -27,7 +27,7 @@ Few most ends.Memory = ⊤
 
 -- it is stopped by what the next instruction does: that calls the system, traps, or touches a shared area not handed in
 -- RISC-V Unprivileged ISA 20191213, 1.6, Exceptions, Traps, and Interrupts
-abbrev pub Stopped : Going → QuantumEnd → Type 0
+abbrev pub Stopped : GoingTask → QuantumEnd → Type 0
 Stopped g (ends.Ended count) = ⊤
 Stopped g (ends.Call count) = next_done g ≡ Calls
 Stopped g (ends.Trap count signal) = next_done g ≡ Traps signal
@@ -36,7 +36,7 @@ Stopped g ends.Memory = ⊤
 
 -- where memory was wanting, whole instructions lead from one state to the other, and fewer than there might have been
 -- profile
-abbrev pub LacksMemory : (old new : Going) → (most : ℕ) → QuantumEnd → Type 0
+abbrev pub LacksMemory : (old new : GoingTask) → (most : ℕ) → QuantumEnd → Type 0
 LacksMemory old new most (ends.Ended count) = ⊤
 LacksMemory old new most (ends.Call count) = ⊤
 LacksMemory old new most (ends.Trap count signal) = ⊤

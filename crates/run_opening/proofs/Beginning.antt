@@ -31,9 +31,9 @@ use Rattle.image_walk.specs.declared.granted.TheConstants.{MOST_ROOTS}
 use Rattle.image_walk.specs.declared.granted.Numbering.{Numbering}
 use Rattle.image_walk.specs.declared.loading.Answer.{Answer}
 use Rattle.image_walk.specs.declared.loading.Answer.TheVariants as answers
-use Rattle.image_walk.specs.Executing.{Answers, Executes, named_then, walked_among}
-use Rattle.image_walk.specs.Granted.{Child}
-use Rattle.image_walk.specs.Standing.{IsNumbering, Stands, lent_from}
+use Rattle.image_walk.specs.Executing.{AnswersExecve, Executes, named_then, walked_among}
+use Rattle.image_walk.specs.Granted.{LentChild}
+use Rattle.image_walk.specs.Standing.{IsNumbering, StandsLent, lent_from}
 use Rattle.image_walk.specs.Walking.{IsGrant}
 use Rattle.image_walk.proofs.KernelAnswers.{Started, Failed, execve_starts, execve_fails, stands_on}
 use Rattle.call_table.specs.declared.processes.Processes.{Processes}
@@ -41,7 +41,7 @@ use Rattle.proc_cells.specs.Beside.{Beside}
 use Rattle.call_table.specs.Processes.{kernel_of_processes}
 use Rattle.run_opening.specs.declared.opening.OpenErr.{OpenErr}
 use Rattle.run_opening.specs.declared.opening.OpenErr.TheVariants.{Image, Memory}
-use Rattle.run_opening.specs.Begun.{GoesOn, HasBegun, IsRefused, Stops}
+use Rattle.run_opening.specs.Begun.{GoesOn, HasBegun, IsOpeningRefused, Stops}
 use Rattle.run_opening.specs.Openings.{Begins, IsStanding, MayLackMemory, StandsAfter, StandsStill, beside_of, numbering_of}
 use Rattle.run_opening.specs.Told.{kernel_told, trees_told}
 use Rattle.run_opening.specs.Trees.{AreOthers, Others}
@@ -62,8 +62,8 @@ lent_each : (n : ℕ) (t : Shape) (names : List (List ℕ)) (rises : List Rise)
 lent_each n t [] rises = refl
 lent_each n t (name ∷ names) rises = ap suc (lent_each (n + 1) t names rises)
 
-length_standing : (num : Numbering) (t : Shape) (names : List (List ℕ)) (root : Option Shape) (children : List Child)
-    → Stands num t names [] root children → length children ≡ length names
+length_standing : (num : Numbering) (t : Shape) (names : List (List ℕ)) (root : Option Shape) (children : List LentChild)
+    → StandsLent num t names [] root children → length children ≡ length names
 length_standing num t names root children s = ap length s.children_tell ∙ lent_each num.first t names []
 
 -- nothing is asked of what may be told
@@ -75,9 +75,9 @@ if_any (Some a) = tt
 
 -- what an execve did, for each tree that its nodes may tell
 abbrev pub ExecutesFor : Numbering → Program → Given → Answer → (root root' : Option Shape)
-    → (children children' : List Child) → Type 0
+    → (children children' : List LentChild) → Type 0
 ExecutesFor num program given answer root root' children children' =
-    (t : Shape) (names : List (List ℕ)) → Stands num t names [] root children
+    (t : Shape) (names : List (List ℕ)) → StandsLent num t names [] root children
     → Executes num (is_too_long program.args program.env) t names program.name given answer root' children'
 
 -- the numbers of the names that an execve leaves
@@ -94,15 +94,15 @@ next_programs programs i p e =
     ∙ ap (λ q. q ∷ drop (i + 1) programs) (get_or_from_slice_get programs i p p e)
 
 -- where nothing is told of a state, nothing is said of what comes after it
-none_told : (m : Mounts) (others : Others) (p : Processes) (root : Option Shape) (children : List Child)
+none_told : (m : Mounts) (others : Others) (p : Processes) (root : Option Shape) (children : List LentChild)
     (fact : Kernel → Type 0) → root ≡ None → IfSome (kernel_told m (trees_told others root children) p 0) fact
 none_told m others p root children fact e =
     subst (λ (o : Option Shape). IfSome (kernel_told m (trees_told others o children) p 0) fact) (sym e) tt
 
 module _ (m : Mounts) (others : Others) (is : AreOthers m.mounts others) (t : Shape) (names : List (List ℕ)) (i : ℕ)
     (tasks tasks' : List Opened) (p : Processes) (program : Program) (o : Opened)
-    (root root' : Option Shape) (children children' : List Child)
-    (s : Stands (numbering_of m.mounts) t names [] root children) (at : slice_get m.tasks i ≡ Some program)
+    (root root' : Option Shape) (children children' : List LentChild)
+    (s : StandsLent (numbering_of m.mounts) t names [] root children) (at : slice_get m.tasks i ≡ Some program)
     (drawn : length children ≤ i) (few : i < 64) (pushed : tasks' ≡ tasks ++ o ∷ [])
     (facts : IsNumbering (numbering_of m.mounts)) where
   abbrev num : Numbering
@@ -197,7 +197,7 @@ module _ (m : Mounts) (others : Others) (is : AreOthers m.mounts others) (t : Sh
         errno refl
 
     refused : (task : ℕ) → task ≡ i + 1
-        → IsRefused m i tasks tasks' task errno (trees_told others root' children') k
+        → IsOpeningRefused m i tasks tasks' task errno (trees_told others root' children') k
     refused task same = record {
       opened = o ∷ [];
       added = pushed;
@@ -214,22 +214,22 @@ module _ (m : Mounts) (others : Others) (is : AreOthers m.mounts others) (t : Sh
     }
 
     pub task_refused : (task : ℕ) → task ≡ i + 1 → IfSome (kernel_told m (trees_told others root children) p 0)
-        (IsRefused m i tasks tasks' task errno (trees_told others root' children'))
+        (IsOpeningRefused m i tasks tasks' task errno (trees_told others root' children'))
     task_refused task same =
         subst (λ (x : Option Kernel). IfSome x
-        (IsRefused m i tasks tasks' task errno (trees_told others root' children'))) (sym tells_k) (refused task same)
+        (IsOpeningRefused m i tasks tasks' task errno (trees_told others root' children'))) (sym tells_k) (refused task same)
 
 -- the folder stands, whatever an execve answers,
 pub standing : (num : Numbering) (long : Bool) (t : Shape) (names : List (List ℕ)) (name : List ℕ) (given : Given)
     (answer : Answer)
-    (root : Option Shape) (children : List Child)
+    (root : Option Shape) (children : List LentChild)
     → Executes num long t names name given answer root children → IsStanding num t root children
 standing num long t names name given answer root children e =
     record { names = named_then e.drawn names name; rises = given.rises; stands = e.stands }
 
 -- and no count has risen where an image begins,
 stands_then : (num : Numbering) (long : Bool) (t : Shape) (names : List (List ℕ)) (name : List ℕ) (given : Given)
-    (image : Executable) (answer : Answer) (root : Option Shape) (children : List Child)
+    (image : Executable) (answer : Answer) (root : Option Shape) (children : List LentChild)
     → answer ≡ answers.Starts image
     → Executes num long t names name given answer root children → StandsStill num t root children
 stands_then num long t names name given image answer root children is e =
@@ -241,16 +241,16 @@ stands_then num long t names name given image answer root children is e =
 
 -- or where memory is wanting
 still_by : (num : Numbering) (long : Bool) (walked : Walked) (drawn : Bool) (count : ℕ) (t : Shape)
-    (names : List (List ℕ)) (rises : List Rise) (root : Option Shape) (children : List Child)
-    → Stands num t names rises root children → Answers num long walked drawn count rises answers.Memory
-    → Stands num t names [] root children
+    (names : List (List ℕ)) (rises : List Rise) (root : Option Shape) (children : List LentChild)
+    → StandsLent num t names rises root children → AnswersExecve num long walked drawn count rises answers.Memory
+    → StandsLent num t names [] root children
 still_by num true walked drawn count t names rises root children s a = absurd (cc a.2)
 still_by num false walked drawn count t names [] root children s a = s
 still_by num false walked drawn count t names (rise ∷ []) root children s a = absurd (cc a.0)
 still_by num false walked drawn count t names (rise ∷ other ∷ rises) root children s a = absurd a
 
 lacks_then : (num : Numbering) (long : Bool) (t : Shape) (names : List (List ℕ)) (name : List ℕ) (given : Given)
-    (answer : Answer) (root : Option Shape) (children : List Child) → MayLackMemory answer
+    (answer : Answer) (root : Option Shape) (children : List LentChild) → MayLackMemory answer
     → Executes num long t names name given answer root children → StandsStill num t root children
 lacks_then num long t names name given answer root children (inl starts) e =
     stands_then num long t names name given starts.0 answer root children starts.1 e
@@ -268,7 +268,7 @@ lacks_then num long t names name given answer root children (inr lacks) e =
 
 -- what is told by the numbers of the folder, by those of the mount file
 pub executes_as : (m : Mounts) (num : Numbering) (program : Program) (given : Given) (answer : Answer)
-    (root root' : Option Shape) (children children' : List Child) → num ≡ numbering_of m.mounts
+    (root root' : Option Shape) (children children' : List LentChild) → num ≡ numbering_of m.mounts
     → ExecutesFor num program given answer root root' children children'
     → ExecutesFor (numbering_of m.mounts) program given answer root root' children children'
 executes_as m num program given answer root root' children children' numbered e =
@@ -282,14 +282,14 @@ begins_as m num seed program answer p result numbered same b =
     (subst (λ (x : Numbering). Begins seed x.root program answer p result) numbered b)
 
 -- the folder before an execve tells nothing, or it stands
-before : (num : Numbering) (root : Option Shape) (children : List Child) → IsGrant num root children
-    → (root ≡ None) ⊎ ((t : Shape) × (names : List (List ℕ)) × Stands num t names [] root children)
+before : (num : Numbering) (root : Option Shape) (children : List LentChild) → IsGrant num root children
+    → (root ≡ None) ⊎ ((t : Shape) × (names : List (List ℕ)) × StandsLent num t names [] root children)
 before num None children g = inl refl
 before num (Some r) children g = inr (g.0, g.1, g.3)
 
 -- an execve of the program of an index, and what came of its answer
 pub record Deed (m : Mounts) (i : ℕ) (tasks tasks' : List Opened) (p : Processes) (root root' : Option Shape)
-    (children children' : List Child) (result : Result Processes OpenErr) : Type 0 where
+    (children children' : List LentChild) (result : Result Processes OpenErr) : Type 0 where
   pub program : Program
   pub at : slice_get m.tasks i ≡ Some program
   pub opened : Opened
@@ -304,7 +304,7 @@ pub record Deed (m : Mounts) (i : ℕ) (tasks tasks' : List Opened) (p : Process
   pub grant : IsGrant (numbering_of m.mounts) root children
 
 module _ (m : Mounts) (i : ℕ) (tasks tasks' : List Opened) (p : Processes) (root root' : Option Shape)
-    (children children' : List Child) where
+    (children children' : List LentChild) where
   abbrev numbers : Numbering
   numbers = numbering_of m.mounts
 
@@ -350,7 +350,7 @@ module _ (m : Mounts) (i : ℕ) (tasks tasks' : List Opened) (p : Processes) (ro
 
 -- what an execve that did not begin leaves of the folder
 pub stands_err : (m : Mounts) (seed : List ℕ) (at : ℕ) (program : Program) (given : Given) (answer : Answer)
-    (p : Processes) (root root' : Option Shape) (children children' : List Child)
+    (p : Processes) (root root' : Option Shape) (children children' : List LentChild)
     → ExecutesFor (numbering_of m.mounts) program given answer root root' children children'
     → (result : Result Processes OpenErr) → Begins seed at program answer p result
     → IfErr result (λ e. (t : Shape) → StandsStill (numbering_of m.mounts) t root children
@@ -365,7 +365,7 @@ stands_err m seed at program given answer p root root' children children' execut
     children' b (executes t s.names s.stands)
 
 -- a folder that is as it was stands as it did
-pub stands_kept : (num : Numbering) (root root' : Option Shape) (children children' : List Child)
+pub stands_kept : (num : Numbering) (root root' : Option Shape) (children children' : List LentChild)
     (result : Result Processes OpenErr) → root' ≡ root → children' ≡ children
     → IsErrAnd result (λ e. e ≡ Memory)
     → IfErr result (λ e. (t : Shape) → StandsStill num t root children → StandsAfter e num t root' children')
@@ -373,7 +373,7 @@ stands_kept num root root' children children' (Ok q) same alike is = tt
 stands_kept num root root' children children' (Err e) same alike is = λ t s.
     subst (λ (x : OpenErr). StandsAfter x num t root' children') (sym is)
     (subst (λ (o : Option Shape). StandsStill num t o children') (sym same)
-    (subst (λ (cs : List Child). StandsStill num t root cs) (sym alike) s))
+    (subst (λ (cs : List LentChild). StandsStill num t root cs) (sym alike) s))
 
 -- so many tasks live, and there is room for more
 pub opened_then : (seed : List ℕ) (root : ℕ) (program : Program) (answer : Answer) (i : ℕ) (p : Processes)

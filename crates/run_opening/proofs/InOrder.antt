@@ -9,8 +9,8 @@ use Rattle.kernel_model.specs.declared.opening.Opened.{Opened}
 use Rattle.kernel_model.specs.files.FileTree.{Nodes}
 use Rattle.kernel_model.specs.opening.Opening.{bare, rooted, tasks_begun}
 use Rattle.image_walk.specs.declared.granted.Numbering.{Numbering}
-use Rattle.image_walk.specs.Granted.{Child}
-use Rattle.image_walk.specs.Standing.{Stands}
+use Rattle.image_walk.specs.Granted.{LentChild}
+use Rattle.image_walk.specs.Standing.{StandsLent}
 use Rattle.image_walk.specs.Walking.{IsGrant, IsRoot, IsSilent}
 use Rattle.image_walk.proofs.Places.{root_is}
 use Rattle.call_table.specs.declared.processes.Processes.{Processes}
@@ -26,8 +26,8 @@ use Rattle.run_opening.proofs.Telling.{told_nodes}
 
 -- before the first task the state tells the kernel that the definitions begin with
 pub begun_none : (m : Mounts) (others : Others) (t : Shape) (p : Processes) (root : Option Shape)
-    (children : List Child) (tasks : List Opened) → AreOthers m.mounts others
-    → Stands (numbering_of m.mounts) t [] [] root children
+    (children : List LentChild) (tasks : List Opened) → AreOthers m.mounts others
+    → StandsLent (numbering_of m.mounts) t [] [] root children
     → ((nodes : Nodes) → kernel_of_processes p (beside_of m nodes) 0
     ≡ record (bare m (trees_with others t)) { nodes = nodes })
     → IsSomeAnd (kernel_told m (trees_told others root children) p 0)
@@ -75,7 +75,7 @@ stops_behind m i first tasks tasks' (Image task errno) f k (Some b) h r = record
 
 -- the error of the task that was refused is that of the whole opening
 pub stops_then : (m : Mounts) (i : ℕ) (first tasks tasks' : List Opened) (p : Processes)
-    (told root root' : Option Shape) (children children' : List Child) (result : Result Processes OpenErr)
+    (told root root' : Option Shape) (children children' : List LentChild) (result : Result Processes OpenErr)
     (why : OpenErr) → IsErrAnd result (λ e. e ≡ why)
     → ((others : Others) (t : Shape) → AreOthers m.mounts others → told ≡ Some t
     → IsSomeAnd (kernel_told m (trees_told others root children) p 0)
@@ -92,9 +92,9 @@ stops_then m i first tasks tasks' p told root root' children children' (Err e) w
     (stops_behind m i first tasks tasks' why (trees_told others root' children') (bare m (trees_with others t))
     (kernel_told m (trees_told others root children) p 0) (begun others t are tells) (stopped others are))
 
-pub still_grant : (num : Numbering) (told root : Option Shape) (children : List Child) → IsRoot told
+pub still_grant : (num : Numbering) (told root : Option Shape) (children : List LentChild) → IsRoot told
     → (told ≡ None → IsSilent root children)
-    → ((t : Shape) → told ≡ Some t → (names : List (List ℕ)) × Stands num t names [] root children)
+    → ((t : Shape) → told ≡ Some t → (names : List (List ℕ)) × StandsLent num t names [] root children)
     → IsGrant num root children
 still_grant num None root children is silent tells =
     let s = silent refl in subst (λ (o : Option Shape). IsGrant num o children) (sym s.0) s.1
@@ -102,4 +102,4 @@ still_grant num (Some t) root children is silent tells =
     let s = tells t refl in
     let root_tells = root_is num t s.0 root children s.1 in
     subst (λ (o : Option Shape). IsGrant num o children) (sym root_tells)
-    (t, s.0, is.0, subst (λ (o : Option Shape). Stands num t s.0 [] o children) root_tells s.1)
+    (t, s.0, is.0, subst (λ (o : Option Shape). StandsLent num t s.0 [] o children) root_tells s.1)

@@ -12,9 +12,9 @@ use Rattle.kernel_model.specs.declared.opening.Rise.{Rise}
 use Rattle.kernel_model.specs.files.FileTree.{Nodes, child_node}
 use Rattle.kernel_model.specs.opening.Opening.{rooted}
 use Rattle.image_walk.specs.declared.granted.Numbering.{Numbering}
-use Rattle.image_walk.specs.Granted.{AreOut, CanGiveBack, Child}
+use Rattle.image_walk.specs.Granted.{AreOut, CanGiveBack, LentChild}
 use Rattle.image_walk.specs.Loading.{faulted_by}
-use Rattle.image_walk.specs.Standing.{AreNodes, StandUnlent, HaveNodes, KeepsRoots, Stands, lend_all, lent_from}
+use Rattle.image_walk.specs.Standing.{AreNodes, StandUnlent, HaveNodes, KeepsRoots, StandsLent, lend_all, lent_from}
 use Rattle.image_walk.specs.Standing.{numbers_from}
 use Rattle.image_walk.proofs.OutAgain.{can_give_back}
 use Rattle.image_walk.proofs.Places.{IsThere, root_is}
@@ -90,7 +90,7 @@ lent_nodes num t root n (name ∷ names) base there out none =
 
 -- a granted tree of which these children were lent tells all its nodes
 pub record Tells (num : Numbering) (others : Others) (t : Shape) (names : List (List ℕ)) (root : Option Shape)
-    (children : List Child) : Type 0 where
+    (children : List LentChild) : Type 0 where
   pub nodes : Nodes
   pub told : nodes_told num (trees_told others root children) ≡ Some nodes
   pub are : AreNodes num nodes t names
@@ -104,7 +104,7 @@ module _ (mounts : List Mount) (others : Others) (is : AreOthers mounts others) 
   tells_of : (r : Shape) → StandUnlent t names → AreOut r (lent_from num.first t names []) → r ≡ lend_all names t
       → Tells num others t names (Some r) (lent_from num.first t names [])
   tells_of r there out lends =
-      let children : List Child = lent_from num.first t names [] in
+      let children : List LentChild = lent_from num.first t names [] in
       let place : num.root ≡ length others.before + 1 = is.place in
       let long : length mounts ≡ length others.before + length others.behind + 1 = is.long in
       let all : length (trees_with others r) ≡ length others.before + suc (length others.behind) =
@@ -142,14 +142,14 @@ module _ (mounts : List Mount) (others : Others) (is : AreOthers mounts others) 
       }
 
   -- so it does, where these are what its root and the children tell
-  pub tells : (root : Option Shape) (children : List Child) → Stands num t names [] root children
+  pub tells : (root : Option Shape) (children : List LentChild) → StandsLent num t names [] root children
       → Tells num others t names root children
   tells root children s =
       let is_told : root ≡ Some (lend_all names t) = root_is num t names root children s in
       let out : AreOut (lend_all names t) (lent_from num.first t names []) =
-      subst (λ (cs : List Child). CanGiveBack (Some (lend_all names t)) cs) s.children_tell
+      subst (λ (cs : List LentChild). CanGiveBack (Some (lend_all names t)) cs) s.children_tell
       (subst (λ (o : Option Shape). CanGiveBack o children) is_told (can_give_back num t names [] root children s)) in
-      subst (λ (cs : List Child). Tells num others t names root cs) (sym s.children_tell)
+      subst (λ (cs : List LentChild). Tells num others t names root cs) (sym s.children_tell)
       (subst (λ (o : Option Shape). Tells num others t names o (lent_from num.first t names [])) (sym is_told)
       (tells_of (lend_all names t) s.there out refl))
 
@@ -179,8 +179,8 @@ same_nodes num t names roots a b in_a kept_a in_b kept_b = same_by_get a b (λ i
 
 -- the nodes of a granted tree, with the other roots as granted, are those that are told
 pub told_nodes : (mounts : List Mount) (others : Others) (is : AreOthers mounts others) (t : Shape)
-    (names : List (List ℕ)) (nodes : Nodes) (root : Option Shape) (children : List Child)
-    → Stands (numbering_of mounts) t names [] root children → AreNodes (numbering_of mounts) nodes t names
+    (names : List (List ℕ)) (nodes : Nodes) (root : Option Shape) (children : List LentChild)
+    → StandsLent (numbering_of mounts) t names [] root children → AreNodes (numbering_of mounts) nodes t names
     → KeepsRoots (numbering_of mounts) (rooted 1 (trees_with others t)) nodes
     → nodes_told (numbering_of mounts) (trees_told others root children) ≡ Some nodes
 told_nodes mounts others is t names nodes root children s are kept =

@@ -33,7 +33,7 @@ GoesOn m from upto tasks tasks' before after =
 -- from a kernel the opening of the tasks from an index on came to an execve that failed, and the kernel that it leaves
 -- has the trees that are told then
 -- execve(2), ERRORS
-pub record IsRefused (m : Mounts) (from : ℕ) (tasks tasks' : List Opened) (task : ℕ) (errno : Errno) (f : TreesTold)
+pub record IsOpeningRefused (m : Mounts) (from : ℕ) (tasks tasks' : List Opened) (task : ℕ) (errno : Errno) (f : TreesTold)
     (k : Kernel) : Type 0 where
   pub opened : List Opened
   pub added : tasks' ≡ tasks ++ opened
@@ -46,5 +46,5 @@ pub record IsRefused (m : Mounts) (from : ℕ) (tasks tasks' : List Opened) (tas
 -- why an opening ended before all tasks had begun
 -- execve(2), ERRORS; profile
 abbrev pub Stops : Mounts → (from : ℕ) → (tasks tasks' : List Opened) → OpenErr → TreesTold → Kernel → Type 0
-Stops m from tasks tasks' (Image task errno) f k = IsRefused m from tasks tasks' task errno f k
+Stops m from tasks tasks' (Image task errno) f k = IsOpeningRefused m from tasks tasks' task errno f k
 Stops m from tasks tasks' Memory f k = ⊤

@@ -14,8 +14,8 @@ use Rattle.kernel_model.specs.opening.Opening.{made_by, root_of, with_task}
 use Rattle.image_walk.specs.declared.granted.Numbering.{Numbering}
 use Rattle.image_walk.specs.declared.loading.Answer.{Answer}
 use Rattle.image_walk.specs.declared.loading.Answer.TheVariants as answers
-use Rattle.image_walk.specs.Granted.{Child}
-use Rattle.image_walk.specs.Standing.{Stands}
+use Rattle.image_walk.specs.Granted.{LentChild}
+use Rattle.image_walk.specs.Standing.{StandsLent}
 use Rattle.call_table.specs.declared.processes.Processes.{Processes}
 use Rattle.proc_cells.specs.Beside.{Beside}
 use Rattle.call_table.specs.Processes.{kernel_of_processes}
@@ -34,21 +34,21 @@ beside_of m nodes = record { nodes = nodes; failed = map.empty; mounts = m.mount
 
 -- the folder's tree, of which children may be lent
 -- profile
-pub record StandsStill (num : Numbering) (t : Shape) (root : Option Shape) (children : List Child) : Type 0 where
+pub record StandsStill (num : Numbering) (t : Shape) (root : Option Shape) (children : List LentChild) : Type 0 where
   pub names : List (List ℕ)
-  pub stands : Stands num t names [] root children
+  pub stands : StandsLent num t names [] root children
 
 -- the folder's tree, of which children may be lent, and counts may have risen
 -- profile
-pub record IsStanding (num : Numbering) (t : Shape) (root : Option Shape) (children : List Child) : Type 0 where
+pub record IsStanding (num : Numbering) (t : Shape) (root : Option Shape) (children : List LentChild) : Type 0 where
   pub names : List (List ℕ)
   pub rises : List Rise
-  pub stands : Stands num t names rises root children
+  pub stands : StandsLent num t names rises root children
 
 -- the folder's tree as an opening leaves it that ended before all tasks had begun: where memory ran out, no count has
 -- risen
 -- profile
-abbrev pub StandsAfter : OpenErr → Numbering → (t : Shape) → (root : Option Shape) → List Child → Type 0
+abbrev pub StandsAfter : OpenErr → Numbering → (t : Shape) → (root : Option Shape) → List LentChild → Type 0
 StandsAfter (Image task errno) num t root children = IsStanding num t root children
 StandsAfter Memory num t root children = StandsStill num t root children
 

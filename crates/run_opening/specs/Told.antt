@@ -9,7 +9,7 @@ use Rattle.kernel_model.specs.declared.kernel.Node.{Node}
 use Rattle.kernel_model.specs.files.FileTree.{Nodes, child_node}
 use Rattle.kernel_model.specs.opening.Opening.{rooted}
 use Rattle.image_walk.specs.declared.granted.Numbering.{Numbering}
-use Rattle.image_walk.specs.Granted.{Child}
+use Rattle.image_walk.specs.Granted.{LentChild}
 use Rattle.image_walk.specs.Standing.{numbers_from}
 use Rattle.call_table.specs.declared.processes.Processes.{Processes}
 use Rattle.call_table.specs.Processes.{kernel_of_processes}
@@ -22,9 +22,9 @@ use Rattle.run_opening.specs.Trees.{Others, trees_with}
 pub record TreesTold : Type 0 where
   pub others : Others
   pub root : Option Shape
-  pub children : List Child
+  pub children : List LentChild
 
-abbrev pub trees_told : Others → (root : Option Shape) → List Child → TreesTold
+abbrev pub trees_told : Others → (root : Option Shape) → List LentChild → TreesTold
 trees_told others root children = record { others = others; root = root; children = children }
 
 -- what a lent child tells, where a place in the root is left to it
@@ -33,13 +33,13 @@ abbrev pub told_at : (place told : Option Shape) → Option Shape
 told_at None told = None
 told_at (Some place) told = if is_lent place then told else None
 
-abbrev pub lent_told : (root : Shape) → Child → Option Shape
+abbrev pub lent_told : (root : Shape) → LentChild → Option Shape
 lent_told root c = told_at (child_of c.0 root) c.1
 
 -- nodes with those of children that the directory of a number lent, numbered in order from the second number on: none
 -- where a child tells nothing, or no place is left to it
 -- inode(7), st_ino
-abbrev pub with_lent : (dir number : ℕ) → (root : Shape) → List Child → Nodes → Option Nodes
+abbrev pub with_lent : (dir number : ℕ) → (root : Shape) → List LentChild → Nodes → Option Nodes
 with_lent dir number root [] nodes = Some nodes
 with_lent dir number root (c ∷ children) nodes =
     option_and_then (λ s. with_lent dir (number + 1) root children (map.insert nodes number (child_node dir s)))
@@ -47,11 +47,11 @@ with_lent dir number root (c ∷ children) nodes =
 
 -- the node of the root that lent these children
 -- inode(7), st_ino
-abbrev pub lent_names : List Child → List (List ℕ)
+abbrev pub lent_names : List LentChild → List (List ℕ)
 lent_names [] = []
 lent_names (c ∷ children) = c.0 ∷ lent_names children
 
-abbrev pub root_told : Numbering → (root : Shape) → List Child → Node
+abbrev pub root_told : Numbering → (root : Shape) → List LentChild → Node
 root_told num root children = record {
   parent = num.root;
   linked = true;
@@ -62,7 +62,7 @@ root_told num root children = record {
 -- the nodes that are told: the roots of all mounts, and the children that the mount at `/` lent. None where its root
 -- or a child tells nothing, or no place in the root is left to a child
 -- inode(7), st_ino
-abbrev pub roots_told : Numbering → Others → (root : Shape) → List Child → Nodes
+abbrev pub roots_told : Numbering → Others → (root : Shape) → List LentChild → Nodes
 roots_told num others root children =
     map.insert (rooted 1 (trees_with others root)) num.root (root_told num root children)
 

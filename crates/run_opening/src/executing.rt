@@ -8,7 +8,7 @@ ghost use Rattle.kernel_model.specs.opening.Arguments.{is_too_long};
 ghost use Rattle.image_walk.specs.Executing.{Executes};
 ghost use Rattle.image_walk.specs.Granted.{told_of};
 ghost use Rattle.image_walk.specs.Loading.{is_roomy};
-ghost use Rattle.image_walk.specs.Standing.{IsNumbering, Stands};
+ghost use Rattle.image_walk.specs.Standing.{IsNumbering, StandsLent};
 ghost use Rattle.image_walk.specs.Walking.{IsGrant, IsSilent, NumbersNext};
 
 use host_node::HostNode;
@@ -48,7 +48,7 @@ pub(crate) fn execute<N: HostNode>(
     ensures same { granted.new.numbers ≡ granted.old.numbers }
     ensures words { IfOk result (λ d. d.opened.words ≡ program.now.args) }
     ensures executes { IfOk result (λ d. (t : Shape) (names : Items (Items ℕ)) →
-        Stands granted.old.numbers t names [] (N.told granted.old.root) (told_of N.told granted.old.lent.items) →
+        StandsLent granted.old.numbers t names [] (N.told granted.old.root) (told_of N.told granted.old.lent.items) →
         Executes granted.old.numbers (is_too_long program.now.args program.now.env) t names program.now.name
         d.opened.given d.answer (N.told granted.new.root) (told_of N.told granted.new.lent.items)) }
     ensures numbers { IfOk result (λ d. NumbersNext granted.old.numbers (numbers_of d.opened.given.fresh)

@@ -12,7 +12,7 @@ ghost use Rattle.mount_file.specs.Form.{HasForm};
 ghost use Rattle.mount_file.specs.declared.rules.TheConstants.{MOST_TASKS};
 ghost use Rattle.image_walk.specs.Granted.{told_of};
 ghost use Rattle.image_walk.specs.Loading.{is_roomy};
-ghost use Rattle.image_walk.specs.Standing.{IsNumbering, Stands};
+ghost use Rattle.image_walk.specs.Standing.{IsNumbering, StandsLent};
 ghost use Rattle.image_walk.specs.Walking.{IsGrant, IsRoot, IsSilent};
 ghost use Rattle.run_opening.specs.Begun.{GoesOn, HasBegun, Stops};
 ghost use Rattle.run_opening.specs.Openings.{Begins, StandsAfter, StandsStill, numbering_of};
@@ -162,7 +162,7 @@ pub fn open_tasks<N: HostNode>(
     requires numbers { granted.old.numbers ≡ numbering_of mounts.now.mounts }
     requires root { IsRoot (N.told granted.old.root) }
     requires stands { (t : Shape) → N.told granted.old.root ≡ Some t →
-        Stands granted.old.numbers t [] [] (N.told granted.old.root) (told_of N.told granted.old.lent.items) }
+        StandsLent granted.old.numbers t [] [] (N.told granted.old.root) (told_of N.told granted.old.lent.items) }
     requires lent { granted.old.lent.items ≡ [] }
     requires none { tasks.old.items ≡ [] }
     ensures recorded { IsRecorded mounts.now tasks.new.items }

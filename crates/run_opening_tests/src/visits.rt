@@ -3,7 +3,7 @@
 ghost use Rattle.std.specs.Prelude.{◌≡◌, [], Some, true, OnOk};
 ghost use Rattle.host_node.specs.Tree.{Shape, none_lent};
 ghost use Rattle.image_walk.specs.Granted.{CanGiveBack, told_of};
-ghost use Rattle.image_walk.specs.Standing.{IsNumbering, Stands};
+ghost use Rattle.image_walk.specs.Standing.{IsNumbering, StandsLent};
 ghost use Rattle.image_walk.specs.Walking.{IsGrant, IsRoot};
 ghost use Rattle.mount_file.specs.Form.{HasForm};
 ghost use Rattle.run_opening.specs.Openings.{numbering_of};
@@ -79,7 +79,7 @@ fn opened<N: HostNode>(
     requires numbers { granted.old.numbers ≡ numbering_of mounts.now.mounts }
     requires root { IsRoot (N.told granted.old.root) }
     requires stands { (t : Shape) → N.told granted.old.root ≡ Some t →
-        Stands granted.old.numbers t [] [] (N.told granted.old.root) (told_of N.told granted.old.lent.items) }
+        StandsLent granted.old.numbers t [] [] (N.told granted.old.root) (told_of N.told granted.old.lent.items) }
     requires lent { granted.old.lent.items ≡ [] }
     requires none { tasks.old.items ≡ [] }
     ensures { CanGiveBack (N.told granted.new.root) (told_of N.told granted.new.lent.items) }

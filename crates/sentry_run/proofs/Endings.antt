@@ -17,7 +17,7 @@ use Rattle.kernel_model.specs.files.FileTree.{Nodes}
 use Rattle.kernel_model.specs.files.Settled.{tree_now}
 use Rattle.kernel_model.specs.opening.Opening.{bare, opening_of, root_of, rooted, tasks_begun, Opens}
 use Rattle.image_walk.specs.declared.granted.Numbering.{Numbering}
-use Rattle.image_walk.specs.Granted.{Child, CanGiveBack, GivesBack}
+use Rattle.image_walk.specs.Granted.{LentChild, CanGiveBack, GivesBack}
 use Rattle.image_walk.specs.Standing.{AreNodes, KeepsRoots, no_left}
 use Rattle.image_walk.proofs.OutAgain.{can_give_back}
 use Rattle.image_walk.proofs.Back.{back_same}
@@ -41,26 +41,26 @@ use Rattle.sentry_run.proofs.Records.{opened_by, record_with}
 -- ---- what is given back
 
 -- it is one tree
-gives_same : (root : Option Shape) (children : List Child) (r : Shape) (told : Option Shape) (after : Shape)
+gives_same : (root : Option Shape) (children : List LentChild) (r : Shape) (told : Option Shape) (after : Shape)
     → root ≡ Some r → GivesBack root children told → GivesBack root children (Some after) → told ≡ Some after
 gives_same root children r told after e a b =
     subst (λ (o : Option Shape). GivesBack o children told) e a
     ∙ sym (subst (λ (o : Option Shape). GivesBack o children (Some after)) e b)
 
 -- what an opening leaves of a folder stands, whatever it ended with,
-pub standing_after : (num : Numbering) (t : Shape) (root : Option Shape) (children : List Child) (why : OpenErr)
+pub standing_after : (num : Numbering) (t : Shape) (root : Option Shape) (children : List LentChild) (why : OpenErr)
     → StandsAfter why num t root children → IsStanding num t root children
 standing_after num t root children (openings.Image task errno) s = s
 standing_after num t root children openings.Memory s = record { names = s.names; rises = []; stands = s.stands }
 
 -- and can be put together again,
-pub can_back : (num : Numbering) (t : Shape) (root : Option Shape) (children : List Child)
+pub can_back : (num : Numbering) (t : Shape) (root : Option Shape) (children : List LentChild)
     → IsStanding num t root children
     → CanGiveBack root children
 can_back num t root children s = can_give_back num t s.names s.rises root children s.stands
 
 -- and where no count has risen it is as it was
-pub ended_lacking : (m : Mounts) (others : Others) (t : Shape) (root : Option Shape) (children : List Child)
+pub ended_lacking : (m : Mounts) (others : Others) (t : Shape) (root : Option Shape) (children : List LentChild)
     (opening : Opening) (trace : List Entry) (after : Shape)
     → StandsStill (numbering_of m.mounts) t root children → trace ≡ []
     → GivesBack root children (Some after)
@@ -72,7 +72,7 @@ ended_lacking m others t root children opening trace after s none gives =
 -- ---- an opening that did not begin all tasks
 
 pub ended_stopped : (m : Mounts) (others : Others) (t : Shape) (why : OpenErr) (tasks : List Opened)
-    (root : Option Shape) (children : List Child) (opening : Opening) (trace : List Entry) → IsRecorded m tasks
+    (root : Option Shape) (children : List LentChild) (opening : Opening) (trace : List Entry) → IsRecorded m tasks
     → opening ≡ record_with m tasks → trace ≡ []
     → Stops m 0 [] tasks why (trees_told others root children) (bare m (trees_with others t))
     → StandsAfter why (numbering_of m.mounts) t root children → (after : Shape)
@@ -98,7 +98,7 @@ ended_stopped m others t (openings.Image task errno) tasks root children opening
 -- ---- one that began all
 
 module _ (m : Mounts) (others : Others) (is : AreOthers m.mounts others) (t : Shape) (tasks : List Opened)
-    (p : Processes) (root : Option Shape) (children : List Child) (opening : Opening) (r : IsRecorded m tasks)
+    (p : Processes) (root : Option Shape) (children : List LentChild) (opening : Opening) (r : IsRecorded m tasks)
     (o : opening ≡ record_with m tasks) (s : StandsStill (numbering_of m.mounts) t root children)
     (b : IsSomeAnd (kernel_told m (trees_told others root children) p 0)
     (HasBegun m 0 (length m.tasks) [] tasks (bare m (trees_with others t)))) where
@@ -205,7 +205,7 @@ ended_told m f t after opening trace (ends.Grant mount) h = absurd h
 
 -- ---- whatever is told
 
-pub can_where : (told root : Option Shape) (children : List Child) → (told ≡ None → root ≡ None)
+pub can_where : (told root : Option Shape) (children : List LentChild) → (told ≡ None → root ≡ None)
     → ((t : Shape) → told ≡ Some t → CanGiveBack root children) → CanGiveBack root children
 can_where None root children silent tells =
     subst (λ (o : Option Shape). CanGiveBack o children) (sym (silent refl)) tt
@@ -215,6 +215,6 @@ pub tells_where : (told root : Option Shape) → ((t : Shape) → told ≡ Some 
 tells_where None root tells h = cc h
 tells_where (Some t) root tells h = tells t refl
 
-pub some_told : (num : Numbering) (t : Shape) (root : Option Shape) (children : List Child)
+pub some_told : (num : Numbering) (t : Shape) (root : Option Shape) (children : List LentChild)
     → IsStanding num t root children → IsSome root
 some_told num t root children s = ap is_some s.stands.root_tells

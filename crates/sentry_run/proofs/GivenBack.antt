@@ -12,7 +12,7 @@ use Rattle.host_node.specs.Told.{CanGrant, TellsGranted, ComesFrom, CanSettle, S
 use Rattle.host_node.proofs.RouteLemmas.{is_directory-directory_at, none_lent-is_free, subtree-directory_at}
 use Rattle.host_node.proofs.RouteLemmas.{subtree-granted}
 use Rattle.host_node.proofs.ToldLemmas.{settles_other}
-use Rattle.image_walk.specs.Granted.{Child, CanGiveBack, GivesBack, put_all}
+use Rattle.image_walk.specs.Granted.{LentChild, CanGiveBack, GivesBack, put_all}
 use Rattle.image_walk.specs.Walking.{IsRoot}
 use Rattle.run_opening.specs.Trees.{AreSmall}
 
@@ -70,26 +70,26 @@ settled_there names world new between told after b t s =
 
 -- ---- what a root gives back of which nothing is lent
 
-gives_first : (t : Shape) (root : Option Shape) (children : List Child) (after : Shape) → root ≡ Some t → children ≡ []
+gives_first : (t : Shape) (root : Option Shape) (children : List LentChild) (after : Shape) → root ≡ Some t → children ≡ []
     → GivesBack root children (Some after) → after ≡ t
 gives_first t root children after r c gives =
     same_Some after t
     (subst (λ (o : Option Shape). GivesBack o [] (Some after)) r
-    (subst (λ (cs : List Child). GivesBack root cs (Some after)) c gives))
+    (subst (λ (cs : List LentChild). GivesBack root cs (Some after)) c gives))
 
-pub gives_same : (told root : Option Shape) (children : List Child) (t after : Shape) → root ≡ told → children ≡ []
+pub gives_same : (told root : Option Shape) (children : List LentChild) (t after : Shape) → root ≡ told → children ≡ []
     → told ≡ Some t → GivesBack root children (Some after) → after ≡ t
 gives_same told root children t after r c e gives = gives_first t root children after (r ∙ e) c gives
 
-pub can_first : (root : Option Shape) (children : List Child) → children ≡ [] → CanGiveBack root children
-can_first root children c = subst (λ (cs : List Child). CanGiveBack root cs) (sym c) (by root)
+pub can_first : (root : Option Shape) (children : List LentChild) → children ≡ [] → CanGiveBack root children
+can_first root children c = subst (λ (cs : List LentChild). CanGiveBack root cs) (sym c) (by root)
   where
     by : (o : Option Shape) → CanGiveBack o []
     by None = tt
     by (Some t) = tt
 
 -- one that tells gives a tree back
-pub gives_tree : (told root back : Option Shape) (children : List Child) (t : Shape) → (IsSome told → IsSome root)
+pub gives_tree : (told root back : Option Shape) (children : List LentChild) (t : Shape) → (IsSome told → IsSome root)
     → GivesBack root children back → told ≡ Some t
     → (after : Shape) × (back ≡ Some after) × GivesBack root children (Some after)
 gives_tree told root back children t tells gives e =

@@ -12,7 +12,7 @@ use Rattle.host_node.specs.Told.{TellsGranted}
 use Rattle.mount_file.specs.Form.{HasForm}
 use Rattle.mount_file.specs.declared.mounts.Mount.{Mount}
 use Rattle.mount_file.specs.declared.mounts.Mounts.{Mounts}
-use Rattle.image_walk.specs.Granted.{Child, GivesBack}
+use Rattle.image_walk.specs.Granted.{LentChild, GivesBack}
 use Rattle.run_opening.specs.Told.{trees_told}
 use Rattle.run_opening.specs.Trees.{AreAmong, AreOthers, Others}
 use Rattle.sentry_run.specs.declared.play.End.{End}
@@ -32,7 +32,7 @@ use Rattle.sentry_run.proofs.Ends.{plays_as, inner_plays, stopped_plays, lacks_f
 -- ---- the folders behind the mount at `/`
 
 -- all are granted, and the run goes over them
-pub runs_inner : (m : Mounts) (i : ℕ) (world told root : Option Shape) (children : List Child) (played : Played)
+pub runs_inner : (m : Mounts) (i : ℕ) (world told root : Option Shape) (children : List LentChild) (played : Played)
     → i ≡ length m.mounts → IsInner played.end
     → ((others : Others) (t : Shape) → AreOthers m.mounts others → told ≡ Some t
     → EndsOver m (trees_told others root children) t played)
@@ -53,7 +53,7 @@ runs_inner m i world told root children played all inner ended = λ w e others a
 
 -- one more is granted
 pub runs_more : (m : Mounts) (i : ℕ) (mount : Mount) (world between told node root : Option Shape)
-    (children : List Child) (count : ℕ) (what : Kind) (played : Played) → HasForm m
+    (children : List LentChild) (count : ℕ) (what : Kind) (played : Played) → HasForm m
     → slice_get m.mounts i ≡ Some mount → TellsGranted mount.folder.names world node count what → count < 2 ^ 64
     → between ≡ option_map (put_subtree mount.folder.names (lent Dir)) world
     → RunsBehind m (i + 1) between told root children played → RunsBehind m i world told root children played
@@ -88,7 +88,7 @@ runs_more m i mount world between told node root children count what played form
     (inner (put_subtree names (lent Dir) w) between_is more next t tells after gives))
 
 -- one is not
-pub runs_stopped : (m : Mounts) (i : ℕ) (mount : Mount) (world told root : Option Shape) (children : List Child)
+pub runs_stopped : (m : Mounts) (i : ℕ) (mount : Mount) (world told root : Option Shape) (children : List LentChild)
     (end : End) (played : Played) → slice_get m.mounts i ≡ Some mount
     → NotGranted (i + 1) mount.folder.names world end → root ≡ told → children ≡ [] → played.end ≡ end
     → NothingRan played → RunsBehind m i world told root children played
@@ -102,7 +102,7 @@ runs_stopped m i mount world told root children end played e why same empty is r
     (lacks_first (i + 1) mount (drop (i + 1) m.mounts) w))
 
 -- the root then has its nodes back
-pub plays_root : (m : Mounts) (i : ℕ) (world told first root back : Option Shape) (children : List Child)
+pub plays_root : (m : Mounts) (i : ℕ) (world told first root back : Option Shape) (children : List LentChild)
     (played : Played) → first ≡ told → (IsSome first → IsSome root) → GivesBack root children back
     → RunsBehind m i world first root children played → PlaysRoot m i world told back played
 plays_root m i world told first root back children played same tells gives runs = λ w is others among t e.

@@ -12,10 +12,10 @@ use Rattle.sentry_run.specs.declared.play.End.TheVariants as ends
 
 -- what a cause says of a step of its run: it was taken, or not, or either may be
 -- profile
-pub data Says : Type 0 where
-  Yes : Says
-  No : Says
-  Perhaps : Says
+pub data WasTaken : Type 0 where
+  Yes : WasTaken
+  No : WasTaken
+  Perhaps : WasTaken
 
 -- how much of the text the sink took: all, a front, or nothing
 -- write(2): a write may take a part
@@ -28,9 +28,9 @@ pub data Extent : Type 0 where
 -- profile
 pub record Cause : Type 0 where
   pub status : ℕ
-  pub read : Says
-  pub begun : Says
-  pub trace : Says
+  pub read : WasTaken
+  pub begun : WasTaken
+  pub trace : WasTaken
   pub text : Extent
 
 -- the row of each cause: memory may run out at any step

@@ -9,7 +9,7 @@ use Rattle.sn_base.specs.Faults.{HasCause}
 use Rattle.mount_file.specs.declared.mounts.Mounts.{Mounts}
 use Rattle.mount_file.specs.declared.mounts.Mount.{Mount}
 use Rattle.kernel_model.specs.files.Numbers.{IsGapless, numbers_opened, numbers_in}
-use Rattle.image_walk.specs.Granted.{Child, GivesBack}
+use Rattle.image_walk.specs.Granted.{LentChild, GivesBack}
 use Rattle.run_opening.specs.Trees.{AreAmong, AreOthers, AreSmall, Others, trees_with}
 use Rattle.sentry_run.specs.declared.play.End.{End}
 use Rattle.sentry_run.specs.declared.play.End.TheVariants as ends
@@ -106,7 +106,7 @@ EndsBehind mounts others tree number rest world after played =
 
 -- the same from an index on, of a granted root that told itself so before, and with its children then tells this
 -- profile
-abbrev pub RunsBehind : Mounts → (index : ℕ) → (world told root : Option Shape) → List Child → Played → Type 0
+abbrev pub RunsBehind : Mounts → (index : ℕ) → (world told root : Option Shape) → List LentChild → Played → Type 0
 RunsBehind mounts index world told root children played =
     (w : Shape) → world ≡ Some w → (others : Others) → AreAmong mounts.mounts index others → (t : Shape)
     → told ≡ Some t → (after : Shape) → GivesBack root children (Some after)

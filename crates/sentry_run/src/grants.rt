@@ -11,7 +11,7 @@ ghost use Rattle.kernel_model.specs.opening.Opening.{root_among, root_of};
 ghost use Rattle.mount_file.specs.Form.{HasForm};
 ghost use Rattle.mount_file.specs.Rules.{has_root};
 ghost use Rattle.image_walk.specs.Granted.{CanGiveBack, told_of};
-ghost use Rattle.image_walk.specs.Standing.{Stands};
+ghost use Rattle.image_walk.specs.Standing.{StandsLent};
 ghost use Rattle.image_walk.specs.Walking.{IsRoot};
 ghost use Rattle.run_opening.specs.Openings.{numbering_of};
 ghost use Rattle.sentry_run.specs.Granted.{CanGrantAll, IsPlayed, IsUngranted, NotGranted, PlaysBehind, PlaysIn};
@@ -70,7 +70,7 @@ fn play_behind<W: HostWorld>(
     requires root { IsRoot (W.Node.told granted.old.root) }
     requires numbers { granted.old.numbers ≡ numbering_of mounts.now.mounts }
     requires stands { (t : Shape) → W.Node.told granted.old.root ≡ Some t →
-        Stands granted.old.numbers t [] [] (W.Node.told granted.old.root)
+        StandsLent granted.old.numbers t [] [] (W.Node.told granted.old.root)
         (told_of W.Node.told granted.old.lent.items) }
     requires lent { granted.old.lent.items ≡ [] }
     ensures world { W.told host.new ≡ W.told host.old }

@@ -6,7 +6,7 @@ ghost use Rattle.host_node.specs.Tree.{Shape};
 ghost use Rattle.mount_file.specs.Form.{HasForm};
 ghost use Rattle.kernel_model.specs.files.Numbers.{IsGapless, count_up, numbers_opened, numbers_in};
 ghost use Rattle.image_walk.specs.Granted.{CanGiveBack, told_of};
-ghost use Rattle.image_walk.specs.Standing.{Stands};
+ghost use Rattle.image_walk.specs.Standing.{StandsLent};
 ghost use Rattle.image_walk.specs.Walking.{IsRoot};
 ghost use Rattle.run_opening.specs.Openings.{numbering_of};
 ghost use Rattle.run_opening.specs.Told.{kernel_told, trees_told};
@@ -179,7 +179,7 @@ pub fn play_granted<N: HostNode>(alloc: Global, mounts: &Mounts, granted: &mut G
     requires root { IsRoot (N.told granted.old.root) }
     requires numbers { granted.old.numbers ≡ numbering_of mounts.now.mounts }
     requires stands { (t : Shape) → N.told granted.old.root ≡ Some t →
-        Stands granted.old.numbers t [] [] (N.told granted.old.root) (told_of N.told granted.old.lent.items) }
+        StandsLent granted.old.numbers t [] [] (N.told granted.old.root) (told_of N.told granted.old.lent.items) }
     requires lent { granted.old.lent.items ≡ [] }
     ensures ended { (others : Others) (t : Shape) → AreOthers mounts.now.mounts others →
         N.told granted.old.root ≡ Some t →

@@ -17,7 +17,7 @@ use Rattle.task_table.specs.Clones.{with_group, threaded}
 use Rattle.task_table.specs.Ends.{ended_if, ended_where, group_ended, groups_closed}
 use Rattle.task_table.specs.Ends.{is_itself, is_last, is_member, others_ended}
 use Rattle.task_table.specs.Entries.{changed_at, each_changed, numbers_where, passes}
-use Rattle.task_table.specs.Kept.{IsKept, IsSound}
+use Rattle.task_table.specs.Kept.{IsKept, IsSoundTable}
 use Rattle.task_table.specs.Reaps.{orphaned}
 use Rattle.task_table.specs.Table.{TaskTable, group_of, has_ended, has_parent, is_live, live_numbers, no_tasks}
 use Rattle.task_table.proofs.Changes.{alike, get-changed_at, get-each_changed, keys-changed_at}
@@ -29,19 +29,19 @@ use Rattle.task_table.proofs.Numbers.{any_passing, get_after, among_where, where
 -- what holds of a table holds of one with the same parts
 pub sound_same : (t : TaskTable) (live children : List ℕ) (tasks : FinMap nat_cmp Task) (groups : FinMap nat_cmp Group)
     (last : ℕ) (live' children' : List ℕ) → tasks ≡ t.tasks → groups ≡ t.groups → last ≡ t.last → live' ≡ live
-    → children' ≡ children → IsSound t live children
-    → IsSound (record { tasks = tasks; groups = groups; last = last }) live' children'
+    → children' ≡ children → IsSoundTable t live children
+    → IsSoundTable (record { tasks = tasks; groups = groups; last = last }) live' children'
 sound_same t live children tasks groups last live' children' a b c d e sound =
-    subst (λ x. IsSound (record { tasks = x; groups = groups; last = last }) live' children') (sym a)
-    (subst (λ x. IsSound (record { tasks = t.tasks; groups = x; last = last }) live' children') (sym b)
-    (subst (λ x. IsSound (record { tasks = t.tasks; groups = t.groups; last = x }) live' children') (sym c)
-    (subst (λ x. IsSound t x children') (sym d)
-    (subst (λ x. IsSound t live x) (sym e) sound))))
+    subst (λ x. IsSoundTable (record { tasks = x; groups = groups; last = last }) live' children') (sym a)
+    (subst (λ x. IsSoundTable (record { tasks = t.tasks; groups = x; last = last }) live' children') (sym b)
+    (subst (λ x. IsSoundTable (record { tasks = t.tasks; groups = t.groups; last = x }) live' children') (sym c)
+    (subst (λ x. IsSoundTable t x children') (sym d)
+    (subst (λ x. IsSoundTable t live x) (sym e) sound))))
 
 -- a table with these parts, and the lists of it
 pub sound_of : (t : TaskTable) (tasks : FinMap nat_cmp Task) (groups : FinMap nat_cmp Group) (live children : List ℕ)
     → tasks ≡ t.tasks → groups ≡ t.groups → live ≡ live_numbers tasks → children ≡ numbers_where has_parent groups
-    → IsKept t → IsSound (record { tasks = tasks; groups = groups; last = t.last }) live children
+    → IsKept t → IsSoundTable (record { tasks = tasks; groups = groups; last = t.last }) live children
 sound_of t tasks groups live children a b live_is children_are kept =
     sound_same t (live_numbers t.tasks) (numbers_where has_parent t.groups) tasks groups t.last live children a b refl
     (live_is ∙ ap (numbers_where (λ c. c.live)) a) (children_are ∙ ap (numbers_where has_parent) b)
@@ -51,7 +51,7 @@ sound_of t tasks groups live children a b live_is children_are kept =
 pub sound_of_parts : (t : TaskTable) (tasks : FinMap nat_cmp Task) (groups : FinMap nat_cmp Group) (last : ℕ)
     (live children : List ℕ) → tasks ≡ t.tasks → groups ≡ t.groups → last ≡ t.last → live ≡ live_numbers t.tasks
     → children ≡ numbers_where has_parent t.groups → IsKept t
-    → IsSound (record { tasks = tasks; groups = groups; last = last }) live children
+    → IsSoundTable (record { tasks = tasks; groups = groups; last = last }) live children
 sound_of_parts t tasks groups last live children a b c live_is children_are kept =
     sound_same t (live_numbers t.tasks) (numbers_where has_parent t.groups) tasks groups last live children a b c
     live_is children_are (record { kept = kept; live_is = refl; children_are = refl })
@@ -334,9 +334,9 @@ kept_new t c groups kept small few group_numbers stay there lives = record {
     longer false = omega (arith, length-append {A = ℕ} (live_numbers t.tasks) [])
 
 -- a task in a new group
-pub sound_with_group : (t : TaskTable) (live children : List ℕ) (group : Group) (clear : ℕ) → IsSound t live children
+pub sound_with_group : (t : TaskTable) (live children : List ℕ) (group : Group) (clear : ℕ) → IsSoundTable t live children
     → t.last < LAST_TASK → group.ended ≡ None → length live < 256
-    → IsSound (with_group t group clear) (live ++ (t.last + 1) ∷ [])
+    → IsSoundTable (with_group t group clear) (live ++ (t.last + 1) ∷ [])
     (cond (has_parent group) (children ++ (t.last + 1) ∷ []) children)
 sound_with_group t live children group clear sound small lives few = record {
   kept = kept_new t (record { group = t.last + 1; clear = clear; live = true })
@@ -365,9 +365,9 @@ sound_with_group t live children group clear sound small lives few = record {
     joined false xs = sym (append-nil xs)
 
 -- a task in the group of one that lives
-pub sound_threaded : (t : TaskTable) (live children : List ℕ) (task clear : ℕ) → IsSound t live children
+pub sound_threaded : (t : TaskTable) (live children : List ℕ) (task clear : ℕ) → IsSoundTable t live children
     → is_live t.tasks task ≡ true → t.last < LAST_TASK → length live < 256
-    → IsSound (threaded t task clear) (live ++ (t.last + 1) ∷ []) children
+    → IsSoundTable (threaded t task clear) (live ++ (t.last + 1) ∷ []) children
 sound_threaded t live children task clear sound lives small few = record {
   kept = kept_new t (record { group = group_of t.tasks task; clear = clear; live = true }) t.groups sound.kept
       (omega arith) (subst (λ xs. length xs < 256) sound.live_is few)
@@ -382,7 +382,7 @@ sound_threaded t live children task clear sound lives small few = record {
 }
 
 -- the next number is that of no group
-pub next_absent : (t : TaskTable) (live children : List ℕ) → IsSound t live children → get t.groups (t.last + 1) ≡ None
+pub next_absent : (t : TaskTable) (live children : List ℕ) → IsSoundTable t live children → get t.groups (t.last + 1) ≡ None
 next_absent t live children sound = at (get t.groups (t.last + 1)) refl
   where
     at : (o : Option Group) → get t.groups (t.last + 1) ≡ o → o ≡ None
@@ -391,7 +391,7 @@ next_absent t live children sound = at (get t.groups (t.last + 1)) refl
         below_next t.groups t.last sound.kept.group_numbers (t.last + 1) (ap is_some e) in absurd (omega arith)
 
 -- no tasks
-pub sound_empty : IsSound no_tasks [] []
+pub sound_empty : IsSoundTable no_tasks [] []
 sound_empty = record {
   kept = record {
     task_numbers = λ n h. absurd (cc (h, ap is_some (get-empty {X = Task} nat_cmp n)));

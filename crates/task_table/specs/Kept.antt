@@ -19,7 +19,7 @@ pub record IsKept (t : TaskTable) : Type 0 where
 
 -- the list of live tasks and that of groups with a parent are those of the table
 -- profile
-pub record IsSound (t : TaskTable) (live children : List ℕ) : Type 0 where
+pub record IsSoundTable (t : TaskTable) (live children : List ℕ) : Type 0 where
   pub kept : IsKept t
   pub live_is : live ≡ live_numbers t.tasks
   pub children_are : children ≡ numbers_where has_parent t.groups

@@ -41,7 +41,7 @@ pub struct Tasks {
 
 impl Model for Tasks {
     ghost use Rattle.task_table.specs.Table.{TaskTable};
-    ghost use Rattle.task_table.specs.Kept.{IsSound};
+    ghost use Rattle.task_table.specs.Kept.{IsSoundTable};
     ghost use Rattle.std.specs.Prelude.{ℕ, refl};
     ghost use Rattle.std.specs.Coded.{code_by, coded×, coded_ℕ};
     ghost use Rattle.std.specs.FinMap.{FinMap, code};
@@ -59,7 +59,7 @@ impl Model for Tasks {
 
     ghost view = { λ a. record { tasks = a.tasks; groups = a.groups; last = a.last } };
 
-    ghost invariant = { λ a. IsSound (record { tasks = a.tasks; groups = a.groups; last = a.last })
+    ghost invariant = { λ a. IsSoundTable (record { tasks = a.tasks; groups = a.groups; last = a.last })
         a.live.items a.children.items };
 }
 

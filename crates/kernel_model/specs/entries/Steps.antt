@@ -14,7 +14,7 @@ use Rattle.futex_core.specs.Waiters.{after_leave}
 use Rattle.mm_space.specs.Handed.{InHand}
 use Rattle.task_table.specs.declared.task.Status.TheVariants.{Killed}
 use Rattle.quantum.specs.declared.run.TheConstants.{QUANTUM}
-use Rattle.quantum.specs.Instructions.{Going, ran}
+use Rattle.quantum.specs.Instructions.{GoingTask, ran}
 use Rattle.kernel_model.specs.declared.caller.Caller.{Caller}
 use Rattle.kernel_model.specs.declared.entry.Args.{Args}
 use Rattle.kernel_model.specs.declared.entry.Entry.{Entry}
@@ -53,7 +53,7 @@ next_in c = next_of (acting_in c.task c.space) c.registers
 
 -- what instructions leave: the task's registers, its address space, and the shared areas that they had in hand
 -- profile
-abbrev pub run_changes : Caller → Going → List Change
+abbrev pub run_changes : Caller → GoingTask → List Change
 run_changes c g =
     (OfSpace c.memory, Some g.acting.reach.space) ∷ task_change c.task g.registers ∷ area_changes g.acting.reach.hand
 

@@ -4,7 +4,7 @@ use Rattle.rv_table.specs.declared.registers.Regs.{Regs}
 use Rattle.mm_space.specs.Handed.{InHand}
 use Rattle.mm_space.specs.Spaces.{AddressSpace, Reach}
 use Rattle.quantum.specs.Acting.{Acting, acting_on}
-use Rattle.quantum.specs.Instructions.{Going}
+use Rattle.quantum.specs.Instructions.{GoingTask}
 
 -- what an access reaches in an address space, with these shared areas in hand
 -- mmap(2); areas in hand: profile
@@ -16,7 +16,7 @@ reach_with space hand = record { space = space; hand = hand }
 abbrev pub acting_with : (task : ℕ) → AddressSpace → List InHand → Acting
 acting_with task space hand = acting_on task (reach_with space hand)
 
-abbrev pub going_with : (task : ℕ) → AddressSpace → List InHand → Regs → Going
+abbrev pub going_with : (task : ℕ) → AddressSpace → List InHand → Regs → GoingTask
 going_with task space hand registers = record { acting = acting_with task space hand; registers = registers }
 
 -- the same with no shared area in hand
@@ -24,5 +24,5 @@ going_with task space hand registers = record { acting = acting_with task space 
 abbrev pub acting_in : (task : ℕ) → AddressSpace → Acting
 acting_in task space = acting_with task space []
 
-abbrev pub going_in : (task : ℕ) → AddressSpace → Regs → Going
+abbrev pub going_in : (task : ℕ) → AddressSpace → Regs → GoingTask
 going_in task space registers = going_with task space [] registers

@@ -3,7 +3,7 @@ use Rattle.std.proofs.Common.{◌≡◌, arith, true, false, ap, sym, ◌∙◌}
 use Rattle.kernel_model.specs.machine.Instructions.{touches_area}
 use Rattle.parked_tasks.proofs.Results.{err_by, on_err}
 use Rattle.call_table.specs.Entries.{ReadyIs}
-use Rattle.call_table.specs.Moves.{Moves}
+use Rattle.call_table.specs.Moves.{LeavesRest}
 use Rattle.call_table.specs.Parks.{Parks}
 use Rattle.call_table.proofs.Kept.{stands_kept, part_behind, ready_kept}
 use Rattle.call_table.proofs.Moves.{moves_kept}
@@ -140,7 +140,7 @@ returns-in-Calls-clause-moves c =
     let task = c.args.task in
     let memory = c.args.standing.memory in
     let none : c.in_ok-ran.ran.count ≡ 0 = omega arith in
-    enters_behind c.answer.result (λ made. Moves task memory made b q) (λ made. Moves task memory made p q)
+    enters_behind c.answer.result (λ made. LeavesRest task memory made b q) (λ made. LeavesRest task memory made p q)
     (λ made. moves_kept task memory made p b q (c.in_ok-ran.ensures.none none)) c.answer.ensures.moves
 
 pub returns-in-Touches-clause-moves : goal.returns-in-Touches-clause-moves
@@ -151,5 +151,5 @@ returns-in-Touches-clause-moves c =
     let task = c.args.task in
     let memory = c.args.standing.memory in
     let none : c.in_ok-ran.ran.count ≡ 0 = omega arith in
-    enters_behind c.touch.result (λ made. Moves task memory made b q) (λ made. Moves task memory made p q)
+    enters_behind c.touch.result (λ made. LeavesRest task memory made b q) (λ made. LeavesRest task memory made p q)
     (λ made. moves_kept task memory made p b q (c.in_ok-ran.ensures.none none)) c.touch.ensures.moves

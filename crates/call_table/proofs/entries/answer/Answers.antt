@@ -21,7 +21,7 @@ use Rattle.kernel_calls.specs.Prepared.{with_effect}
 use Rattle.kernel_calls.specs.declared.prepared.Called.TheVariants.{Replies, Makes, Sleeps, Waits}
 use Rattle.call_fs.specs.Called.{IsApartIn}
 use Rattle.call_fs.specs.declared.called.Called.TheVariants.{Of, Moves, MakesPipe}
-use Rattle.proc_cells.specs.Beside.{Beside, Held, kernel_with, nothing_beside}
+use Rattle.proc_cells.specs.Beside.{Beside, HeldParts, kernel_with, nothing_beside}
 use Rattle.proc_cells.specs.Cells.{held_by, kernel_of, caller_with}
 use Rattle.proc_cells.proofs.Homes.{home_reached}
 use Rattle.parked_tasks.specs.declared.used.Spot.{Spot}
@@ -120,7 +120,7 @@ returns-in-Of-Replies-clause-step c = λ beside n seed place.
     refl c.requires.known (sym c.in-Some.ensures.value) c.len-console.ensures c.call_of.ensures c.args_of.ensures
     c.in_ok-called.ensures.row is beside n seed place in
     let effect = c.in-Of-Replies.prepared.effect in
-    let h : Held = record (held_by p) {
+    let h : HeldParts = record (held_by p) {
       tasks = c.finish.new.cells.tasks;
       spaces = m.spaces;
       areas = m.areas;
@@ -135,7 +135,7 @@ returns-in-Of-Replies-clause-step c = λ beside n seed place.
     ∙ ap (λ g. with_effect effect g m) (sym c.requires.known.group)
     ∙ c.finish.ensures.does m refl refl refl)
     c.finish.ensures.registers
-    ∙ ap (λ (y : Held). Some (kernel_with y beside (n + 1))) (
+    ∙ ap (λ (y : HeldParts). Some (kernel_with y beside (n + 1))) (
     ap (λ s. record h { registers = c.finish.new.cells.registers; spaces = s }) (sym c.finish.ensures.spaces)
     ∙ ap (λ a. record (held_by c.finish.new.cells) { areas = a; console = p.console }) (sym c.finish.ensures.areas)
     ∙ ap (λ b. record (held_by c.finish.new.cells) { console = b }) (sym c.finish.ensures.console))
@@ -156,7 +156,7 @@ returns-in_ok-make_child-in-Of-Makes-clause-step c = λ beside n seed place.
     refl c.requires.known (sym c.in-Some.ensures.value) c.len-console.ensures c.call_of.ensures c.args_of.ensures
     c.in_ok-called.ensures.row is beside n seed place in
     let does = c.in_ok-make_child-in-Of-Makes.ensures.does in
-    let h : Held = record (held_by p) {
+    let h : HeldParts = record (held_by p) {
       tasks = c.make_child.new.cells.tasks;
       spaces = c.make_child.new.cells.spaces;
       areas = c.make_child.new.cells.areas;
@@ -173,7 +173,7 @@ returns-in_ok-make_child-in-Of-Makes-clause-step c = λ beside n seed place.
     c.in-Some.ensures.value apart.0))
     (sym apart.1) refl)
     does.1
-    ∙ ap (λ (y : Held). Some (kernel_with y beside (n + 1))) (
+    ∙ ap (λ (y : HeldParts). Some (kernel_with y beside (n + 1))) (
     ap (λ w. record h { registers = c.make_child.new.cells.registers; sleepers = w })
     (sym c.make_child.ensures.sleepers)
     ∙ ap (λ b. record (held_by c.make_child.new.cells) { console = b }) (sym c.make_child.ensures.console))
@@ -196,7 +196,7 @@ returns-in_ok-put_to_sleep-in-Of-Sleeps-clause-step c = λ beside n seed place.
     ap (λ (e : Entry). step k e) c.in_ok-put_to_sleep-in-Of-Sleeps.ensures.entry
     ∙ step_sleep p c.args.context.now.task c.args.standing c.requires.stands q.sleepers c.in-Of-Sleeps.key beside n
     c.requires.awake c.requires.calls sleeps c.in_ok-put_to_sleep-in-Of-Sleeps.ensures.sleeps
-    ∙ ap (λ (y : Held). Some (kernel_with y beside (n + 1))) (
+    ∙ ap (λ (y : HeldParts). Some (kernel_with y beside (n + 1))) (
     ap (λ t. record (held_by p) { sleepers = q.sleepers; tasks = t }) (sym c.put_to_sleep.ensures.tasks)
     ∙ ap (λ z. record (held_by p) { sleepers = q.sleepers; tasks = q.tasks; registers = z })
     (sym c.put_to_sleep.ensures.registers)
@@ -229,7 +229,7 @@ returns-in_ok-move_bytes-in-Moves-clause-step c = λ beside n seed place.
     let q = c.move_bytes.new.cells in
     let fits : SFits w64 c.in-Moves.reply = search rules in
     let told : to_z w64 (of_z w64 c.in-Moves.reply) ≡ c.in-Moves.reply = to_z-of_z fits in
-    let h : Held = record (held_by p) {
+    let h : HeldParts = record (held_by p) {
       spaces = m.spaces;
       areas = m.areas;
       files = q.files;
@@ -246,7 +246,7 @@ returns-in_ok-move_bytes-in-Moves-clause-step c = λ beside n seed place.
     (ap (λ (x : Made). get_named m.spaces x.place x.index) c.requires.known.memory
     ∙ get-with_same p.spaces memory.place memory.index c.call.new.space) refl refl refl)
     c.in_ok-move_bytes-in-Moves.ensures.registers
-    ∙ ap (λ (y : Held). Some (kernel_with y beside (n + 1))) (
+    ∙ ap (λ (y : HeldParts). Some (kernel_with y beside (n + 1))) (
     ap (λ t. record h { registers = q.registers; tasks = t }) (sym c.move_bytes.ensures.tasks)
     ∙ ap (λ s. record h { registers = q.registers; tasks = q.tasks; spaces = s }) (sym c.move_bytes.ensures.spaces)
     ∙ ap (λ a. record (held_by q) { areas = a; sleepers = p.sleepers }) (sym c.move_bytes.ensures.areas)
@@ -268,7 +268,7 @@ returns-in_ok-open_pipe-in-MakesPipe-clause-step c = λ beside n seed place.
     c.in_ok-called.ensures.row c.in-MakesPipe.is beside n seed place in
     let ends = c.in-MakesPipe.pipe.ends in
     let q = c.open_pipe.new.cells in
-    let h : Held = record (held_by p) { spaces = q.spaces; areas = q.areas; files = q.files } in
+    let h : HeldParts = record (held_by p) { spaces = q.spaces; areas = q.areas; files = q.files } in
     ap (λ (e : Entry). step k e) c.in_ok-open_pipe-in-MakesPipe.ensures.entry
     ∙ step_call p c.args.context.now.task c.args.standing c.requires.stands (call_of r) (args_of r)
     (record { fresh = []; rises = [] }) (pos 0)
@@ -288,7 +288,7 @@ returns-in_ok-open_pipe-in-MakesPipe-clause-step c = λ beside n seed place.
       files = refl;
     }))
     c.in_ok-open_pipe-in-MakesPipe.ensures.registers
-    ∙ ap (λ (y : Held). Some (kernel_with y beside (n + 1))) (
+    ∙ ap (λ (y : HeldParts). Some (kernel_with y beside (n + 1))) (
     ap (λ t. record h { registers = q.registers; tasks = t }) (sym c.open_pipe.ensures.tasks)
     ∙ ap (λ w. record (held_by q) { sleepers = w; console = p.console }) (sym c.open_pipe.ensures.sleepers)
     ∙ ap (λ b. record (held_by q) { console = b }) (sym c.open_pipe.ensures.console))

@@ -4,7 +4,7 @@ use Rattle.kernel_model.specs.declared.entry.Entry.{Entry}
 use Rattle.kernel_model.specs.Names.{get_named}
 use Rattle.kernel_model.specs.machine.Registers.{args_of, call_of, replied}
 use Rattle.kernel_model.specs.entries.Steps.{step}
-use Rattle.proc_cells.specs.Beside.{Held, kernel_with}
+use Rattle.proc_cells.specs.Beside.{HeldParts, kernel_with}
 use Rattle.proc_cells.specs.Cells.{held_by, kernel_of}
 use Rattle.call_table.specs.Moves.{puts_to_sleep}
 use Rattle.call_table.proofs.Moves.{moves_woken, others_go_on}
@@ -20,7 +20,7 @@ returns-clause-step c = λ beside n.
     ∙ step_woken p c.args.task c.args.standing c.requires.stands (call_of r) (args_of r)
     (record { fresh = []; rises = [] }) c.leave.new.self c.go_on.new.cells.registers beside n c.requires.woken refl refl
     refl c.leave.ensures c.go_on.ensures.registers
-    ∙ ap (λ (h : Held). Some (kernel_with h beside (n + 1))) (
+    ∙ ap (λ (h : HeldParts). Some (kernel_with h beside (n + 1))) (
     ap (λ x. record (held_by p) { registers = c.go_on.new.cells.registers; sleepers = x })
     (sym c.go_on.ensures.sleepers)
     ∙ ap (λ x. record (held_by p) {

@@ -5,7 +5,7 @@ use Rattle.std.specs.Ordering.{nat_cmp}
 use Rattle.rv_table.specs.declared.registers.Regs.{Regs}
 use Rattle.kernel_model.specs.Names.{with_named}
 use Rattle.kernel_model.specs.declared.traps.Next.TheVariants.{Goes}
-use Rattle.proc_cells.specs.Beside.{Held}
+use Rattle.proc_cells.specs.Beside.{HeldParts}
 use Rattle.proc_cells.specs.Cells.{held_by, kernel_of, caller_with}
 use Rattle.proc_cells.proofs.Homes.{home_reached, home_run}
 use Rattle.parked_tasks.proofs.Results.{err_by}
@@ -45,7 +45,7 @@ returns-clause-step c = λ goes beside n.
     (ap left
     (c.replace.ensures ∙ ap (λ x. map.insert c.args.cells.now.registers x c.step.new.registers) c.from.ensures))
   where
-    left : map.FinMap nat_cmp Regs → Held
+    left : map.FinMap nat_cmp Regs → HeldParts
     left registers = record (held_by c.args.cells.now) {
       registers = registers;
       spaces =

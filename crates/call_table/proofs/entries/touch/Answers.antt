@@ -3,7 +3,7 @@ use Rattle.std.proofs.Common.{ap, sym, true, false, ◌∙◌}
 use Rattle.kernel_model.specs.machine.Instructions.{goes_on}
 use Rattle.parked_tasks.proofs.Results.{on_err, err_by}
 use Rattle.call_table.specs.Entries.{ReadyIs}
-use Rattle.call_table.specs.Moves.{Moves}
+use Rattle.call_table.specs.Moves.{LeavesRest}
 use Rattle.call_table.specs.Parks.{Parks}
 use Rattle.call_table.proofs.Kept.{stands_kept, part_kept, part_behind, ready_kept}
 use Rattle.call_table.proofs.Moves.{moves_kept}
@@ -75,7 +75,7 @@ returns-in-Calls-clause-moves c =
     let q = c.answer.new.cells in
     let task = c.args.context.now.task in
     let memory = c.args.standing.memory in
-    enters_behind c.answer.result (λ made. Moves task memory made b q) (λ made. Moves task memory made p q)
+    enters_behind c.answer.result (λ made. LeavesRest task memory made b q) (λ made. LeavesRest task memory made p q)
     (λ made. moves_kept task memory made p b q (c.in_ok-step_standing.ensures.kept (ap goes_on c.in-Calls.is)))
     c.answer.ensures.moves
 

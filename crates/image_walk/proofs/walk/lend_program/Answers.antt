@@ -1,7 +1,7 @@
 -- A child that was lent is behind the others, and tells what it was loaded to.
 use Rattle.std.proofs.Common.{◌+◌, arith}
 use Rattle.std.proofs.lemmas.List.{length-map}
-use Rattle.image_walk.specs.Granted.{Child, told_of}
+use Rattle.image_walk.specs.Granted.{LentChild, told_of}
 use Rattle.image_walk.proofs.Going.{lends_child, told_more}
 use Rattle.image_walk.proofs.walk.lend_program.Goals as goal
 
@@ -21,7 +21,7 @@ returns-in-Ok-Some-clause-lends g c =
     c.push_reserved.ensures.items)
     (omega (
       arith,
-      length-map {B = Child} c.args.granted.now.lent.items (λ l. (l.name, told l.node)),
+      length-map {B = LentChild} c.args.granted.now.lent.items (λ l. (l.name, told l.node)),
       c.len.ensures,
       c.reserve.ensures.len,
       c.args.granted.now.lent.ok.0,

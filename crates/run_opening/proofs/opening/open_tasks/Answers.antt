@@ -7,7 +7,7 @@ use Rattle.kernel_model.proofs.OpenedTasks.{AreOpened, opened_none}
 use Rattle.kernel_model.specs.opening.Opening.{bare}
 use Rattle.image_walk.specs.declared.granted.Numbering.{Numbering}
 use Rattle.image_walk.specs.Granted.{told_of}
-use Rattle.image_walk.specs.Standing.{IsNumbering, Stands}
+use Rattle.image_walk.specs.Standing.{IsNumbering, StandsLent}
 use Rattle.image_walk.specs.Walking.{TellNothing}
 use Rattle.run_opening.specs.Openings.{beside_of}
 use Rattle.run_opening.specs.Trees.{trees_with}
@@ -20,7 +20,7 @@ pub loop-index-init : goal.loop-index-init
 loop-index-init g c =
     let told = g.N.HostNode.told in
     let stands = λ (t : Shape) (e : told c.args.granted.now.root ≡ Some t).
-    subst (λ (num : Numbering). Stands num t [] [] (told c.args.granted.now.root)
+    subst (λ (num : Numbering). StandsLent num t [] [] (told c.args.granted.now.root)
     (told_of told c.args.granted.now.lent.items)) c.requires.numbers (c.requires.stands t e) in
     record {
       same = refl;
@@ -43,7 +43,7 @@ open_task-requires-clause-grant g c κs within =
     (told_of told c.loop-index.granted.lent.items) c.requires.root c.loop-index.invariant.silent
     (λ t e. let h = c.loop-index.invariant.stands t e in (
       h.names,
-      subst (λ (num : Numbering). Stands num t h.names [] (told c.loop-index.granted.root)
+      subst (λ (num : Numbering). StandsLent num t h.names [] (told c.loop-index.granted.root)
           (told_of told c.loop-index.granted.lent.items))
           (sym (c.loop-index.invariant.same ∙ c.requires.numbers)) h.stands,
     ))

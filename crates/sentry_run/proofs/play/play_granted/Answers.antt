@@ -6,7 +6,7 @@ use Rattle.kernel_model.specs.declared.opening.Opening.{Opening}
 use Rattle.kernel_model.specs.opening.Opening.{bare}
 use Rattle.image_walk.specs.declared.granted.Numbering.{Numbering}
 use Rattle.image_walk.specs.Granted.{told_of}
-use Rattle.image_walk.specs.Standing.{Stands}
+use Rattle.image_walk.specs.Standing.{StandsLent}
 use Rattle.image_walk.proofs.OutAgain.{can_give_back}
 use Rattle.run_opening.specs.Begun.{HasBegun, Stops}
 use Rattle.run_opening.specs.Openings.{numbering_of}
@@ -30,7 +30,7 @@ returns-in-Err-clause-ended g c = λ others t are e after gives.
     (record {
       names = [];
       stands =
-          subst (λ (num : Numbering). Stands num t [] [] (told c.args.granted.now.root)
+          subst (λ (num : Numbering). StandsLent num t [] [] (told c.args.granted.now.root)
           (told_of told c.args.granted.now.lent.items)) c.requires.numbers
           (c.requires.stands t e);
     }) c.stopped.ensures.trace gives)

@@ -2,7 +2,7 @@
 use Rattle.std.proofs.Common.{subst}
 use Rattle.proc_cells.specs.Cells.{AreKept}
 use Rattle.call_table.specs.Entries.{if_enters, if_waits}
-use Rattle.call_table.specs.Moves.{Moves}
+use Rattle.call_table.specs.Moves.{LeavesRest}
 use Rattle.call_table.specs.Parks.{Parks}
 use Rattle.call_table.proofs.Parks.{parks_still}
 use Rattle.call_table.proofs.ParkingSteps.{parked_but, parked_more, parked_still}
@@ -23,7 +23,7 @@ pub returns-clause-parked : goal.returns-clause-parked
 returns-clause-parked c =
     let before = c.args.self.now.cells in
     c.in_ok-settle.ensures before c.last-last.ensures
-    (subst (if_enters (λ made. Moves c.args.task c.args.standing.memory made before c.advance.new.cells))
+    (subst (if_enters (λ made. LeavesRest c.args.task c.args.standing.memory made before c.advance.new.cells))
     c.in-Enters.is c.in_ok-made.ensures.moves)
     (parked_but before c.args.self.now.parking c.args.self.now.parking c.requires.parked c.args.task
     c.requires.looked_at)
