@@ -24,11 +24,11 @@ use Rattle.kernel_calls.specs.declared.prepared.Called.TheVariants.{Replies, Mak
 use Rattle.kernel_calls.specs.declared.prepared.Effect.TheVariants.{ChangesFiles}
 use Rattle.kernel_calls.proofs.Coming.{goes_on_so}
 use Rattle.call_fs.specs.Asked.{read_call, read_row_by, write_call, write_row_by}
-use Rattle.call_fs.specs.Called.{IfOf}
+use Rattle.call_fs.specs.CallEnd.{IfOf}
 use Rattle.call_fs.specs.Prepared.{AnswersFiles}
 use Rattle.call_fs.specs.Transfers.{IsMoving}
-use Rattle.call_fs.specs.declared.called.Called.{Called}
-use Rattle.call_fs.specs.declared.called.Called.TheVariants.{Of, Moves, MakesPipe}
+use Rattle.call_fs.specs.declared.call_end.CallEnd.{CallEnd}
+use Rattle.call_fs.specs.declared.call_end.CallEnd.TheVariants.{Of, Moves, MakesPipe}
 use Rattle.call_fs.specs.declared.moving.By.{By}
 use Rattle.call_fs.specs.declared.moving.By.TheVariants.{Buffer, Records}
 use Rattle.call_fs.specs.declared.prepared.FilePrepared.{FilePrepared}
@@ -57,7 +57,7 @@ answers_changes row p c k group table same answers = record {
 }
 
 -- what holds of a call that waits, of one that doesn't
-pub never_waits : (d : Called) (fact : Awaited → Type 0) → IfOf d (λ o. IfWaits o (λ awaited. ⊥))
+pub never_waits : (d : CallEnd) (fact : Awaited → Type 0) → IfOf d (λ o. IfWaits o (λ awaited. ⊥))
     → IfOf d (λ o. IfWaits o fact)
 never_waits (Of d) fact goes = goes_on_so d fact goes
 never_waits (Moves reply transfer) fact goes = tt
@@ -94,7 +94,7 @@ waits_so (Sleeps key) table s row other same waits = tt
 waits_so (Waits awaited) table s row other same waits =
     λ context those agrees. ap (outcome_in those) (same context) ∙ waits context those agrees
 
-pub waits_alike : (d : Called) (table : Made) (s : Parts) (row other : RowContext → Prog Answer)
+pub waits_alike : (d : CallEnd) (table : Made) (s : Parts) (row other : RowContext → Prog Answer)
     → ((context : RowContext) → other context ≡ row context)
     → IfOf d (λ o. IfWaits o (λ awaited. WaitsWith awaited table s row))
     → IfOf d (λ o. IfWaits o (λ awaited. WaitsWith awaited table s other))

@@ -14,7 +14,7 @@ use Rattle.fd_table.specs.declared.description.Object.{Object}
 use Rattle.fd_table.specs.declared.description.Object.TheVariants.{Node, PipeEnd, Console, EmptyInput}
 use Rattle.fd_table.specs.declared.description.PipeSide.{PipeSide}
 use Rattle.fd_table.specs.declared.descriptor.Descriptor.{Descriptor}
-use Rattle.fd_table.specs.declared.flags.Access.{Access}
+use Rattle.fd_table.specs.declared.flags.AccessMode.{AccessMode}
 use Rattle.pipe_core.specs.Pipes.{PipeState, after_read}
 use Rattle.mm_areas.specs.declared.rights.Rights.{Rights}
 use Rattle.mm_space.specs.Accesses.{readable, writable}
@@ -382,7 +382,7 @@ module _ (s those : Parts) (space : AddressSpace) (same : (name : Area) → thos
 
 -- ---- by a register's open file
 
-module _ (may : Access → Bool) (body : Description → Prog Answer) (c : Caller) (k : Kernel) (fd : ℕ) (those : Parts)
+module _ (may : AccessMode → Bool) (body : Description → Prog Answer) (c : Caller) (k : Kernel) (fd : ℕ) (those : Parts)
     (awaits : (d : Description) → outcome_in (parts k) (body d) ≡ not_ready
     → AwaitsPipe d.object (parts k) those (body d)) where
   abbrev opens : Descriptor → Prog Answer

@@ -1,6 +1,6 @@
 -- What contracts of this crate say, by subject.
 pub mod Asked
-pub mod Called
+pub mod CallEnd
 pub mod Lookups
 pub mod Pipes
 pub mod Prepared

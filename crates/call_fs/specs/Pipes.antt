@@ -4,7 +4,7 @@ use Rattle.fd_table.specs.Flags.{has_flag}
 use Rattle.fd_table.specs.Tables.{Table}
 use Rattle.fd_table.specs.declared.description.Object.TheVariants.{PipeEnd}
 use Rattle.fd_table.specs.declared.description.PipeSide.TheVariants as side
-use Rattle.fd_table.specs.declared.flags.Access.TheVariants.{Read, Write}
+use Rattle.fd_table.specs.declared.flags.AccessMode.TheVariants.{Read, Write}
 use Rattle.fd_table.specs.declared.flags.TheConstants.{O_NONBLOCK}
 use Rattle.pipe_core.specs.Pipes.{new_pipe}
 use Rattle.mm_space.specs.Accesses.{writable}
@@ -21,7 +21,7 @@ use Rattle.kernel_model.specs.calls.Pipes.{pipe_made, read_end_at, two_free, two
 use Rattle.kernel_model.specs.entries.Areas.{access_row, written_with}
 use Rattle.kernel_model.specs.entries.Parts.{Parts, Prog, outcome_in, parts}
 use Rattle.guest_access.specs.Lending.{AreThose, with_hand}
-use Rattle.call_fs.specs.declared.pipes.Ends.{Ends}
+use Rattle.call_fs.specs.declared.pipes.PipeEnds.{PipeEnds}
 use Rattle.call_fs.specs.declared.pipes.NewPipe.{NewPipe}
 use Rattle.call_fs.specs.declared.pipes.PipeCall.{PipeCall}
 use Rattle.call_fs.specs.declared.pipes.PipeCall.TheVariants.{Refused, Makes}
@@ -54,10 +54,10 @@ Prepares row (Makes new) context c k = MakesPipe row new context c k
 
 -- the two numbers were put into the buffer, where each of its bytes may be written
 -- pipe(2), pipefd
-abbrev pub ints_put : (task : ℕ) → (own : AddressSpace) → Ends → List InHand → Reach
+abbrev pub ints_put : (task : ℕ) → (own : AddressSpace) → PipeEnds → List InHand → Reach
 ints_put task own ends hand = written_with task own ends.buffer (two_ints (ends.first, ends.second)) hand
 
-abbrev pub PutsInts : (task : ℕ) → Ends → (own space : AddressSpace) → (shared areas : NamedMap AreaState)
+abbrev pub PutsInts : (task : ℕ) → PipeEnds → (own space : AddressSpace) → (shared areas : NamedMap AreaState)
     → Type 0
 PutsInts task ends own space shared areas =
     (s : Parts) (hand : List InHand) → AreThose s shared

@@ -14,10 +14,10 @@ ghost use Rattle.kernel_calls.specs.Prepared.{AnswersKept, EndsCaller, EndsEach,
 ghost use Rattle.kernel_calls.specs.Prepared.{IfWaits, IsCalling, WaitsWith};
 ghost use Rattle.kernel_calls.specs.declared.prepared.Effect.TheVariants.{ChangesFiles};
 ghost use Rattle.call_fs.specs.Asked.{IfChanges, IsAsked};
-ghost use Rattle.call_fs.specs.Called.{ComesTo, HasRoomIn, IfOf, IsApartIn};
+ghost use Rattle.call_fs.specs.CallEnd.{ComesTo, HasRoomIn, IfOf, IsApartIn};
 ghost use Rattle.call_fs.specs.Prepared.{AnswersFiles};
 
-use crate::called::Called;
+use crate::call_end::CallEnd;
 use crate::descriptors::{close, dup, dup3, fcntl, ioctl};
 use crate::moving::{By, piping, reading, writing};
 use crate::prepared::FilePrepared;
@@ -58,7 +58,7 @@ pub fn call(
     sleepers: &Waiters,
     console: usize,
     files: &OpenFiles,
-) -> Result<Called, Memory>
+) -> Result<CallEnd, Memory>
     requires { IsTrue (is_live tasks.now.tasks context.now.task) }
     ensures row { IfOk result (λ d. (c : ACaller) (k : AKernel) →
         IsCalling c k context.now space.old areas.old tasks.now sleepers.now console → k.files ≡ files.now →
@@ -84,8 +84,8 @@ pub fn call(
             alloc, context, by, args.a0, args.a1, args.a2, space, areas, console, files,
         ),
         Asked::Pipes => piping(alloc, context, args.a0, args.a1, space, areas, files),
-        Asked::Changes(prepared) => Ok(Called::Of(kernel_calls::Called::Replies(prepared))),
-        Asked::Others => Ok(Called::Of(kernel_calls::call(
+        Asked::Changes(prepared) => Ok(CallEnd::Of(kernel_calls::Called::Replies(prepared))),
+        Asked::Others => Ok(CallEnd::Of(kernel_calls::call(
             alloc, context, number, registers, args, space, areas, tasks, sleepers, files,
         )?)),
     }

@@ -1,6 +1,6 @@
 //! The system calls on descriptors, as functions over the parts that their rows use, and the table of all calls.
 //!
-//! A caller sees `call`, which tells what becomes of a call of a live task (`Called`): those on what is open are
+//! A caller sees `call`, which tells what becomes of a call of a live task (`CallEnd`): those on what is open are
 //! prepared here, and each other by `kernel_calls`, whose `commit` does what it and `dup`, `dup3`, `fcntl`, `ioctl`,
 //! `close`, `lseek`, `pread64` and `pwrite64` come to. These are told the name of the caller's descriptor table and the
 //! registers of their arguments, read what is open (`OpenFiles`), and prepare what they come to (`FilePrepared`): a
@@ -23,7 +23,7 @@
 //! errors, are choices of this project. No locks.
 #![tactic(auto)]
 
-mod called;
+mod call_end;
 mod calls;
 mod descriptors;
 mod gathering;
@@ -40,10 +40,10 @@ mod vectors_write;
 mod waiting;
 mod writes;
 
-pub use called::Called;
+pub use call_end::CallEnd;
 pub use calls::call;
 pub use descriptors::{close, dup, dup3, fcntl, ioctl};
-pub use pipes::{Ends, NewPipe, PipeCall, make_pipe, pipe2};
+pub use pipes::{NewPipe, PipeCall, PipeEnds, make_pipe, pipe2};
 pub use prepared::FilePrepared;
 pub use reads::read;
 pub use seek::{lseek, pread64, pwrite64};

@@ -10,11 +10,11 @@ ghost use Rattle.kernel_model.specs.calls.Pipes.{pipe2_row};
 ghost use Rattle.kernel_model.specs.entries.Parts.{parts};
 ghost use Rattle.kernel_calls.specs.Prepared.{EndsCaller, EndsTheirs, HasRoomFor, IfWaits, WaitsWith};
 ghost use Rattle.call_fs.specs.Asked.{LooksNowhereElse, read_row_by, write_row_by};
-ghost use Rattle.call_fs.specs.Called.{ComesTo, HasRoomIn, IfOf, IsApartBy, IsApartIn};
+ghost use Rattle.call_fs.specs.CallEnd.{ComesTo, HasRoomIn, IfOf, IsApartBy, IsApartIn};
 ghost use Rattle.call_fs.specs.Lookups.{end_in};
 ghost use Rattle.call_fs.specs.Transfers.{IsMoving, IsSure, Moves};
 
-use crate::called::Called;
+use crate::call_end::CallEnd;
 use crate::pipes::{PipeCall, pipe2};
 use crate::reads::read;
 use crate::transfers::Transferred;
@@ -46,7 +46,7 @@ pub(crate) fn reading(
     space: &mut GuestSpace,
     areas: &mut Named<GuestArea>,
     files: &OpenFiles,
-) -> Result<Called, Memory>
+) -> Result<CallEnd, Memory>
     ensures row { IfOk result (λ d. (c : ACaller) (k : AKernel) (console : ℕ) →
         IsMoving c k context.now space.old areas.old files.now console →
         ComesTo (read_row_by by fd at count c) d c k space.new areas.new) }
@@ -62,7 +62,7 @@ pub(crate) fn reading(
     ensures err { OnErr result ((space.new ≡ space.old) × (areas.new ≡ areas.old)) }
 {
     match read_by(alloc, context, by, fd, at, count, space, areas, files)? {
-        Transferred::Replies { reply, transfer } => Ok(Called::Moves { reply, transfer }),
+        Transferred::Replies { reply, transfer } => Ok(CallEnd::Moves { reply, transfer }),
         Transferred::Waits { .. } => {
             let used = used_by(
                 alloc,
@@ -75,7 +75,7 @@ pub(crate) fn reading(
                 space,
                 files,
             );
-            Ok(Called::Of(kernel_calls::Called::Waits(used)))
+            Ok(CallEnd::Of(kernel_calls::Called::Waits(used)))
         }
     }
 }
@@ -117,7 +117,7 @@ pub(crate) fn writing(
     areas: &mut Named<GuestArea>,
     console: usize,
     files: &OpenFiles,
-) -> Result<Called, Memory>
+) -> Result<CallEnd, Memory>
     ensures row { IfOk result (λ d. (c : ACaller) (k : AKernel) →
         IsMoving c k context.now space.now areas.old files.now console →
         ComesTo (write_row_by by fd at count c) d c k space.now areas.old) }
@@ -134,7 +134,7 @@ pub(crate) fn writing(
     match write_by(
         alloc, context, by, fd, at, count, space, areas, files, console,
     )? {
-        Transferred::Replies { reply, transfer } => Ok(Called::Moves { reply, transfer }),
+        Transferred::Replies { reply, transfer } => Ok(CallEnd::Moves { reply, transfer }),
         Transferred::Waits { .. } => {
             let used = used_by(
                 alloc,
@@ -147,7 +147,7 @@ pub(crate) fn writing(
                 space,
                 files,
             );
-            Ok(Called::Of(kernel_calls::Called::Waits(used)))
+            Ok(CallEnd::Of(kernel_calls::Called::Waits(used)))
         }
     }
 }
@@ -207,7 +207,7 @@ pub(crate) fn piping(
     space: &GuestSpace,
     areas: &mut Named<GuestArea>,
     files: &OpenFiles,
-) -> Result<Called, Memory>
+) -> Result<CallEnd, Memory>
     ensures row { IfOk result (λ d. (c : ACaller) (k : AKernel) (console : ℕ) →
         IsMoving c k context.now space.now areas.old files.now console →
         ComesTo (pipe2_row (context_of k) buffer flags c) d c k space.now areas.old) }
@@ -221,8 +221,8 @@ pub(crate) fn piping(
 {
     match pipe2(alloc, context, buffer, flags, space, areas, files)? {
         PipeCall::Refused(errno) => {
-            Ok(Called::Of(kernel_calls::Called::Replies(refused(errno))))
+            Ok(CallEnd::Of(kernel_calls::Called::Replies(refused(errno))))
         }
-        PipeCall::Makes(new) => Ok(Called::MakesPipe(Boxed::new(alloc, new)?)),
+        PipeCall::Makes(new) => Ok(CallEnd::MakesPipe(Boxed::new(alloc, new)?)),
     }
 }

@@ -20,7 +20,7 @@ ghost use Rattle.call_fs.specs.Transfers.{IsMoving};
 
 use crate::lookups::lowest_free;
 use fd_table::{
-    Access, Description, Descriptor, FdTable, O_CLOEXEC, O_NONBLOCK, OPEN_MAX, Object, PipeSide,
+    AccessMode, Description, Descriptor, FdTable, O_CLOEXEC, O_NONBLOCK, OPEN_MAX, Object, PipeSide,
 };
 use guest_access::{is_accessible, write};
 use kernel_calls::Context;
@@ -36,7 +36,7 @@ const PIPE_FLAGS: u32 = O_NONBLOCK + O_CLOEXEC;
 
 /// The ends of a pipe that a call makes: their numbers, the flags of the call, and the buffer that gets the numbers.
 #[derive(Clone, Copy, Debug, Drop, PartialEq, Eq)]
-pub struct Ends {
+pub struct PipeEnds {
     pub first: u32,
     pub second: u32,
     pub flags: u32,
@@ -47,7 +47,7 @@ pub struct Ends {
 #[derive(Drop)]
 pub struct NewPipe {
     pub pipe: Pipe,
-    pub ends: Ends,
+    pub ends: PipeEnds,
 }
 
 /// What becomes of pipe2: it is refused, or it makes a pipe, and replies 0.
@@ -88,7 +88,7 @@ pub fn pipe2(
         Some(numbers) => match two_free(numbers) {
             None => Ok(PipeCall::Refused(Errno::EMFILE)),
             Some((first, second)) => {
-                let ends = Ends {
+                let ends = PipeEnds {
                     first,
                     second,
                     flags,
@@ -184,7 +184,7 @@ fn place(
 fn make_ends(
     alloc: Global,
     context: &Context<'_>,
-    ends: &Ends,
+    ends: &PipeEnds,
     space: &mut GuestSpace,
     areas: &mut Named<GuestArea>,
     descriptions: &mut Named<OpenFile>,
@@ -203,7 +203,7 @@ fn make_ends(
     ensures err_descriptions { OnErr result (descriptions.new ≡ descriptions.old) }
     ensures err_tables { OnErr result (tables.new ≡ tables.old) }
 {
-    let file = end_file(context.place, ends.flags, PipeSide::Read, Access::Read);
+    let file = end_file(context.place, ends.flags, PipeSide::Read, AccessMode::Read);
     let former = descriptions.put(alloc, context.place, 0, file)?;
     let made = make_write_end(alloc, context, ends, space, areas, descriptions, tables);
     if made.is_err() {
@@ -216,7 +216,7 @@ fn make_ends(
 fn make_write_end(
     alloc: Global,
     context: &Context<'_>,
-    ends: &Ends,
+    ends: &PipeEnds,
     space: &mut GuestSpace,
     areas: &mut Named<GuestArea>,
     descriptions: &mut Named<OpenFile>,
@@ -234,7 +234,12 @@ fn make_write_end(
     ensures err_descriptions { OnErr result (descriptions.new ≡ descriptions.old) }
     ensures err_tables { OnErr result (tables.new ≡ tables.old) }
 {
-    let file = end_file(context.place, ends.flags, PipeSide::Write, Access::Write);
+    let file = end_file(
+        context.place,
+        ends.flags,
+        PipeSide::Write,
+        AccessMode::Write,
+    );
     let former = descriptions.put(alloc, context.place, 1, file)?;
     let made = tell(alloc, context.task, ends, space, areas);
     match made {
@@ -245,7 +250,7 @@ fn make_write_end(
 }
 
 /// The open file description of an end of the pipe of a place.
-fn end_file(place: u64, flags: u32, end: PipeSide, access: Access) -> OpenFile
+fn end_file(place: u64, flags: u32, end: PipeSide, access: AccessMode) -> OpenFile
     ensures { result ≡ new_file (PipeEnd (read_end_at place) end) access (has_flag flags O_NONBLOCK) }
 {
     OpenFile {
@@ -267,7 +272,7 @@ fn end_file(place: u64, flags: u32, end: PipeSide, access: Access) -> OpenFile
 fn tell(
     alloc: Global,
     task: u32,
-    ends: &Ends,
+    ends: &PipeEnds,
     space: &mut GuestSpace,
     areas: &mut Named<GuestArea>,
 ) -> Result<(), Memory>
@@ -295,7 +300,7 @@ fn two_ints(first: u32, second: u32) -> [u8; 8]
 }
 
 /// The numbers of the ends are open in a table that is there, where they are the two lowest that were free.
-fn open_ends(place: u64, table: Made, ends: &Ends, tables: &mut Named<FdTable>)
+fn open_ends(place: u64, table: Made, ends: &PipeEnds, tables: &mut Named<FdTable>)
     ensures { (open_numbers : Table) → get_named tables.old table.place table.index ≡ Some open_numbers →
         two_free open_numbers ≡ Some (ends.now.first, ends.now.second) →
         tables.new ≡ with_named tables.old table.place table.index

@@ -16,7 +16,7 @@ ghost use Rattle.kernel_model.specs.calls.ReadWrite.{from_pipe, is_awaited, put_
 ghost use Rattle.kernel_model.specs.calls.ReadWrite.{reads_of};
 ghost use Rattle.kernel_model.specs.calls.Vectors.{cut};
 ghost use Rattle.kernel_model.specs.entries.Parts.{done};
-ghost use Rattle.call_fs.specs.Called.{IsApartBy};
+ghost use Rattle.call_fs.specs.CallEnd.{IsApartBy};
 ghost use Rattle.call_fs.specs.Transfers.{HasMemory, IsMoving, IsSure, Moves};
 
 use crate::lookups::open_file;

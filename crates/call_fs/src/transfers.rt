@@ -10,7 +10,7 @@ ghost use Rattle.kernel_model.specs.calls.Answers.{refuses, replies};
 ghost use Rattle.kernel_model.specs.calls.ReadWrite.{waits};
 ghost use Rattle.kernel_model.specs.entries.Parts.{done};
 ghost use Rattle.pipe_core.specs.Pipes.{after_read};
-ghost use Rattle.call_fs.specs.Called.{IsApartBy, MayLack};
+ghost use Rattle.call_fs.specs.CallEnd.{IsApartBy, MayLack};
 ghost use Rattle.call_fs.specs.Transfers.{HasMemory, FitsPipe, IsSure, Moves, after_transfer, with_pipe};
 ghost use Rattle.call_fs.specs.declared.transfers.Transfer.TheVariants as transfers;
 

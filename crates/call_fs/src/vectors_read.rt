@@ -10,7 +10,7 @@ ghost use Rattle.kernel_model.specs.calls.Answers.{refuses};
 ghost use Rattle.kernel_model.specs.calls.ReadWrite.{reads, readv_row};
 ghost use Rattle.kernel_model.specs.calls.Vectors.{with_buffers};
 ghost use Rattle.kernel_model.specs.entries.Parts.{done};
-ghost use Rattle.call_fs.specs.Called.{IsApartBy};
+ghost use Rattle.call_fs.specs.CallEnd.{IsApartBy};
 ghost use Rattle.call_fs.specs.Transfers.{IsMoving, IsSure, Moves};
 
 use crate::lookups::open_file;

@@ -1,7 +1,7 @@
 //! What is open where the tests begin, and how a call is done.
 
 use call_fs::FilePrepared;
-use fd_table::{Access, Description, Descriptor, Object, PipeSide};
+use fd_table::{AccessMode, Description, Descriptor, Object, PipeSide};
 use file_changes::{FileChange, change_files, open_files};
 use kernel_model::{OpenFile, OpenFiles};
 use pipe_core::Pipe;
@@ -21,7 +21,7 @@ pub(crate) fn open(
     files: &mut OpenFiles,
     index: u32,
     object: Object,
-    access: Access,
+    access: AccessMode,
 ) -> Result<(), Fail> {
     let description = Description {
         object,
@@ -57,8 +57,8 @@ fn open_pipe(alloc: Global, files: &mut OpenFiles) -> Result<(), Fail> {
         pipe: PIPE,
         end: PipeSide::Write,
     };
-    open(alloc, files, 0, read, Access::Read)?;
-    open(alloc, files, 1, write, Access::Write)
+    open(alloc, files, 0, read, AccessMode::Read)?;
+    open(alloc, files, 1, write, AccessMode::Write)
 }
 
 /// Five numbers are open: 0 is of an empty input, 1 and 2 of the console, 3 and 4 of a pipe, to read and to write.

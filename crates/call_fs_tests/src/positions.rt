@@ -2,7 +2,7 @@
 
 use crate::helpers::{TABLE, changes_nothing, five_open, open};
 use call_fs::{lseek, pread64, pwrite64};
-use fd_table::{Access, Object};
+use fd_table::{AccessMode, Object};
 use kernel_model::OpenFiles;
 use std::alloc::Global;
 use std::test::Fail;
@@ -31,8 +31,8 @@ fn are_refused(files: &OpenFiles, fd: u64, [sought, read, written]: [i64; 3]) ->
 
 /// Opens 5 and 6, and expects the replies.
 fn expect_replies(alloc: Global, files: &mut OpenFiles) -> Result<(), Fail> {
-    open(alloc, files, 5, Object::Console, Access::Both)?;
-    open(alloc, files, 6, Object::Node(1), Access::Both)?;
+    open(alloc, files, 5, Object::Console, AccessMode::Both)?;
+    open(alloc, files, 6, Object::Node(1), AccessMode::Both)?;
     for (row, (fd, replies)) in REPLIES.iter().enumerate() {
         if !are_refused(files, *fd, *replies) {
             return Err(Fail::new(format_args!("row {row}")));

@@ -20,7 +20,7 @@ use Rattle.kernel_model.specs.entries.Parts.{Prog, changed, outcome_in, parts}
 use Rattle.guest_access.specs.Memories.{with_memory}
 use Rattle.kernel_calls.specs.declared.context.Context.{Context}
 use Rattle.guest_access.proofs.KernelAreas.{areas_changed}
-use Rattle.call_fs.specs.Called.{MayLack}
+use Rattle.call_fs.specs.CallEnd.{MayLack}
 use Rattle.call_fs.specs.Pipes.{MakesPipe, read_file, write_file}
 use Rattle.call_fs.specs.Transfers.{IsMoving, after_transfer, appended_by, by_bytes, put_by, with_pipe}
 use Rattle.call_fs.specs.Records.{buffers_in}

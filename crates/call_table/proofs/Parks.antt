@@ -27,9 +27,9 @@ use Rattle.kernel_model.proofs.Trees.{outcome-bind}
 use Rattle.kernel_calls.specs.Prepared.{AgreesOn, AgreesOnEnd, IfWaits, IsCalling, WaitsWith}
 use Rattle.kernel_calls.specs.declared.context.Context.{Context}
 use Rattle.kernel_calls.specs.declared.prepared.Awaited.{Awaited}
-use Rattle.call_fs.specs.Called.{IfOf}
-use Rattle.call_fs.specs.declared.called.Called.{Called}
-use Rattle.call_fs.specs.declared.called.Called.TheVariants.{Of}
+use Rattle.call_fs.specs.CallEnd.{IfOf}
+use Rattle.call_fs.specs.declared.call_end.CallEnd.{CallEnd}
+use Rattle.call_fs.specs.declared.call_end.CallEnd.TheVariants.{Of}
 use Rattle.kernel_calls.specs.declared.prepared.Called.TheVariants.{Waits}
 use Rattle.kernel_calls.specs.declared.prepared.UsedEnd.{UsedEnd}
 use Rattle.guest_access.proofs.Runs.{stands_alone}
@@ -105,7 +105,7 @@ abbrev at_place : Cells → (seed : List ℕ) → (place : ℕ) → Kernel
 at_place p seed place = kernel_of p (record nothing_beside { seed = seed }) (place - 1)
 
 pub parks_of : (p : Cells) (task : ℕ) (standing : Standing) (number : ℕ) (args : Args) (context : Context)
-    (own : AddressSpace) (taken : ℕ) (called : Called) (awaited : Awaited) (in_area : Bool)
+    (own : AddressSpace) (taken : ℕ) (called : CallEnd) (awaited : Awaited) (in_area : Bool)
     → StandsAs p task standing → IsAwake p task → NextIn p task Calls → in_area ≡ is_touching p task
     → context.task ≡ task → IsOf context standing → 0 < context.place
     → get_named p.spaces standing.memory.place standing.memory.index ≡ Some own → taken ≡ length p.console

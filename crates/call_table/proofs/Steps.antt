@@ -51,9 +51,9 @@ use Rattle.kernel_model.proofs.CallLemmas.{call_quiet}
 use Rattle.kernel_model.proofs.LocalityLaws.{ready_alike}
 use Rattle.kernel_model.proofs.NamedMaps.{get-with_same, with_same}
 use Rattle.kernel_model.proofs.Trees.{outcome-bind}
-use Rattle.call_fs.specs.Called.{ComesTo}
-use Rattle.call_fs.specs.declared.called.Called.{Called}
-use Rattle.call_fs.specs.declared.called.Called.TheVariants.{Of, Moves, MakesPipe}
+use Rattle.call_fs.specs.CallEnd.{ComesTo}
+use Rattle.call_fs.specs.declared.call_end.CallEnd.{CallEnd}
+use Rattle.call_fs.specs.declared.call_end.CallEnd.TheVariants.{Of, Moves, MakesPipe}
 use Rattle.kernel_calls.specs.Prepared.{Comes, IsCalling}
 use Rattle.guest_access.specs.Stepping.{Steps}
 use Rattle.kernel_calls.specs.declared.context.Context.{Context}
@@ -203,7 +203,7 @@ enters (Makes child) = true
 enters (Sleeps key) = true
 enters (Waits awaited) = false
 
-abbrev pub has_entry : Called → Bool
+abbrev pub has_entry : CallEnd → Bool
 has_entry (Of d) = enters d
 has_entry (Moves reply transfer) = true
 has_entry (MakesPipe new) = true
@@ -216,7 +216,7 @@ entry_known row (Makes child) c k space areas comes = ap (λ (a : Answer). makes
 entry_known row (Sleeps key) c k space areas comes = ap (λ (a : Answer). makes_entry a.reply) comes
 entry_known row (Waits awaited) c k space areas comes = ap (λ (a : Answer). makes_entry a.reply) comes
 
-pub entry_of : (row : Prog Answer) (d : Called) (c : Caller) (k : Kernel) (space : AddressSpace)
+pub entry_of : (row : Prog Answer) (d : CallEnd) (c : Caller) (k : Kernel) (space : AddressSpace)
     (areas : NamedMap AreaState) → ComesTo row d c k space areas
     → makes_entry (outcome_in (parts k) row).reply ≡ has_entry d
 entry_of row (Of d) c k space areas comes = entry_known row d c k space areas comes
@@ -224,7 +224,7 @@ entry_of row (Moves reply transfer) c k space areas comes = ap (λ (a : Answer).
 entry_of row (MakesPipe new) c k space areas comes = ap (λ (a : Answer). makes_entry a.reply) comes.row_is
 
 -- what has become of a call of these registers
-at_registers : (number : ℕ) (args : Args) (r : Regs) (d : Called) (x : Caller) (k : Kernel) (space : AddressSpace)
+at_registers : (number : ℕ) (args : Args) (r : Regs) (d : CallEnd) (x : Caller) (k : Kernel) (space : AddressSpace)
     (areas : NamedMap AreaState) → number ≡ call_of r → args ≡ args_of r
     → ComesTo (call_row (context_of k) x number args) d x k space areas
     → ComesTo (call_row (context_of k) x (call_of r) (args_of r)) d x k space areas
@@ -313,7 +313,7 @@ module _ (p : Cells) (task : ℕ) (standing : Standing) (stands : StandsAs p tas
   }
 
   -- and what has become of it
-  pub comes_here : (context : Context) (own : AddressSpace) (taken : ℕ) (was d : Called) (space : AddressSpace)
+  pub comes_here : (context : Context) (own : AddressSpace) (taken : ℕ) (was d : CallEnd) (space : AddressSpace)
       (areas : NamedMap AreaState) (number : ℕ) (args : Args) → context.task ≡ task → IsOf context standing
       → get_named p.spaces standing.memory.place standing.memory.index ≡ Some own → taken ≡ length p.console
       → number ≡ call_of standing.registers → args ≡ args_of standing.registers
@@ -325,13 +325,13 @@ module _ (p : Cells) (task : ℕ) (standing : Standing) (stands : StandsAs p tas
   comes_here context own taken was d space areas number args is known there count numbered same row become =
       λ beside n seed place.
       let k : Kernel = kernel_of p beside n in
-      subst (λ (d : Called). ComesTo (call_row (context_of k) c (call_of standing.registers)
+      subst (λ (d : CallEnd). ComesTo (call_row (context_of k) c (call_of standing.registers)
       (args_of standing.registers)) d c k space areas) become
       (at_registers number args standing.registers was c k space areas numbered same
       (row c k (calling_here context own taken beside n is known there count seed place) refl refl))
 
   -- so that its step is ready where the call has an entry
-  pub ready_called : (context : Context) (d : Called) (space : AddressSpace) (areas : NamedMap AreaState)
+  pub ready_called : (context : Context) (d : CallEnd) (space : AddressSpace) (areas : NamedMap AreaState)
       → 0 < context.place → IsAwake p task → NextIn p task Calls
       → ((beside : Beside) (n : ℕ) → beside.seed ≡ context.seed.now → n + 1 ≡ context.place
       → ComesTo (call_row (context_of (kernel_of p beside n)) c (call_of standing.registers)
@@ -471,7 +471,8 @@ module _ (p : Cells) (task : ℕ) (standing : Standing) (stands : StandsAs p tas
     next_alone : (told : Next) → count ≡ 0 → StopsAt 10000 count told (next_of (acting_in task runs.left) after)
         → next_in c ≡ told
     next_alone told none stop =
-        sym (ap (λ (g : GoingTask). next_of g.acting g.registers) (nothing none)) ∙ sym (stop_none count told _ stop none)
+        sym (ap (λ (g : GoingTask). next_of g.acting g.registers) (nothing none))
+        ∙ sym (stop_none count told _ stop none)
 
     pub next_left : (told : Next) → count ≡ 0 → StopsAt 10000 count told (next_of (acting_in task runs.left) after)
         → touches_area told ≡ false → NextIn p task told

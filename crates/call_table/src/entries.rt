@@ -22,8 +22,8 @@ ghost use Rattle.call_table.specs.Parks.{Parks};
 use crate::answers::{call_entry, finish, go_on, make_child, put_to_sleep};
 use crate::entered::{Entered, Turn};
 use crate::moving::{move_bytes, open_pipe};
-use call_fs::{Called, call};
-use guest_access::{Ran, run, step};
+use call_fs::{CallEnd, call};
+use guest_access::{InstructionRun, run, step};
 use kernel_calls::{Awaited, Context, Effect, args_of, call_of, commit, end_group};
 use kernel_model::{Entry, GuestSpace, Named, Next};
 use parked_tasks::Spot;
@@ -42,7 +42,7 @@ fn run_in(
     registers: &mut Regs,
     spaces: &mut Named<GuestSpace>,
     memory: Made,
-) -> Result<Ran, Memory>
+) -> Result<InstructionRun, Memory>
     requires { IsTrue (has_named spaces.old memory.place memory.index) }
     ensures runs { IfOk result (λ r.
         RunsIn task memory r.count registers.old registers.new spaces.old spaces.new) }
@@ -147,7 +147,7 @@ fn run_standing(
     cells: &mut Cells,
     task: u32,
     standing: Standing,
-) -> Result<Ran, Memory>
+) -> Result<InstructionRun, Memory>
     requires stands { StandsAs cells.old task standing }
     requires lives { IsTrue (is_live cells.old.tasks.tasks task) }
     requires awake { IsAwake cells.old task }
@@ -306,22 +306,22 @@ fn answer(
         &cells.files,
     )?;
     match called {
-        Called::Of(kernel_calls::Called::Replies(prepared)) => {
+        CallEnd::Of(kernel_calls::Called::Replies(prepared)) => {
             Ok(Turn::Enters(finish(alloc, cells, context, registers, prepared)))
         }
-        Called::Of(kernel_calls::Called::Makes(child)) => Ok(Turn::Enters(make_child(
+        CallEnd::Of(kernel_calls::Called::Makes(child)) => Ok(Turn::Enters(make_child(
             alloc, cells, context, registers, child,
         )?)),
-        Called::Of(kernel_calls::Called::Sleeps(key)) => {
+        CallEnd::Of(kernel_calls::Called::Sleeps(key)) => {
             Ok(Turn::Enters(put_to_sleep(cells, context.task, key)?))
         }
-        Called::Of(kernel_calls::Called::Waits(awaited)) => {
+        CallEnd::Of(kernel_calls::Called::Waits(awaited)) => {
             Ok(Turn::Waits(spot_of(standing, in_area, awaited)))
         }
-        Called::Moves { reply, transfer } => Ok(Turn::Enters(move_bytes(
+        CallEnd::Moves { reply, transfer } => Ok(Turn::Enters(move_bytes(
             alloc, cells, context, registers, reply, transfer,
         )?)),
-        Called::MakesPipe(pipe) => Ok(Turn::Enters(open_pipe(
+        CallEnd::MakesPipe(pipe) => Ok(Turn::Enters(open_pipe(
             alloc, cells, context, registers, pipe,
         )?)),
     }

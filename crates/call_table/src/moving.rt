@@ -12,7 +12,7 @@ ghost use Rattle.kernel_model.specs.calls.Callers.{Context as RowContext};
 ghost use Rattle.kernel_model.specs.calls.Pipes.{pipe_made};
 ghost use Rattle.kernel_model.specs.entries.Parts.{Prog, changed};
 ghost use Rattle.kernel_model.specs.machine.Registers.{args_of, call_of, replied};
-ghost use Rattle.call_fs.specs.Called.{MayLack};
+ghost use Rattle.call_fs.specs.CallEnd.{MayLack};
 ghost use Rattle.call_fs.specs.Pipes.{MakesPipe};
 ghost use Rattle.call_fs.specs.Transfers.{FitsPipe, after_transfer};
 ghost use Rattle.proc_cells.specs.Cells.{AreKept, IsAwake};

@@ -5,13 +5,13 @@ use Rattle.elf_image.specs.declared.header.FileHeader.{FileHeader}
 use Rattle.elf_image.specs.declared.header.ProgramHeader.{ProgramHeader}
 use Rattle.elf_image.specs.declared.header.TheConstants.{PROGRAM_HEADER_SIZE}
 use Rattle.elf_image.specs.declared.image.Image.{Image}
-use Rattle.elf_image.specs.declared.image.Rights.{Rights}
+use Rattle.elf_image.specs.declared.image.SegmentRights.{SegmentRights}
 use Rattle.elf_image.specs.declared.image.Segment.{Segment}
 use Rattle.elf_image.specs.Headers.{file_header, program_headers, is_load, is_loaded}
 
 -- the rights of a segment
 -- ELF-64 Object File Format, PF_X 1, PF_W 2, PF_R 4
-abbrev pub rights_of : ℕ → Rights
+abbrev pub rights_of : ℕ → SegmentRights
 rights_of flags = record { read = flags / 4 % 2 == 1; write = flags / 2 % 2 == 1; execute = flags % 2 == 1 }
 
 -- the segment of a program header

@@ -20,7 +20,7 @@ use std::marker::Model;
 ///
 /// ELF-64 Object File Format, `p_flags`.
 #[derive(Clone, Copy, Debug, PartialEq, Eq)]
-pub struct Rights {
+pub struct SegmentRights {
     pub read: bool,
     pub write: bool,
     pub execute: bool,
@@ -34,7 +34,7 @@ pub struct Segment {
     pub address: u64,
     pub size: u64,
     pub bytes: List<u8>,
-    pub rights: Rights,
+    pub rights: SegmentRights,
 }
 
 /// An executable image: where it starts, its loadable segments in the file's order, and where it finds the table of its
@@ -113,10 +113,10 @@ fn headers_in_memory(bytes: &[u8], file: &FileHeader) -> u64
     0
 }
 
-fn rights_of(flags: u32) -> Rights
+fn rights_of(flags: u32) -> SegmentRights
     ensures { result ≡ rights_of flags }
 {
-    Rights {
+    SegmentRights {
         read: flags / 4 % 2 == 1,
         write: flags / 2 % 2 == 1,
         execute: flags % 2 == 1,

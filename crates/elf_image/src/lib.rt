@@ -28,4 +28,4 @@ mod table;
 
 pub use fault::{ImageFault, image_fault};
 pub use header::{FILE_HEADER_SIZE, MOST_HEADERS, PROGRAM_HEADER_SIZE};
-pub use image::{Image, Rights, Segment, read_image};
+pub use image::{Image, Segment, SegmentRights, read_image};

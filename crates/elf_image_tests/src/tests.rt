@@ -1,6 +1,6 @@
 //! Images that are read, and files each of which has a fault that is told.
 
-use elf_image::{ImageFault, Rights, image_fault, read_image};
+use elf_image::{ImageFault, SegmentRights, image_fault, read_image};
 use sn_vectors::images::{GUEST, TWO_SEGMENTS};
 use std::test::Fail;
 
@@ -78,7 +78,7 @@ fn a_guest_of_152_bytes_is_an_image_of_one_segment(rt: HostRuntime) -> Result<()
     assert_eq!(rt; segment.address, 65_536);
     assert_eq!(rt; segment.size, 152);
     assert_eq!(rt; segment.bytes.as_slice(), GUEST.as_slice());
-    let rights = Rights {
+    let rights = SegmentRights {
         read: true,
         write: false,
         execute: true,

@@ -1,8 +1,8 @@
 -- The flags of open(2): their names and bits, the access mode among them, and which are set.
 use Rattle.std.specs.Prelude.{ℕ, ◌%◌, ◌==◌, Bool, true, false, if◌then◌else◌, List, [], ◌∷◌, codes, Option, Some, None}
 use Rattle.std.specs.Int.RustNames.{bit_and}
-use Rattle.fd_table.specs.declared.flags.Access.{Access}
-use Rattle.fd_table.specs.declared.flags.Access.TheVariants.{Read, Write, Both}
+use Rattle.fd_table.specs.declared.flags.AccessMode.{AccessMode}
+use Rattle.fd_table.specs.declared.flags.AccessMode.TheVariants.{Read, Write, Both}
 use Rattle.fd_table.specs.declared.flags.TheConstants.{O_APPEND, O_CLOEXEC, O_NONBLOCK}
 
 -- each flag's name and bit, in the order of the bits: octal 1, 2, 100, 200, 1000, 2000, 4000, 100000, 200000, 400000
@@ -25,7 +25,7 @@ open_flags =
 
 -- the access that the low two bits of flags stand for: 0, 1 and 2 are access modes, and 3 is none
 -- open(2), O_RDONLY, O_WRONLY and O_RDWR; that 3 is none: profile
-abbrev pub access_in : (flags : ℕ) → Option Access
+abbrev pub access_in : (flags : ℕ) → Option AccessMode
 access_in flags =
     if flags % 4 == 0 then Some Read
     else if flags % 4 == 1 then Some Write
@@ -34,21 +34,21 @@ access_in flags =
 
 -- the access mode of an access
 -- open(2), O_RDONLY, O_WRONLY and O_RDWR
-abbrev pub access_number : Access → ℕ
+abbrev pub access_number : AccessMode → ℕ
 access_number Read = 0
 access_number Write = 1
 access_number Both = 2
 
 -- whether an access lets a caller read
 -- read(2), EBADF
-abbrev pub may_read : Access → Bool
+abbrev pub may_read : AccessMode → Bool
 may_read Read = true
 may_read Write = false
 may_read Both = true
 
 -- whether an access lets a caller write
 -- write(2), EBADF
-abbrev pub may_write : Access → Bool
+abbrev pub may_write : AccessMode → Bool
 may_write Read = false
 may_write Write = true
 may_write Both = true

@@ -2,7 +2,7 @@
 
 ghost use Rattle.std.specs.Prelude.{◌≡◌};
 
-use crate::{Access, OpenFlags};
+use crate::{AccessMode, OpenFlags};
 use bitflags::Flags;
 use sn_base::Made;
 
@@ -32,7 +32,7 @@ pub enum Object {
 #[derive(Clone, Copy, Debug, PartialEq, Eq)]
 pub struct Description {
     pub object: Object,
-    pub access: Access,
+    pub access: AccessMode,
     /// Whether each write goes to the end: O_APPEND.
     pub append: bool,
     /// Whether no call waits: O_NONBLOCK.

@@ -15,13 +15,13 @@ pub const O_CLOEXEC: u32 = 0o2000000;
 
 /// What an open file may be used for.
 #[derive(Clone, Copy, Debug, PartialEq, Eq)]
-pub enum Access {
+pub enum AccessMode {
     Read,
     Write,
     Both,
 }
 
-impl Access {
+impl AccessMode {
     ghost use Rattle.fd_table.specs.Flags.{access_number, may_read, may_write};
 
     /// Whether the file may be read.
@@ -29,8 +29,8 @@ impl Access {
         ensures { result ≡ may_read self }
     {
         match self {
-            Access::Read | Access::Both => true,
-            Access::Write => false,
+            AccessMode::Read | AccessMode::Both => true,
+            AccessMode::Write => false,
         }
     }
 
@@ -39,8 +39,8 @@ impl Access {
         ensures { result ≡ may_write self }
     {
         match self {
-            Access::Write | Access::Both => true,
-            Access::Read => false,
+            AccessMode::Write | AccessMode::Both => true,
+            AccessMode::Read => false,
         }
     }
 
@@ -49,9 +49,9 @@ impl Access {
         ensures { result ≡ access_number self }
     {
         match self {
-            Access::Read => 0,
-            Access::Write => 1,
-            Access::Both => 2,
+            AccessMode::Read => 0,
+            AccessMode::Write => 1,
+            AccessMode::Both => 2,
         }
     }
 }
@@ -104,13 +104,13 @@ impl OpenFlags {
     ghost use Rattle.fd_table.specs.Flags.{access_in};
 
     /// What the access mode in the low two bits lets a caller do, or `None` for the mode 3.
-    pub fn access(self) -> Option<Access>
+    pub fn access(self) -> Option<AccessMode>
         ensures { result ≡ access_in self.0 }
     {
         match self.0 & 3 {
-            0 => Some(Access::Read),
-            1 => Some(Access::Write),
-            2 => Some(Access::Both),
+            0 => Some(AccessMode::Read),
+            1 => Some(AccessMode::Write),
+            2 => Some(AccessMode::Both),
             _ => None,
         }
     }

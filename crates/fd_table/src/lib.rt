@@ -31,5 +31,5 @@ mod table;
 
 pub use description::{Description, Object, PipeSide};
 pub use descriptor::{Descriptor, FdErr};
-pub use flags::{Access, O_APPEND, O_CLOEXEC, O_NONBLOCK, OpenFlags};
+pub use flags::{AccessMode, O_APPEND, O_CLOEXEC, O_NONBLOCK, OpenFlags};
 pub use table::{FdTable, OPEN_MAX};

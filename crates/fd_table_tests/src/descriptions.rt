@@ -1,11 +1,11 @@
 //! The status flags of open file descriptions.
 
-use fd_table::{Access, Description, Object, PipeSide};
+use fd_table::{AccessMode, Description, Object, PipeSide};
 use sn_base::Made;
 use std::process::Abort;
 
 /// A node's description, from its beginning on.
-fn node(access: Access, append: bool, nonblock: bool) -> Description {
+fn node(access: AccessMode, append: bool, nonblock: bool) -> Description {
     Description {
         object: Object::Node(12),
         access,
@@ -17,15 +17,15 @@ fn node(access: Access, append: bool, nonblock: bool) -> Description {
 
 /// An access, whether a description has O_APPEND and O_NONBLOCK, and its flags.
 #[rattlefmt::skip]
-const FLAGS: &[(Access, bool, bool, u32)] = &[
-    (Access::Read, false, false, 0o0),
-    (Access::Write, false, false, 0o1),
-    (Access::Both, false, false, 0o2),
-    (Access::Read, true, false, 0o2000),
-    (Access::Write, true, false, 0o2001),
-    (Access::Both, false, true, 0o4002),
-    (Access::Read, true, true, 0o6000),
-    (Access::Both, true, true, 0o6002),
+const FLAGS: &[(AccessMode, bool, bool, u32)] = &[
+    (AccessMode::Read, false, false, 0o0),
+    (AccessMode::Write, false, false, 0o1),
+    (AccessMode::Both, false, false, 0o2),
+    (AccessMode::Read, true, false, 0o2000),
+    (AccessMode::Write, true, false, 0o2001),
+    (AccessMode::Both, false, true, 0o4002),
+    (AccessMode::Read, true, true, 0o6000),
+    (AccessMode::Both, true, true, 0o6002),
 ];
 
 #[test]
@@ -55,7 +55,7 @@ const SETTINGS: &[(u32, bool, bool)] = &[
 ];
 
 /// Aborts unless flags are so set, whether there were any before or not.
-fn expect_set(rt: &impl Abort, access: Access) {
+fn expect_set(rt: &impl Abort, access: AccessMode) {
     for &(flags, append, nonblock) in SETTINGS {
         let cleared = set(node(access, false, false), flags);
         let full = set(node(access, true, true), flags);
@@ -66,7 +66,7 @@ fn expect_set(rt: &impl Abort, access: Access) {
 
 #[test]
 fn setfl_sets_append_and_nonblock_and_nothing_else(rt: HostRuntime) {
-    for access in [Access::Read, Access::Write, Access::Both] {
+    for access in [AccessMode::Read, AccessMode::Write, AccessMode::Both] {
         expect_set(&rt, access);
     }
 }
@@ -86,7 +86,7 @@ const OBJECTS: &[Object] = &[
 fn description_of(object: Object, nonblock: bool) -> Description {
     Description {
         object,
-        ..node(Access::Both, false, nonblock)
+        ..node(AccessMode::Both, false, nonblock)
     }
 }
 

@@ -1,7 +1,7 @@
 //! The flags of open(2), and accesses.
 
 use bitflags::Flags;
-use fd_table::{Access, OpenFlags};
+use fd_table::{AccessMode, OpenFlags};
 
 #[rattlefmt::skip]
 const VALUES: &[(OpenFlags, u32)] = &[
@@ -58,9 +58,9 @@ fn a_number_of_flags_has_those_whose_bits_are_set(rt: HostRuntime) {
 #[test]
 fn the_access_is_told_by_the_low_two_bits_alone(rt: HostRuntime) {
     for (mode, access) in [
-        (0, Some(Access::Read)),
-        (1, Some(Access::Write)),
-        (2, Some(Access::Both)),
+        (0, Some(AccessMode::Read)),
+        (1, Some(AccessMode::Write)),
+        (2, Some(AccessMode::Both)),
         (3, None),
     ] {
         for others in [0, 0o4, 0o100, 0o2000000, 0o37777777774] {
@@ -73,9 +73,9 @@ fn the_access_is_told_by_the_low_two_bits_alone(rt: HostRuntime) {
 #[test]
 fn an_access_tells_who_may_read_and_write_and_its_mode(rt: HostRuntime) {
     for (access, may_read, may_write, mode) in [
-        (Access::Read, true, false, 0),
-        (Access::Write, false, true, 1),
-        (Access::Both, true, true, 2),
+        (AccessMode::Read, true, false, 0),
+        (AccessMode::Write, false, true, 1),
+        (AccessMode::Both, true, true, 2),
     ] {
         let told = (access.may_read(), access.may_write(), access.number());
         assert_eq!(rt; told, (may_read, may_write, mode));

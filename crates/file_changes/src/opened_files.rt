@@ -7,7 +7,7 @@ ghost use Rattle.mount_file.specs.declared.rules.TheConstants.{MOST_TASKS};
 ghost use Rattle.kernel_model.specs.descriptors.OpenFiles.{descriptor_of, new_file};
 ghost use Rattle.kernel_model.specs.opening.Opening.{files_opened, stream_made, table_opened, with_streams};
 
-use fd_table::{Access, Description, Descriptor, FdTable, Object};
+use fd_table::{AccessMode, Description, Descriptor, FdTable, Object};
 use kernel_model::{Named, OpenFile, OpenFiles};
 use sn_base::{Made, Memory};
 use std::alloc::Global;
@@ -62,9 +62,9 @@ fn open_streams(
     requires { number ≤ MOST_TASKS }
     ensures { OnOk result (descriptions.new ≡ with_streams number descriptions.old) }
 {
-    let input = opened_file(Object::EmptyInput, Access::Read);
+    let input = opened_file(Object::EmptyInput, AccessMode::Read);
     descriptions.insert(alloc, 0, stream(number, 0).index, input)?;
-    let output = opened_file(Object::Console, Access::Write);
+    let output = opened_file(Object::Console, AccessMode::Write);
     descriptions.insert(alloc, 0, stream(number, 1).index, output)?;
     descriptions.insert(alloc, 0, stream(number, 2).index, output)
 }
@@ -82,7 +82,7 @@ fn stream(number: u32, fd: u32) -> Made
 }
 
 /// An open file description with one descriptor, at its beginning.
-fn opened_file(object: Object, access: Access) -> OpenFile
+fn opened_file(object: Object, access: AccessMode) -> OpenFile
     ensures { result ≡ new_file object access false }
 {
     OpenFile {

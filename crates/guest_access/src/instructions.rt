@@ -15,7 +15,7 @@ use std::alloc::Global;
 /// A run of instructions: how many they are, and what the next one does, which is `Goes` where all that were asked for
 /// ran.
 #[derive(Clone, Copy, Debug, PartialEq, Eq)]
-pub struct Ran {
+pub struct InstructionRun {
     pub count: u32,
     pub next: Next,
 }
@@ -29,7 +29,7 @@ pub fn run(
     registers: &mut Regs,
     space: &mut GuestSpace,
     most: u32,
-) -> Result<Ran, Memory>
+) -> Result<InstructionRun, Memory>
     ensures steps { IfOk result (λ r.
         ran r.count (going_in task space.old registers.old) ≡ Some (going_in task space.new registers.new)) }
     ensures within { IfOk result (λ r. r.count ≤ most) }
@@ -40,19 +40,19 @@ pub fn run(
 {
     let mut shared = Handed::none(alloc);
     match run_at_most(alloc, registers, &mut space.space, task, &mut shared, most) {
-        QuantumEnd::Ended(count) => Ok(Ran {
+        QuantumEnd::Ended(count) => Ok(InstructionRun {
             count,
             next: Next::Goes,
         }),
-        QuantumEnd::Call(count) => Ok(Ran {
+        QuantumEnd::Call(count) => Ok(InstructionRun {
             count,
             next: Next::Calls,
         }),
-        QuantumEnd::Trap { count, signal } => Ok(Ran {
+        QuantumEnd::Trap { count, signal } => Ok(InstructionRun {
             count,
             next: Next::Traps(signal),
         }),
-        QuantumEnd::Shared { count, area } => Ok(Ran {
+        QuantumEnd::Shared { count, area } => Ok(InstructionRun {
             count,
             next: Next::Touches(area),
         }),

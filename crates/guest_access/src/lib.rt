@@ -26,7 +26,7 @@ mod stepping;
 mod two_runs;
 
 pub use buffers::{asks_for_area, is_accessible, read, write};
-pub use instructions::{Ran, run};
+pub use instructions::{InstructionRun, run};
 pub use scattering::scatter;
 pub use sending::send;
 pub use stepping::step;

@@ -4,11 +4,11 @@ use Rattle.std.proofs.lemmas.List.{take_more}
 use Rattle.std.proofs.lemmas.List.Elements.{filter_map-append}
 use Rattle.std.specs.List.{AllZip}
 use Rattle.host_node.specs.declared.listing.Listed.{Listed}
-use Rattle.host_folder.specs.declared.seen.Seen.{Seen}
+use Rattle.host_folder.specs.declared.seen.SeenEntry.{SeenEntry}
 use Rattle.host_folder.specs.Entries.{entries_of, listed_as}
 
 -- the entries of those so far and of one more are those of all
-pub entries_push : (seen : List Seen) (i : ℕ) (one : Seen) (old new : List Listed) → i < length seen
+pub entries_push : (seen : List SeenEntry) (i : ℕ) (one : SeenEntry) (old new : List Listed) → i < length seen
     → one ≡ get_or seen i one → old ≡ entries_of (take i seen) → new ≡ old ++ entries_of (one ∷ [])
     → new ≡ entries_of (take (i + 1) seen)
 entries_push seen i one old new within here before after =

@@ -2,7 +2,7 @@
 
 /// How a node stands to its file (open(2)).
 #[derive(Drop)]
-pub(crate) enum Access<F: Drop> {
+pub(crate) enum FileAccess<F: Drop> {
     /// It isn't open.
     Shut,
     /// It is a directory that is open for reading.

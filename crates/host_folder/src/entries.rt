@@ -8,7 +8,7 @@ ghost use Rattle.host_folder.specs.Entries.{entries_of, listed_as};
 ghost use Rattle.host_folder.specs.Failures.{IsRefusalOf};
 
 use crate::failures::answer_from;
-use crate::seen::{Seen, see_all};
+use crate::seen::{SeenEntry, see_all};
 use host_node::{HostErr, Listed, Listing};
 use sn_text::{Name, NameFault, name_of};
 use std::alloc::Global;
@@ -41,7 +41,7 @@ fn listing_from<R: Files + Clone + Drop>(
 }
 
 /// The listing of all entries that were seen and aren't hidden.
-fn listing_of(alloc: Global, seen: &[Seen]) -> Result<Listing, HostErr>
+fn listing_of(alloc: Global, seen: &[SeenEntry]) -> Result<Listing, HostErr>
     ensures entries { IfOk result (λ listing. IsPermutation (entries_of seen.now) listing) }
     ensures ordered { IfOk result (λ listing. IsAscending (names_of listing)) }
     ensures names { IfOk result (All (λ entry. IsName entry.name)) }
@@ -51,7 +51,7 @@ fn listing_of(alloc: Global, seen: &[Seen]) -> Result<Listing, HostErr>
 }
 
 /// The entries that were seen and aren't hidden, in the order in which they were seen.
-fn entries_from(alloc: Global, seen: &[Seen]) -> Result<Vec<Listed>, HostErr>
+fn entries_from(alloc: Global, seen: &[SeenEntry]) -> Result<Vec<Listed>, HostErr>
     ensures entries { IfOk result (λ entries. entries.items ≡ entries_of seen.now) }
     ensures names { IfOk result (λ entries. All (λ entry. IsName entry.name) entries.items) }
     ensures memory { All (λ one. IfSome (listed_as one) (λ entry. IsName entry.name)) seen.now →
@@ -65,7 +65,7 @@ fn entries_from(alloc: Global, seen: &[Seen]) -> Result<Vec<Listed>, HostErr>
 }
 
 /// Adds an entry that was seen at the end, where it isn't hidden.
-fn push_entry(alloc: Global, entries: &mut Vec<Listed>, seen: &Seen) -> Result<(), HostErr>
+fn push_entry(alloc: Global, entries: &mut Vec<Listed>, seen: &SeenEntry) -> Result<(), HostErr>
     ensures entry { OnOk result (entries.new.items ≡ entries.old.items ++ entries_of (seen.now ∷ [])) }
     ensures names { All (λ entry. IsName entry.name) entries.old.items →
         OnOk result (All (λ entry. IsName entry.name) entries.new.items) }
@@ -78,7 +78,7 @@ fn push_entry(alloc: Global, entries: &mut Vec<Listed>, seen: &Seen) -> Result<(
 }
 
 /// An entry as it is listed: `None` where it is hidden.
-fn entry_from(alloc: Global, seen: &Seen) -> Result<Option<Listed>, HostErr>
+fn entry_from(alloc: Global, seen: &SeenEntry) -> Result<Option<Listed>, HostErr>
     ensures entry { IfOk result (λ entry. entry ≡ listed_as seen.now) }
     ensures name { IfOk result (λ entry. IfSome entry (λ e. IsName e.name)) }
     ensures memory { IfSome (listed_as seen.now) (λ entry. IsName entry.name) → IsOkUnless result HostErr.Memory }

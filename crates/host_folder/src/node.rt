@@ -16,7 +16,7 @@ ghost use Rattle.host_folder.specs.Kinds.{CanOpenKind, IsKindOf, IsOfKind, attr_
 ghost use Rattle.host_folder.specs.Offsets.{ReadsOpened};
 ghost use Rattle.host_folder.specs.Paths.{slashed};
 
-use crate::access::Access;
+use crate::access::FileAccess;
 use crate::entries::list;
 use crate::failures::{answer_from, counted};
 use crate::looks::{attr_from, child_kind, same_kind};
@@ -38,7 +38,7 @@ pub struct FolderNode<R: Files> {
     /// The path of the folder that was granted. It never changes.
     folder: String,
     kind: Kind,
-    access: Access<R::File>,
+    access: FileAccess<R::File>,
     /// How many calls failed, at most 2 ^ 64 - 1.
     faults: u64,
 }
@@ -59,13 +59,14 @@ impl<R: Files + Drop> Drop for FolderNode<R> {
 impl<R: Files + AllocGlobal + Clone + Drop> FolderNode<R> {
     /// A node in the folder at a path, of which no call failed yet.
     pub(crate) fn new(files: R, folder: String, kind: Kind) -> Self
-        ensures { result ≡ record { files = files; folder = folder; kind = kind; access = Access.Shut; faults = 0 } }
+        ensures { result
+            ≡ record { files = files; folder = folder; kind = kind; access = FileAccess.Shut; faults = 0 } }
     {
         FolderNode {
             files,
             folder,
             kind,
-            access: Access::Shut,
+            access: FileAccess::Shut,
             faults: 0,
         }
     }
@@ -138,7 +139,7 @@ impl<R: Files + AllocGlobal + Clone + Drop> FolderNode<R> {
 
     /// A node for what stands under a name of the directory, or `None` where nothing does that is for us.
     fn child(&self, route: &Route, name: &Name) -> Result<Option<Self>, HostErr>
-        ensures access { IfOk result (λ lent. IfSome lent (λ node. node.access ≡ Access.Shut)) }
+        ensures access { IfOk result (λ lent. IfSome lent (λ node. node.access ≡ FileAccess.Shut)) }
         ensures folder { IfOk result (λ lent. IfSome lent (λ node.
             string_bytes node.folder ≡ string_bytes self.now.folder)) }
         ensures fresh { IfOk result (λ lent. IfSome lent (λ node. node.faults ≡ 0)) }
@@ -157,7 +158,7 @@ impl<R: Files + AllocGlobal + Clone + Drop> FolderNode<R> {
         ensures absent { IfErr found (λ error. error_kind error ≡ ErrorKind.NotFound → result ≡ Ok None) }
         ensures refused { IfErr found (λ error.
             error_kind error ≢ ErrorKind.NotFound → IsErrAnd result (IsRefusalOf error)) }
-        ensures access { IfOk result (λ lent. IfSome lent (λ node. node.access ≡ Access.Shut)) }
+        ensures access { IfOk result (λ lent. IfSome lent (λ node. node.access ≡ FileAccess.Shut)) }
         ensures folder { IfOk result (λ lent. IfSome lent (λ node.
             string_bytes node.folder ≡ string_bytes self.now.folder)) }
         ensures fresh { IfOk result (λ lent. IfSome lent (λ node. node.faults ≡ 0)) }
@@ -171,7 +172,7 @@ impl<R: Files + AllocGlobal + Clone + Drop> FolderNode<R> {
     /// A node of a kind in the same folder. It is refused for want of memory alone.
     fn sibling(&self, kind: Kind) -> Result<Self, Memory>
         ensures kind { IfOk result (λ node. node.kind ≡ kind) }
-        ensures access { IfOk result (λ node. node.access ≡ Access.Shut) }
+        ensures access { IfOk result (λ node. node.access ≡ FileAccess.Shut) }
         ensures folder { IfOk result (λ node. string_bytes node.folder ≡ string_bytes self.now.folder) }
         ensures fresh { IfOk result (λ node. node.faults ≡ 0) }
     {
@@ -181,7 +182,7 @@ impl<R: Files + AllocGlobal + Clone + Drop> FolderNode<R> {
 
     /// How the node stands to its file once it is opened (open(2)). A link is not to be opened, and a directory
     /// not to be written.
-    fn accessed(&self, route: &Route, write: bool) -> Result<Access<R::File>, HostErr>
+    fn accessed(&self, route: &Route, write: bool) -> Result<FileAccess<R::File>, HostErr>
         ensures access { IfOk result (λ access. opened_by access ≡ told_opened write) }
         ensures kind { OnOk result (CanOpenKind self.now.kind write) }
         ensures text { OnOk result (All IsUtf8 route.now) }
@@ -189,7 +190,7 @@ impl<R: Files + AllocGlobal + Clone + Drop> FolderNode<R> {
         let path = self.path(route)?;
         self.look(path.as_str())?;
         match self.kind {
-            Kind::Dir if !write => Ok(Access::Listable),
+            Kind::Dir if !write => Ok(FileAccess::Listable),
             Kind::File => open_file(&self.files, path.as_str(), write),
             _ => Err(HostErr::Failed),
         }
@@ -207,9 +208,9 @@ impl<R: Files + AllocGlobal + Clone + Drop> FolderNode<R> {
         ensures folder { self.new.folder ≡ self.old.folder }
     {
         match &mut self.access {
-            Access::Readable(file) => answer_from(read_from(file, at, buf)),
-            Access::Writable(file) => answer_from(read_from(file, at, buf)),
-            Access::Shut | Access::Listable => Err(HostErr::Failed),
+            FileAccess::Readable(file) => answer_from(read_from(file, at, buf)),
+            FileAccess::Writable(file) => answer_from(read_from(file, at, buf)),
+            FileAccess::Shut | FileAccess::Listable => Err(HostErr::Failed),
         }
     }
 }
@@ -224,23 +225,23 @@ fn options(write: bool) -> OpenOptions
 }
 
 /// Opens a file for reading, or for reading and writing.
-fn open_file<R: Files>(files: &R, path: &str, write: bool) -> Result<Access<R::File>, HostErr>
+fn open_file<R: Files>(files: &R, path: &str, write: bool) -> Result<FileAccess<R::File>, HostErr>
     ensures { IfOk result (λ access. opened_by access ≡ told_opened write) }
 {
     access_from(options(write).open(files, path), write)
 }
 
 /// How a node stands to a file, from what opening it for reading, or for reading and writing, came to.
-fn access_from<F: Drop>(opened: io::Result<F>, write: bool) -> Result<Access<F>, HostErr>
+fn access_from<F: Drop>(opened: io::Result<F>, write: bool) -> Result<FileAccess<F>, HostErr>
     ensures file { IfOk opened (λ file. IsOkAnd result (λ access. file_of access ≡ Some file)) }
     ensures access { IfOk result (λ access. opened_by access ≡ told_opened write) }
     ensures refused { IfErr opened (λ error. IsErrAnd result (IsRefusalOf error)) }
 {
     let file = answer_from(opened)?;
     if write {
-        Ok(Access::Writable(file))
+        Ok(FileAccess::Writable(file))
     } else {
-        Ok(Access::Readable(file))
+        Ok(FileAccess::Readable(file))
     }
 }
 
@@ -297,7 +298,7 @@ where
     }
 
     fn lend(&mut self, route: &Route, name: &Name) -> Result<Option<Self>, HostErr>
-        ensures shut { IfOk result (λ lent. IfSome lent (λ node. node.access ≡ Access.Shut)) }
+        ensures shut { IfOk result (λ lent. IfSome lent (λ node. node.access ≡ FileAccess.Shut)) }
         ensures fresh { IfOk result (λ lent. IfSome lent (λ node. node.faults ≡ 0)) }
         ensures below { IfOk result (λ lent. IfSome lent (λ node.
             string_bytes node.folder ≡ string_bytes self.old.folder)) }

@@ -14,13 +14,13 @@ use std::io;
 
 /// An entry of a directory: its name, and what stands there for us, or `None` where that is hidden.
 #[derive(Drop)]
-pub(crate) struct Seen {
+pub(crate) struct SeenEntry {
     pub(crate) text: String,
     pub(crate) kind: Option<Kind>,
 }
 
 /// An entry from its name and what a look at it tells.
-fn seen_as(alloc: Global, text: &str, found: io::Result<Metadata>) -> Result<Seen, HostErr>
+fn seen_as(alloc: Global, text: &str, found: io::Result<Metadata>) -> Result<SeenEntry, HostErr>
     ensures text { IfOk result (λ seen. string_bytes seen.text ≡ text.now) }
     ensures kind { IfOk found (λ metadata. IfOk result (λ seen. IsKindOf metadata seen.kind)) }
     ensures refused { IfErr found (λ error. IsErrAnd result (IsRefusalOf error)) }
@@ -29,11 +29,11 @@ fn seen_as(alloc: Global, text: &str, found: io::Result<Metadata>) -> Result<See
     let metadata = answer_from(found)?;
     let kind = kind_of(&metadata);
     let text = String::from_str(alloc, text)?;
-    Ok(Seen { text, kind })
+    Ok(SeenEntry { text, kind })
 }
 
 /// An entry as the system told it, with a look at it.
-fn see<R: Files + Drop>(alloc: Global, told: io::Result<DirEntry<R>>) -> Result<Seen, HostErr>
+fn see<R: Files + Drop>(alloc: Global, told: io::Result<DirEntry<R>>) -> Result<SeenEntry, HostErr>
     ensures seen { IfOk result (IsSeen told) }
     ensures refused { IfErr told (λ error. IsErrAnd result (IsRefusalOf error)) }
 {
@@ -45,7 +45,7 @@ fn see<R: Files + Drop>(alloc: Global, told: io::Result<DirEntry<R>>) -> Result<
 pub(crate) fn see_all<R: Files + Drop>(
     alloc: Global,
     told: Vec<io::Result<DirEntry<R>>>,
-) -> Result<Vec<Seen>, HostErr>
+) -> Result<Vec<SeenEntry>, HostErr>
     ensures { IfOk result (λ seen. AreSeen told.items seen.items) }
 {
     let mut seen = Vec::new(alloc);

@@ -6,7 +6,7 @@ ghost use Rattle.host_node.specs.Faults.{host_failed};
 ghost use Rattle.host_node.specs.declared.kind.Kind.TheVariants.{Dir as Directory};
 ghost use Rattle.host_folder.specs.Paths.{slashed, path_start};
 
-use crate::access::Access;
+use crate::access::FileAccess;
 use crate::failures::counted;
 use crate::looks::is_directory;
 use crate::node::FolderNode;
@@ -47,7 +47,7 @@ impl<R: Files + AllocGlobal + Clone + Drop> Folders<R> {
     /// directory too, since a link is not followed.
     fn directory(&self, folder: &Folder) -> Result<Option<FolderNode<R>>, HostErr>
         ensures kind { IfOk result (λ granted. IfSome granted (λ node. node.kind ≡ Directory)) }
-        ensures access { IfOk result (λ granted. IfSome granted (λ node. node.access ≡ Access.Shut)) }
+        ensures access { IfOk result (λ granted. IfSome granted (λ node. node.access ≡ FileAccess.Shut)) }
         ensures folder { IfOk result (λ granted. IfSome granted (λ node.
             string_bytes node.folder ≡ path_start folder.now.rooted ++ slashed folder.now.names)) }
         ensures fresh { IfOk result (λ granted. IfSome granted (λ node. node.faults ≡ 0)) }
@@ -94,7 +94,7 @@ where
 
     fn grant(&mut self, folder: &Folder) -> Result<Option<FolderNode<R>>, HostErr>
         ensures directory { IfOk result (λ granted. IfSome granted (λ node. node.kind ≡ Directory)) }
-        ensures shut { IfOk result (λ granted. IfSome granted (λ node. node.access ≡ Access.Shut)) }
+        ensures shut { IfOk result (λ granted. IfSome granted (λ node. node.access ≡ FileAccess.Shut)) }
         ensures folder { IfOk result (λ granted. IfSome granted (λ node.
             string_bytes node.folder ≡ path_start folder.now.rooted ++ slashed folder.now.names)) }
         ensures fresh { IfOk result (λ granted. IfSome granted (λ node. node.faults ≡ 0)) }

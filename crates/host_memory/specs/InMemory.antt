@@ -2,8 +2,8 @@
 use Rattle.std.specs.Prelude.{ℕ, List, [], ◌++◌, Bool, true, false, Option, Some, None, Result, Ok, Err, if◌then◌else◌}
 use Rattle.host_node.specs.declared.error.HostErr.{HostErr}
 use Rattle.host_node.specs.Tree.{Shape, with_child, lend_child}
-use Rattle.host_memory.specs.declared.node.Access.{Access}
-use Rattle.host_memory.specs.declared.node.Access.TheVariants.{Closed, Reading, Writing}
+use Rattle.host_memory.specs.declared.node.NodeAccess.{NodeAccess}
+use Rattle.host_memory.specs.declared.node.NodeAccess.TheVariants.{Closed, Reading, Writing}
 use Rattle.host_memory.specs.declared.plan.Line.{Line}
 use Rattle.host_memory.specs.declared.plan.Op.{Op}
 use Rattle.host_memory.specs.declared.plan.Op.TheVariants.{Lend, Open}
@@ -23,7 +23,7 @@ pub record HostInMemory : Type 0 where
 -- profile
 pub record NodeInMemory : Type 0 where
   pub tree : Shape
-  pub access : Access
+  pub access : NodeAccess
   pub place : List (List ℕ)
   pub plan : List Line
 
@@ -42,7 +42,7 @@ after_call_of op node = record node {
 
 -- how a node stands to its file that was opened so
 -- open(2), O_RDONLY and O_RDWR
-abbrev pub access_for : Bool → Access
+abbrev pub access_for : Bool → NodeAccess
 access_for true = Writing
 access_for false = Reading
 

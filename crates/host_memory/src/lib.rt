@@ -24,7 +24,7 @@ mod plan;
 mod reading;
 mod world;
 
-pub use node::{Access, MemoryNode};
+pub use node::{MemoryNode, NodeAccess};
 pub use places::PutErr;
 pub use plan::{Line, Op, Plan, PlanErr};
 pub use world::World;

@@ -16,7 +16,7 @@ ghost use Rattle.host_memory.specs.InMemory.{is_to_fail, after_call_of, after_op
 ghost use Rattle.host_memory.specs.InMemory.{with_back};
 ghost use Rattle.host_memory.specs.Plans.{fails, after_call, lines_below, lines_after, place_below, failed_once};
 ghost use Rattle.host_memory.specs.Plans.{FailsAsPlanned};
-ghost use Rattle.host_memory.specs.declared.node.Access.TheVariants.{Closed as NotOpened};
+ghost use Rattle.host_memory.specs.declared.node.NodeAccess.TheVariants.{Closed as NotOpened};
 ghost use Rattle.host_memory.specs.declared.plan.Op.TheVariants.{Stat, List as Listed, Lend, Open, ReadAt};
 
 use crate::plan::{Op, Plan};
@@ -29,7 +29,7 @@ use std::marker::Model;
 
 /// How a node stands to its file (open(2)).
 #[derive(Clone, Copy, Debug, PartialEq, Eq)]
-pub enum Access {
+pub enum NodeAccess {
     /// Not opened.
     Closed,
     /// Opened for reading.
@@ -43,7 +43,7 @@ pub enum Access {
 pub struct MemoryNode {
     alloc: Global,
     tree: Tree,
-    access: Access,
+    access: NodeAccess,
     place: Route,
     plan: Plan,
 }
@@ -90,7 +90,7 @@ impl MemoryNode {
         MemoryNode {
             alloc,
             tree,
-            access: Access::Closed,
+            access: NodeAccess::Closed,
             place,
             plan,
         }
@@ -257,9 +257,9 @@ impl HostNode for MemoryNode {
             return Err(HostErr::Failed);
         }
         self.access = if write {
-            Access::Writing
+            NodeAccess::Writing
         } else {
-            Access::Reading
+            NodeAccess::Reading
         };
         Ok(())
     }

@@ -15,7 +15,7 @@ ghost use Rattle.host_memory.specs.InMemory.{granted_from};
 ghost use Rattle.host_memory.specs.Places.{put_under, put_fault, IsPutFaultOf};
 ghost use Rattle.host_memory.specs.Plans.{fails, after_call, lines_below, lines_beside, lines_after, FailsAsPlanned};
 ghost use Rattle.host_memory.specs.Plans.{IsPlanFaultOf};
-ghost use Rattle.host_memory.specs.declared.node.Access.TheVariants.{Closed as NotOpened};
+ghost use Rattle.host_memory.specs.declared.node.NodeAccess.TheVariants.{Closed as NotOpened};
 ghost use Rattle.host_memory.specs.declared.places.PutErr.{PutErr as Fault};
 ghost use Rattle.host_memory.specs.declared.plan.Op.TheVariants.{Lend};
 ghost use Rattle.host_memory.specs.declared.plan.PlanErr.TheVariants.{NoNode};

@@ -4,7 +4,7 @@ ghost use Rattle.std.specs.Prelude.{◌≡◌, true, Some, IfOk};
 ghost use Rattle.host_node.specs.declared.kind.Kind.TheVariants.{Dir as Directory};
 ghost use Rattle.host_node.specs.Routes.{subtree, put_subtree};
 ghost use Rattle.host_node.specs.Tree.{file as regular, lent as away, file_bytes, faults_of, is_directory, none_lent};
-ghost use Rattle.host_memory.specs.declared.node.Access.TheVariants.{Closed as NotOpened, Reading as Reads};
+ghost use Rattle.host_memory.specs.declared.node.NodeAccess.TheVariants.{Closed as NotOpened, Reading as Reads};
 
 use host_memory::{Line, MemoryNode, Op, Plan, World};
 use host_node::{HostErr, HostNode, HostWorld, Tree};

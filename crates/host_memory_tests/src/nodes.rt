@@ -3,7 +3,7 @@
 ghost use Rattle.std.specs.Prelude.{◌≡◌, [], IfOk};
 ghost use Rattle.host_node.specs.Tree.{directory as dir, file as regular, link as symlink, no_children, with_child};
 ghost use Rattle.host_node.specs.Tree.{file_bytes, faults_of};
-ghost use Rattle.host_memory.specs.declared.node.Access.TheVariants.{Reading as Reads};
+ghost use Rattle.host_memory.specs.declared.node.NodeAccess.TheVariants.{Reading as Reads};
 
 use crate::hosts::{folder_of, granted, open_file, world_of};
 use host_memory::{MemoryNode, Plan};

@@ -2,7 +2,7 @@
 
 ghost use Rattle.std.specs.Prelude.{◌≡◌, true, IfOk};
 ghost use Rattle.host_node.specs.Tree.{directory as dir, file as regular, no_children, file_bytes, faults_of, none_lent};
-ghost use Rattle.host_memory.specs.declared.node.Access.TheVariants.{Reading as Reads};
+ghost use Rattle.host_memory.specs.declared.node.NodeAccess.TheVariants.{Reading as Reads};
 
 use crate::hosts::{file_node, folder_of, granted, is_failure, open_file, world_of};
 use host_memory::{Line, MemoryNode, Op, Plan, World};

@@ -7,7 +7,7 @@ use Rattle.std.proofs.lemmas.List.Quantifiers.{position-Some}
 use Rattle.std.proofs.lemmas.List.Recursion.{found_at, found_nowhere}
 use Rattle.std.proofs.lemmas.List.Sums.{prefix_len_passes}
 use Rattle.std.proofs.lemmas.Bool.Decides.{nat_tests}
-use Rattle.host_node.specs.declared.tree.Entry.{Entry}
+use Rattle.host_node.specs.declared.tree.TreeEntry.{TreeEntry}
 use Rattle.host_node.specs.Tree.{Shape, Children, lent, no_children, child, kind_of, find_child, replace_child}
 use Rattle.host_node.specs.Tree.{insert_child, lend_in}
 use Rattle.host_node.specs.Levels.{children_from, entry_names, has_name, comes_before}
@@ -26,7 +26,7 @@ all_fail p xs d false e h k l =
     not_true false h = refl
 
 -- what stands at the place of a name is what stands under it
-pub find_here : (name : List ℕ) (es : List Entry) (i : ℕ) (d : Entry) → position (has_name name) es ≡ Some i
+pub find_here : (name : List ℕ) (es : List TreeEntry) (i : ℕ) (d : TreeEntry) → position (has_name name) es ≡ Some i
     → find_child name (children_from es) ≡ Some (get_or es i d).tree
 find_here name es i d e =
     let at = position-Some (has_name name) es i d e in
@@ -34,7 +34,7 @@ find_here name es i d e =
     (λ _ _. refl) es i d at.0 at.2 at.1
 
 -- a name that has no place has nothing under it
-pub find_nowhere : (name : List ℕ) (es : List Entry) → position (has_name name) es ≡ None
+pub find_nowhere : (name : List ℕ) (es : List TreeEntry) → position (has_name name) es ≡ None
     → find_child name (children_from es) ≡ None
 find_nowhere name [] e = refl
 find_nowhere name (x ∷ xs) e =
@@ -54,7 +54,7 @@ replace_nowhere name t (child other s rest) e = by (bytes_eq name other) e (repl
     by true h more = cc
     by false h more = ap (child other s) (more h)
 
-replace_at : (name : List ℕ) (t : Shape) (es : List Entry) (i : ℕ) (d : Entry) → i < length es
+replace_at : (name : List ℕ) (t : Shape) (es : List TreeEntry) (i : ℕ) (d : TreeEntry) → i < length es
     → has_name name (get_or es i d) ≡ true
     → ((k : ℕ) → k < i → has_name name (get_or es k d) ≡ false)
     → children_from (set es i (record { name = (get_or es i d).name; tree = t }))
@@ -66,7 +66,7 @@ replace_at name t (x ∷ xs) (suc i) d l at before =
     rw (before 0 (omega arith)) (ap (child x.name x.tree) e)
 
 -- a write to the tree at the place of a name replaces what stands under it
-pub replace_here : (name : List ℕ) (t : Shape) (es : List Entry) (i : ℕ) (d : Entry)
+pub replace_here : (name : List ℕ) (t : Shape) (es : List TreeEntry) (i : ℕ) (d : TreeEntry)
     → position (has_name name) es ≡ Some i
     → children_from (set es i (record { name = (get_or es i d).name; tree = t }))
     ≡ replace_child name t (children_from es)
@@ -74,20 +74,20 @@ replace_here name t es i d e =
     let at = position-Some (has_name name) es i d e in
     replace_at name t es i d at.0 at.1 at.2
 
-names_at : (es : List Entry) (i : ℕ) (d : Entry) (t : Shape) → i < length es
+names_at : (es : List TreeEntry) (i : ℕ) (d : TreeEntry) (t : Shape) → i < length es
     → entry_names (set es i (record { name = (get_or es i d).name; tree = t })) ≡ entry_names es
 names_at [] i d t l = absurd (omega arith)
 names_at (x ∷ xs) zero d t l = refl
 names_at (x ∷ xs) (suc i) d t l = ap (λ ns. x.name ∷ ns) (names_at xs i d t (omega arith))
 
 -- and it leaves the names
-pub names_here : (name : List ℕ) (es : List Entry) (i : ℕ) (d : Entry) (t : Shape)
+pub names_here : (name : List ℕ) (es : List TreeEntry) (i : ℕ) (d : TreeEntry) (t : Shape)
     → position (has_name name) es ≡ Some i
     → entry_names (set es i (record { name = (get_or es i d).name; tree = t })) ≡ entry_names es
 names_here name es i d t e = names_at es i d t (position-Some (has_name name) es i d e).0
 
 -- leaving what stands at the place of a name to a borrower is a replacement there
-pub lend_here : (name : List ℕ) (es : List Entry) (i : ℕ) (d : Entry) → position (has_name name) es ≡ Some i
+pub lend_here : (name : List ℕ) (es : List TreeEntry) (i : ℕ) (d : TreeEntry) → position (has_name name) es ≡ Some i
     → children_from (set es i (record { name = (get_or es i d).name; tree = lent (kind_of (get_or es i d).tree) }))
     ≡ lend_in name (children_from es)
 lend_here name es i d e =
@@ -102,7 +102,7 @@ pub insert_more : {X : Type 0} (x : X) (xs : List X) (n : ℕ) (y : X) → inser
 insert_more x xs n y = let e : 1 + n ≡ suc n = omega arith in rw e refl
 
 -- an entry that goes in before the first greater name goes in in order
-pub insert_here : (name : List ℕ) (t : Shape) (es : List Entry)
+pub insert_here : (name : List ℕ) (t : Shape) (es : List TreeEntry)
     → children_from (insert es (position_or_len (comes_before name) es) (record { name = name; tree = t }))
     ≡ insert_child name t (children_from es)
 insert_here name t [] = refl

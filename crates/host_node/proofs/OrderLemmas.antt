@@ -9,7 +9,7 @@ use Rattle.std.specs.Str.{bytes_eq}
 use Rattle.std.specs.List.{position_or_len, insert}
 use Rattle.std.proofs.lemmas.Cmp.{nat_list_cmp_total}
 use Rattle.std.proofs.lemmas.Map.Text.{is_eq-slice_cmp}
-use Rattle.host_node.specs.declared.tree.Entry.{Entry}
+use Rattle.host_node.specs.declared.tree.TreeEntry.{TreeEntry}
 use Rattle.host_node.specs.Tree.{Shape, find_child}
 use Rattle.host_node.specs.Order.{IsBelowAll, IsAscending}
 use Rattle.host_node.specs.Levels.{children_from, entry_names, comes_before}
@@ -39,7 +39,7 @@ below_all_before a b [] l h = tt
 below_all_before a b (n ∷ names) l h = (nat_list_cmp_total.trans a b n l h.0, below_all_before a b names l h.1)
 
 -- a name stays below others where a greater one goes in among them
-pub below_all_insert : (a : List ℕ) (es : List Entry) (i : ℕ) (e : Entry) → slice_cmp nat_cmp a e.name ≡ Less
+pub below_all_insert : (a : List ℕ) (es : List TreeEntry) (i : ℕ) (e : TreeEntry) → slice_cmp nat_cmp a e.name ≡ Less
     → IsBelowAll a (entry_names es)
     → IsBelowAll a (entry_names (insert es i e))
 below_all_insert a [] zero e l h = (l, tt)
@@ -48,7 +48,7 @@ below_all_insert a (x ∷ xs) zero e l h = (l, h)
 below_all_insert a (x ∷ xs) (suc i) e l h = (h.0, below_all_insert a xs i e l h.1)
 
 -- an entry under a free name that goes in before the first greater name leaves the entries in order
-pub ascending_insert : (name : List ℕ) (t : Shape) (es : List Entry) → IsAscending (entry_names es)
+pub ascending_insert : (name : List ℕ) (t : Shape) (es : List TreeEntry) → IsAscending (entry_names es)
     → find_child name (children_from es) ≡ None
     → IsAscending (entry_names (insert es (position_or_len (comes_before name) es) (record { name = name; tree = t })))
 ascending_insert name t [] h f = (tt, tt)
@@ -58,7 +58,7 @@ ascending_insert name t (x ∷ xs) h f =
     n : ℕ
     n = position_or_len (comes_before name) xs
 
-    new : Entry
+    new : TreeEntry
     new = record { name = name; tree = t }
 
     by : (b : Bool) → comes_before name x ≡ b → (q : Bool) → bytes_eq name x.name ≡ q

@@ -3,7 +3,7 @@ use Rattle.std.specs.Prelude.{◌≤◌, ℕ, List, [], ◌∷◌, length, Bool,
 use Rattle.std.specs.Ordering.{nat_cmp, is_lt}
 use Rattle.std.specs.Cmp.Lexicographic.{slice_cmp}
 use Rattle.std.specs.Str.{bytes_eq}
-use Rattle.host_node.specs.declared.tree.Entry.{Entry}
+use Rattle.host_node.specs.declared.tree.TreeEntry.{TreeEntry}
 use Rattle.host_node.specs.declared.tree.TheConstants.{LONGEST_LINK}
 use Rattle.host_node.specs.declared.tree.Node.{Node}
 use Rattle.host_node.specs.declared.tree.Node.TheVariants.{Directory, File, Link, Lent}
@@ -12,7 +12,7 @@ use Rattle.host_node.specs.Order.{IsAscending}
 
 -- the entries of a directory in memory, in order
 -- profile
-abbrev pub children_from : List Entry → Children
+abbrev pub children_from : List TreeEntry → Children
 children_from [] = no_children
 children_from (entry ∷ entries) = child entry.name entry.tree (children_from entries)
 
@@ -26,7 +26,7 @@ shape_of (Lent kind) = lent kind
 
 -- the names of a directory's entries in memory, in order
 -- profile
-abbrev pub entry_names : List Entry → List (List ℕ)
+abbrev pub entry_names : List TreeEntry → List (List ℕ)
 entry_names [] = []
 entry_names (entry ∷ entries) = entry.name ∷ entry_names entries
 
@@ -40,10 +40,10 @@ IsSound (Lent kind) = ⊤
 
 -- the entry has the name
 -- path_resolution(7)
-abbrev pub has_name : List ℕ → Entry → Bool
+abbrev pub has_name : List ℕ → TreeEntry → Bool
 has_name name entry = bytes_eq name entry.name
 
 -- the name comes before the entry's
 -- the order of strcmp(3), over unsigned bytes
-abbrev pub comes_before : List ℕ → Entry → Bool
+abbrev pub comes_before : List ℕ → TreeEntry → Bool
 comes_before name entry = is_lt (slice_cmp nat_cmp name entry.name)

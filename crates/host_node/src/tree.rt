@@ -34,7 +34,7 @@ enum Node {
     Directory {
         mode: u32,
         faults: u64,
-        entries: Vec<Entry>,
+        entries: Vec<TreeEntry>,
     },
     File {
         bytes: List<u8>,
@@ -50,7 +50,7 @@ enum Node {
 
 #[cycle(tree)]
 #[derive(Drop)]
-struct Entry {
+struct TreeEntry {
     name: Name,
     tree: Tree,
 }

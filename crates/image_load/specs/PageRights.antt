@@ -1,6 +1,6 @@
 -- The rights of pages that an image's segments meet.
 use Rattle.std.specs.Prelude.{◌||◌}
-use Rattle.elf_image.specs.declared.image.Rights.{Rights as ImageRights}
+use Rattle.elf_image.specs.declared.image.SegmentRights.{SegmentRights as ImageRights}
 use Rattle.mm_areas.specs.declared.rights.Rights.{Rights}
 use Rattle.mm_areas.specs.Rights.{rights_with}
 

@@ -3,7 +3,7 @@ use Rattle.std.specs.Prelude.{ℕ, ◌+◌, ◌-◌, ◌*◌, ◌^◌, List, [],
 use Rattle.std.specs.Prelude.{if◌then◌else◌}
 use Rattle.std.specs.List.{list_any, range_with_len}
 use Rattle.std.specs.FinMap as fin
-use Rattle.elf_image.specs.declared.image.Rights.{Rights as ImageRights}
+use Rattle.elf_image.specs.declared.image.SegmentRights.{SegmentRights as ImageRights}
 use Rattle.elf_image.specs.declared.image.Segment.{Segment}
 use Rattle.elf_image.specs.Loadable.{Loadable, first_page, page_count}
 use Rattle.mm_areas.specs.Rights.{rights_with}

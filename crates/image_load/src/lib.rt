@@ -1,6 +1,6 @@
 //! What a program begins with: its memory, by its image and its strings, and its registers.
 //!
-//! A caller hands in an image, and a program's strings and random bytes (`Program`), and gets an address space and
+//! A caller hands in an image, and a program's strings and random bytes (`ProgramInput`), and gets an address space and
 //! registers (`Loaded`). Contracts see the address space as mm_space does: its pages by their numbers, and its break.
 //! `specs/Pages.antt` says the pages: each page that a segment meets, with the rights of every segment that meets it
 //! (`rights_at`) and the file's bytes where a segment has them, else zeros (`image_byte`); and 64 pages of stack below
@@ -36,5 +36,5 @@ mod words;
 pub use counts::has_too_many_pages;
 pub use loading::{Loaded, load};
 pub use rights::{joined, page_rights};
-pub use stack::{Auxiliary, LoadErr, OpeningStack, Program, opening_stack};
+pub use stack::{Auxiliary, LoadErr, OpeningStack, ProgramInput, opening_stack};
 pub use strings::{MOST_STRING_BYTES, MOST_STRINGS, is_too_big};

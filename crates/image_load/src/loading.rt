@@ -12,7 +12,7 @@ ghost use Rattle.image_load.specs.Loading.{IsLoadFaultOf, auxiliary_of, highest_
 use crate::counts::has_too_many_pages;
 use crate::pages::{STACK_FIRST, laid_segments, stack_pages};
 use crate::places::highest_end;
-use crate::stack::{Auxiliary, LoadErr, Program, laid_out};
+use crate::stack::{Auxiliary, LoadErr, ProgramInput, laid_out};
 use crate::strings::{MOST_STRING_BYTES, MOST_STRINGS, is_too_big};
 use elf_image::{Image, Segment};
 use mm_areas::{MOST_PAGES, PAGE_SIZE};
@@ -37,7 +37,7 @@ pub struct Loaded {
 /// the file or the end of the stack meets it.
 ///
 /// execve(2); ELF-64 Object File Format, Program Loading.
-pub fn load(alloc: Global, image: &Image, program: &Program<'_>) -> Result<Loaded, LoadErr>
+pub fn load(alloc: Global, image: &Image, program: &ProgramInput<'_>) -> Result<Loaded, LoadErr>
     ensures space { let start = program.now in IfOk result (λ loaded.
         space_of loaded.space ≡ opening_space image.now start.args start.env start.random) }
     ensures registers { let start = program.now in IfOk result (λ loaded.
@@ -60,7 +60,7 @@ pub fn load(alloc: Global, image: &Image, program: &Program<'_>) -> Result<Loade
 }
 
 /// The memory and the registers of a program whose strings aren't too big, and whose pages aren't too many.
-fn mapped(alloc: Global, image: &Image, program: &Program<'_>) -> Result<Loaded, Memory>
+fn mapped(alloc: Global, image: &Image, program: &ProgramInput<'_>) -> Result<Loaded, Memory>
     requires strings { length program.now.args + length program.now.env ≤ MOST_STRINGS }
     requires room { strings_room program.now.args + strings_room program.now.env ≤ MOST_STRING_BYTES }
     requires limit { pages_mapped image.now ≤ MOST_PAGES }

@@ -6,7 +6,7 @@ ghost use Rattle.image_load.specs.Pages.{is_met, is_met_by, rights_at};
 ghost use Rattle.image_load.specs.Loading.{highest_end};
 
 use crate::rights::joined;
-use elf_image::{Rights, Segment};
+use elf_image::{Segment, SegmentRights};
 use mm_areas::PAGE_SIZE;
 
 /// The number of the first page of a segment.
@@ -42,11 +42,11 @@ pub(crate) fn is_met_by(segments: &[Segment], page: u64) -> bool
 }
 
 /// The rights of a page: those of each segment that meets it.
-pub(crate) fn rights_at(segments: &[Segment], page: u64) -> Rights
+pub(crate) fn rights_at(segments: &[Segment], page: u64) -> SegmentRights
     ensures { result ≡ rights_at segments.now page }
 {
     match segments {
-        [] => Rights {
+        [] => SegmentRights {
             read: false,
             write: false,
             execute: false,

@@ -10,7 +10,7 @@ use mm_areas::Rights;
 /// become rights of the other.
 ///
 /// ELF-64 Object File Format, `p_flags`; mmap(2).
-pub fn page_rights(rights: elf_image::Rights) -> Rights
+pub fn page_rights(rights: elf_image::SegmentRights) -> Rights
     ensures rights { result ≡ page_rights rights }
     ensures read { has result (record { 0 = 1 }) ≡ rights.read }
     ensures write { has result (record { 0 = 2 }) ≡ rights.write }
@@ -22,13 +22,16 @@ pub fn page_rights(rights: elf_image::Rights) -> Rights
 /// What two segments that meet a page want of it.
 ///
 /// ELF-64 Object File Format, Program Loading.
-pub fn joined(first: elf_image::Rights, second: elf_image::Rights) -> elf_image::Rights
+pub fn joined(
+    first: elf_image::SegmentRights,
+    second: elf_image::SegmentRights,
+) -> elf_image::SegmentRights
     ensures rights { result ≡ joined first second }
     ensures read { result.read ≡ (first.read || second.read) }
     ensures write { result.write ≡ (first.write || second.write) }
     ensures execute { result.execute ≡ (first.execute || second.execute) }
 {
-    elf_image::Rights {
+    elf_image::SegmentRights {
         read: first.read || second.read,
         write: first.write || second.write,
         execute: first.execute || second.execute,

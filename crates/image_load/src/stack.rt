@@ -29,7 +29,7 @@ pub struct Auxiliary {
 ///
 /// execve(2); getauxval(3).
 #[derive(Debug, Drop)]
-pub struct Program<'a> {
+pub struct ProgramInput<'a> {
     /// The arguments, in order.
     pub args: &'a [Text],
     /// The environment, in order.
@@ -38,7 +38,7 @@ pub struct Program<'a> {
     pub random: [u8; 16],
 }
 
-impl<'a> Model for Program<'a> {
+impl<'a> Model for ProgramInput<'a> {
     ghost use Rattle.image_load.specs.Stacks.{ProgramGiven};
 
     ghost Value = { ProgramGiven };
@@ -83,7 +83,7 @@ pub(crate) const STACK_TOP: u64 = 1 << 38;
 /// `TooBig` comes before `Memory`, and nothing is allocated for what is refused.
 pub fn opening_stack(
     alloc: Global,
-    program: &Program<'_>,
+    program: &ProgramInput<'_>,
     auxiliary: &Auxiliary,
 ) -> Result<OpeningStack, LoadErr>
     ensures sp { IfOk result (λ stack. stack.sp ≡ stack_pointer (started program.now auxiliary.now)) }

@@ -2,7 +2,7 @@
 
 use crate::strings::RANDOM;
 use elf_image::{Image, read_image};
-use image_load::{LoadErr, Loaded, Program, load};
+use image_load::{LoadErr, Loaded, ProgramInput, load};
 use sn_base::List;
 use sn_bytes::{put_u16, put_u32, put_u64};
 use sn_text::Text;
@@ -117,7 +117,7 @@ pub fn load_with(
     args: &[Text],
     env: &[Text],
 ) -> Result<Loaded, LoadErr> {
-    let program = Program {
+    let program = ProgramInput {
         args,
         env,
         random: RANDOM,

@@ -1,7 +1,7 @@
 //! The stack pointer at each length of a string, and strings that are just short enough and few enough.
 
 use crate::strings::{RANDOM, empty_strings, expect_words, letters, stack_of};
-use image_load::{Auxiliary, LoadErr, Program, opening_stack};
+use image_load::{Auxiliary, LoadErr, ProgramInput, opening_stack};
 use std::alloc::Global;
 use std::test::Fail;
 
@@ -119,7 +119,7 @@ const WITHOUT_TABLE: &[u64] = &[
 
 #[test]
 fn an_image_without_a_table_in_memory_has_0_at_phdr(rt: HostRuntime) -> Result<(), Fail> {
-    let program = Program {
+    let program = ProgramInput {
         args: &[],
         env: &[],
         random: RANDOM,

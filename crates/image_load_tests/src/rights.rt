@@ -3,8 +3,8 @@
 use image_load::{joined, page_rights};
 use mm_areas::Rights;
 
-fn of_image(read: bool, write: bool, execute: bool) -> elf_image::Rights {
-    elf_image::Rights {
+fn of_image(read: bool, write: bool, execute: bool) -> elf_image::SegmentRights {
+    elf_image::SegmentRights {
         read,
         write,
         execute,

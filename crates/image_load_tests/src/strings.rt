@@ -1,6 +1,6 @@
 //! Strings that the tests start programs with.
 
-use image_load::{Auxiliary, LoadErr, OpeningStack, Program, opening_stack};
+use image_load::{Auxiliary, LoadErr, OpeningStack, ProgramInput, opening_stack};
 use sn_base::List;
 use sn_bytes::u64_at;
 use sn_text::Text;
@@ -62,7 +62,7 @@ fn push_empty(alloc: Global, texts: &mut List<Text>, count: usize) -> Result<(),
 
 /// The stack of a program with these strings.
 pub fn stack_of(alloc: Global, args: &[Text], env: &[Text]) -> Result<OpeningStack, LoadErr> {
-    let program = Program {
+    let program = ProgramInput {
         args,
         env,
         random: RANDOM,

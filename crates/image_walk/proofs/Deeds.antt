@@ -14,7 +14,7 @@ use Rattle.kernel_model.specs.opening.Opening.{executed}
 use Rattle.image_walk.specs.declared.granted.Numbering.{Numbering}
 use Rattle.image_walk.specs.declared.loading.Answer.{Answer}
 use Rattle.image_walk.specs.declared.loading.Answer.TheVariants.{Starts, Refuses, Memory}
-use Rattle.image_walk.specs.declared.walk.Step.{Step}
+use Rattle.image_walk.specs.declared.walk.WalkEnd.{WalkEnd}
 use Rattle.image_walk.specs.Executing.{walked_by, walked_to, walked_among, fresh_for, fresh_by, rises_by, named_then}
 use Rattle.image_walk.specs.Executing.{HasNumber, AnswersBy, Executes}
 use Rattle.image_walk.specs.Granted.{LentChild, place_of_child}
@@ -86,7 +86,8 @@ module _ (num : Numbering) (is : IsNumbering num) (t : Shape) (names : List (Lis
         (subst (λ (o : Option Shape). StandsLent num t names [] o children)
         (root_is num t names root children st ∙ sym a) st)
 
-    did_nothing : (after : Option Shape) (children' : List LentChild) (answer : Answer) → after ≡ Some (lend_all names t)
+    did_nothing : (after : Option Shape) (children' : List LentChild) (answer : Answer)
+        → after ≡ Some (lend_all names t)
         → children' ≡ children → AnswersBy num (walked_among num t names name) false (length names) [] answer
         → Did after children' false num.root None answer
     did_nothing after children' answer a c answers = record {
@@ -103,7 +104,8 @@ module _ (num : Numbering) (is : IsNumbering num) (t : Shape) (names : List (Lis
       next = λ f. absurd (cc f);
       unnumbered = λ f. absurd (cc f);
       stands =
-          subst (λ (cs : List LentChild). StandsLent num t names (record { ino = num.root; count = d } ∷ []) after cs) (sym c)
+          subst (λ (cs : List LentChild). StandsLent num t names
+          (record { ino = num.root; count = d } ∷ []) after cs) (sym c)
           (subst (λ (o : Option Shape). StandsLent num t names (record { ino = num.root; count = d } ∷ []) o children)
           (sym a)
           (stands_root_risen num is.1 t names root children (record { ino = num.root; count = d }) st refl));
@@ -197,7 +199,8 @@ module _ (num : Numbering) (is : IsNumbering num) (t : Shape) (names : List (Lis
       next = λ f. absurd (cc f);
       unnumbered = λ f. absurd (cc f);
       stands =
-          subst (λ (cs : List LentChild). StandsLent num t names (record { ino = place + num.first; count = d } ∷ []) after cs)
+          subst (λ (cs : List LentChild). StandsLent num t names
+          (record { ino = place + num.first; count = d } ∷ []) after cs)
           (sym (c ∙ ap (λ o. slice_set children place (name, o)) h.2))
           (subst (λ (o : Option Shape). StandsLent num t names (record { ino = place + num.first; count = d } ∷ []) o
           (slice_set children place (name, Some (faulted_by d s))))
@@ -284,7 +287,8 @@ module _ (num : Numbering) (is : IsNumbering num) (t : Shape) (names : List (Lis
               subst (λ (cs : List LentChild). StandsLent num t (names ++ name ∷ [])
               (record { ino = ino; count = d } ∷ []) after cs)
               (sym (c ∙ ap (λ o. children ++ (name, o) ∷ []) h.2))
-              (subst (λ (o : Option Shape). StandsLent num t (names ++ name ∷ []) (record { ino = ino; count = d } ∷ []) o
+              (subst (λ (o : Option Shape). StandsLent num t (names ++ name ∷ [])
+              (record { ino = ino; count = d } ∷ []) o
               (children ++ (name, Some (faulted_by d s)) ∷ [])) (sym a)
               (stands_more_risen num is.1 t names name s root children (record { ino = ino; count = d }) st
               (unplaced num t names [] root children name st p).new e small i));
@@ -309,7 +313,7 @@ module _ (num : Numbering) (is : IsNumbering num) (t : Shape) (names : List (Lis
 
     -- ---- the walk, whichever way it went
 
-    by_walk : (after : Option Shape) (children' : List LentChild) (step : Step)
+    by_walk : (after : Option Shape) (children' : List LentChild) (step : WalkEnd)
         → Walks num (lend_all names t) name children children' after step
         → Did after children' step.drawn step.ino step.loaded.risen step.loaded.answer
     by_walk after children' step (Unsearched h c d i) =
@@ -323,7 +327,7 @@ module _ (num : Numbering) (is : IsNumbering num) (t : Shape) (names : List (Lis
     by_walk after children' step (Lent x p h) =
         did_lent step.drawn after children' step.ino step.loaded.risen step.loaded.answer x p h
 
-    pub did : (after : Option Shape) (children' : List LentChild) (step : Step)
+    pub did : (after : Option Shape) (children' : List LentChild) (step : WalkEnd)
         → WalksWhere num root name children children' after step
         → Did after children' step.drawn step.ino step.loaded.risen step.loaded.answer
     did after children' step walks =
@@ -336,7 +340,7 @@ module _ (num : Numbering) (is : IsNumbering num) (t : Shape) (names : List (Lis
     drawn_as true ino next = ap (λ (n : ℕ). record { dir = num.root; name = name; ino = n } ∷ []) (next refl)
     drawn_as false ino next = refl
 
-    pub executes_by : (after : Option Shape) (children' : List LentChild) (step : Step) (given : Given)
+    pub executes_by : (after : Option Shape) (children' : List LentChild) (step : WalkEnd) (given : Given)
         → WalksWhere num root name children children' after step
         → given.fresh ≡ fresh_by num.root step.drawn step.ino name
         → given.rises ≡ rises_by step.ino step.loaded.risen
@@ -347,7 +351,8 @@ module _ (num : Numbering) (is : IsNumbering num) (t : Shape) (names : List (Lis
           fresh = fresh ∙ drawn_as step.drawn step.ino d.next;
           unnumbered = d.unnumbered;
           stands =
-              subst (λ (rs : List Rise). StandsLent num t (named_then step.drawn names name) rs after children') (sym rises)
+              subst (λ (rs : List Rise). StandsLent num t (named_then step.drawn names name) rs after children')
+              (sym rises)
               d.stands;
           answers =
               subst (λ (rs : List Rise). AnswersBy num (walked_among num t names name) step.drawn

@@ -9,8 +9,8 @@ use Rattle.host_node.specs.Tree.{Shape, child_of, lend_child}
 use Rattle.host_node.specs.declared.kind.Kind.{Kind}
 use Rattle.host_node.specs.Told.{CanLend, ComesFrom, TellsLent}
 use Rattle.image_walk.specs.declared.granted.Numbering.{Numbering}
-use Rattle.image_walk.specs.declared.loading.Loaded.{Loaded}
-use Rattle.image_walk.specs.declared.walk.Step.{Step}
+use Rattle.image_walk.specs.declared.loading.NodeAnswer.{NodeAnswer}
+use Rattle.image_walk.specs.declared.walk.WalkEnd.{WalkEnd}
 use Rattle.image_walk.specs.Granted.{LentChild, place_of_child, told_of}
 use Rattle.image_walk.specs.declared.granted.Lent.{Lent as LentChild}
 use Rattle.image_walk.specs.Loading.{IsHere, LoadsWhere}
@@ -36,8 +36,8 @@ nothing_set (c ∷ children) zero child told h e f =
 nothing_set (c ∷ children) (suc i) child told h e f = (h.0, nothing_set children i child told h.1 e f)
 
 -- a root that was not refused
-pub searched_none : (told after : Option Shape) (o : Option Loaded) → SearchedFor told after o
-    → ((x : Loaded) → o ≡ Some x → ⊥) → SearchedFor told after None
+pub searched_none : (told after : Option Shape) (o : Option NodeAnswer) → SearchedFor told after o
+    → ((x : NodeAnswer) → o ≡ Some x → ⊥) → SearchedFor told after None
 searched_none told after None h n = h
 searched_none told after (Some x) h n = absurd (n x refl)
 
@@ -62,11 +62,12 @@ pub known_here : (num : Numbering) (name : List ℕ) (root : Option Shape) (chil
 known_here num name None children i grant e = nothing_here children i grant
 known_here num name (Some r) children i grant e =
     let p = placed num grant.0 grant.1 (Some r) children name i grant.3 e in
-    subst (λ (o : Option LentChild). IfSome o (λ c. IsHere c.1)) (sym p.child) (there_here (child_of name grant.0) p.there)
+    subst (λ (o : Option LentChild). IfSome o (λ c. IsHere c.1)) (sym p.child)
+    (there_here (child_of name grant.0) p.there)
 
 pub walks_known : (num : Numbering) (name : List ℕ) (told after : Option Shape) (children children' : List LentChild)
     (place : ℕ)
-    (step : Step) → SearchedFor told after None → place_of_child name children ≡ Some place → step.drawn ≡ false
+    (step : WalkEnd) → SearchedFor told after None → place_of_child name children ≡ Some place → step.drawn ≡ false
     → step.ino ≡ place + num.first → LoadsAt place children children' step.loaded.risen step.loaded.answer
     → WalksWhere num told name children children' after step
 walks_known num name None after children children' place step searched e drawn ino loads = (
@@ -92,7 +93,7 @@ can_lend_then num name (Some r) after children grant searched e =
     (can_lend grant.0 grant.1 name s.free grant.2 u.new)
 
 pub walks_lent : (num : Numbering) (name : List ℕ) (told between after : Option Shape)
-    (children children' : List LentChild) (step : Step)
+    (children children' : List LentChild) (step : WalkEnd)
     → SearchedFor told between None → place_of_child name children ≡ None
     → LendsWhere num between name children children' after step → WalksWhere num told name children children' after step
 walks_lent num name None between after children children' step searched e lends =
@@ -110,7 +111,7 @@ nothing_more (c ∷ children) child e h = (h.0, nothing_more children child e h.
 
 pub lends_child : (num : Numbering) (told root' child child' : Option Shape) (name : List ℕ) (count : ℕ) (what : Kind)
     (ino : ℕ)
-    (loaded : Loaded) (children children' : List LentChild) → TellsLent name told child count what
+    (loaded : NodeAnswer) (children children' : List LentChild) → TellsLent name told child count what
     → root' ≡ option_map (lend_child name) told → LoadsWhere child child' loaded.risen loaded.answer
     → children' ≡ children ++ (name, child') ∷ [] → ino ≡ length children + num.first
     → LendsWhere num told name children children' root' (record { drawn = true; ino = ino; loaded = loaded })
@@ -144,7 +145,7 @@ lends_child num (Some t) root' child child' name count what ino loaded children 
 
 pub walks_ok : {E : Type 0} (num : Numbering) (name : List ℕ) (told between after : Option Shape)
     (children children' : List LentChild)
-    (result : Result Step E) → SearchedFor told between None → place_of_child name children ≡ None
+    (result : Result WalkEnd E) → SearchedFor told between None → place_of_child name children ≡ None
     → IfOk result (LendsWhere num between name children children' after)
     → IfOk result (WalksWhere num told name children children' after)
 walks_ok num name told between after children children' (Ok step) searched e lends =

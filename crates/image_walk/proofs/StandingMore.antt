@@ -101,9 +101,11 @@ root_more num t names name rises h e =
 -- one more child was lent,
 pub stands_more : (num : Numbering) (t : Shape) (names : List (List ℕ)) (name : List ℕ) (s : Shape)
     (root : Option Shape)
-    (children : List LentChild) → StandsLent num t names [] root children → IsNoneOf name names → child_of name t ≡ Some s
+    (children : List LentChild) → StandsLent num t names [] root children → IsNoneOf name names
+    → child_of name t ≡ Some s
     → faults_of s < 2 ^ 64
-    → StandsLent num t (names ++ name ∷ []) [] (Some (lend_child name (lend_all names t))) (children ++ (name, Some s) ∷ [])
+    → StandsLent num t (names ++ name ∷ []) [] (Some (lend_child name (lend_all names t)))
+    (children ++ (name, Some s) ∷ [])
 stands_more num t names name s root children st new e h = record {
   small = st.small;
   free = st.free;
@@ -185,7 +187,8 @@ set_risen n t (other ∷ names) name s (suc i) r g e h =
 
 pub stands_child_risen : (num : Numbering) (low : num.root < num.first) (t : Shape) (names : List (List ℕ))
     (root : Option Shape) (children : List LentChild)
-    (name : List ℕ) (i : ℕ) (s : Shape) (r : Rise) → StandsLent num t names [] root children → place_of_child name children
+    (name : List ℕ) (i : ℕ) (s : Shape) (r : Rise) → StandsLent num t names [] root children
+    → place_of_child name children
     ≡ Some i
     → child_of name t ≡ Some s → r.ino ≡ i + num.first
     → StandsLent num t names (r ∷ []) root (slice_set children i (name, Some (faulted_by r.count s)))
@@ -200,6 +203,7 @@ stands_child_risen num low t names root children name i s r st p e h =
       children_tell =
           ap (λ (cs : List LentChild). slice_set cs i (name, Some (faulted_by r.count s))) st.children_tell
           ∙ sym (set_risen num.first t names name s i r
-          (subst (λ (cs : List LentChild). slice_get cs i ≡ Some (name, child_of name t)) st.children_tell found.child) e
+          (subst (λ (cs : List LentChild). slice_get cs i ≡ Some
+          (name, child_of name t)) st.children_tell found.child) e
           h);
     }

@@ -8,8 +8,8 @@ use Rattle.kernel_model.specs.files.FileTree.{owner_executes}
 use Rattle.image_walk.specs.declared.granted.Numbering.{Numbering}
 use Rattle.image_walk.specs.declared.loading.Answer.{Answer}
 use Rattle.image_walk.specs.declared.loading.Answer.TheVariants.{Refuses, Memory}
-use Rattle.image_walk.specs.declared.loading.Loaded.{Loaded}
-use Rattle.image_walk.specs.declared.walk.Step.{Step}
+use Rattle.image_walk.specs.declared.loading.NodeAnswer.{NodeAnswer}
+use Rattle.image_walk.specs.declared.walk.WalkEnd.{WalkEnd}
 use Rattle.image_walk.specs.Granted.{LentChild, place_of_child}
 use Rattle.image_walk.specs.Loading.{Loads, LoadsWhere, faulted_by}
 use Rattle.image_walk.specs.Standing.{StandsLent}
@@ -61,11 +61,11 @@ NotSearched t after _ _ = ⊥
 
 -- what a search of the root came to: refused so, or its owner may search it
 -- path_resolution(7), EACCES
-abbrev pub SearchedBy : Shape → (after : Option Shape) → Option Loaded → Type 0
+abbrev pub SearchedBy : Shape → (after : Option Shape) → Option NodeAnswer → Type 0
 SearchedBy t after (Some loaded) = NotSearched t after loaded.risen loaded.answer
 SearchedBy t after None = (owner_executes t ≡ true) × (after ≡ Some t)
 
-abbrev pub SearchedFor : (told after : Option Shape) → Option Loaded → Type 0
+abbrev pub SearchedFor : (told after : Option Shape) → Option NodeAnswer → Type 0
 SearchedFor None after loaded = after ≡ None
 SearchedFor (Some t) after loaded = SearchedBy t after loaded
 
@@ -96,7 +96,7 @@ LendsBy num false t name children children' after ino risen answer =
     LendsNone t name after risen answer × (children' ≡ children) × (ino ≡ num.root)
 
 abbrev pub LendsWhere : Numbering → (told : Option Shape) → (name : List ℕ) → (children children' : List LentChild)
-    → (after : Option Shape) → Step → Type 0
+    → (after : Option Shape) → WalkEnd → Type 0
 LendsWhere num None name children children' after step =
     (after ≡ None) × (TellNothing children → TellNothing children')
 LendsWhere num (Some t) name children children' after step =
@@ -113,8 +113,9 @@ pub record LoadsAt (place : ℕ) (children children' : List LentChild) (risen : 
 
 -- how a walk went over a root that tells itself
 -- path_resolution(7); execve(2)
-pub data Walks (num : Numbering) (t : Shape) (name : List ℕ) (children children' : List LentChild) (after : Option Shape)
-    (step : Step) : Type 0 where
+pub data Walks (num : Numbering) (t : Shape) (name : List ℕ) (children children' : List LentChild)
+    (after : Option Shape)
+    (step : WalkEnd) : Type 0 where
   Unsearched : NotSearched t after step.loaded.risen step.loaded.answer → children' ≡ children → step.drawn ≡ false
       → step.ino ≡ num.root → Walks num t name children children' after step
   Known : owner_executes t ≡ true → after ≡ Some t → step.drawn ≡ false → (place : ℕ)
@@ -128,7 +129,7 @@ pub data Walks (num : Numbering) (t : Shape) (name : List ℕ) (children childre
 -- the same, where the root tells itself
 -- profile
 abbrev pub WalksWhere : Numbering → (told : Option Shape) → (name : List ℕ) → (children children' : List LentChild)
-    → (after : Option Shape) → Step → Type 0
+    → (after : Option Shape) → WalkEnd → Type 0
 WalksWhere num None name children children' after step =
     (after ≡ None) × (TellNothing children → TellNothing children')
 WalksWhere num (Some t) name children children' after step = Walks num t name children children' after step

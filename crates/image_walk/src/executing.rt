@@ -13,8 +13,8 @@ ghost use Rattle.image_walk.specs.Standing.{IsNumbering, StandsLent};
 ghost use Rattle.image_walk.specs.Walking.{IsGrant, IsSilent, NumbersNext};
 
 use crate::granted::Granted;
-use crate::loading::{Answer, Loaded};
-use crate::walk::{Step, walk};
+use crate::loading::{Answer, NodeAnswer};
+use crate::walk::{WalkEnd, walk};
 use host_node::HostNode;
 use kernel_calls::is_too_long;
 use kernel_model::{Fresh, Given, Rise};
@@ -119,8 +119,8 @@ pub fn execve<N: HostNode>(
     }
     let root = granted.numbers.root;
     let room = make_room(alloc, &program.name)?;
-    let Step { drawn, ino, loaded } = walk(alloc, granted, &program.name)?;
-    let Loaded { risen, answer } = loaded;
+    let WalkEnd { drawn, ino, loaded } = walk(alloc, granted, &program.name)?;
+    let NodeAnswer { risen, answer } = loaded;
     let given = gathered(room, root, drawn, ino, risen);
     Ok(Executed { given, answer })
 }

@@ -28,7 +28,7 @@ pub enum Answer {
 
 /// What a node gave: by how much its count of faults rose, where one of its calls failed, and what the execve answers.
 #[derive(Drop)]
-pub(crate) struct Loaded {
+pub(crate) struct NodeAnswer {
     pub(crate) risen: Option<u64>,
     pub(crate) answer: Answer,
     ghost pages: { is_roomy answer ≡ true },
@@ -100,30 +100,30 @@ fn read_file<N: HostNode>(
 }
 
 /// A node fails in a call: EIO, with its rise.
-pub(crate) fn failed<N: HostNode>(before: u64, node: &N) -> Loaded
+pub(crate) fn failed<N: HostNode>(before: u64, node: &N) -> NodeAnswer
     requires { Rose before (N.count node.now) }
     ensures { FailedBy before (N.count node.now) result.risen result.answer }
 {
-    Loaded {
+    NodeAnswer {
         risen: Some(risen(before, node.faults())),
         answer: Answer::Refuses(Errno::EIO),
     }
 }
 
 /// An answer of nodes that did not fail.
-pub(crate) fn answered(answer: Answer) -> Loaded
+pub(crate) fn answered(answer: Answer) -> NodeAnswer
     requires { is_roomy answer ≡ true }
     ensures risen { result.risen ≡ None }
     ensures answer { result.answer ≡ answer }
 {
-    Loaded {
+    NodeAnswer {
         risen: None,
         answer,
     }
 }
 
 /// Loads the image of a program's node, which is opened for reading alone.
-pub(crate) fn load<N: HostNode>(alloc: Global, node: &mut N, route: &Route) -> Loaded
+pub(crate) fn load<N: HostNode>(alloc: Global, node: &mut N, route: &Route) -> NodeAnswer
     requires { IsHere (N.told node.old) }
     ensures loads { LoadsWhere (N.told node.old) (N.told node.new) result.risen result.answer }
     ensures unwritten { N.opened node.old ≢ Writing → N.opened node.new ≢ Writing }

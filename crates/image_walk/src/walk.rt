@@ -8,7 +8,7 @@ ghost use Rattle.image_walk.specs.Standing.{IsNumbering};
 ghost use Rattle.image_walk.specs.Walking.{DrawsNext, IsGrant, LendsWhere, LoadsAt, SearchedFor, WalksWhere};
 
 use crate::granted::{Granted, Lent, Numbering, place_of_child};
-use crate::loading::{Answer, Loaded, answered, failed, load};
+use crate::loading::{Answer, NodeAnswer, answered, failed, load};
 use host_node::{HostErr, HostNode};
 use sn_base::Memory;
 use sn_errno::Errno;
@@ -17,10 +17,10 @@ use std::alloc::Global;
 
 /// What a walk came to: whether it drew a number, the number of the node that it came to, and what that node gave.
 #[derive(Drop)]
-pub(crate) struct Step {
+pub(crate) struct WalkEnd {
     pub(crate) drawn: bool,
     pub(crate) ino: u64,
-    pub(crate) loaded: Loaded,
+    pub(crate) loaded: NodeAnswer,
 }
 
 /// The routes of the root and of the program's node.
@@ -43,7 +43,7 @@ fn make_routes(alloc: Global, name: &Name) -> Result<Routes, Memory>
 }
 
 /// What a root gives that its owner may not search, or `None` where the owner may.
-fn search<N: HostNode>(root: &mut N, route: &Route) -> Option<Loaded>
+fn search<N: HostNode>(root: &mut N, route: &Route) -> Option<NodeAnswer>
     ensures { SearchedFor (N.told root.old) (N.told root.new) result }
 {
     let before = root.faults();
@@ -65,7 +65,7 @@ fn load_known<N: HostNode>(
     lent: &mut Vec<Lent<N>>,
     place: usize,
     route: &Route,
-) -> Loaded
+) -> NodeAnswer
     requires within { place < length lent.old.items }
     requires here { IfSome (slice_get (told_of N.told lent.old.items) place) (λ c. IsHere c.1) }
     ensures length { length lent.new.items ≡ length lent.old.items }
@@ -82,7 +82,7 @@ fn lend_program<N: HostNode>(
     granted: &mut Granted<N>,
     routes: &Routes,
     name: &Name,
-) -> Result<Step, Memory>
+) -> Result<WalkEnd, Memory>
     requires numbers { IsNumbering granted.old.numbers }
     requires lend { CanLend name.now (N.told granted.old.root) }
     ensures same { granted.new.numbers ≡ granted.old.numbers }
@@ -106,7 +106,7 @@ fn lend_program<N: HostNode>(
                 name: kept,
                 node: child,
             });
-            Ok(Step {
+            Ok(WalkEnd {
                 drawn: true,
                 ino,
                 loaded,
@@ -119,12 +119,12 @@ fn lend_program<N: HostNode>(
 }
 
 /// A walk that ended at the root, of that number.
-fn at_root(root: u64, loaded: Loaded) -> Step
+fn at_root(root: u64, loaded: NodeAnswer) -> WalkEnd
     ensures drawn { result.drawn ≡ false }
     ensures ino { result.ino ≡ root }
     ensures loaded { result.loaded ≡ loaded }
 {
-    Step {
+    WalkEnd {
         drawn: false,
         ino: root,
         loaded,
@@ -137,7 +137,7 @@ pub(crate) fn walk<N: HostNode>(
     alloc: Global,
     granted: &mut Granted<N>,
     name: &Name,
-) -> Result<Step, Memory>
+) -> Result<WalkEnd, Memory>
     requires numbers { IsNumbering granted.old.numbers }
     requires grant { IsGrant granted.old.numbers (N.told granted.old.root) (told_of N.told granted.old.lent.items) }
     ensures same { granted.new.numbers ≡ granted.old.numbers }
@@ -154,7 +154,7 @@ pub(crate) fn walk<N: HostNode>(
         return Ok(at_root(root, loaded));
     }
     match place_of_child(name, granted.lent.as_slice()) {
-        Some(place) => Ok(Step {
+        Some(place) => Ok(WalkEnd {
             drawn: false,
             ino: first + place as u64,
             loaded: load_known(alloc, &mut granted.lent, place, &routes.program),

@@ -30,7 +30,7 @@ use std::alloc::Global;
 
 /// What is to be mapped: where, if that is asked for, how many bytes, and with which rights.
 #[derive(Clone, Copy)]
-struct Asked {
+struct MapRequest {
     place: Option<u64>,
     length: u64,
     rights: Rights,
@@ -94,7 +94,7 @@ fn map(
         a3: flags,
         ..
     } = *args;
-    let asked = Asked {
+    let asked = MapRequest {
         place: asked_place(hint, flags),
         length,
         rights: rights_in(protection),
@@ -142,7 +142,7 @@ fn refusal(space: &GuestSpace, args: &Args, file: Option<Errno>) -> Option<Errno
 /// Maps pages of their own or of an area, where nothing refuses that.
 fn map_over(
     alloc: Global,
-    asked: Asked,
+    asked: MapRequest,
     backing: Backing,
     space: &mut GuestSpace,
 ) -> Result<u64, Memory>
@@ -167,7 +167,7 @@ fn map_over(
 fn map_shared(
     alloc: Global,
     place: u64,
-    asked: Asked,
+    asked: MapRequest,
     space: &mut GuestSpace,
     areas: &mut Named<GuestArea>,
 ) -> Result<u64, Memory>

@@ -40,7 +40,7 @@ pub fn opened(
     ensures registers { IfOk result (λ b. b.registers ≡ registers_opened seed.now number program.now image.now) }
     ensures space { IfOk result (λ b. b.space ≡ space_opened seed.now number program.now image.now) }
 {
-    let program = image_load::Program {
+    let program = image_load::ProgramInput {
         args: program.args.as_slice(),
         env: program.env.as_slice(),
         random: opening_random(seed, number),

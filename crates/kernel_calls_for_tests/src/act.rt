@@ -5,7 +5,7 @@ use crate::ends::Ends;
 use crate::families::close;
 use crate::guest::{Guest, LOAD, STORE, STORE_RESERVED, guest_among, new_guest};
 use crate::words::Word;
-use guest_access::Ran;
+use guest_access::InstructionRun;
 use kernel_model::Next;
 use sn_base::Made;
 use std::alloc::Global;
@@ -282,8 +282,8 @@ impl Guest {
 }
 
 /// What a run comes to that stops so.
-fn stop(count: u32, next: Next) -> Ran {
-    Ran { count, next }
+fn stop(count: u32, next: Next) -> InstructionRun {
+    InstructionRun { count, next }
 }
 
 /// That a new guest does these.

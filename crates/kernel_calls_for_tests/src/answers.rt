@@ -4,7 +4,7 @@ ghost use Rattle.std.specs.Prelude.{IsTrue};
 ghost use Rattle.task_table.specs.Table.{is_live};
 
 use crate::asked::{Asked, args_of};
-use call_fs::{Called, call, commit_transfer, make_pipe};
+use call_fs::{CallEnd, call, commit_transfer, make_pipe};
 use futex_core::Waiters;
 use kernel_calls::Context;
 use kernel_model::{GuestArea, GuestSpace, Named, OpenFiles};
@@ -50,12 +50,12 @@ pub(crate) fn answer(
         console.len(),
         files,
     )? {
-        Called::Of(called) => Ok(Answered::Of(called)),
-        Called::Moves { reply, transfer } => {
+        CallEnd::Of(called) => Ok(Answered::Of(called)),
+        CallEnd::Moves { reply, transfer } => {
             commit_transfer(alloc, transfer, space, areas, files, console)?;
             Ok(Answered::Replied(reply))
         }
-        Called::MakesPipe(new) => {
+        CallEnd::MakesPipe(new) => {
             make_pipe(alloc, context, new.into_inner(), space, areas, files)?;
             Ok(Answered::Replied(0))
         }

@@ -7,7 +7,7 @@ use crate::families::{alone, lives};
 use crate::opening::opened;
 use file_changes::{change_files, open_files};
 use futex_core::Waiters;
-use guest_access::{Ran, run, step};
+use guest_access::{InstructionRun, run, step};
 use kernel_calls::{Beginning, Called, Context, Effect, Prepared};
 use kernel_model::{GuestArea, GuestSpace, Named, Next, OpenFiles};
 use mm_areas::{AreaErr, Backing, Rights};
@@ -281,7 +281,7 @@ impl Guest {
     }
 
     /// Runs the next instructions, so many at most.
-    pub fn run(&mut self, most: u32) -> Result<Ran, Memory> {
+    pub fn run(&mut self, most: u32) -> Result<InstructionRun, Memory> {
         run(self.alloc, 1, &mut self.registers, &mut self.space, most)
     }
 

@@ -1,7 +1,7 @@
 //! What a guest and those beside it have open: rows of tables.
 
 use crate::guest::Guest;
-use fd_table::{Access, Description, Descriptor, FdTable, Object, PipeSide};
+use fd_table::{AccessMode, Description, Descriptor, FdTable, Object, PipeSide};
 use kernel_model::{OpenFile, OpenFiles};
 use pipe_core::Pipe;
 use sn_base::Made;
@@ -21,7 +21,7 @@ pub const WRITE_END: Made = Made {
 };
 
 /// The open file description of an end of that pipe, which one descriptor has.
-fn end_of_pipe(end: PipeSide, access: Access) -> OpenFile {
+fn end_of_pipe(end: PipeSide, access: AccessMode) -> OpenFile {
     OpenFile {
         description: Description {
             object: Object::PipeEnd {
@@ -41,9 +41,9 @@ fn end_of_pipe(end: PipeSide, access: Access) -> OpenFile {
 fn add_pipe(alloc: Global, files: &mut OpenFiles, name: Made) -> Result<(), Fail> {
     let Made { place, index } = READ_END;
     files.pipes.insert(alloc, place, index, Pipe::new(alloc)?)?;
-    let file = end_of_pipe(PipeSide::Read, Access::Read);
+    let file = end_of_pipe(PipeSide::Read, AccessMode::Read);
     files.descriptions.insert(alloc, place, index, file)?;
-    let file = end_of_pipe(PipeSide::Write, Access::Write);
+    let file = end_of_pipe(PipeSide::Write, AccessMode::Write);
     files
         .descriptions
         .insert(alloc, WRITE_END.place, WRITE_END.index, file)?;

@@ -1,7 +1,7 @@
 //! What a guest begins with, and runs of its instructions.
 
 use crate::guests::{expect_bytes, expect_pages, expect_register, expect_rights, expect_unmapped};
-use guest_access::{Ran, run, step};
+use guest_access::{InstructionRun, run, step};
 use kernel_calls::{Beginning, args_of, call_of, reply};
 use kernel_calls_for_tests::opened;
 use kernel_model::{Args, GuestSpace, Named, Next};
@@ -71,7 +71,7 @@ fn ran(
     registers: &mut Regs,
     space: &mut GuestSpace,
     most: u32,
-) -> Result<Ran, Memory> {
+) -> Result<InstructionRun, Memory> {
     run(alloc, 1, registers, space, most)
 }
 
@@ -81,7 +81,7 @@ fn expect_run(
     alloc: Global,
     guest: &mut Beginning,
     most: u32,
-    wanted: Ran,
+    wanted: InstructionRun,
 ) -> Result<(), Fail> {
     let told = ran(alloc, &mut guest.registers, &mut guest.space, most)?;
     assert_eq!(rt; told, wanted);
@@ -125,8 +125,8 @@ fn expect_write_args(rt: &impl Abort, registers: &Regs) {
 }
 
 /// A run that stops so.
-fn stop(count: u32, next: Next) -> Ran {
-    Ran { count, next }
+fn stop(count: u32, next: Next) -> InstructionRun {
+    InstructionRun { count, next }
 }
 
 /// Answers a call.

@@ -1,6 +1,6 @@
 //! What opening tasks have open.
 
-use fd_table::{Access, Description, Descriptor, Object};
+use fd_table::{AccessMode, Description, Descriptor, Object};
 use file_changes::open_files;
 use kernel_model::{OpenFile, OpenFiles};
 use sn_base::Made;
@@ -13,18 +13,18 @@ struct Stream {
     fd: u32,
     index: u32,
     object: Object,
-    access: Access,
+    access: AccessMode,
 }
 
 /// Those of the tasks 1 and 2, each with a description of its own: stdin(3).
 #[rattlefmt::skip]
 const STREAMS: &[Stream] = &[
-    Stream { task: 1, fd: 0, index: 3, object: Object::EmptyInput, access: Access::Read },
-    Stream { task: 1, fd: 1, index: 4, object: Object::Console, access: Access::Write },
-    Stream { task: 1, fd: 2, index: 5, object: Object::Console, access: Access::Write },
-    Stream { task: 2, fd: 0, index: 6, object: Object::EmptyInput, access: Access::Read },
-    Stream { task: 2, fd: 1, index: 7, object: Object::Console, access: Access::Write },
-    Stream { task: 2, fd: 2, index: 8, object: Object::Console, access: Access::Write },
+    Stream { task: 1, fd: 0, index: 3, object: Object::EmptyInput, access: AccessMode::Read },
+    Stream { task: 1, fd: 1, index: 4, object: Object::Console, access: AccessMode::Write },
+    Stream { task: 1, fd: 2, index: 5, object: Object::Console, access: AccessMode::Write },
+    Stream { task: 2, fd: 0, index: 6, object: Object::EmptyInput, access: AccessMode::Read },
+    Stream { task: 2, fd: 1, index: 7, object: Object::Console, access: AccessMode::Write },
+    Stream { task: 2, fd: 2, index: 8, object: Object::Console, access: AccessMode::Write },
 ];
 
 /// Whether the task's number has the description.

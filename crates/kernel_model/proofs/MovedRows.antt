@@ -10,7 +10,7 @@ use Rattle.fd_table.specs.Tables.{Table}
 use Rattle.fd_table.specs.declared.description.Description.{Description}
 use Rattle.fd_table.specs.declared.description.Object.{Object}
 use Rattle.fd_table.specs.declared.description.Object.TheVariants as object
-use Rattle.fd_table.specs.declared.flags.Access.{Access}
+use Rattle.fd_table.specs.declared.flags.AccessMode.{AccessMode}
 use Rattle.mm_space.specs.Accesses.{writable}
 use Rattle.mm_space.specs.Handed.{InHand}
 use Rattle.mm_space.specs.Spaces.{Reach}
@@ -36,7 +36,7 @@ use Rattle.kernel_model.proofs.LeftNodes.{leaves-append, reach_leaves, refused_l
 
 module _ (s : Parts) where
   -- what is open under a descriptor, where its access lets the caller do so
-  opened_leaves : (may : Access → Bool) (c : Caller) (fd : ℕ) (row : Description → Prog Answer)
+  opened_leaves : (may : AccessMode → Bool) (c : Caller) (fd : ℕ) (row : Description → Prog Answer)
       → ((d : Description) → Leaves s (row d)) → Leaves s (opened_for may c fd row)
   opened_leaves may c fd row each ino is =
       found_leaves s EBADF (λ t. or_refuse EBADF (λ d. with_file d.description (if_may may row))

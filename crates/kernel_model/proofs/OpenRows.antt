@@ -9,7 +9,7 @@ use Rattle.fd_table.specs.Tables.{Table, with_mark}
 use Rattle.fd_table.specs.declared.description.Object.{Object}
 use Rattle.fd_table.specs.declared.description.Object.TheVariants as object
 use Rattle.fd_table.specs.declared.descriptor.Descriptor.{Descriptor}
-use Rattle.fd_table.specs.declared.flags.Access.{Access}
+use Rattle.fd_table.specs.declared.flags.AccessMode.{AccessMode}
 use Rattle.sn_base.specs.declared.made.Made.{Made}
 use Rattle.kernel_model.specs.declared.caller.Caller.{Caller}
 use Rattle.kernel_model.specs.declared.kernel.Part.TheVariants.{OfTable, OfDescription}
@@ -119,7 +119,7 @@ module _ (s : Parts) where
     lseek_open fd =
         at_descriptor _ (λ t d. at_file _ (λ file. positioned_open file.description.object) d.description) fd
 
-    opened_open : (may : Access → Bool) (fd : ℕ) → Open (opened_for may c fd (λ d. positioned d.object))
+    opened_open : (may : AccessMode → Bool) (fd : ℕ) → Open (opened_for may c fd (λ d. positioned d.object))
     opened_open may fd =
         at_descriptor _ (λ t d. at_file (if_may may (λ e. positioned e.object))
         (λ file. either (may file.description.access) _ _ (positioned_open file.description.object) tt)

@@ -264,7 +264,8 @@ module _ (s : Parts) (k : Kernel) (elf : Image) (changes : List Change) where
 
 -- so the tasks are those before, after an execve in place that starts
 pub tasks_stay : (k after : Kernel) (program : Program) (given : Given) (answer : Execved) (image : Image)
-    → answer ≡ answers.Starts image → ExecutesInPlace (outcome_in (parts k) (execve_of (slash k) program given)) k after answer
+    → answer ≡ answers.Starts image
+    → ExecutesInPlace (outcome_in (parts k) (execve_of (slash k) program given)) k after answer
     → after.tasks ≡ k.tasks
 tasks_stay k after program given answer image is does =
     let (changes, starts, left) =

@@ -43,11 +43,11 @@ use Rattle.kernel_calls.specs.declared.clone.Words.{Words}
 use Rattle.kernel_calls.specs.declared.prepared.Prepared.{Prepared}
 use Rattle.kernel_calls.specs.declared.prepared.Called.{Called as ACalled}
 use Rattle.kernel_calls.specs.declared.prepared.Called.TheVariants as called
-use Rattle.call_fs.specs.Called.{ComesTo, IsApartIn}
+use Rattle.call_fs.specs.CallEnd.{ComesTo, IsApartIn}
 use Rattle.call_fs.specs.Pipes.{MakesPipe as MakesAPipe}
 use Rattle.call_fs.specs.Transfers.{after_transfer}
-use Rattle.call_fs.specs.declared.called.Called.{Called}
-use Rattle.call_fs.specs.declared.called.Called.TheVariants.{Of, Moves, MakesPipe}
+use Rattle.call_fs.specs.declared.call_end.CallEnd.{CallEnd}
+use Rattle.call_fs.specs.declared.call_end.CallEnd.TheVariants.{Of, Moves, MakesPipe}
 use Rattle.call_fs.specs.declared.pipes.NewPipe.{NewPipe}
 use Rattle.call_fs.specs.declared.transfers.Transfer.{Transfer}
 use Rattle.plain_steps.specs.Doing.{Does}
@@ -65,7 +65,7 @@ kept_unnamed row (called.Makes child) c k space areas comes = ap (λ (a : Answer
 kept_unnamed row (called.Sleeps key) c k space areas comes = ap (λ (a : Answer). a.fresh) comes
 kept_unnamed row (called.Waits awaited) c k space areas comes = ap (λ (a : Answer). a.fresh) comes
 
-pub comes_unnamed : (row : Prog Answer) (d : Called) (c : Caller) (k : Kernel) (space : AddressSpace)
+pub comes_unnamed : (row : Prog Answer) (d : CallEnd) (c : Caller) (k : Kernel) (space : AddressSpace)
     (areas : NamedMap AreaState) → ComesTo row d c k space areas → (outcome_in (parts k) row).fresh ≡ []
 comes_unnamed row (Of d) c k space areas comes = kept_unnamed row d c k space areas comes
 comes_unnamed row (Moves reply transfer) c k space areas comes = ap (λ (a : Answer). a.fresh) comes.row_is
@@ -170,7 +170,7 @@ module _ (k : Kernel) (found c : Caller) (stay : c ≡ found) (number : ℕ) (ar
       (sym (given_answered (parts k) (context_of k) c number args told given order unfailed)) does)
 
 -- what a call does that met nothing
-module _ (k : Kernel) (c : Caller) (row : Prog Answer) (d : Called) (space : AddressSpace)
+module _ (k : Kernel) (c : Caller) (row : Prog Answer) (d : CallEnd) (space : AddressSpace)
     (areas : NamedMap AreaState) (comes : ComesTo row d c k space areas) (reply : ℤ) (given : Given) where
   -- one that drew a number and no more,
   pub call_that_draws : has_any given.fresh ≡ true
@@ -225,7 +225,7 @@ kept_alike row (called.Makes child) c own k space areas comes = record {
 kept_alike row (called.Sleeps key) c own k space areas comes = comes
 kept_alike row (called.Waits awaited) c own k space areas comes = comes
 
-comes_alike : (row : Prog Answer) (d : Called) (c : Caller) (own : AddressSpace) (k : Kernel) (space : AddressSpace)
+comes_alike : (row : Prog Answer) (d : CallEnd) (c : Caller) (own : AddressSpace) (k : Kernel) (space : AddressSpace)
     (areas : NamedMap AreaState) → (IsApartIn d → own ≡ c.space) → ComesTo row d c k space areas
     → ComesTo row d (record c { space = own }) k space areas
 comes_alike row (Of d) c own k space areas apart comes = kept_alike row d c own k space areas comes
@@ -235,7 +235,7 @@ comes_alike row (MakesPipe new) c own k space areas apart comes =
     subst (λ s. MakesAPipe row new (context_of k) (record c { space = s }) k) (sym (apart tt)) comes
 
 -- what a call does for its task as the call left it, it does for the task as it was before
-pub finished : (k left : Kernel) (row : Prog Answer) (d : Called) (c after : Caller) (areas : NamedMap AreaState)
+pub finished : (k left : Kernel) (row : Prog Answer) (d : CallEnd) (c after : Caller) (areas : NamedMap AreaState)
     (told : ℤ) (r : Result Bool Memory) → after ≡ record c { space = after.space }
     → (IsApartIn d → after.space ≡ c.space) → ComesTo row d c k after.space areas
     → ((row : Prog Answer) → ComesTo row d after k after.space areas
@@ -266,14 +266,14 @@ memory_there k found c stay there =
 -- ---- what is done of a call, by what has become of it
 
 -- each row that comes to it is done
-abbrev pub Finishes : (k left : Kernel) → Caller → NamedMap AreaState → (reply : ℤ) → Result Bool Memory → Called
+abbrev pub Finishes : (k left : Kernel) → Caller → NamedMap AreaState → (reply : ℤ) → Result Bool Memory → CallEnd
     → Type 0
 Finishes k left c areas reply r d =
     (row : Prog Answer) → ComesTo row d c k c.space areas
     → Does (replied_to c reply (Some []) (outcome_in (parts k) row)) k left r
 
 module _ (k left : Kernel) (c : Caller) (areas : NamedMap AreaState) (told reply : ℤ) (same : told ≡ reply)
-    (r : Result Bool Memory) (d : Called) where
+    (r : Result Bool Memory) (d : CallEnd) where
   -- what a row replies, its entry does
   replied_so : (row : Prog Answer) (value : ℤ) (changes : List Change)
       → outcome_in (parts k) row ≡ replies value changes → Does (replied_by c told changes (Replies value)) k left r

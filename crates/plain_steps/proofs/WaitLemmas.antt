@@ -24,9 +24,9 @@ use Rattle.kernel_model.proofs.Trees.{outcome-bind}
 use Rattle.kernel_calls.specs.Prepared.{Comes}
 use Rattle.kernel_calls.specs.declared.prepared.Called.{Called as ACalled}
 use Rattle.kernel_calls.specs.declared.prepared.Called.TheVariants as called
-use Rattle.call_fs.specs.Called.{ComesTo}
-use Rattle.call_fs.specs.declared.called.Called.{Called}
-use Rattle.call_fs.specs.declared.called.Called.TheVariants.{Of, Moves, MakesPipe}
+use Rattle.call_fs.specs.CallEnd.{ComesTo}
+use Rattle.call_fs.specs.declared.call_end.CallEnd.{CallEnd}
+use Rattle.call_fs.specs.declared.call_end.CallEnd.TheVariants.{Of, Moves, MakesPipe}
 use Rattle.plain_steps.specs.Doing.{Does, kept_key, key_slept_on}
 
 -- what an entry of a task that falls asleep changes, by the word that its call puts it to sleep on
@@ -41,7 +41,7 @@ kept_so row (called.Makes child) c k space areas comes = ap (λ (a : Answer). sl
 kept_so row (called.Sleeps key) c k space areas comes = ap (λ (a : Answer). slept_by a a.reply) comes
 kept_so row (called.Waits awaited) c k space areas comes = ap (λ (a : Answer). slept_by a a.reply) comes
 
-slept_so : (row : Prog Answer) (d : Called) (c : Caller) (k : Kernel) (space : AddressSpace)
+slept_so : (row : Prog Answer) (d : CallEnd) (c : Caller) (k : Kernel) (space : AddressSpace)
     (areas : NamedMap AreaState) → ComesTo row d c k space areas
     → slept_by (outcome_in (parts k) row) (outcome_in (parts k) row).reply ≡ slept_on (key_slept_on d) c k
 slept_so row (Of d) c k space areas comes = kept_so row d c k space areas comes
@@ -50,7 +50,7 @@ slept_so row (MakesPipe new) c k space areas comes = ap (λ (a : Answer). slept_
 
 module _ (c : Caller) (k : Kernel) where
   -- a task that stands at a call sleeps where the call puts it to sleep
-  pub sleeps_at : (number : ℕ) (args : Args) (d : Called) (space : AddressSpace) (areas : NamedMap AreaState)
+  pub sleeps_at : (number : ℕ) (args : Args) (d : CallEnd) (space : AddressSpace) (areas : NamedMap AreaState)
       → number ≡ call_of c.registers → args ≡ args_of c.registers
       → ComesTo (call_row (context_of k) c number args) d c k space areas
       → outcome_in (parts k) (sleep_at (context_of k) c Calls) ≡ slept_on (key_slept_on d) c k

@@ -11,8 +11,8 @@ use Rattle.kernel_model.specs.entries.Parts.{Change}
 use Rattle.kernel_model.specs.laws.InPlace.{changed_by}
 use Rattle.kernel_calls.specs.declared.prepared.Called.{Called as ACalled}
 use Rattle.kernel_calls.specs.declared.prepared.Called.TheVariants as called
-use Rattle.call_fs.specs.declared.called.Called.{Called}
-use Rattle.call_fs.specs.declared.called.Called.TheVariants.{Of, Moves, MakesPipe}
+use Rattle.call_fs.specs.declared.call_end.CallEnd.{CallEnd}
+use Rattle.call_fs.specs.declared.call_end.CallEnd.TheVariants.{Of, Moves, MakesPipe}
 
 -- a kernel does changes, and answers whether there are any to do; a refusal or want of memory leaves it as it was
 -- profile
@@ -41,7 +41,7 @@ kept_key (called.Waits awaited) = None
 
 -- the futex word that a call puts its task to sleep on, where it does so
 -- futex(2), FUTEX_WAIT
-abbrev pub key_slept_on : Called → Option FutexKey
+abbrev pub key_slept_on : CallEnd → Option FutexKey
 key_slept_on (Of d) = kept_key d
 key_slept_on (Moves reply transfer) = None
 key_slept_on (MakesPipe new) = None

@@ -18,14 +18,14 @@ ghost use Rattle.kernel_model.specs.entries.Given.{may_meet};
 ghost use Rattle.kernel_model.specs.entries.Parts.{Change, Prog, changed, outcome_in, parts};
 ghost use Rattle.kernel_model.specs.entries.Steps.{by_answer, call_entry, failing, replied_by, replied_to, same_args, stands_at};
 ghost use Rattle.kernel_model.specs.laws.Room.{IsRoomFor};
-ghost use Rattle.call_fs.specs.Called.{ComesTo, HasRoomIn, IfOf, IsApartIn};
+ghost use Rattle.call_fs.specs.CallEnd.{ComesTo, HasRoomIn, IfOf, IsApartIn};
 ghost use Rattle.plain_steps.specs.Doing.{Does, IsThere};
 ghost use Rattle.node_numbers.specs.Unused.{AreUnused};
 
 use crate::callers::{context, copied_areas};
 use crate::effects::{go_on, settle};
 use crate::moving::{move_bytes, open_pipe};
-use call_fs::{Called, call};
+use call_fs::{CallEnd, call};
 use guest_access::step;
 use kernel_calls::{Child, Prepared, args_of, call_of, make};
 use kernel_model::{Args, Caller, Given, GuestArea, Kernel, Named, Next};
@@ -169,7 +169,7 @@ pub(crate) fn prepare(
     areas: &mut Named<GuestArea>,
     no: u64,
     args: &Args,
-) -> Result<Called, Memory>
+) -> Result<CallEnd, Memory>
     requires few { kernel.now.entries < MOST_ENTRIES }
     requires there { IsThere caller.old kernel.now }
     requires space { get_named kernel.now.spaces caller.old.memory.place caller.old.memory.index
@@ -209,7 +209,7 @@ fn finish(
     caller: &mut Caller,
     areas: &mut Named<GuestArea>,
     reply: i64,
-    called: Called,
+    called: CallEnd,
 ) -> Result<bool, Memory>
     requires few { kernel.old.entries < MOST_ENTRIES }
     requires there { IsThere caller.old kernel.old }
@@ -224,7 +224,7 @@ fn finish(
         kernel.old kernel.new result }
 {
     match called {
-        Called::Of(kept) => match kept {
+        CallEnd::Of(kept) => match kept {
             kernel_calls::Called::Replies(prepared) => {
                 Ok(answer(kernel, caller, areas, reply, prepared))
             }
@@ -232,11 +232,11 @@ fn finish(
             kernel_calls::Called::Sleeps(_) => Ok(false),
             kernel_calls::Called::Waits(_) => Ok(false),
         },
-        Called::Moves {
+        CallEnd::Moves {
             reply: value,
             transfer,
         } => move_bytes(alloc, kernel, caller, areas, reply, value, transfer),
-        Called::MakesPipe(pipe) => open_pipe(alloc, kernel, caller, areas, reply, pipe),
+        CallEnd::MakesPipe(pipe) => open_pipe(alloc, kernel, caller, areas, reply, pipe),
     }
 }
 

@@ -13,7 +13,7 @@ ghost use Rattle.plain_steps.specs.Doing.{Does, IsThere, key_slept_on};
 use crate::callers::copied_areas;
 use crate::calls::{is_call, prepare};
 use crate::effects::go_on;
-use call_fs::Called;
+use call_fs::CallEnd;
 use futex_core::FutexKey;
 use guest_access::step;
 use kernel_calls::{args_of, call_of, sleep};
@@ -99,16 +99,16 @@ fn sleep_in(
 }
 
 /// The futex word on which a call puts its task to sleep, where it does so.
-fn key_slept_on(called: &Called) -> Option<FutexKey>
+fn key_slept_on(called: &CallEnd) -> Option<FutexKey>
     ensures { result ≡ key_slept_on called.now }
 {
     match called {
-        Called::Of(kernel_calls::Called::Sleeps(key)) => Some(*key),
-        Called::Of(kernel_calls::Called::Replies(_)) => None,
-        Called::Of(kernel_calls::Called::Makes(_)) => None,
-        Called::Of(kernel_calls::Called::Waits(_)) => None,
-        Called::Moves { .. } => None,
-        Called::MakesPipe(_) => None,
+        CallEnd::Of(kernel_calls::Called::Sleeps(key)) => Some(*key),
+        CallEnd::Of(kernel_calls::Called::Replies(_)) => None,
+        CallEnd::Of(kernel_calls::Called::Makes(_)) => None,
+        CallEnd::Of(kernel_calls::Called::Waits(_)) => None,
+        CallEnd::Moves { .. } => None,
+        CallEnd::MakesPipe(_) => None,
     }
 }
 

@@ -91,7 +91,8 @@ halted k old new before after step is did apart =
     still k old new before after is same.0 same.1
 
 -- a run that something stops ends rightly
-pub ran_stopped : (stop : Stop) (n m count : ℕ) (start between end : GoingTask) → n + m ≡ count → ran n start ≡ Some between
+pub ran_stopped : (stop : Stop) (n m count : ℕ) (start between end : GoingTask) → n + m ≡ count
+    → ran n start ≡ Some between
     → ran m between ≡ Some end
     → Ran start end (end_of count stop)
 ran_stopped stops.Call n m count start between end is first then_ = ran_then n m count start between end is first then_

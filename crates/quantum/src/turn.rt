@@ -20,14 +20,14 @@ pub(crate) enum Stop {
 
 /// How many instructions were done in a turn, and what stopped it.
 #[derive(Clone, Copy)]
-pub(crate) struct Turn {
+pub(crate) struct Stretch {
     pub(crate) count: u32,
     pub(crate) stop: Option<Stop>,
 }
 
 impl Acting {
     /// Does some instructions, at most so many, and one at least where nothing stops it.
-    pub(crate) fn turn(&mut self, regs: &mut Regs, most: u32) -> Turn
+    pub(crate) fn turn(&mut self, regs: &mut Regs, most: u32) -> Stretch
         requires { 0 < most }
         ensures ran { ran result.count (record { acting = acting_of self.old; registers = regs.old })
             ≡ Some (record { acting = acting_of self.new; registers = regs.new }) }
@@ -37,11 +37,11 @@ impl Acting {
         let run = self.run_near(regs, most);
         let count = run.count;
         match run.flow {
-            Flow::Call => Turn {
+            Flow::Call => Stretch {
                 count,
                 stop: Some(Stop::Call),
             },
-            Flow::Trap(signal) => Turn {
+            Flow::Trap(signal) => Stretch {
                 count,
                 stop: Some(Stop::Trap(signal)),
             },
@@ -49,7 +49,7 @@ impl Acting {
                 if count == 0 {
                     self.step_after(regs, 0)
                 } else {
-                    Turn { count, stop: None }
+                    Stretch { count, stop: None }
                 }
             }
             Flow::Jump => unreachable!(),
@@ -81,7 +81,7 @@ impl Acting {
     }
 
     /// Does the next instruction exactly, behind so many others.
-    fn step_after(&mut self, regs: &mut Regs, count: u32) -> Turn
+    fn step_after(&mut self, regs: &mut Regs, count: u32) -> Stretch
         requires { count < 4294967295 }
         ensures ran { ran (result.count - count) (record { acting = acting_of self.old; registers = regs.old })
             ≡ Some (record { acting = acting_of self.new; registers = regs.new }) }
@@ -90,23 +90,23 @@ impl Acting {
             result.count (count + 1) result.stop }
     {
         match step(regs, self) {
-            Step::Next => Turn {
+            Step::Next => Stretch {
                 count: count + 1,
                 stop: None,
             },
-            Step::Call => Turn {
+            Step::Call => Stretch {
                 count,
                 stop: Some(Stop::Call),
             },
-            Step::Trap(signal) => Turn {
+            Step::Trap(signal) => Stretch {
                 count,
                 stop: Some(Stop::Trap(signal)),
             },
-            Step::Shared(area) => Turn {
+            Step::Shared(area) => Stretch {
                 count,
                 stop: Some(Stop::Shared(area)),
             },
-            Step::Memory => Turn {
+            Step::Memory => Stretch {
                 count,
                 stop: Some(Stop::Memory),
             },

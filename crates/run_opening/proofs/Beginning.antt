@@ -62,7 +62,8 @@ lent_each : (n : ℕ) (t : Shape) (names : List (List ℕ)) (rises : List Rise)
 lent_each n t [] rises = refl
 lent_each n t (name ∷ names) rises = ap suc (lent_each (n + 1) t names rises)
 
-length_standing : (num : Numbering) (t : Shape) (names : List (List ℕ)) (root : Option Shape) (children : List LentChild)
+length_standing : (num : Numbering) (t : Shape) (names : List (List ℕ)) (root : Option Shape)
+    (children : List LentChild)
     → StandsLent num t names [] root children → length children ≡ length names
 length_standing num t names root children s = ap length s.children_tell ∙ lent_each num.first t names []
 
@@ -217,7 +218,8 @@ module _ (m : Mounts) (others : Others) (is : AreOthers m.mounts others) (t : Sh
         (IsOpeningRefused m i tasks tasks' task errno (trees_told others root' children'))
     task_refused task same =
         subst (λ (x : Option Kernel). IfSome x
-        (IsOpeningRefused m i tasks tasks' task errno (trees_told others root' children'))) (sym tells_k) (refused task same)
+        (IsOpeningRefused m i tasks tasks' task errno (trees_told others root' children'))) (sym tells_k)
+        (refused task same)
 
 -- the folder stands, whatever an execve answers,
 pub standing : (num : Numbering) (long : Bool) (t : Shape) (names : List (List ℕ)) (name : List ℕ) (given : Given)

@@ -33,7 +33,8 @@ GoesOn m from upto tasks tasks' before after =
 -- from a kernel the opening of the tasks from an index on came to an execve that failed, and the kernel that it leaves
 -- has the trees that are told then
 -- execve(2), ERRORS
-pub record IsOpeningRefused (m : Mounts) (from : ℕ) (tasks tasks' : List Opened) (task : ℕ) (errno : Errno) (f : TreesTold)
+pub record IsOpeningRefused (m : Mounts) (from : ℕ) (tasks tasks' : List Opened) (task : ℕ) (errno : Errno)
+    (f : TreesTold)
     (k : Kernel) : Type 0 where
   pub opened : List Opened
   pub added : tasks' ≡ tasks ++ opened

@@ -70,7 +70,8 @@ settled_there names world new between told after b t s =
 
 -- ---- what a root gives back of which nothing is lent
 
-gives_first : (t : Shape) (root : Option Shape) (children : List LentChild) (after : Shape) → root ≡ Some t → children ≡ []
+gives_first : (t : Shape) (root : Option Shape) (children : List LentChild) (after : Shape) → root ≡ Some t
+    → children ≡ []
     → GivesBack root children (Some after) → after ≡ t
 gives_first t root children after r c gives =
     same_Some after t

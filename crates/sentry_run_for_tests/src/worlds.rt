@@ -10,7 +10,7 @@ use sn_base::{List, Memory};
 use sn_text::{Folder, Route, Text, name_of};
 use sn_vectors::images::HELLO;
 use sn_vectors::programs::WRITES_NOTHING;
-use sn_vectors::{Program, image_of};
+use sn_vectors::{SampleProgram, image_of};
 use std::alloc::Global;
 use std::test::Fail;
 
@@ -41,7 +41,7 @@ pub enum Host {
     /// The same where its eight instructions are the last of their page.
     AtTheEnd(&'static [u32]),
     /// That guest.
-    Runs(Program),
+    Runs(SampleProgram),
     /// The guest of these words, and beside it `next`, the guest of those.
     Pair(&'static [u32], &'static [u32]),
     /// The guest that writes nothing, with other bytes at places of its headers.

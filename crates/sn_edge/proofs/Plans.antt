@@ -3,7 +3,7 @@ use Rattle.std.proofs.Common.{◌≡◌, ℕ, ◌+◌, ◌≤◌, List, [], ◌�
 use Rattle.std.specs.List.{list_any, list_all}
 use Rattle.std.proofs.lemmas.Bool.{and_parts, and_from, or_from, ltb-true, lt-ltb, ne_eqb}
 use Rattle.sn_base.specs.Sums.{capped}
-use Rattle.sn_edge.specs.declared.plan.Plan.{Plan}
+use Rattle.sn_edge.specs.declared.plan.EdgePlan.{EdgePlan}
 use Rattle.sn_edge.specs.Plan.{next_call, fails_next, fails_no_more}
 
 -- what is below m is below n
@@ -23,11 +23,11 @@ all_below-absent (call ∷ calls) n h =
     or_from _ _ (ne_eqb call n (λ e. omega (arith, ltb-true call n parts.0, e))) (all_below-absent calls n parts.1)
 
 -- where no call fails from here on, the next one doesn't
-pub fails_next-fails_no_more : (plan : Plan) → fails_no_more plan ≡ true → fails_next plan ≡ false
+pub fails_next-fails_no_more : (plan : EdgePlan) → fails_no_more plan ≡ true → fails_next plan ≡ false
 fails_next-fails_no_more plan h = all_below-absent plan.failing (next_call plan) h
 
 -- and after it none does
-pub fails_no_more-step : (plan : Plan) (faults : ℕ) → fails_no_more plan ≡ true
+pub fails_no_more-step : (plan : EdgePlan) (faults : ℕ) → fails_no_more plan ≡ true
     → fails_no_more (record plan { calls = next_call plan; faults = faults }) ≡ true
 fails_no_more-step plan faults h =
     all_below-more plan.failing (next_call plan) (capped (next_call plan + 1)) (omega arith) h

@@ -6,7 +6,7 @@ ghost use Rattle.sn_edge.specs.Errors.{has_failed};
 ghost use Rattle.sn_edge.specs.Taken.{with_taken};
 ghost use Rattle.sn_edge.specs.Plan.{no_plan, fails_next, fails_no_more, with_failing, plan_after};
 
-use crate::plan::Plan;
+use crate::plan::EdgePlan;
 use crate::{EdgeErr, Sink};
 use sn_base::{List, Memory};
 use std::alloc::Global;
@@ -16,7 +16,7 @@ use std::marker::Model;
 #[derive(Drop)]
 pub struct MemSink {
     taken: List<u8>,
-    plan: Plan,
+    plan: EdgePlan,
 }
 
 impl Model for MemSink {
@@ -35,7 +35,7 @@ impl MemSink {
     {
         MemSink {
             taken: List::new(alloc),
-            plan: Plan::new(alloc),
+            plan: EdgePlan::new(alloc),
         }
     }
 

@@ -10,7 +10,7 @@ ghost use Rattle.sn_edge.specs.InMemory.{empty_shelf, with_file_added};
 ghost use Rattle.sn_edge.specs.FilePlace.{content_of};
 
 use crate::named_file::NamedFile;
-use crate::plan::Plan;
+use crate::plan::EdgePlan;
 use crate::tally::Tally;
 use crate::{EdgeErr, Source};
 use sn_base::{List, Memory};
@@ -23,7 +23,7 @@ pub struct MemSource {
     files: List<NamedFile>,
     opened: Option<usize>,
     done: usize,
-    plan: Plan,
+    plan: EdgePlan,
     reads: Tally,
     taken: Tally,
 }
@@ -60,7 +60,7 @@ impl MemSource {
             files: List::new(alloc),
             opened: None,
             done: 0,
-            plan: Plan::new(alloc),
+            plan: EdgePlan::new(alloc),
             reads: Tally::new(),
             taken: Tally::new(),
         }

@@ -12,19 +12,19 @@ use std::alloc::Global;
 /// Which calls of an object in memory are to fail, and how many calls and faults there were. Calls count
 /// from 1, and both counts stay at `u64::MAX`.
 #[derive(Drop)]
-pub(crate) struct Plan {
+pub(crate) struct EdgePlan {
     calls: u64,
     failing: List<u64>,
     faults: u64,
 }
 
-impl Plan {
+impl EdgePlan {
     ghost use Rattle.sn_edge.specs.Plan.{no_plan, fails_next, fails_no_more, with_failing, plan_after};
 
     pub(crate) fn new(alloc: Global) -> Self
         ensures { result ≡ no_plan }
     {
-        Plan {
+        EdgePlan {
             calls: 0,
             failing: List::new(alloc),
             faults: 0,

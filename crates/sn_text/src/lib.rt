@@ -3,7 +3,7 @@
 //! A `Name` is one path component, a `Route` a list of names, a `Folder` a route from the root or from
 //! the place where one stands, and a `Text` any bytes. Contracts see them as plain lists of numbers:
 //! a name and a text as their bytes, a route as the list of its names, and a folder as a record of
-//! whether it is rooted and of its names. `Parts` goes over the parts of a path, in order.
+//! whether it is rooted and of its names. `PartsOfPath` goes over the parts of a path, in order.
 //!
 //! Proved: a `Name` is always a name (`is_name`), and so is each of a `Route` (`are_names`); `name_of` and
 //! `name_fault` refuse exactly what is none, with the first fault in the order Empty, Long, Slash, Nul, Dot
@@ -31,6 +31,6 @@ pub use fault::{NAME_MAX, NameFault, name_fault};
 pub use folder::Folder;
 pub use name::{Name, is_same_name, name_of, same_names};
 pub use path::parts;
-pub use pieces::Parts;
+pub use pieces::PartsOfPath;
 pub use route::Route;
 pub use text::Text;

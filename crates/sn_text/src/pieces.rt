@@ -8,11 +8,11 @@ use std::marker::Model;
 
 /// The parts of a path that are left, in order. Contracts see it as the list of those parts.
 #[derive(Debug, Drop)]
-pub struct Parts<'a> {
+pub struct PartsOfPath<'a> {
     path: &'a [u8],
 }
 
-impl<'a> Model for Parts<'a> {
+impl<'a> Model for PartsOfPath<'a> {
     ghost use Rattle.std.specs.Prelude.{ℕ, List};
 
     ghost Value = { List (List ℕ) };
@@ -22,13 +22,13 @@ impl<'a> Model for Parts<'a> {
     ghost view = { λ a. parts_of a.path.now };
 }
 
-impl<'a> Parts<'a> {
+impl<'a> PartsOfPath<'a> {
     #[tactic(auto, using(crate::proofs::PathParts::parts_within))]
     pub(crate) fn new(path: &'a [u8]) -> Self
         ensures parts { result ≡ parts_of path.now }
         ensures fits { length result < 2 ^ 64 }
     {
-        Parts { path }
+        PartsOfPath { path }
     }
 }
 
@@ -58,7 +58,7 @@ fn split_part(path: &[u8]) -> Option<(&[u8], &[u8])>
     Some(begun.split_at(end))
 }
 
-impl<'a> Iterator for Parts<'a> {
+impl<'a> Iterator for PartsOfPath<'a> {
     type Item = &'a [u8];
 
     ghost next_gives = { YieldsFirstBy (λ part. part.now) (λ rest. rest) };

@@ -27,4 +27,4 @@ mod tests;
 pub mod words;
 
 pub use image::image_of;
-pub use programs::Program;
+pub use programs::SampleProgram;

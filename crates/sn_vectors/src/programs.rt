@@ -5,14 +5,14 @@ use crate::words::{ECALL, LI_A0_0, LI_A0_1, LI_A1_0, LI_A2_0, LI_A7_EXIT_GROUP, 
 /// A program that runs to its end: its words, from its entry on; the bytes that it writes to descriptor 1; and the
 /// status that it exits with. It needs no memory but its stack.
 #[derive(Clone, Copy)]
-pub struct Program {
+pub struct SampleProgram {
     pub words: &'static [u32],
     pub writes: &'static [u8],
     pub status: u8,
 }
 
 /// Writes no bytes to descriptor 1, and exits with 0.
-pub const WRITES_NOTHING: Program = Program {
+pub const WRITES_NOTHING: SampleProgram = SampleProgram {
     words: &[
         LI_A0_1,
         LI_A1_0,
@@ -31,7 +31,7 @@ pub const WRITES_NOTHING: Program = Program {
 /// the last of them. Each register but that of the newline has its letter in all its bytes, so that a store that is too
 /// wide is seen. It writes the eight bytes to descriptor 1.
 #[rattlefmt::skip]
-pub const STORES: Program = Program {
+pub const STORES: SampleProgram = SampleProgram {
     words: &[
         0xff01_0113, // addi sp, sp, -16
         0x0101_02b7, // lui t0, 0x1010
@@ -69,7 +69,7 @@ pub const STORES: Program = Program {
 /// 30 by an AMO. It exits with the sum of what the AMO loaded, 7, what memory then holds, 37, and 1 for the SC that
 /// failed.
 #[rattlefmt::skip]
-pub const ATOMICS: Program = Program {
+pub const ATOMICS: SampleProgram = SampleProgram {
     words: &[
         0xff01_0113, // addi sp, sp, -16
         0x0050_0293, // li t0, 5

@@ -334,7 +334,8 @@ kept_new t c groups kept small few group_numbers stay there lives = record {
     longer false = omega (arith, length-append {A = ℕ} (live_numbers t.tasks) [])
 
 -- a task in a new group
-pub sound_with_group : (t : TaskTable) (live children : List ℕ) (group : Group) (clear : ℕ) → IsSoundTable t live children
+pub sound_with_group : (t : TaskTable) (live children : List ℕ) (group : Group) (clear : ℕ)
+    → IsSoundTable t live children
     → t.last < LAST_TASK → group.ended ≡ None → length live < 256
     → IsSoundTable (with_group t group clear) (live ++ (t.last + 1) ∷ [])
     (cond (has_parent group) (children ++ (t.last + 1) ∷ []) children)
@@ -382,7 +383,8 @@ sound_threaded t live children task clear sound lives small few = record {
 }
 
 -- the next number is that of no group
-pub next_absent : (t : TaskTable) (live children : List ℕ) → IsSoundTable t live children → get t.groups (t.last + 1) ≡ None
+pub next_absent : (t : TaskTable) (live children : List ℕ) → IsSoundTable t live children
+    → get t.groups (t.last + 1) ≡ None
 next_absent t live children sound = at (get t.groups (t.last + 1)) refl
   where
     at : (o : Option Group) → get t.groups (t.last + 1) ≡ o → o ≡ None

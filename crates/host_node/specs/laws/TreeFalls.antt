@@ -2,15 +2,15 @@
 use Rattle.std.specs.Prelude.{◌≤◌, List, [], ◌∷◌, max}
 use Rattle.std.proofs.Common.{arith}
 use denote.Param.Weighed.{most}
-use Rattle.host_node.specs.declared.tree.Entry.{Entry}
+use Rattle.host_node.specs.declared.tree.TreeEntry.{TreeEntry}
 use Rattle.host_node.specs.declared.tree.Node.{Node}
 use Rattle.host_node.specs.declared.tree.Node.TheVariants.{Directory, File, Link, Lent}
-use Rattle.host_node.specs.declared.tree.Tree.TheDeep.{deep-Node, deep-Entry}
+use Rattle.host_node.specs.declared.tree.Tree.TheDeep.{deep-Node, deep-TreeEntry}
 use Rattle.host_node.specs.Levels.{shape_of, children_from}
 use Rattle.host_node.specs.laws.TreeSize.{weight, weight_of_entries}
 
 -- no entry is deeper than all of them together
-pub most_le-weight : (es : List Entry) → most deep-Entry es ≤ weight_of_entries (children_from es)
+pub most_le-weight : (es : List TreeEntry) → most deep-TreeEntry es ≤ weight_of_entries (children_from es)
 most_le-weight [] = omega arith
 most_le-weight (e ∷ es) = omega (arith, most_le-weight es)
 

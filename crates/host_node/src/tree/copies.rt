@@ -3,7 +3,7 @@
 ghost use Rattle.std.specs.Prelude.{◌≡◌, ◌<◌, length, IfOk, OnErr};
 ghost use Rattle.host_node.specs.Tree.{HoldsSome};
 
-use super::{Entry, Node, Tree};
+use super::{Node, Tree, TreeEntry};
 use sn_base::{List, Memory};
 use std::alloc::Global;
 
@@ -46,7 +46,7 @@ impl Tree {
 
 /// The same entries, in memory of their own.
 #[cycle(copies)]
-fn copy_entries(alloc: Global, entries: &[Entry]) -> Result<Vec<Entry>, Memory>
+fn copy_entries(alloc: Global, entries: &[TreeEntry]) -> Result<Vec<TreeEntry>, Memory>
     ensures ok { IfOk result (λ copies. copies.items ≡ entries.now) }
     ensures some { OnErr result (0 < length entries.now) }
 {
@@ -54,7 +54,7 @@ fn copy_entries(alloc: Global, entries: &[Entry]) -> Result<Vec<Entry>, Memory>
     for entry in entries {
         let name = entry.name.copy(alloc)?;
         let tree = entry.tree.copy(alloc)?;
-        copies.push(Entry { name, tree })?;
+        copies.push(TreeEntry { name, tree })?;
     }
     Ok(copies)
 }

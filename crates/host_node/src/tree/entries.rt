@@ -6,13 +6,13 @@ ghost use Rattle.host_node.specs.Tree.{find_child, replace_child, insert_child, 
 ghost use Rattle.host_node.specs.Order.{IsAscending};
 ghost use Rattle.host_node.specs.Levels.{has_name, comes_before, children_from, entry_names};
 
-use super::{Entry, Tree};
+use super::{Tree, TreeEntry};
 use sn_base::Memory;
 use sn_text::Name;
 use std::mem;
 
 /// The index of the entry whose name has these bytes.
-fn index_of(entries: &[Entry], name: &[u8]) -> Option<usize>
+fn index_of(entries: &[TreeEntry], name: &[u8]) -> Option<usize>
     ensures { result ≡ position (has_name name.now) entries.now }
 {
     entries
@@ -21,7 +21,7 @@ fn index_of(entries: &[Entry], name: &[u8]) -> Option<usize>
 }
 
 /// The index of the first entry whose name is greater than a name.
-fn index_after(entries: &[Entry], name: &Name) -> Option<usize>
+fn index_after(entries: &[TreeEntry], name: &Name) -> Option<usize>
     ensures { result ≡ position (comes_before name.now) entries.now }
 {
     entries
@@ -31,7 +31,7 @@ fn index_after(entries: &[Entry], name: &Name) -> Option<usize>
 
 /// The index at which a name goes in: that of the first entry whose name is greater, or the end.
 #[tactic(auto, using(crate::proofs::Places::position_or_end, crate::proofs::Places::place_within))]
-fn place_of(entries: &[Entry], name: &Name) -> usize
+fn place_of(entries: &[TreeEntry], name: &Name) -> usize
     ensures place { result ≡ position_or_len (comes_before name.now) entries.now }
     ensures within { result ≤ length entries.now }
 {
@@ -39,7 +39,7 @@ fn place_of(entries: &[Entry], name: &Name) -> usize
 }
 
 /// What stands under the name with these bytes.
-pub(super) fn find_in<'a>(entries: &'a [Entry], name: &[u8]) -> Option<&'a Tree>
+pub(super) fn find_in<'a>(entries: &'a [TreeEntry], name: &[u8]) -> Option<&'a Tree>
     ensures { option_copied result ≡ find_child name.now (children_from entries.now) }
 {
     let index = index_of(entries, name)?;
@@ -47,7 +47,7 @@ pub(super) fn find_in<'a>(entries: &'a [Entry], name: &[u8]) -> Option<&'a Tree>
 }
 
 /// Puts a tree under a name that is free. An `Err` leaves the entries as they were.
-pub(super) fn insert_in(entries: &mut Vec<Entry>, name: Name, tree: Tree) -> Result<(), Memory>
+pub(super) fn insert_in(entries: &mut Vec<TreeEntry>, name: Name, tree: Tree) -> Result<(), Memory>
     requires ascending { IsAscending (entry_names entries.old.items) }
     requires free { find_child name (children_from entries.old.items) ≡ None }
     ensures ok { OnOk result
@@ -56,12 +56,12 @@ pub(super) fn insert_in(entries: &mut Vec<Entry>, name: Name, tree: Tree) -> Res
     ensures err { OnErr result (entries.new.items ≡ entries.old.items) }
 {
     let index = place_of(entries, &name);
-    entries.insert(index, Entry { name, tree })?;
+    entries.insert(index, TreeEntry { name, tree })?;
     Ok(())
 }
 
 /// Takes out what stands under the name with these bytes, and leaves the place of a lent node there.
-pub(super) fn take_in(entries: &mut [Entry], name: &[u8]) -> Option<Tree>
+pub(super) fn take_in(entries: &mut [TreeEntry], name: &[u8]) -> Option<Tree>
     ensures tree { result ≡ find_child name.now (children_from entries.old) }
     ensures after { children_from entries.new ≡ lend_in name.now (children_from entries.old) }
     ensures names { entry_names entries.new ≡ entry_names entries.old }
@@ -73,7 +73,7 @@ pub(super) fn take_in(entries: &mut [Entry], name: &[u8]) -> Option<Tree>
 }
 
 /// Puts a tree in the place of what stands under the name with these bytes.
-pub(super) fn give_in(entries: &mut [Entry], name: &[u8], tree: Tree)
+pub(super) fn give_in(entries: &mut [TreeEntry], name: &[u8], tree: Tree)
     ensures after { children_from entries.new ≡ replace_child name.now tree (children_from entries.old) }
     ensures names { entry_names entries.new ≡ entry_names entries.old }
 {

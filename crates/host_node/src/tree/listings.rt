@@ -5,7 +5,7 @@ ghost use Rattle.host_node.specs.Tree.{no_children, children_of, listed_from, li
 ghost use Rattle.host_node.specs.Order.{IsAscending, names_of};
 ghost use Rattle.host_node.specs.Levels.{children_from, entry_names};
 
-use super::{Entry, Node, Tree};
+use super::{Node, Tree, TreeEntry};
 use crate::listing::{Listed, Listing};
 use sn_base::Memory;
 use std::alloc::Global;
@@ -31,7 +31,7 @@ impl Tree {
 }
 
 /// The names and kinds of entries, in order.
-fn list_entries(alloc: Global, entries: &[Entry]) -> Result<Listing, Memory>
+fn list_entries(alloc: Global, entries: &[TreeEntry]) -> Result<Listing, Memory>
     ensures value { IfOk result (λ listing. listing ≡ listed_from (children_from entries.now)) }
     ensures some { OnErr result (0 < length entries.now) }
     ensures names { IfOk result (λ listing. names_of listing ≡ entry_names entries.now) }

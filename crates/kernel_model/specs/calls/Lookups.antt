@@ -8,7 +8,7 @@ use Rattle.fd_table.specs.Tables.{Table}
 use Rattle.fd_table.specs.declared.table.TheConstants.{OPEN_MAX}
 use Rattle.fd_table.specs.declared.description.Description.{Description}
 use Rattle.fd_table.specs.declared.descriptor.Descriptor.{Descriptor}
-use Rattle.fd_table.specs.declared.flags.Access.{Access}
+use Rattle.fd_table.specs.declared.flags.AccessMode.{AccessMode}
 use Rattle.sn_base.specs.declared.made.Made.{Made}
 use Rattle.kernel_model.specs.declared.caller.Caller.{Caller}
 use Rattle.kernel_model.specs.declared.kernel.Part.TheVariants.{OfTable, OfDescription}
@@ -47,8 +47,8 @@ with_file name row = look (OfDescription name) (or_refuse EBADF row)
 
 -- an open file whose access lets the caller do so
 -- read(2), EBADF: not open for reading; write(2), EBADF: not open for writing
-abbrev pub if_may : (Access → Bool) → (Description → Prog Answer) → OpenFile → Prog Answer
+abbrev pub if_may : (AccessMode → Bool) → (Description → Prog Answer) → OpenFile → Prog Answer
 if_may may row file = if may file.description.access then row file.description else done (refuses EBADF)
 
-abbrev pub opened_for : (Access → Bool) → Caller → (fd : ℕ) → (Description → Prog Answer) → Prog Answer
+abbrev pub opened_for : (AccessMode → Bool) → Caller → (fd : ℕ) → (Description → Prog Answer) → Prog Answer
 opened_for may c fd row = with_descriptor c fd (λ table d. with_file d.description (if_may may row))

@@ -9,7 +9,7 @@ use Rattle.fd_table.specs.Flags.{has_flag}
 use Rattle.fd_table.specs.Tables.{Table}
 use Rattle.fd_table.specs.declared.description.Object.TheVariants.{PipeEnd}
 use Rattle.fd_table.specs.declared.description.PipeSide.TheVariants as side
-use Rattle.fd_table.specs.declared.flags.Access.TheVariants.{Read, Write}
+use Rattle.fd_table.specs.declared.flags.AccessMode.TheVariants.{Read, Write}
 use Rattle.fd_table.specs.declared.flags.TheConstants.{O_CLOEXEC, O_NONBLOCK}
 use Rattle.pipe_core.specs.Pipes.{new_pipe}
 use Rattle.sn_base.specs.declared.made.Made.{Made}

@@ -3,7 +3,7 @@ use Rattle.std.specs.Prelude.{Bool, false}
 use Rattle.std.specs.FinMap as map
 use Rattle.fd_table.specs.declared.description.Object.{Object}
 use Rattle.fd_table.specs.declared.descriptor.Descriptor.{Descriptor}
-use Rattle.fd_table.specs.declared.flags.Access.{Access}
+use Rattle.fd_table.specs.declared.flags.AccessMode.{AccessMode}
 use Rattle.sn_base.specs.declared.made.Made.{Made}
 use Rattle.kernel_model.specs.declared.open_files.OpenFile.{OpenFile}
 use Rattle.kernel_model.specs.declared.open_files.OpenFiles.{OpenFiles}
@@ -15,7 +15,7 @@ nothing_open = record { tables = map.empty; descriptions = map.empty; pipes = ma
 
 -- an open file description with one descriptor, at its beginning
 -- open(2), DESCRIPTION: the file offset is set to the beginning
-abbrev pub new_file : Object → Access → (nonblock : Bool) → OpenFile
+abbrev pub new_file : Object → AccessMode → (nonblock : Bool) → OpenFile
 new_file object access nonblock = record {
   description = record { object = object; access = access; append = false; nonblock = nonblock; position = 0 };
   descriptors = 1;

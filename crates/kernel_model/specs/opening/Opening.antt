@@ -6,7 +6,7 @@ use Rattle.std.specs.Str.{bytes_eq}
 use Rattle.std.specs.FinMap as map
 use Rattle.fd_table.specs.Tables.{Table}
 use Rattle.fd_table.specs.declared.description.Object.TheVariants.{Console, EmptyInput}
-use Rattle.fd_table.specs.declared.flags.Access.TheVariants.{Read, Write}
+use Rattle.fd_table.specs.declared.flags.AccessMode.TheVariants.{Read, Write}
 use Rattle.host_node.specs.Tree.{Shape, directory, file, link, lent}
 use Rattle.sn_errno.specs.declared.errno.Errno.{Errno}
 use Rattle.sn_errno.specs.declared.errno.Errno.TheVariants.{EIO, ENOENT, E2BIG, EACCES, ENOEXEC, ENOMEM, ENFILE, ELOOP}

@@ -8,7 +8,7 @@ use Rattle.kernel_model.specs.entries.Parts.{Prog, parts}
 use Rattle.kernel_calls.specs.Prepared.{WaitsWith}
 use Rattle.kernel_calls.proofs.Answering.{answers_kept, has_space}
 use Rattle.call_fs.specs.Asked.{read_row_by, write_row_by}
-use Rattle.call_fs.specs.Called.{ComesTo}
+use Rattle.call_fs.specs.CallEnd.{ComesTo}
 use Rattle.call_fs.proofs.Calling.{called_read, called_write, moving, never_waits, waits_alike}
 use Rattle.call_fs.proofs.calls.call.Goals as goal
 

@@ -6,7 +6,7 @@ use Rattle.sn_base.specs.declared.made.Made.{Made}
 use Rattle.kernel_model.specs.declared.open_files.OpenFiles.{OpenFiles}
 use Rattle.kernel_model.specs.calls.Lookups.{descriptor}
 use Rattle.call_fs.specs.Asked.{read_row_by}
-use Rattle.call_fs.specs.Called.{IsApartBy}
+use Rattle.call_fs.specs.CallEnd.{IsApartBy}
 use Rattle.call_fs.specs.Lookups.{end_in}
 use Rattle.call_fs.specs.Transfers.{AnswersTransfer, IsSure, Moves}
 use Rattle.call_fs.proofs.PipeWaits.{reading_waits}

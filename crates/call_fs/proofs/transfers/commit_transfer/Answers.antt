@@ -1,6 +1,6 @@
 -- What is done to what is open, or to the console.
 use Rattle.std.proofs.Common.{subst, sym}
-use Rattle.call_fs.specs.Called.{MayLack}
+use Rattle.call_fs.specs.CallEnd.{MayLack}
 use Rattle.call_fs.proofs.Transferring.{console_done, files_done, on_err, on_ok}
 use Rattle.call_fs.proofs.transfers.commit_transfer.Goals as goal
 

@@ -19,8 +19,8 @@ use Rattle.kernel_model.proofs.NamedMaps.{get-with_same}
 use Rattle.kernel_calls.specs.Making.{with_new_child}
 use Rattle.kernel_calls.specs.Prepared.{with_effect}
 use Rattle.kernel_calls.specs.declared.prepared.Called.TheVariants.{Replies, Makes, Sleeps, Waits}
-use Rattle.call_fs.specs.Called.{IsApartIn}
-use Rattle.call_fs.specs.declared.called.Called.TheVariants.{Of, Moves, MakesPipe}
+use Rattle.call_fs.specs.CallEnd.{IsApartIn}
+use Rattle.call_fs.specs.declared.call_end.CallEnd.TheVariants.{Of, Moves, MakesPipe}
 use Rattle.proc_cells.specs.Beside.{Beside, HeldParts, kernel_with, nothing_beside}
 use Rattle.proc_cells.specs.Cells.{held_by, kernel_of, caller_with}
 use Rattle.proc_cells.proofs.Homes.{home_reached}

@@ -7,7 +7,7 @@ use Rattle.mm_space.specs.Spaces.{AddressSpace}
 use Rattle.sn_base.specs.declared.made.Made.{Made}
 use Rattle.kernel_model.specs.Names.{NamedMap, with_named}
 use Rattle.kernel_model.specs.declared.entry.Entry.TheVariants.{Run}
-use Rattle.guest_access.specs.declared.instructions.Ran.{Ran}
+use Rattle.guest_access.specs.declared.instructions.InstructionRun.{InstructionRun}
 use Rattle.proc_cells.specs.Cells.{caller_with, held_by, kernel_of}
 use Rattle.proc_cells.proofs.Homes.{home_run}
 use Rattle.parked_tasks.proofs.Results.{with_ok, on_err}
@@ -19,7 +19,7 @@ use Rattle.call_table.proofs.entries.run_standing.Goals as goal
 
 -- one memory alone was written to
 put_by : {E : Type 0} (task : ℕ) (memory : Made) (before after : Regs) (spaces spaces' : NamedMap AddressSpace)
-    (r : Result Ran E) → IfOk r (λ x. RunsIn task memory x.count before after spaces spaces')
+    (r : Result InstructionRun E) → IfOk r (λ x. RunsIn task memory x.count before after spaces spaces')
     → OnErr r ((n : ℕ) × (n < 10000) × RunsIn task memory n before after spaces spaces')
     → (left : AddressSpace) × (spaces' ≡ with_named spaces memory.place memory.index left)
 put_by task memory before after spaces spaces' (Ok x) runs part = (runs.left, runs.put)

@@ -1,7 +1,7 @@
 -- The node is a file that is open.
 use Rattle.std.proofs.Common.{◌≡◌}
 use Rattle.host_node.specs.Tree.{file, file_bytes, faults_of}
-use Rattle.host_memory.specs.declared.node.Access.TheVariants.{Reading}
+use Rattle.host_memory.specs.declared.node.NodeAccess.TheVariants.{Reading}
 use Rattle.host_memory_tests.proofs.planned.reads_fail.Given as goal
 
 abbrev pub invariant-loop-call : goal.invariant-loop-call

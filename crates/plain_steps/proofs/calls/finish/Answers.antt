@@ -3,7 +3,7 @@ use mir.Val.{SFits, to_z, of_z}
 use mir.Syntax.{w64}
 use Rattle.std.proofs.Common.{Ok, ap, ◌∙◌, rules}
 use Rattle.std.proofs.Math.Facts.{to_z-of_z}
-use Rattle.call_fs.specs.declared.called.Called.TheVariants.{Of}
+use Rattle.call_fs.specs.declared.call_end.CallEnd.TheVariants.{Of}
 use Rattle.plain_steps.proofs.CallLemmas.{finish_makes, finish_moves, finish_pipe, finish_replies}
 use Rattle.plain_steps.proofs.calls.finish.Goals as goal
 

@@ -2,7 +2,7 @@ use Rattle.std.proofs.Common.{◌≡◌, false, arith}
 use Rattle.std.proofs.lemmas.Grind.{common_steps}
 use Rattle.sn_edge.specs.Plan.{fails_next}
 use Rattle.sn_edge.proofs.Plans.{fails_next-fails_no_more}
-use Rattle.sn_edge.proofs.plan.Plan.begin.Goals as goal
+use Rattle.sn_edge.proofs.plan.EdgePlan.begin.Goals as goal
 
 pub returns-then-is_planned-clause-succeeds : goal.returns-then-is_planned-clause-succeeds
 returns-then-is_planned-clause-succeeds c =
