@@ -12,7 +12,7 @@ use Rattle.image_walk.specs.declared.granted.Numbering.{Numbering}
 use Rattle.image_walk.specs.declared.loading.NodeAnswer.{NodeAnswer}
 use Rattle.image_walk.specs.declared.walk.WalkEnd.{WalkEnd}
 use Rattle.image_walk.specs.Granted.{LentChild, place_of_child, told_of}
-use Rattle.image_walk.specs.declared.granted.Lent.{Lent as LentChild}
+use Rattle.image_walk.specs.declared.granted.Lent.{Lent as ALent}
 use Rattle.image_walk.specs.Loading.{IsHere, LoadsWhere}
 use Rattle.image_walk.specs.Standing.{StandsLent}
 use Rattle.image_walk.specs.Walking.{IsGrant, TellNothing, SearchedFor, LendsWhere, LoadsAt, Known, Lent, WalksWhere}
@@ -44,7 +44,7 @@ searched_none told after (Some x) h n = absurd (n x refl)
 -- ---- a child that is lent now
 
 -- it is told behind the others
-pub told_more : {N : Type 0} (told : N → Option Shape) (before kept after : List (LentChild N)) (name called : List ℕ)
+pub told_more : {N : Type 0} (told : N → Option Shape) (before kept after : List (ALent N)) (name called : List ℕ)
     (node : N) → kept ≡ before → called ≡ name → after ≡ kept ++ record { name = called; node = node } ∷ []
     → told_of told after ≡ told_of told before ++ (name, told node) ∷ []
 told_more told before kept after name called node same is e =
