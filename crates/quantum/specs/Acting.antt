@@ -3,7 +3,7 @@ use Rattle.std.specs.Prelude.{ℕ, ◌^◌, ◌%◌, ◌==◌, ◌&&◌, nat_lt,
 use Rattle.std.specs.Prelude.{if◌then◌else◌}
 use Rattle.std.specs.FinMap as map
 use Rattle.rv_table.specs.declared.instr.Instr.{Instr}
-use Rattle.rv_table.specs.Bytes.{Memory}
+use Rattle.rv_table.specs.Bytes.{SeenMemory}
 use Rattle.rv_exec.specs.Writes.{Write, Stores, Reserves, Releases}
 use Rattle.mm_areas.specs.Contents.{bytes_at}
 use Rattle.mm_areas.specs.DecodedWords.{row_at}
@@ -26,7 +26,7 @@ acting_on task reach = record { task = task; reach = reach }
 
 -- what it reaches, as its instructions use it
 -- RISC-V Unprivileged ISA 20191213, 1.4, Memory; 8.2, Load-Reserved/Store-Conditional Instructions
-abbrev pub memory_of : Acting → Memory
+abbrev pub memory_of : Acting → SeenMemory
 memory_of a = record {
   code = byte_at executable a.reach;
   data_ = byte_at readable a.reach;

@@ -3,14 +3,14 @@ use Rattle.std.proofs.Common.{◌≡◌, ℕ, zero, suc, ◌+◌, ◌-◌, ◌�
 use Rattle.std.specs.Prelude.{option_and_then}
 use Rattle.std.proofs.lemmas.Option.{none-some}
 use Rattle.rv_table.specs.declared.registers.Regs.{Regs}
-use Rattle.rv_table.specs.Bytes.{Memory}
+use Rattle.rv_table.specs.Bytes.{SeenMemory}
 use Rattle.rv_exec.specs.Courses.{EndsBy, Going, going, one_instruction_more, after_instructions}
 use Rattle.rv_exec.specs.Execution.{Done}
 use Rattle.rv_exec.specs.Writes.{Write}
 use Rattle.rv_exec.specs.declared.flow.Flow.{Flow}
 use Rattle.rv_exec.specs.declared.flow.Flow.TheVariants as flows
 
-module _ {State : Type 0} (seen : State → Memory) (write : Write → State → State) where
+module _ {State : Type 0} (seen : State → SeenMemory) (write : Write → State → State) where
   pub ran_zero : (start : Going State) → after_instructions seen write zero start ≡ Some start
   unfolding after_instructions
   ran_zero start = refl

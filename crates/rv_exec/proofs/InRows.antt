@@ -5,7 +5,7 @@ use Rattle.std.proofs.lemmas.List.{get_or_default}
 use Rattle.rv_table.specs.declared.instr.Instr.{Instr}
 use Rattle.rv_table.specs.declared.instr.Instr.TheVariants as instr
 use Rattle.rv_table.specs.declared.registers.Regs.{Regs}
-use Rattle.rv_table.specs.Bytes.{Accessed, Memory, Value, Fault, Shared, loaded}
+use Rattle.rv_table.specs.Bytes.{Accessed, SeenMemory, Value, Fault, Shared, loaded}
 use Rattle.rv_exec.specs.Courses.{EndsBy, Going, going, one_instruction_more, after_instructions, went_by}
 use Rattle.rv_exec.specs.Execution.{Done, Goes, Calls, Traps, Touches, by_fetched, done_by, exec}
 use Rattle.rv_exec.specs.Flows.{FlowsAs}
@@ -16,14 +16,14 @@ use Rattle.rv_exec.specs.declared.flow.Flow.{Flow}
 use Rattle.rv_exec.specs.declared.flow.Flow.TheVariants as flows
 use Rattle.rv_exec.specs.declared.outcome.Step.{Step}
 
-of_word : (m : Memory) (r : Regs) (word : Accessed) (told : Instr) → IsOfWord word told
+of_word : (m : SeenMemory) (r : Regs) (word : Accessed) (told : Instr) → IsOfWord word told
     → by_fetched m r word ≡ done_by m r told
 of_word m r (Value word) told is = ap (λ (i : Instr). done_by m r i) (sym is)
 of_word m r (Fault address) told is = elim is [ ]
 of_word m r (Shared area) told is = elim is [ ]
 
 -- what the next instruction does, where the task stands in the page
-in_row : (m : Memory) (r : Regs) (page : ℕ) (words : List Instr)
+in_row : (m : SeenMemory) (r : Regs) (page : ℕ) (words : List Instr)
     → AreOfPage m.code page words → r.pc / 4096 ≡ page → r.pc % 4 ≡ 0
     → exec m r ≡ done_by m r (slice_index_or words (r.pc % 4096 / 4) instr.Illegal)
 unfolding exec
@@ -34,13 +34,13 @@ in_row m r page words are here aligned =
     (are.each (r.pc % 4096 / 4) (omega arith)))
 
 -- the instruction that was read at the task's place is the one that stands there
-stands : (m : Memory) (page : ℕ) (words : List Instr) (pc : ℕ) (read : Instr) → AreOfPage m.code page words
+stands : (m : SeenMemory) (page : ℕ) (words : List Instr) (pc : ℕ) (read : Instr) → AreOfPage m.code page words
     → read ≡ slice_index_or words (pc % 4096 / 4) read → slice_index_or words (pc % 4096 / 4) instr.Illegal ≡ read
 stands m page words pc read are lookup =
     get_or_default words (pc % 4096 / 4) instr.Illegal read (rw are.whole (omega arith)) ∙ sym lookup
 
 -- it did as the instruction does that stands there
-pub flows_there : {State : Type 0} → (write : Write → State → State) → (why : Step) → (m : Memory) (r after : Regs)
+pub flows_there : {State : Type 0} → (write : Write → State → State) → (why : Step) → (m : SeenMemory) (r after : Regs)
     (page : ℕ) (words : List Instr) (read : Instr) (old new : State) (flow : Flow)
     → AreOfPage m.code page words → r.pc / 4096 ≡ page → r.pc % 4 ≡ 0
     → read ≡ slice_index_or words (r.pc % 4096 / 4) read
@@ -69,7 +69,7 @@ went_jump write why Calls r after old new h = absurd h
 went_jump write why (Traps signal) r after old new h = absurd h
 went_jump write why (Touches area) r after old new h = absurd h
 
-one_more_by : {State : Type 0} → (seen : State → Memory) → (write : Write → State → State)
+one_more_by : {State : Type 0} → (seen : State → SeenMemory) → (write : Write → State → State)
     → (n : ℕ) (start : Going State) (r : Regs) (old : State) (end : Going State)
     → after_instructions seen write n start ≡ Some (going old r)
     → went_by write old (exec (seen old) r) ≡ Some end
@@ -80,7 +80,7 @@ one_more_by seen write n start r old end before went =
     ∙ ap (option_and_then (one_instruction_more seen write)) before
     ∙ went
 
-pub one_more_ran : {State : Type 0} → (seen : State → Memory) → (write : Write → State → State) → (why : Step)
+pub one_more_ran : {State : Type 0} → (seen : State → SeenMemory) → (write : Write → State → State) → (why : Step)
     → (n : ℕ) (start : Going State) (r after : Regs) (old new : State) (flow : Flow)
     → after_instructions seen write n start ≡ Some (going old r)
     → FlowsAs write false why (exec (seen old) r) r after old new flow → flow ≡ flows.Next
@@ -90,7 +90,7 @@ one_more_ran seen write why n start r after old new flow before did next =
     (went_next write why (exec (seen old) r) r after old new
     (subst (λ (f : Flow). FlowsAs write false why (exec (seen old) r) r after old new f) next did))
 
-pub one_more_jumped : {State : Type 0} → (seen : State → Memory) → (write : Write → State → State) → (why : Step)
+pub one_more_jumped : {State : Type 0} → (seen : State → SeenMemory) → (write : Write → State → State) → (why : Step)
     → (n : ℕ) (start : Going State) (r after : Regs) (old new : State) (flow : Flow)
     → after_instructions seen write n start ≡ Some (going old r)
     → FlowsAs write false why (exec (seen old) r) r after old new flow → flow ≡ flows.Jump

@@ -1,7 +1,7 @@
 -- Instructions one after another.
 use Rattle.std.specs.Prelude.{◌≡◌, ⊤, ℕ, zero, suc, ◌<◌, Option, Some, None, option_and_then}
 use Rattle.rv_table.specs.declared.registers.Regs.{Regs}
-use Rattle.rv_table.specs.Bytes.{Memory}
+use Rattle.rv_table.specs.Bytes.{SeenMemory}
 use Rattle.rv_exec.specs.Execution.{Done, Goes, Calls, Traps, Touches, exec}
 use Rattle.rv_exec.specs.Writes.{Write, all_after}
 use Rattle.rv_exec.specs.declared.flow.Flow.{Flow}
@@ -24,13 +24,13 @@ went_by write acting Calls = None
 went_by write acting (Traps signal) = None
 went_by write acting (Touches area) = None
 
-abbrev pub one_instruction_more : {State : Type 0} → (State → Memory) → (Write → State → State) → Going State
+abbrev pub one_instruction_more : {State : Type 0} → (State → SeenMemory) → (Write → State → State) → Going State
     → Option (Going State)
 one_instruction_more seen write g = went_by write g.acting (exec (seen g.acting) g.registers)
 
 -- after so many instructions, none of which traps, calls or touches an area that is not handed in
 -- the same
-unfoldable pub after_instructions : {State : Type 0} → (State → Memory) → (Write → State → State) → ℕ → Going State
+unfoldable pub after_instructions : {State : Type 0} → (State → SeenMemory) → (Write → State → State) → ℕ → Going State
     → Option (Going State)
 after_instructions seen write zero g = Some g
 after_instructions seen write (suc n) g = option_and_then (one_instruction_more seen write)

@@ -11,7 +11,7 @@ use Rattle.rv_table.specs.Words.{sum}
 use Rattle.rv_alu.specs.Branches.{is_taken}
 use Rattle.rv_alu.specs.Values.{value_of}
 use Rattle.rv_atomic.specs.Operations.{stored_by}
-use Rattle.rv_table.specs.Bytes.{Memory, Accessed, Value, Fault, Shared, loaded}
+use Rattle.rv_table.specs.Bytes.{SeenMemory, Accessed, Value, Fault, Shared, loaded}
 use Rattle.rv_exec.specs.Writes.{Write, Stores, Reserves, Releases, all_after}
 use Rattle.rv_exec.specs.declared.outcome.Step.{Step}
 use Rattle.rv_exec.specs.declared.outcome.Step.TheVariants as steps
@@ -58,7 +58,7 @@ by_value r rd extend (Value value) = valued r rd (extend value)
 by_value r rd extend (Fault address) = Traps 11
 by_value r rd extend (Shared area) = Touches area
 
-abbrev pub loads : Memory → Regs → (rd address width : ℕ) → (ℕ → ℕ) → Done
+abbrev pub loads : SeenMemory → Regs → (rd address width : ℕ) → (ℕ → ℕ) → Done
 loads m r rd address width extend = by_value r rd extend (loaded m.data_ address width)
 
 -- what follows an access where each byte has the right to it
@@ -75,7 +75,7 @@ aligned address width done = if nat_eq (address % width) 0 then done else Traps 
 
 -- a store of so many of a number's bytes; plain stores need no alignment
 -- RISC-V Unprivileged ISA 20191213, 2.6 and 5.3, Load and Store Instructions
-abbrev pub stores : Memory → Regs → (address width value : ℕ) → Done
+abbrev pub stores : SeenMemory → Regs → (address width value : ℕ) → Done
 stores m r address width value =
     allowed (loaded m.room address width) (Goes (gone_on r) (Stores address width value ∷ []))
 
@@ -87,7 +87,7 @@ reserving r rd address width extend (Value value) =
 reserving r rd address width extend (Fault bad) = Traps 11
 reserving r rd address width extend (Shared area) = Touches area
 
-abbrev pub load_reserved : Memory → Regs → (rd address width : ℕ) → (ℕ → ℕ) → Done
+abbrev pub load_reserved : SeenMemory → Regs → (rd address width : ℕ) → (ℕ → ℕ) → Done
 load_reserved m r rd address width extend =
     aligned address width (reserving r rd address width extend (loaded m.data_ address width))
 
@@ -99,7 +99,7 @@ conditional r rd address width value true =
     Goes (gone_on (with_reg r rd 0)) (Releases address ∷ Stores address width value ∷ [])
 conditional r rd address width value false = Goes (gone_on (with_reg r rd 1)) (Releases address ∷ [])
 
-abbrev pub store_conditional : Memory → Regs → (rd address width value : ℕ) → Done
+abbrev pub store_conditional : SeenMemory → Regs → (rd address width value : ℕ) → Done
 store_conditional m r rd address width value =
     aligned address width
     (allowed (loaded m.room address width) (conditional r rd address width value (m.reserves address width)))
@@ -124,7 +124,7 @@ operating r i rd address width b extend (Value old) =
 operating r i rd address width b extend (Fault bad) = Traps 11
 operating r i rd address width b extend (Shared area) = Touches area
 
-abbrev pub operates : Memory → Regs → Instr → (rd address width b : ℕ) → (ℕ → ℕ) → Done
+abbrev pub operates : SeenMemory → Regs → Instr → (rd address width b : ℕ) → (ℕ → ℕ) → Done
 operates m r i rd address width b extend =
     aligned address width
     (operating r i rd address width b extend (both (loaded m.data_ address width) (loaded m.room address width)))
@@ -132,7 +132,7 @@ operates m r i rd address width b extend =
 -- what an instruction does; fences do nothing, since a task's own accesses are in order
 -- RISC-V Unprivileged ISA 20191213, 2.4 to 2.8, 3.1, 5.2 to 5.3, 7.1 to 7.2, 8.2 and 8.4; signal(7), SIGTRAP 5 and
 -- SIGILL 4
-unfoldable pub done_by : Memory → Regs → Instr → Done
+unfoldable pub done_by : SeenMemory → Regs → Instr → Done
 done_by m r (instr.Lui rd imm) = valued r rd (value_of (instr.Lui rd imm) 0 0)
 done_by m r (instr.Auipc rd imm) = valued r rd (value_of (instr.Auipc rd imm) r.pc 0)
 done_by m r (instr.Jal rd imm) = jumped r rd (sum r.pc imm)
@@ -249,14 +249,14 @@ done_by m r instr.Illegal = Traps 4
 
 -- what the bytes at pc do: where they may not be executed it is a segmentation violation
 -- signal(7), SIGSEGV 11; that it goes first: profile
-abbrev pub by_fetched : Memory → Regs → Accessed → Done
+abbrev pub by_fetched : SeenMemory → Regs → Accessed → Done
 by_fetched m r (Value word) = done_by m r (instr_of word)
 by_fetched m r (Fault address) = Traps 11
 by_fetched m r (Shared area) = Touches area
 
 -- what the next instruction of a task does
 -- RISC-V Unprivileged ISA 20191213, 1.2 and 1.5
-unfoldable pub exec : Memory → Regs → Done
+unfoldable pub exec : SeenMemory → Regs → Done
 exec m r = by_fetched m r (loaded m.code r.pc 4)
 
 -- a step did as the instruction does, to registers and to what is told of memory; what traps, calls or touches an area

@@ -1,7 +1,7 @@
 -- What instructions write beside registers, and memory after it.
 use Rattle.std.specs.Prelude.{◌≡◌, ℕ, zero, suc, ◌/◌, ◌%◌, ◌^◌, ◌<◌, ◌==◌, ◌&&◌, Bool, true, false, List, [], ◌∷◌}
 use Rattle.std.specs.Prelude.{if◌then◌else◌}
-use Rattle.rv_table.specs.Bytes.{Byte, Holds, Barred, InArea, Memory, behind}
+use Rattle.rv_table.specs.Bytes.{Byte, Holds, Barred, InArea, SeenMemory, behind}
 
 -- what an instruction writes: so many of a number's bytes, the task's reservation, or the end of it, by a
 -- store-conditional at an address
@@ -30,7 +30,7 @@ stored_byte is_same at (suc n) value address byte =
 
 -- memory after a store: the bytes, for each kind of access; a task's own stores keep its reservation
 -- RISC-V Unprivileged ISA 20191213, 2.6 and 5.3, Load and Store Instructions; that own stores keep it: profile
-pub record Stored (is_same : (a b : ℕ) → Bool) (at width value : ℕ) (before after : Memory) : Type 0 where
+pub record Stored (is_same : (a b : ℕ) → Bool) (at width value : ℕ) (before after : SeenMemory) : Type 0 where
   pub code : (address : ℕ) → address < 2 ^ 64
       → after.code address ≡ stored_byte is_same at width value address (before.code address)
   pub data_ : (address : ℕ) → address < 2 ^ 64
@@ -41,7 +41,7 @@ pub record Stored (is_same : (a b : ℕ) → Bool) (at width value : ℕ) (befor
 
 -- memory after a task's reservation was made or ended: the bytes are as they were
 -- RISC-V Unprivileged ISA 20191213, 8.2, Load-Reserved/Store-Conditional Instructions
-pub record Reserving (reserves : (address width : ℕ) → Bool) (before after : Memory) : Type 0 where
+pub record Reserving (reserves : (address width : ℕ) → Bool) (before after : SeenMemory) : Type 0 where
   pub code : after.code ≡ before.code
   pub data_ : after.data_ ≡ before.data_
   pub room : after.room ≡ before.room
@@ -50,7 +50,7 @@ pub record Reserving (reserves : (address width : ℕ) → Bool) (before after :
 -- memory after a write, where so much is told of which addresses are of one byte; a reservation is made of an address
 -- that may be read
 -- RISC-V Unprivileged ISA 20191213, 2.6, Load and Store Instructions; 8.2, Load-Reserved/Store-Conditional Instructions
-abbrev pub IsAfter : (is_same : (a b : ℕ) → Bool) → Write → (before after : Memory) → Type 0
+abbrev pub IsAfter : (is_same : (a b : ℕ) → Bool) → Write → (before after : SeenMemory) → Type 0
 IsAfter is_same (Stores at width value) before after = Stored is_same at width value before after
 IsAfter is_same (Reserves at width) before after =
     (value : ℕ) → before.data_ at ≡ Holds value

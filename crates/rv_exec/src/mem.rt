@@ -6,7 +6,7 @@ ghost use Rattle.std.specs.Prelude.{OnOk, OnErr, is_some};
 ghost use Rattle.std.specs.Bool.{OnTrue, OnFalse};
 ghost use Rattle.rv_table.specs.declared.instr.Instr.{Instr};
 ghost use Rattle.rv_table.specs.Words.{IsWidth};
-ghost use Rattle.rv_table.specs.Bytes.{Memory as Seen, AnswersAs, AllowsAs, Value, loaded};
+ghost use Rattle.rv_table.specs.Bytes.{SeenMemory as Seen, AnswersAs, AllowsAs, Value, loaded};
 ghost use Rattle.rv_exec.specs.Rows.{AreOfPage};
 ghost use Rattle.rv_exec.specs.Writes.{Write, Stores, Reserves, Releases, IsAfter, all_after, conditional_writes};
 

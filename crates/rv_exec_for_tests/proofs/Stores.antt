@@ -6,7 +6,7 @@ use Rattle.std.specs.Option.{option_map_or}
 use Rattle.std.proofs.Math.Path.{fun_ext}
 use Rattle.std.proofs.lemmas.Bool.{and_parts, ltb-true}
 use Rattle.rv_table.specs.declared.error.Area.{Area}
-use Rattle.rv_table.specs.Bytes.{Byte, Barred, Holds, InArea, Memory, behind}
+use Rattle.rv_table.specs.Bytes.{Byte, Barred, Holds, InArea, SeenMemory, behind}
 use Rattle.rv_exec.specs.Writes.{Stores, stored_byte}
 use Rattle.rv_exec_for_tests.specs.MemoryAfter.{memory_after}
 use Rattle.rv_exec_for_tests.specs.Places.{allows, distance, in_run, reached}
@@ -81,7 +81,7 @@ pub stored_told : (at width value : ℕ) (to_read to_write : Bool) (read_lacking
     (code_before code_after data_before data_after : ℕ → Byte) (reserves : (address width : ℕ) → Bool) →
     code_after ≡ (λ address. stored_byte nat_eq at width value address (code_before address)) →
     data_after ≡ (λ address. stored_byte nat_eq at width value address (data_before address)) →
-    (let m : Memory = record {
+    (let m : SeenMemory = record {
       code = code_after;
       data_ = reached to_read read_lacking data_after;
       room = reached to_write write_lacking data_after;

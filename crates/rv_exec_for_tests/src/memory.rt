@@ -101,7 +101,7 @@ impl<const C: usize> Small<C> {
 impl<const C: usize> Mem for Small<C> {
     ghost use Rattle.std.specs.Prelude.{true, false, nat_eq, ◌==◌, ◌&&◌};
     ghost use Rattle.std.specs.Option.{option_map_or};
-    ghost use Rattle.rv_table.specs.Bytes.{Memory as Seen};
+    ghost use Rattle.rv_table.specs.Bytes.{SeenMemory as Seen};
     ghost use Rattle.rv_exec_for_tests.specs.MemoryAfter.{is_memory_after, memory_after};
     ghost use Rattle.rv_exec_for_tests.specs.Pages.{page_instrs};
     ghost use Rattle.rv_exec_for_tests.specs.Places.{itself, reached};

@@ -14,7 +14,7 @@ pub data Byte : Type 0 where
 -- memory as a task has it: what the byte at each address is to a fetch, to a load and to a store; and whether the task
 -- has a reservation of that address and so many bytes
 -- RISC-V Unprivileged ISA 20191213, 1.4, Memory; 8.2, Load-Reserved/Store-Conditional Instructions
-pub record Memory : Type 0 where
+pub record SeenMemory : Type 0 where
   pub code : ℕ → Byte
   pub data_ : ℕ → Byte
   pub room : ℕ → Byte

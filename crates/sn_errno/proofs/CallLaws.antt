@@ -5,19 +5,20 @@ use Rattle.std.specs.Fmt.{decimal}
 use Rattle.std.specs.Option.{option_map_or}
 use Rattle.std.proofs.lemmas.Bool.{eqb-true}
 use Rattle.sn_errno.specs.declared.calls.CallNo.{CallNo}
-use Rattle.sn_errno.specs.Calls.{Row, calls, row_numbered, call_numbered, row_for, name_for, known_name, call_name}
+use Rattle.sn_errno.specs.Calls.{CallRow, calls, row_numbered, call_numbered, row_for, name_for, known_name, call_name}
 
 -- each row of the table is the first with its call
 firsts : map (λ row. row_for row.1) calls ≡ map (λ row. Some row) calls
 firsts = refl
 
 -- what a look-up finds has the number, and is the first row with its call
-record Found (number : ℕ) (row : Row) : Type 0 where
+record Found (number : ℕ) (row : CallRow) : Type 0 where
   number_is : row.0 ≡ number
   is_first : row_for row.1 ≡ Some row
 
 -- a look-up in rows that are each the first with its call
-found_in : (rows : List Row) → map (λ row. row_for row.1) rows ≡ map (λ row. Some row) rows → (number : ℕ) (row : Row)
+found_in : (rows : List CallRow) → map (λ row. row_for row.1) rows ≡ map (λ row. Some row) rows
+    → (number : ℕ) (row : CallRow)
     → find (λ row. row.0 == number) rows ≡ Some row → Found number row
 found_in [] h number row e = cc
 found_in (first ∷ rows) h number row e = by (first.0 == number) refl e (found_in rows (cc) number row)
@@ -30,13 +31,14 @@ found_in (first ∷ rows) h number row e = by (first.0 == number) refl e (found_
     by false other e rest = rest e
 
 -- the row behind a call that a look-up finds
-found : (number : ℕ) (call : CallNo) → call_numbered number ≡ Some call → (row : Row) × (row_numbered number ≡ Some row)
+found : (number : ℕ) (call : CallNo) → call_numbered number ≡ Some call
+    → (row : CallRow) × (row_numbered number ≡ Some row)
     × (row.1 ≡ call) × Found number row
 unfolding call_numbered row_numbered
 found number call e = by (find (λ row. row.0 == number) calls) refl e
   where
-    by : (o : Option Row) → find (λ row. row.0 == number) calls ≡ o → option_map (λ row. row.1) o ≡ Some call
-        → (row : Row) × (find (λ row. row.0 == number) calls ≡ Some row) × (row.1 ≡ call) × Found number row
+    by : (o : Option CallRow) → find (λ row. row.0 == number) calls ≡ o → option_map (λ row. row.1) o ≡ Some call
+        → (row : CallRow) × (find (λ row. row.0 == number) calls ≡ Some row) × (row.1 ≡ call) × Found number row
     by None f e = cc
     by (Some row) f e = (row, f, (cc), found_in calls firsts number row f)
 
@@ -69,7 +71,7 @@ pub printed_unknown : (number : ℕ) → call_numbered number ≡ None → call_
 unfolding call_numbered known_name call_name
 printed_unknown number h = by (row_numbered number) refl h
   where
-    by : (o : Option Row) → row_numbered number ≡ o → option_map (λ row. row.1) o ≡ None
+    by : (o : Option CallRow) → row_numbered number ≡ o → option_map (λ row. row.1) o ≡ None
         → unwrap_or (option_map (λ row. row.2) (row_numbered number)) (codes "call" ++ decimal number)
         ≡ codes "call" ++ decimal number
     by None e h = ap (λ o. unwrap_or (option_map (λ row. row.2) o) (codes "call" ++ decimal number)) e

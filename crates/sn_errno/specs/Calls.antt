@@ -17,12 +17,12 @@ use Rattle.sn_errno.specs.declared.calls.CallNo.TheVariants.{Renameat2, Getrando
 
 -- a row of the table: a call's number, the call and its name
 -- Linux's asm-generic/unistd.h
-abbrev pub Row : Type 0
-Row = ℕ × CallNo × List ℕ
+abbrev pub CallRow : Type 0
+CallRow = ℕ × CallNo × List ℕ
 
 -- the calls that the kernel knows by name
 -- Linux's asm-generic/unistd.h
-abbrev pub calls : List Row
+abbrev pub calls : List CallRow
 calls =
     (17, Getcwd, codes "getcwd")
     ∷ (23, Dup, codes "dup")
@@ -81,7 +81,7 @@ calls =
 
 -- the row for a number, if there is one
 -- Linux's asm-generic/unistd.h
-unfoldable pub row_numbered : ℕ → Option Row
+unfoldable pub row_numbered : ℕ → Option CallRow
 row_numbered number = find (λ row. row.0 == number) calls
 
 -- the call with a number, or None where the table has no row for it
@@ -96,7 +96,7 @@ known_name number = option_map (λ row. row.2) (row_numbered number)
 
 -- the first row with a call: its only one
 -- Linux's asm-generic/unistd.h
-abbrev pub row_for : CallNo → Option Row
+abbrev pub row_for : CallNo → Option CallRow
 row_for call = find (λ row. sameb the_type row.1 call) calls
 
 -- the name in the row with a call
