@@ -14,7 +14,7 @@ use Rattle.kernel_model.specs.declared.kernel.Kernel.{Kernel}
 use Rattle.kernel_model.specs.calls.Clone.{made_for_child}
 use Rattle.kernel_calls.specs.Making.{with_new_child, with_new_task, with_words}
 use Rattle.kernel_calls.specs.Prepared.{with_effect}
-use Rattle.kernel_calls.specs.declared.clone.Child.{Child}
+use Rattle.kernel_calls.specs.declared.clone.ClonedTask.{ClonedTask}
 use Rattle.kernel_calls.specs.declared.clone.Words.{Words}
 use Rattle.kernel_calls.specs.declared.prepared.Effect.{Effect}
 use Rattle.kernel_calls.specs.declared.prepared.Effect.TheVariants.{Nothing, EndsGroup, EndsTask, SetsClear}
@@ -47,7 +47,7 @@ home_committed (SetsClear task address) group k after registers spaces is home =
     subst (λ (x : TaskTable). AreAtHome x registers spaces) is (home_cleared k.tasks registers spaces home task address)
 
 -- where a child is made
-module _ (child : Child) (place : ℕ) (c : Caller) (k : Kernel) (home : AreAtHome k.tasks k.registers k.spaces)
+module _ (child : ClonedTask) (place : ℕ) (c : Caller) (k : Kernel) (home : AreAtHome k.tasks k.registers k.spaces)
     (live : is_live k.tasks.tasks c.task ≡ true) where
   worded : (words : Option Words) → AreAtHome k.tasks k.registers (with_words words c k).spaces
   worded None = home
@@ -95,7 +95,7 @@ module _ (child : Child) (place : ℕ) (c : Caller) (k : Kernel) (home : AreAtHo
       by (Some words) (Some memory) = child_home (Some words) (Some memory)
 
 -- its registers are there beside all others
-pub child_registers : (child : Child) (place : ℕ) (c : Caller) (k : Kernel)
+pub child_registers : (child : ClonedTask) (place : ℕ) (c : Caller) (k : Kernel)
     → (with_new_child child place c k).registers ≡ map.insert k.registers (k.tasks.last + 1) child.registers
 child_registers child place c k = by child.words child.memory
   where

@@ -20,7 +20,7 @@ use Rattle.kernel_model.specs.entries.Waiting.{wait_of}
 use Rattle.kernel_model.proofs.NamedMaps.{get-with_other, one_name_or_two, same_or_other}
 use Rattle.kernel_calls.specs.Making.{with_new_child, with_new_task, with_words}
 use Rattle.kernel_calls.specs.Prepared.{EndsEach, EndsOnly}
-use Rattle.kernel_calls.specs.declared.clone.Child.{Child}
+use Rattle.kernel_calls.specs.declared.clone.ClonedTask.{ClonedTask}
 use Rattle.kernel_calls.specs.declared.clone.Words.{Words}
 use Rattle.kernel_calls.specs.declared.prepared.Effect.{Effect}
 use Rattle.proc_cells.specs.declared.cells.Cells.{Cells}
@@ -82,7 +82,7 @@ more_with before after c is last = record {
 }
 
 -- where a call makes a child
-pub more_by_child : (child : Child) (place : ℕ) (c : Caller) (k : Kernel)
+pub more_by_child : (child : ClonedTask) (place : ℕ) (c : Caller) (k : Kernel)
     → OneMore k.tasks (with_new_child child place c k).tasks
 more_by_child child place c k = by child.words child.memory
   where

@@ -22,7 +22,7 @@ ghost use Rattle.sn_base.specs.declared.made.Made.{Made as AMade};
 use crate::entered::Entered;
 use futex_core::FutexKey;
 use kernel_calls::{
-    Child, Context, Effect, Prepared, args_of, call_of, commit, make, reply, sleep,
+    ClonedTask, Context, Effect, Prepared, args_of, call_of, commit, make, reply, sleep,
 };
 use kernel_model::{Entry, Given};
 use parked_tasks::touched_by;
@@ -140,7 +140,7 @@ pub(crate) fn make_child(
     cells: &mut Cells,
     context: &Context<'_>,
     registers: Regs,
-    child: Boxed<Child>,
+    child: Boxed<ClonedTask>,
 ) -> Result<Entered, Memory>
     requires awake { IsAwake cells.old context.now.task }
     requires lives { IsTrue (is_live cells.old.tasks.tasks context.now.task) }

@@ -35,4 +35,4 @@ mod schedule;
 mod turns;
 
 pub use processes::Processes;
-pub use turns::{Ran, run_turns};
+pub use turns::{EndedTurns, run_turns};

@@ -23,7 +23,7 @@ use std::alloc::Global;
 
 /// A run of turns that has ended: its trace, and the processes that it left, or `None` where memory ran out.
 #[derive(Drop)]
-pub struct Ran {
+pub struct EndedTurns {
     pub processes: Option<Processes>,
     pub trace: Trace,
 }
@@ -127,7 +127,7 @@ impl Schedule {
 
 /// Has tasks make entries in turn, by the mount file's seed, until no task's next step is ready or the trace has so
 /// many entries.
-pub fn run_turns(alloc: Global, processes: Processes, seed: &[u8], entries: u64) -> Ran
+pub fn run_turns(alloc: Global, processes: Processes, seed: &[u8], entries: u64) -> EndedTurns
     // The trace is a history, whatever stands beside the processes and the seed.
     ensures history { (beside : Beside) → beside.seed ≡ seed.now →
         Leaves beside (replay (kernel_of_processes processes beside 0) result.trace) }
@@ -147,7 +147,7 @@ pub fn run_turns(alloc: Global, processes: Processes, seed: &[u8], entries: u64)
         Ok(cells) => Some(Processes { cells }),
         Err(Memory) => None,
     };
-    Ran { processes, trace }
+    EndedTurns { processes, trace }
 }
 
 /// The cells that are left by their turns, whose entries go into an empty trace. On want of memory they are gone, and

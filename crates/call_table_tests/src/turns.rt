@@ -4,7 +4,7 @@ ghost use Rattle.std.specs.Prelude.{IsTrue};
 ghost use Rattle.task_table.specs.Table.{is_live};
 
 use crate::guests::{SEED, processes_of};
-use call_table::{Processes, Ran, run_turns};
+use call_table::{Processes, EndedTurns, run_turns};
 use kernel_model::{Entry, Kernel};
 use sn_vectors::programs::{STORES, WRITES_NOTHING};
 use sn_vectors::words::{EBREAK, JUMP_TO_ITSELF};
@@ -98,7 +98,7 @@ fn expect_left(
 
 /// Has processes make at most so many entries, by a seed. What comes out says nothing of how it came to be, so that no
 /// test's proof has the contract of turns before it.
-fn run(alloc: Global, processes: Processes, seed: &[u8], entries: u64) -> Ran {
+fn run(alloc: Global, processes: Processes, seed: &[u8], entries: u64) -> EndedTurns {
     run_turns(alloc, processes, seed, entries)
 }
 
@@ -110,7 +110,7 @@ pub fn expect_turns_of(
     entries: u64,
     expected: &Expected,
 ) -> Result<(), Fail> {
-    let Ran { processes, trace } = run(alloc, processes, seed, entries);
+    let EndedTurns { processes, trace } = run(alloc, processes, seed, entries);
     match processes {
         Some(processes) => expect_left(alloc, processes, trace.as_slice(), expected),
         None => Err(Fail::new("memory")),
@@ -131,7 +131,7 @@ pub fn expect_turns(
 /// The processes that a guest leaves that makes so many entries.
 pub fn left(alloc: Global, words: &[u32], entries: u64) -> Result<Processes, Fail> {
     let processes = processes_of(alloc, &[words])?;
-    let Ran { processes, .. } = run(alloc, processes, &SEED, entries);
+    let EndedTurns { processes, .. } = run(alloc, processes, &SEED, entries);
     match processes {
         Some(processes) => Ok(processes),
         None => Err(Fail::new("memory")),

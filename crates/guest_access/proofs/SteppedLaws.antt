@@ -27,7 +27,7 @@ use Rattle.kernel_model.specs.entries.Steps.{run_changes, step_with}
 use Rattle.kernel_model.proofs.Trees.{outcome-bind}
 use Rattle.guest_access.specs.Lending.{AreThere, IsLent, with_hand}
 use Rattle.guest_access.specs.Stepping.{IsAt, Steps}
-use Rattle.guest_access.specs.Trying.{Left, StandsOver, Stepped, next_by_end}
+use Rattle.guest_access.specs.Trying.{LeftByInstruction, StandsOver, Stepped, next_by_end}
 use Rattle.guest_access.proofs.KernelAreas.{are_those, areas_changed}
 use Rattle.guest_access.proofs.Lendings.{lent_left}
 use Rattle.guest_access.proofs.Runs.{nothing_ran, one_more, ran_last, ran_none, ran_names, went_by}
@@ -242,8 +242,8 @@ stepped_more c most less e hand lent hand' areas left areas' area next r' space'
       left = by next rest.left;
     }
   where
-    by : (x : Next) → Left c x rest.last r' space' hand' areas' (with_hand lent left)
-        → Left c x rest.last r' space' hand' areas' (with_hand hand areas)
+    by : (x : Next) → LeftByInstruction c x rest.last r' space' hand' areas' (with_hand lent left)
+        → LeftByInstruction c x rest.last r' space' hand' areas' (with_hand hand areas)
     by Goes l = (l.0, l.1 ∙ ap (with_hand hand') back)
     by Calls l = (l.0, l.1, l.2 ∙ back)
     by (Traps signal) l = (l.0, l.1, l.2 ∙ back)
@@ -265,7 +265,7 @@ module _ (c : Caller) (k : Kernel) (task : ℕ) (r r' : Regs) (space space' : Ad
 
   pub steps_at : next ≡ Goes → all ≡ with_hand hand' left → Steps c k r' space' all
   steps_at goes back =
-      let went : Left c Goes stepped.last r' space' hand' left areas =
+      let went : LeftByInstruction c Goes stepped.last r' space' hand' left areas =
       rw goes at stepped.left in
       record {
         changes = run_changes c (going_with c.task space' hand' r');
@@ -293,7 +293,7 @@ pub kept_over : (c : Caller) (r r' : Regs) (space space' : AddressSpace) (areas 
     → (r' ≡ r) × (space' ≡ space) × (all ≡ areas)
 kept_over c r r' space space' areas left all registers own hand' next stepped stays back = by next stepped.left stays
   where
-    by : (x : Next) → Left c x stepped.last r' space' hand' left areas → goes_on x ≡ false
+    by : (x : Next) → LeftByInstruction c x stepped.last r' space' hand' left areas → goes_on x ≡ false
         → (r' ≡ r) × (space' ≡ space) × (all ≡ areas)
     by Goes l e = absurd (cc e)
     by Calls l e = (l.0 ∙ registers, l.1 ∙ own, back ∙ l.2)

@@ -54,12 +54,12 @@ pub record StandsOver (c : Caller) (number : ℕ) (before : Regs) (own : Address
 -- what an instruction has left, with what was in hand for it: where it went on, what it does, and else nothing has
 -- changed
 -- RISC-V Unprivileged ISA 20191213, 1.2
-abbrev pub Left : Caller → Next → (last : List InHand) → Regs → AddressSpace → (hand' : List InHand)
+abbrev pub LeftByInstruction : Caller → Next → (last : List InHand) → Regs → AddressSpace → (hand' : List InHand)
     → (areas' all : NamedMap AreaState) → Type 0
-Left c Goes last registers space hand' areas' all =
+LeftByInstruction c Goes last registers space hand' areas' all =
     (ran 1 (going_with c.task c.space last c.registers) ≡ Some (going_with c.task space hand' registers))
     × (with_hand hand' areas' ≡ with_hand hand' all)
-Left c _ last registers space hand' areas' all =
+LeftByInstruction c _ last registers space hand' areas' all =
     (registers ≡ c.registers) × (space ≡ c.space) × (with_hand hand' areas' ≡ all)
 
 -- what the next instruction does, by how a run of at most one ended, or None where memory was wanting
@@ -84,4 +84,4 @@ pub record Stepped (c : Caller) (most : ℕ) (hand : List InHand) (all : NamedMa
   pub last : List InHand
   pub stands : (s : Parts) → AreThose s all
       → outcome_in s (tried_with (next_tried c) stands_lacking most hand) ≡ record { next = next; hand = last }
-  pub left : Left c next last registers space hand' areas' all
+  pub left : LeftByInstruction c next last registers space hand' areas' all

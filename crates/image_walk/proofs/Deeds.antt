@@ -12,8 +12,8 @@ use Rattle.kernel_model.specs.declared.opening.Rise.{Rise}
 use Rattle.kernel_model.specs.files.FileTree.{number_in, owner_executes}
 use Rattle.kernel_model.specs.opening.Opening.{executed}
 use Rattle.image_walk.specs.declared.granted.Numbering.{Numbering}
-use Rattle.image_walk.specs.declared.loading.Answer.{Answer}
-use Rattle.image_walk.specs.declared.loading.Answer.TheVariants.{Starts, Refuses, Memory}
+use Rattle.image_walk.specs.declared.loading.ImageAnswer.{ImageAnswer}
+use Rattle.image_walk.specs.declared.loading.ImageAnswer.TheVariants.{Starts, Refuses, Memory}
 use Rattle.image_walk.specs.declared.walk.WalkEnd.{WalkEnd}
 use Rattle.image_walk.specs.Executing.{walked_by, walked_to, walked_among, fresh_for, fresh_by, rises_by, named_then}
 use Rattle.image_walk.specs.Executing.{HasNumber, AnswersBy, Executes}
@@ -39,7 +39,7 @@ set_found xs i x e = ap (slice_set xs i) (sym (get_or_from_slice_get xs i x x e)
 module _ (num : Numbering) (is : IsNumbering num) (t : Shape) (names : List (List ℕ)) (name : List ℕ) where
   -- what an execve did, by whether it drew a number, the node that it came to, and by how much that node's count rose
   pub record Did (after : Option Shape) (children : List LentChild) (drawn : Bool) (ino : ℕ) (risen : Option ℕ)
-      (answer : Answer) : Type 0 where
+      (answer : ImageAnswer) : Type 0 where
     pub next : drawn ≡ true → ino ≡ length names + num.first
     pub unnumbered : drawn ≡ true → number_in name (numbers_from num.first names) ≡ None
     pub stands : StandsLent num t (named_then drawn names name) (rises_by ino risen) after children
@@ -86,7 +86,7 @@ module _ (num : Numbering) (is : IsNumbering num) (t : Shape) (names : List (Lis
         (subst (λ (o : Option Shape). StandsLent num t names [] o children)
         (root_is num t names root children st ∙ sym a) st)
 
-    did_nothing : (after : Option Shape) (children' : List LentChild) (answer : Answer)
+    did_nothing : (after : Option Shape) (children' : List LentChild) (answer : ImageAnswer)
         → after ≡ Some (lend_all names t)
         → children' ≡ children → AnswersBy num (walked_among num t names name) false (length names) [] answer
         → Did after children' false num.root None answer
@@ -117,7 +117,7 @@ module _ (num : Numbering) (is : IsNumbering num) (t : Shape) (names : List (Lis
     executes_root : (b : Bool) → owner_executes (lend_all names t) ≡ b → owner_executes t ≡ b
     executes_root b x = sym (owner_executes-lend_all names t) ∙ x
 
-    pub did_unsearched : (after : Option Shape) (children' : List LentChild) (risen : Option ℕ) (answer : Answer)
+    pub did_unsearched : (after : Option Shape) (children' : List LentChild) (risen : Option ℕ) (answer : ImageAnswer)
         → NotSearched (lend_all names t) after risen answer → children' ≡ children
         → Did after children' false num.root risen answer
     did_unsearched after children' None (Refuses errno) h c =
@@ -131,7 +131,7 @@ module _ (num : Numbering) (is : IsNumbering num) (t : Shape) (names : List (Lis
 
     -- ---- a name that the root lacks
 
-    did_missing : (after : Option Shape) (children' : List LentChild) (risen : Option ℕ) (answer : Answer)
+    did_missing : (after : Option Shape) (children' : List LentChild) (risen : Option ℕ) (answer : ImageAnswer)
         → owner_executes (lend_all names t) ≡ true → place_of_child name children ≡ None
         → LendsNone (lend_all names t) name after risen answer → children' ≡ children
         → Did after children' false num.root risen answer
@@ -166,7 +166,7 @@ module _ (num : Numbering) (is : IsNumbering num) (t : Shape) (names : List (Lis
         (placed num t names root children name place st p).number e
 
     known_still : (after : Option Shape) (children' : List LentChild) (place : ℕ) (s : Shape) (told : Option Shape)
-        (answer : Answer) → after ≡ Some (lend_all names t) → place_of_child name children ≡ Some place
+        (answer : ImageAnswer) → after ≡ Some (lend_all names t) → place_of_child name children ≡ Some place
         → children' ≡ slice_set children place (name, told) → child_of name t ≡ Some s → told ≡ Some s
         → AnswersBy num (walked_among num t names name) false (length names) [] answer
         → Did after children' false (place + num.first) None answer
@@ -183,7 +183,7 @@ module _ (num : Numbering) (is : IsNumbering num) (t : Shape) (names : List (Lis
         }
 
     known_by : (after : Option Shape) (children' : List LentChild) (place : ℕ) (s : Shape) (told : Option Shape)
-        (risen : Option ℕ) (answer : Answer) → owner_executes (lend_all names t) ≡ true
+        (risen : Option ℕ) (answer : ImageAnswer) → owner_executes (lend_all names t) ≡ true
         → after ≡ Some (lend_all names t) → place_of_child name children ≡ Some place
         → children' ≡ slice_set children place (name, told) → child_of name t ≡ Some s → Loads s told risen answer
         → Did after children' false (place + num.first) risen answer
@@ -216,7 +216,8 @@ module _ (num : Numbering) (is : IsNumbering num) (t : Shape) (names : List (Lis
     known_by after children' place s told (Some d) Memory x a p c e h = absurd h
     known_by after children' place s told (Some d) (Starts image) x a p c e h = absurd h
 
-    pub did_known : (after : Option Shape) (children' : List LentChild) (place : ℕ) (risen : Option ℕ) (answer : Answer)
+    pub did_known : (after : Option Shape) (children' : List LentChild) (place : ℕ) (risen : Option ℕ)
+        (answer : ImageAnswer)
         → owner_executes (lend_all names t) ≡ true → after ≡ Some (lend_all names t)
         → place_of_child name children ≡ Some place → LoadsAt place children children' risen answer
         → Did after children' false (place + num.first) risen answer
@@ -246,7 +247,7 @@ module _ (num : Numbering) (is : IsNumbering num) (t : Shape) (names : List (Lis
         walk_drawn s (executes_root true x) (unplaced num t names [] root children name st p).unnumbered e
 
     lent_still : (after : Option Shape) (children' : List LentChild) (ino : ℕ) (s : Shape) (told : Option Shape)
-        (answer : Answer) → place_of_child name children ≡ None → child_of name t ≡ Some s → faults_of s < 2 ^ 64
+        (answer : ImageAnswer) → place_of_child name children ≡ None → child_of name t ≡ Some s → faults_of s < 2 ^ 64
         → after ≡ Some (lend_child name (lend_all names t)) → children' ≡ children ++ (name, told) ∷ []
         → ino ≡ length names + num.first → told ≡ Some s
         → AnswersBy num (walked_among num t names name) true (length (names ++ name ∷ [])) [] answer
@@ -265,8 +266,8 @@ module _ (num : Numbering) (is : IsNumbering num) (t : Shape) (names : List (Lis
     }
 
     lent_by : (after : Option Shape) (children' : List LentChild) (ino : ℕ) (s : Shape) (told : Option Shape)
-        (risen : Option ℕ) (answer : Answer) → owner_executes (lend_all names t) ≡ true → place_of_child name children
-        ≡ None
+        (risen : Option ℕ) (answer : ImageAnswer) → owner_executes (lend_all names t) ≡ true
+        → place_of_child name children ≡ None
         → child_of name t ≡ Some s → faults_of s < 2 ^ 64 → after ≡ Some (lend_child name (lend_all names t))
         → children' ≡ children ++ (name, told) ∷ [] → ino ≡ length names + num.first → Loads s told risen answer
         → Did after children' true ino risen answer
@@ -298,7 +299,7 @@ module _ (num : Numbering) (is : IsNumbering num) (t : Shape) (names : List (Lis
     lent_by after children' ino s told (Some d) (Starts image) x p e small a c i h = absurd h
 
     pub did_lent : (drawn : Bool) (after : Option Shape) (children' : List LentChild) (ino : ℕ) (risen : Option ℕ)
-        (answer : Answer) → owner_executes (lend_all names t) ≡ true → place_of_child name children ≡ None
+        (answer : ImageAnswer) → owner_executes (lend_all names t) ≡ true → place_of_child name children ≡ None
         → LendsBy num drawn (lend_all names t) name children children' after ino risen answer
         → Did after children' drawn ino risen answer
     did_lent true after children' ino risen answer x p h =

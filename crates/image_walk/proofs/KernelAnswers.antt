@@ -23,8 +23,8 @@ use Rattle.kernel_model.specs.opening.Arguments.{is_too_long}
 use Rattle.kernel_model.specs.opening.Opening.{Walked, execve_of, by_walk, unwalked}
 use Rattle.kernel_model.specs.opening.Opening as opening
 use Rattle.image_walk.specs.declared.granted.Numbering.{Numbering}
-use Rattle.image_walk.specs.declared.loading.Answer.{Answer}
-use Rattle.image_walk.specs.declared.loading.Answer.TheVariants.{Starts, Refuses}
+use Rattle.image_walk.specs.declared.loading.ImageAnswer.{ImageAnswer}
+use Rattle.image_walk.specs.declared.loading.ImageAnswer.TheVariants.{Starts, Refuses}
 use Rattle.image_walk.specs.Granted.{LentChild, GivesBack}
 use Rattle.image_walk.specs.Standing.{IsNumbering, IsNoneOf, AreNodes, StandUnlent, KeepsRoots, StandsLent}
 use Rattle.image_walk.specs.Standing.{no_left}
@@ -64,13 +64,13 @@ there_drawn false t names name h e = absurd (cc e)
 
 -- where the strings are too long, what is answered is that of no walk
 answers_by : (num : Numbering) (long : Bool) (walked : Walked) (drawn : Bool) (count : ℕ) (rises : List Rise)
-    (answer : Answer)
+    (answer : ImageAnswer)
     → AnswersExecve num long walked drawn count rises answer
     → AnswersBy num (if long then unwalked else walked) drawn count rises answer
 answers_by num false walked drawn count rises answer h = h
 answers_by num true walked drawn count rises answer h =
     subst (λ (rs : List Rise). AnswersBy num unwalked drawn count rs answer) (sym h.1)
-    (subst (λ (a : Answer). AnswersBy num unwalked drawn count [] a) (sym h.2)
+    (subst (λ (a : ImageAnswer). AnswersBy num unwalked drawn count [] a) (sym h.2)
     (ap (λ d. record { draws = d; image = Err E2BIG }) (sym h.0)))
 
 -- no count of the other roots rose
@@ -105,7 +105,7 @@ pub record Failed (num : Numbering) (k : Kernel) (p : Program) (given : Given) (
   pub still : AreStill num (changed changes k).failed
 
 module _ (num : Numbering) (facts : IsNumbering num) (k : Kernel) (t : Shape) (names : List (List ℕ))
-    (given : Given) (answer : Answer) (root : Option Shape) (children : List LentChild) (p : Program)
+    (given : Given) (answer : ImageAnswer) (root : Option Shape) (children : List LentChild) (p : Program)
     (a : AreNodes num k.nodes t names) (failed : k.failed ≡ map.empty) (room : length names + num.first ≤ LAST_NUMBER)
     (e : Executes num (is_too_long p.args p.env) t names p.name given answer root children) where
   drawing : Draws num t names p.name e.drawn
@@ -156,8 +156,9 @@ module _ (num : Numbering) (facts : IsNumbering num) (k : Kernel) (t : Shape) (n
       → Started num k t (named_then e.drawn names p.name) p given image
   execve_starts image is =
       by given.rises refl
-      (subst (λ (x : Answer). AnswersBy num walked e.drawn (length (named_then e.drawn names p.name)) given.rises x) is
-      answered)
+      (subst
+      (λ (x : ImageAnswer). AnswersBy num walked e.drawn (length (named_then e.drawn names p.name)) given.rises x)
+      is answered)
     where
       by : (rises : List Rise) → given.rises ≡ rises
           → AnswersBy num walked e.drawn (length (named_then e.drawn names p.name)) rises (Starts image)
@@ -220,8 +221,9 @@ module _ (num : Numbering) (facts : IsNumbering num) (k : Kernel) (t : Shape) (n
   pub execve_fails : (errno : Errno) → answer ≡ Refuses errno → Failed num k p given errno root children
   execve_fails errno is =
       by given.rises refl
-      (subst (λ (x : Answer). AnswersBy num walked e.drawn (length (named_then e.drawn names p.name)) given.rises x) is
-      answered)
+      (subst
+      (λ (x : ImageAnswer). AnswersBy num walked e.drawn (length (named_then e.drawn names p.name)) given.rises x)
+      is answered)
     where
       by : (rises : List Rise) → given.rises ≡ rises
           → AnswersBy num walked e.drawn (length (named_then e.drawn names p.name)) rises (Refuses errno)

@@ -9,8 +9,8 @@ use Rattle.kernel_model.specs.declared.opening.Rise.{Rise}
 use Rattle.kernel_model.specs.files.FileTree.{number_in, owner_executes}
 use Rattle.kernel_model.specs.opening.Opening.{Walked, executed}
 use Rattle.image_walk.specs.declared.granted.Numbering.{Numbering}
-use Rattle.image_walk.specs.declared.loading.Answer.{Answer}
-use Rattle.image_walk.specs.declared.loading.Answer.TheVariants.{Starts, Refuses, Memory}
+use Rattle.image_walk.specs.declared.loading.ImageAnswer.{ImageAnswer}
+use Rattle.image_walk.specs.declared.loading.ImageAnswer.TheVariants.{Starts, Refuses, Memory}
 use Rattle.image_walk.specs.Granted.{LentChild}
 use Rattle.image_walk.specs.Standing.{StandsLent, numbers_from}
 
@@ -56,12 +56,12 @@ HasNumber num count ino = (ino ≡ num.root) ⊎ ((num.first ≤ ino) × (ino < 
 
 -- an answer without a rise is that of the walk; one with a rise, of a node that has a number, is EIO
 -- execve(2)
-abbrev pub AnswersWalk : Walked → (drawn : Bool) → Answer → Type 0
+abbrev pub AnswersWalk : Walked → (drawn : Bool) → ImageAnswer → Type 0
 AnswersWalk walked drawn (Starts image) = walked ≡ record { draws = drawn; image = Ok image }
 AnswersWalk walked drawn (Refuses errno) = walked ≡ record { draws = drawn; image = Err errno }
 AnswersWalk walked drawn Memory = ⊤
 
-abbrev pub AnswersBy : Numbering → Walked → (drawn : Bool) → (count : ℕ) → List Rise → Answer → Type 0
+abbrev pub AnswersBy : Numbering → Walked → (drawn : Bool) → (count : ℕ) → List Rise → ImageAnswer → Type 0
 AnswersBy num walked drawn count [] answer = AnswersWalk walked drawn answer
 AnswersBy num walked drawn count (rise ∷ []) answer =
     (answer ≡ Refuses EIO) × (0 < rise.count) × HasNumber num count rise.ino
@@ -70,7 +70,7 @@ AnswersBy num walked drawn count (rise ∷ other ∷ rises) answer = ⊥
 -- the same, where nothing is walked to if the strings are too long
 -- execve(2), E2BIG
 abbrev pub AnswersExecve : Numbering → (long : Bool) → Walked → (drawn : Bool) → (count : ℕ) → List Rise
-    → Answer → Type 0
+    → ImageAnswer → Type 0
 AnswersExecve num true walked drawn count rises answer = (drawn ≡ false) × (rises ≡ []) × (answer ≡ Refuses E2BIG)
 AnswersExecve num false walked drawn count rises answer = AnswersBy num walked drawn count rises answer
 
@@ -78,7 +78,7 @@ AnswersExecve num false walked drawn count rises answer = AnswersBy num walked d
 -- what the nodes tell then
 -- execve(2)
 pub record Executes (num : Numbering) (long : Bool) (t : Shape) (names : List (List ℕ)) (name : List ℕ)
-    (given : Given) (answer : Answer) (root : Option Shape) (children : List LentChild) : Type 0 where
+    (given : Given) (answer : ImageAnswer) (root : Option Shape) (children : List LentChild) : Type 0 where
   pub drawn : Bool
   pub fresh : given.fresh ≡ fresh_for num drawn names name
   pub unnumbered : drawn ≡ true → number_in name (numbers_from num.first names) ≡ None

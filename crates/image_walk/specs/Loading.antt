@@ -10,8 +10,8 @@ use Rattle.sn_errno.specs.declared.errno.Errno.TheVariants.{EIO, EACCES, ENOEXEC
 use Rattle.kernel_model.specs.declared.limits.TheConstants.{LONGEST_IMAGE}
 use Rattle.kernel_model.specs.machine.Image.{image_of}
 use Rattle.kernel_model.specs.opening.Opening.{has_room, executed, image_within}
-use Rattle.image_walk.specs.declared.loading.Answer.{Answer}
-use Rattle.image_walk.specs.declared.loading.Answer.TheVariants.{Starts, Refuses, Memory}
+use Rattle.image_walk.specs.declared.loading.ImageAnswer.{ImageAnswer}
+use Rattle.image_walk.specs.declared.loading.ImageAnswer.TheVariants.{Starts, Refuses, Memory}
 
 -- a node with these attributes is refused so, or it is a file whose bytes decide
 -- execve(2), ERRORS: EACCES, ELOOP, ENOEXEC
@@ -50,20 +50,20 @@ ReadsFile (Some s) bytes = bytes ≡ file_bytes s
 
 -- a node's call failed: its count rose by so much, and the answer is EIO
 -- profile
-abbrev pub FailedBy : ℕ → ℕ → Option ℕ → Answer → Type 0
+abbrev pub FailedBy : ℕ → ℕ → Option ℕ → ImageAnswer → Type 0
 FailedBy before now (Some d) (Refuses errno) = (errno ≡ EIO) × (0 < d) × (now ≡ capped (before + d))
 FailedBy before now _ _ = ⊥
 
 -- an answer is that of the bytes of an executable file
 -- execve(2), ERRORS: ENOEXEC, ENOMEM
-abbrev pub Classified : List ℕ → Answer → Type 0
+abbrev pub Classified : List ℕ → ImageAnswer → Type 0
 Classified bytes (Starts image) = image_within (image_of bytes) ≡ Ok image
 Classified bytes (Refuses errno) = image_within (image_of bytes) ≡ Err errno
 Classified bytes Memory = ⊤
 
 -- an image that begins has no more pages than may be mapped
 -- execve(2), ENOMEM
-abbrev pub is_roomy : Answer → Bool
+abbrev pub is_roomy : ImageAnswer → Bool
 is_roomy (Starts image) = has_room image
 is_roomy (Refuses errno) = true
 is_roomy Memory = true
@@ -75,7 +75,7 @@ faulted_by d s = with_faults (capped (faults_of s + d)) s
 
 -- what a program's node gave, from what it told before, and what it tells then
 -- execve(2)
-abbrev pub Loads : Shape → (after : Option Shape) → (risen : Option ℕ) → Answer → Type 0
+abbrev pub Loads : Shape → (after : Option Shape) → (risen : Option ℕ) → ImageAnswer → Type 0
 Loads s after None (Starts image) = (executed s ≡ Ok image) × (after ≡ Some s)
 Loads s after None (Refuses errno) = (executed s ≡ Err errno) × (after ≡ Some s)
 Loads s after None Memory = after ≡ Some s
@@ -84,6 +84,6 @@ Loads s after _ _ = ⊥
 
 -- the same, where the node tells
 -- profile
-abbrev pub LoadsWhere : Option Shape → (after : Option Shape) → (risen : Option ℕ) → Answer → Type 0
+abbrev pub LoadsWhere : Option Shape → (after : Option Shape) → (risen : Option ℕ) → ImageAnswer → Type 0
 LoadsWhere None after risen answer = after ≡ None
 LoadsWhere (Some s) after risen answer = (faults_of s < 2 ^ 64) × Loads s after risen answer

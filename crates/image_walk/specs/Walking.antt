@@ -6,8 +6,8 @@ use Rattle.host_node.specs.Tree.{Shape, faults_of, child_of, is_directory, lend_
 use Rattle.sn_errno.specs.declared.errno.Errno.TheVariants.{EIO, ENOENT, EACCES}
 use Rattle.kernel_model.specs.files.FileTree.{owner_executes}
 use Rattle.image_walk.specs.declared.granted.Numbering.{Numbering}
-use Rattle.image_walk.specs.declared.loading.Answer.{Answer}
-use Rattle.image_walk.specs.declared.loading.Answer.TheVariants.{Refuses, Memory}
+use Rattle.image_walk.specs.declared.loading.ImageAnswer.{ImageAnswer}
+use Rattle.image_walk.specs.declared.loading.ImageAnswer.TheVariants.{Refuses, Memory}
 use Rattle.image_walk.specs.declared.loading.NodeAnswer.{NodeAnswer}
 use Rattle.image_walk.specs.declared.walk.WalkEnd.{WalkEnd}
 use Rattle.image_walk.specs.Granted.{LentChild, place_of_child}
@@ -53,7 +53,7 @@ IsRoot (Some t) = (is_directory t ≡ true) × (none_lent t ≡ true)
 
 -- a root that its owner may not search, or that failed
 -- path_resolution(7), EACCES
-abbrev pub NotSearched : Shape → (after : Option Shape) → (risen : Option ℕ) → Answer → Type 0
+abbrev pub NotSearched : Shape → (after : Option Shape) → (risen : Option ℕ) → ImageAnswer → Type 0
 NotSearched t after None (Refuses errno) = (owner_executes t ≡ false) × (errno ≡ EACCES) × (after ≡ Some t)
 NotSearched t after None Memory = after ≡ Some t
 NotSearched t after (Some d) (Refuses errno) = (errno ≡ EIO) × (0 < d) × (after ≡ Some (faulted_by d t))
@@ -71,7 +71,7 @@ SearchedFor (Some t) after loaded = SearchedBy t after loaded
 
 -- the root has no child of that name, or it failed
 -- path_resolution(7), ENOENT
-abbrev pub LendsNone : Shape → (name : List ℕ) → (after : Option Shape) → (risen : Option ℕ) → Answer → Type 0
+abbrev pub LendsNone : Shape → (name : List ℕ) → (after : Option Shape) → (risen : Option ℕ) → ImageAnswer → Type 0
 LendsNone t name after None (Refuses errno) = (after ≡ Some t) × (child_of name t ≡ None) × (errno ≡ ENOENT)
 LendsNone t name after (Some d) (Refuses errno) = (errno ≡ EIO) × (0 < d) × (after ≡ Some (faulted_by d t))
 LendsNone t name after _ _ = ⊥
@@ -79,7 +79,7 @@ LendsNone t name after _ _ = ⊥
 -- the root lent the child of that name, which was loaded
 -- execve(2)
 pub record LendsChild (t : Shape) (name : List ℕ) (children children' : List LentChild) (after : Option Shape)
-    (risen : Option ℕ) (answer : Answer) : Type 0 where
+    (risen : Option ℕ) (answer : ImageAnswer) : Type 0 where
   pub child : Shape
   pub there : child_of name t ≡ Some child
   pub small : faults_of child < 2 ^ 64
@@ -89,7 +89,7 @@ pub record LendsChild (t : Shape) (name : List ℕ) (children children' : List L
   pub loads : Loads child told risen answer
 
 abbrev pub LendsBy : Numbering → (drawn : Bool) → Shape → (name : List ℕ) → (children children' : List LentChild)
-    → (after : Option Shape) → (ino : ℕ) → (risen : Option ℕ) → Answer → Type 0
+    → (after : Option Shape) → (ino : ℕ) → (risen : Option ℕ) → ImageAnswer → Type 0
 LendsBy num true t name children children' after ino risen answer =
     LendsChild t name children children' after risen answer × (ino ≡ length children + num.first)
 LendsBy num false t name children children' after ino risen answer =
@@ -104,7 +104,8 @@ LendsWhere num (Some t) name children children' after step =
 
 -- the child at a place was loaded again
 -- execve(2)
-pub record LoadsAt (place : ℕ) (children children' : List LentChild) (risen : Option ℕ) (answer : Answer) : Type 0 where
+pub record LoadsAt (place : ℕ) (children children' : List LentChild) (risen : Option ℕ)
+    (answer : ImageAnswer) : Type 0 where
   pub child : LentChild
   pub at : slice_get children place ≡ Some child
   pub told : Option Shape

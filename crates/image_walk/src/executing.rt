@@ -13,7 +13,7 @@ ghost use Rattle.image_walk.specs.Standing.{IsNumbering, StandsLent};
 ghost use Rattle.image_walk.specs.Walking.{IsGrant, IsSilent, NumbersNext};
 
 use crate::granted::Granted;
-use crate::loading::{Answer, NodeAnswer};
+use crate::loading::{ImageAnswer, NodeAnswer};
 use crate::walk::{WalkEnd, walk};
 use host_node::HostNode;
 use kernel_calls::is_too_long;
@@ -26,9 +26,9 @@ use std::alloc::Global;
 
 /// What an opening execve drew and met, and what it answers.
 #[derive(Drop)]
-pub struct Executed {
+pub struct OpeningExecve {
     pub given: Given,
-    pub answer: Answer,
+    pub answer: ImageAnswer,
     ghost pages: { is_roomy answer ≡ true },
 }
 
@@ -91,7 +91,7 @@ pub fn execve<N: HostNode>(
     alloc: Global,
     granted: &mut Granted<N>,
     program: &Program,
-) -> Result<Executed, Memory>
+) -> Result<OpeningExecve, Memory>
     requires numbers { IsNumbering granted.old.numbers }
     requires grant { IsGrant granted.old.numbers (N.told granted.old.root) (told_of N.told granted.old.lent.items) }
     ensures same { granted.new.numbers ≡ granted.old.numbers }
@@ -104,17 +104,17 @@ pub fn execve<N: HostNode>(
     ensures silent { IsSilent (N.told granted.old.root) (told_of N.told granted.old.lent.items) →
         IsSilent (N.told granted.new.root) (told_of N.told granted.new.lent.items) }
     ensures long { IfOk result (λ e. is_too_long program.now.args program.now.env ≡ true →
-        e.answer ≡ Answer.Refuses E2BIG) }
+        e.answer ≡ ImageAnswer.Refuses E2BIG) }
     ensures err { OnErr result (N.told granted.new.root ≡ N.told granted.old.root) }
     ensures err_lent { OnErr result (told_of N.told granted.new.lent.items ≡ told_of N.told granted.old.lent.items) }
 {
     if is_too_long(program) {
-        return Ok(Executed {
+        return Ok(OpeningExecve {
             given: Given {
                 fresh: List::new(alloc),
                 rises: List::new(alloc),
             },
-            answer: Answer::Refuses(Errno::E2BIG),
+            answer: ImageAnswer::Refuses(Errno::E2BIG),
         });
     }
     let root = granted.numbers.root;
@@ -122,5 +122,5 @@ pub fn execve<N: HostNode>(
     let WalkEnd { drawn, ino, loaded } = walk(alloc, granted, &program.name)?;
     let NodeAnswer { risen, answer } = loaded;
     let given = gathered(room, root, drawn, ino, risen);
-    Ok(Executed { given, answer })
+    Ok(OpeningExecve { given, answer })
 }

@@ -23,6 +23,6 @@ mod granted;
 mod loading;
 mod walk;
 
-pub use executing::{Executed, execve};
+pub use executing::{OpeningExecve, execve};
 pub use granted::{Granted, Lent, MOST_ROOTS, Numbering};
-pub use loading::Answer;
+pub use loading::ImageAnswer;

@@ -20,7 +20,7 @@ use std::alloc::Global;
 
 /// What an opening execve answers: an image to begin with, an error, or want of memory.
 #[derive(Drop)]
-pub enum Answer {
+pub enum ImageAnswer {
     Starts(Image),
     Refuses(Errno),
     Memory,
@@ -30,7 +30,7 @@ pub enum Answer {
 #[derive(Drop)]
 pub(crate) struct NodeAnswer {
     pub(crate) risen: Option<u64>,
-    pub(crate) answer: Answer,
+    pub(crate) answer: ImageAnswer,
     ghost pages: { is_roomy answer ≡ true },
 }
 
@@ -67,14 +67,14 @@ fn file_refusal(mode: u32, size: u64) -> Option<Errno>
 }
 
 /// The image that a file's bytes are.
-fn classify(alloc: Global, bytes: &[u8]) -> Answer
+fn classify(alloc: Global, bytes: &[u8]) -> ImageAnswer
     ensures image { Classified bytes.now result }
     ensures pages { is_roomy result ≡ true }
 {
     match read_executable(alloc, bytes) {
-        Ok(Ok(image)) => Answer::Starts(image),
-        Ok(Err(errno)) => Answer::Refuses(errno),
-        Err(Memory) => Answer::Memory,
+        Ok(Ok(image)) => ImageAnswer::Starts(image),
+        Ok(Err(errno)) => ImageAnswer::Refuses(errno),
+        Err(Memory) => ImageAnswer::Memory,
     }
 }
 
@@ -106,12 +106,12 @@ pub(crate) fn failed<N: HostNode>(before: u64, node: &N) -> NodeAnswer
 {
     NodeAnswer {
         risen: Some(risen(before, node.faults())),
-        answer: Answer::Refuses(Errno::EIO),
+        answer: ImageAnswer::Refuses(Errno::EIO),
     }
 }
 
 /// An answer of nodes that did not fail.
-pub(crate) fn answered(answer: Answer) -> NodeAnswer
+pub(crate) fn answered(answer: ImageAnswer) -> NodeAnswer
     requires { is_roomy answer ≡ true }
     ensures risen { result.risen ≡ None }
     ensures answer { result.answer ≡ answer }
@@ -132,14 +132,14 @@ pub(crate) fn load<N: HostNode>(alloc: Global, node: &mut N, route: &Route) -> N
     let attr = match node.stat(route) {
         Ok(attr) => attr,
         Err(HostErr::Failed) => return failed(before, node),
-        Err(HostErr::Memory) => return answered(Answer::Memory),
+        Err(HostErr::Memory) => return answered(ImageAnswer::Memory),
     };
     if let Some(errno) = refusal(&attr) {
-        return answered(Answer::Refuses(errno));
+        return answered(ImageAnswer::Refuses(errno));
     }
     match read_file(alloc, node, route, attr.size) {
         Ok(bytes) => answered(classify(alloc, bytes.as_slice())),
         Err(HostErr::Failed) => failed(before, node),
-        Err(HostErr::Memory) => answered(Answer::Memory),
+        Err(HostErr::Memory) => answered(ImageAnswer::Memory),
     }
 }

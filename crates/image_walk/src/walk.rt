@@ -8,7 +8,7 @@ ghost use Rattle.image_walk.specs.Standing.{IsNumbering};
 ghost use Rattle.image_walk.specs.Walking.{DrawsNext, IsGrant, LendsWhere, LoadsAt, SearchedFor, WalksWhere};
 
 use crate::granted::{Granted, Lent, Numbering, place_of_child};
-use crate::loading::{Answer, NodeAnswer, answered, failed, load};
+use crate::loading::{ImageAnswer, NodeAnswer, answered, failed, load};
 use host_node::{HostErr, HostNode};
 use sn_base::Memory;
 use sn_errno::Errno;
@@ -50,12 +50,12 @@ fn search<N: HostNode>(root: &mut N, route: &Route) -> Option<NodeAnswer>
     match root.stat(route) {
         Ok(attr) => {
             if attr.mode / 64 % 2 == 0 {
-                return Some(answered(Answer::Refuses(Errno::EACCES)));
+                return Some(answered(ImageAnswer::Refuses(Errno::EACCES)));
             }
             None
         }
         Err(HostErr::Failed) => Some(failed(before, root)),
-        Err(HostErr::Memory) => Some(answered(Answer::Memory)),
+        Err(HostErr::Memory) => Some(answered(ImageAnswer::Memory)),
     }
 }
 
@@ -112,7 +112,7 @@ fn lend_program<N: HostNode>(
                 loaded,
             })
         }
-        Ok(None) => Ok(at_root(root, answered(Answer::Refuses(Errno::ENOENT)))),
+        Ok(None) => Ok(at_root(root, answered(ImageAnswer::Refuses(Errno::ENOENT)))),
         Err(HostErr::Failed) => Ok(at_root(root, failed(before, &granted.root))),
         Err(HostErr::Memory) => Err(Memory),
     }

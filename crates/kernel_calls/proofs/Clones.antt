@@ -33,7 +33,7 @@ use Rattle.kernel_calls.specs.Clones.{HasSet, MakesIf, SetsWord, is_shape}
 use Rattle.guest_access.specs.Lending.{with_hand}
 use Rattle.guest_access.specs.Memories.{with_memory}
 use Rattle.kernel_calls.specs.Prepared.{IsCalling, MakesChild}
-use Rattle.kernel_calls.specs.declared.clone.Child.{Child}
+use Rattle.kernel_calls.specs.declared.clone.ClonedTask.{ClonedTask}
 use Rattle.kernel_calls.specs.declared.clone.Words.{Words}
 use Rattle.kernel_calls.specs.declared.context.Context.{Context}
 use Rattle.kernel_calls.proofs.Answering.{kept_memory}
@@ -43,7 +43,7 @@ use Rattle.kernel_calls.proofs.ClonedWords.{row_word}
 -- ---- a child
 
 -- where its registers, its clear word, its memory and what the words leave are these
-pub record IsChild (child : Child) (c : Caller) (k : Kernel) (args : Args) (own : Option AddressSpace)
+pub record IsChild (child : ClonedTask) (c : Caller) (k : Kernel) (args : Args) (own : Option AddressSpace)
     (space : AddressSpace) (areas : NamedMap AreaState) : Type 0 where
   pub registers : child.registers
       ≡ child_registers (cloning_of args).flags (cloning_of args).stack (cloning_of args).tls c.registers
@@ -57,7 +57,7 @@ module _ (c : Caller) (k : Kernel) where
       let made = with_new_task (k.entries + 1) memory clear c after in
       record made { registers = map.insert made.registers (k.tasks.last + 1) registers }
 
-  made_by : (child : Child) (args : Args) (memory : Option AddressSpace) (space : AddressSpace)
+  made_by : (child : ClonedTask) (args : Args) (memory : Option AddressSpace) (space : AddressSpace)
       (areas : NamedMap AreaState) → IsChild child c k args memory space areas
       → with_new_child child (k.entries + 1) c k
       ≡ made_so (child_registers (cloning_of args).flags (cloning_of args).stack (cloning_of args).tls c.registers)
@@ -76,7 +76,8 @@ module _ (c : Caller) (k : Kernel) where
 
 -- one whose words leave memory as it is, and one whose words leave this
 module _ {c : Caller} {k : Kernel} {context : Context} {space : AddressSpace} {areas : NamedMap AreaState}
-    {list : TaskTable} {waiting : FutexList} {console : ℕ} (child : Child) (args : Args) (own : Option AddressSpace)
+    {list : TaskTable} {waiting : FutexList} {console : ℕ} (child : ClonedTask) (args : Args)
+        (own : Option AddressSpace)
     (registers : Regs) (calling : IsCalling c k context space areas list waiting console)
     (before : c.registers ≡ registers) (begins : child.registers
     ≡ child_registers (cloning_of args).flags (cloning_of args).stack (cloning_of args).tls registers)
@@ -175,7 +176,7 @@ module _ {c : Caller} {k : Kernel} {context : Context} {own : AddressSpace} {sha
     process_barred_by r None e f h barred = process_then r None e f
     process_barred_by r (Some last) e f h barred = absurd (cc (h.0, barred))
 
-    process_made_by : (child : Child) (r : Reach) (o : Option Reach) → caller_set ≡ Some r → space' ≡ r.space
+    process_made_by : (child : ClonedTask) (r : Reach) (o : Option Reach) → caller_set ≡ Some r → space' ≡ r.space
         → child_set r.hand ≡ o → HasSet o set' memory areas'' k.areas → set' ≡ true
         → IsChild child c k args (Some memory) space' areas''
         → MakesChild (process_row (context_of k) c x k.tasks) child c k
@@ -229,7 +230,7 @@ module _ {c : Caller} {k : Kernel} {context : Context} {own : AddressSpace} {sha
         process_last _ (λ r e there h. process_barred_by r (child_set r.hand) e refl h barred)
 
     -- and where both words are as they are to be
-    pub process_makes : (child : Child) → set' ≡ true → IsChild child c k args (Some memory) space' areas''
+    pub process_makes : (child : ClonedTask) → set' ≡ true → IsChild child c k args (Some memory) space' areas''
         → MakesChild (process_row (context_of k) c x k.tasks) child c k
     process_makes child wrote is =
         process_last _ (λ r e there h. process_made_by child r (child_set r.hand) e there refl h wrote is)
@@ -274,7 +275,7 @@ module _ {c : Caller} {k : Kernel} {context : Context} {own : AddressSpace} {sha
     thread_barred_by r None e f h barred = thread_then r None e f
     thread_barred_by r (Some last) e f h barred = absurd (cc (h.0, barred))
 
-    thread_made_by : (child : Child) (r : Reach) (o : Option Reach) → caller_set ≡ Some r → beside_set r ≡ o
+    thread_made_by : (child : ClonedTask) (r : Reach) (o : Option Reach) → caller_set ≡ Some r → beside_set r ≡ o
         → HasSet o set' space'' areas'' k.areas → set' ≡ true → IsChild child c k args None space'' areas''
         → MakesChild (thread_row c x k.tasks) child c k
     thread_made_by child r None e f h wrote is = absurd (cc (h, wrote))
@@ -308,7 +309,7 @@ module _ {c : Caller} {k : Kernel} {context : Context} {own : AddressSpace} {sha
     pub thread_barred : set' ≡ false → outcome_in s (thread_row c x k.tasks) ≡ refuses EFAULT
     thread_barred barred = thread_last _ (λ r e h. thread_barred_by r (beside_set r) e refl h barred)
 
-    pub thread_makes : (child : Child) → set' ≡ true → IsChild child c k args None space'' areas''
+    pub thread_makes : (child : ClonedTask) → set' ≡ true → IsChild child c k args None space'' areas''
         → MakesChild (thread_row c x k.tasks) child c k
     thread_makes child wrote is = thread_last _ (λ r e h. thread_made_by child r (beside_set r) e refl h wrote is)
 
@@ -363,17 +364,17 @@ module _ (c : Caller) (k : Kernel) (args : Args) where
           ∙ ap (λ b. outcome_in (parts k) (cond b (done (refuses EAGAIN))
           (caller_word c (cloning_of args) k.tasks >>= process_by (context_of k) c (cloning_of args) k.tasks))) full
 
-  makes_as : (other : Prog Answer) → outcome_in (parts k) row ≡ outcome_in (parts k) other → (child : Option Child)
+  makes_as : (other : Prog Answer) → outcome_in (parts k) row ≡ outcome_in (parts k) other → (child : Option ClonedTask)
       → MakesIf other child c k → MakesIf row child c k
   makes_as other e None h = e ∙ h
   makes_as other e (Some child) h = record { changes = h.changes; row_is = e ∙ h.row_is; done_is = h.done_is }
 
   -- and makes what either makes
-  pub makes_process : (child : Option Child) → is_process flags ≡ true → MakesIf as_process child c k
+  pub makes_process : (child : Option ClonedTask) → is_process flags ≡ true → MakesIf as_process child c k
       → MakesIf row child c k
   makes_process child e = makes_as as_process (row_by true (is_thread flags) e refl) child
 
-  pub makes_thread : (child : Option Child) → is_process flags ≡ false → is_shape flags ≡ true
+  pub makes_thread : (child : Option ClonedTask) → is_process flags ≡ false → is_shape flags ≡ true
       → MakesIf as_thread child c k → MakesIf row child c k
   makes_thread child e shape =
       let f : is_thread flags ≡ true = ap (λ b. b || is_thread flags) (sym e) ∙ shape in

@@ -11,7 +11,7 @@ use Rattle.kernel_model.specs.calls.Clone.{is_process, is_thread, word_set}
 use Rattle.kernel_model.specs.entries.Parts.{Parts, parts, Prog, outcome_in}
 use Rattle.guest_access.specs.Lending.{with_hand, AreThose}
 use Rattle.kernel_calls.specs.Prepared.{MakesChild}
-use Rattle.kernel_calls.specs.declared.clone.Child.{Child}
+use Rattle.kernel_calls.specs.declared.clone.ClonedTask.{ClonedTask}
 use Rattle.kernel_calls.specs.declared.clone.Words.{Words}
 
 -- flags are those of a new process, or those of a new thread
@@ -44,6 +44,6 @@ LeavesWords task asked space areas address number (Some words) =
 
 -- a row comes to a child that is made, or to the error of a word that can't be written
 -- clone(2), ERRORS
-abbrev pub MakesIf : Prog Answer → Option Child → Caller → Kernel → Type 0
+abbrev pub MakesIf : Prog Answer → Option ClonedTask → Caller → Kernel → Type 0
 MakesIf row None c k = outcome_in (parts k) row ≡ refuses EFAULT
 MakesIf row (Some child) c k = MakesChild row child c k

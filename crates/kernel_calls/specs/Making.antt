@@ -9,7 +9,7 @@ use Rattle.kernel_model.specs.declared.kernel.Kernel.{Kernel}
 use Rattle.kernel_model.specs.calls.Clone.{made_for_child}
 use Rattle.kernel_model.specs.laws.Files.{with_copy}
 use Rattle.guest_access.specs.Memories.{with_memory}
-use Rattle.kernel_calls.specs.declared.clone.Child.{Child}
+use Rattle.kernel_calls.specs.declared.clone.ClonedTask.{ClonedTask}
 use Rattle.kernel_calls.specs.declared.clone.Words.{Words}
 
 -- a kernel whose words have got the child's number
@@ -31,12 +31,12 @@ with_new_task place (Some memory) clear c k = record k {
 
 -- a kernel in which a child's registers stand under a number
 -- clone(2)
-abbrev pub with_registers : Child → (number : ℕ) → Kernel → Kernel
+abbrev pub with_registers : ClonedTask → (number : ℕ) → Kernel → Kernel
 with_registers child number k = record k { registers = map.insert k.registers number child.registers }
 
 -- a kernel with a child: the words that got its number, its task with its memory and its descriptors, and its registers
 -- clone(2); fork(2)
-abbrev pub with_new_child : Child → (place : ℕ) → Caller → Kernel → Kernel
+abbrev pub with_new_child : ClonedTask → (place : ℕ) → Caller → Kernel → Kernel
 with_new_child child place c k =
     with_registers child (k.tasks.last + 1) (with_new_task place child.memory child.clear c
     (with_words child.words c k))

@@ -27,7 +27,7 @@ use Rattle.file_changes.specs.Changes.{files_after}
 use Rattle.kernel_calls.specs.Making.{with_new_child}
 use Rattle.guest_access.specs.Memories.{with_memory}
 use Rattle.kernel_calls.specs.declared.context.Context.{Context}
-use Rattle.kernel_calls.specs.declared.clone.Child.{Child}
+use Rattle.kernel_calls.specs.declared.clone.ClonedTask.{ClonedTask}
 use Rattle.kernel_calls.specs.declared.prepared.Awaited.{Awaited}
 use Rattle.kernel_calls.specs.declared.prepared.Called.{Called}
 use Rattle.kernel_calls.specs.declared.prepared.Called.TheVariants.{Replies, Makes, Sleeps, Waits}
@@ -113,7 +113,7 @@ pub record Answers (row : Prog Answer) (p : Prepared) (c : Caller) (k : Kernel) 
 
 -- a row comes to a child that is made, whose number is the reply
 -- clone(2), RETURN VALUE
-pub record MakesChild (row : Prog Answer) (child : Child) (c : Caller) (k : Kernel) : Type 0 where
+pub record MakesChild (row : Prog Answer) (child : ClonedTask) (c : Caller) (k : Kernel) : Type 0 where
   pub changes : List Change
   pub row_is : outcome_in (parts k) row ≡ replies (pos (k.tasks.last + 1)) changes
   pub done_is : changed changes k ≡ with_new_child child (k.entries + 1) c k

@@ -40,7 +40,7 @@ const THREAD_FLAGS: u32 = (1 << 8) + (1 << 9) + (1 << 10) + (1 << 11) + (1 << 16
 /// A task that a call makes: its registers, its clear word's address (or 0), its memory, where it is a process of its
 /// own, and the memory that the words leave which got its number, where some did.
 #[derive(Drop)]
-pub struct Child {
+pub struct ClonedTask {
     pub registers: Regs,
     pub clear: u64,
     pub memory: Option<GuestSpace>,
@@ -102,7 +102,7 @@ fn made(
     number: u32,
     space: &mut GuestSpace,
     areas: &mut Named<GuestArea>,
-) -> Result<Option<Child>, Memory>
+) -> Result<Option<ClonedTask>, Memory>
     ensures made { IfOk result (λ child. (c : ACaller) (k : AKernel) (list : TaskTable) (waiting : FutexList)
         (console : ℕ) → IsCalling c k context.now space.old areas.old list waiting console →
         c.registers ≡ registers.now → number ≡ k.tasks.last + 1 → is_full k.tasks ≡ false →
@@ -127,7 +127,7 @@ fn process(
     number: u32,
     space: &mut GuestSpace,
     areas: &mut Named<GuestArea>,
-) -> Result<Option<Child>, Memory>
+) -> Result<Option<ClonedTask>, Memory>
     ensures made { IfOk result (λ child. (c : ACaller) (k : AKernel) (list : TaskTable) (waiting : FutexList)
         (console : ℕ) → IsCalling c k context.now space.old areas.old list waiting console →
         c.registers ≡ registers.now → number ≡ k.tasks.last + 1 → is_full k.tasks ≡ false →
@@ -160,7 +160,7 @@ fn thread(
     number: u32,
     space: &mut GuestSpace,
     areas: &mut Named<GuestArea>,
-) -> Result<Option<Child>, Memory>
+) -> Result<Option<ClonedTask>, Memory>
     ensures made { IfOk result (λ child. (c : ACaller) (k : AKernel) (list : TaskTable) (waiting : FutexList)
         (console : ℕ) → IsCalling c k context.now space.old areas.old list waiting console →
         c.registers ≡ registers.now → number ≡ k.tasks.last + 1 → is_full k.tasks ≡ false →
@@ -195,7 +195,7 @@ fn new_child(
     args: &Args,
     memory: Option<GuestSpace>,
     words: Option<Words>,
-) -> Child
+) -> ClonedTask
     ensures registers { let x = cloning_of args.now in
         result.registers ≡ child_registers x.flags x.stack x.tls registers.now }
     ensures clear { let x = cloning_of args.now in result.clear ≡ child_clear x.flags x.child_word }
@@ -209,7 +209,7 @@ fn new_child(
         a4: child_word,
         ..
     } = *args;
-    Child {
+    ClonedTask {
         registers: child_registers(flags, stack, tls, registers),
         clear: child_clear(flags, child_word),
         memory,

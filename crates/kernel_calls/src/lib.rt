@@ -42,7 +42,7 @@ mod wait;
 
 pub use arguments::is_too_long;
 pub use calls::{call, refused};
-pub use clone::{Child, Words};
+pub use clone::{ClonedTask, Words};
 pub use context::Context;
 pub use ending::end_group;
 pub use executable::read_executable;

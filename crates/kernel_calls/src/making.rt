@@ -14,7 +14,7 @@ ghost use Rattle.kernel_model.specs.laws.Files.{with_copy};
 ghost use Rattle.kernel_calls.specs.Making.{with_new_child, with_new_task, with_words};
 
 use crate::Context;
-use crate::clone::{Child, Words};
+use crate::clone::{ClonedTask, Words};
 use file_changes::copy_table;
 use kernel_model::{GuestArea, GuestSpace, Named, OpenFiles};
 use rv_table::Regs;
@@ -28,7 +28,7 @@ use task_table::{CloneErr, Tasks};
 pub fn make(
     alloc: Global,
     context: &Context<'_>,
-    child: Child,
+    child: ClonedTask,
     tasks: &mut Tasks,
     registers: &mut Map<Regs>,
     spaces: &mut Named<GuestSpace>,
@@ -85,7 +85,7 @@ fn put_back(registers: &mut Map<Regs>, number: u64, before: Option<Regs>)
 fn make_task(
     alloc: Global,
     context: &Context<'_>,
-    child: Child,
+    child: ClonedTask,
     tasks: &mut Tasks,
     spaces: &mut Named<GuestSpace>,
     areas: &mut Named<GuestArea>,
@@ -104,7 +104,7 @@ fn make_task(
     ensures err_areas { OnErr result (areas.new ≡ areas.old) }
     ensures err_files { OnErr result (files.new ≡ files.old) }
 {
-    let Child {
+    let ClonedTask {
         clear,
         memory,
         words,

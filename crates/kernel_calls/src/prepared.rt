@@ -6,7 +6,7 @@ ghost use Rattle.kernel_model.specs.declared.kernel.Kernel.{Kernel as AKernel};
 ghost use Rattle.kernel_model.specs.calls.Ending.{clear_set, left_by, woken_on};
 ghost use Rattle.kernel_calls.specs.Prepared.{EndsLive, with_closed, with_effect};
 
-use crate::clone::Child;
+use crate::clone::ClonedTask;
 use file_changes::{FileChange, change_files, close_table};
 use futex_core::{FutexKey, Waited, Waiters};
 use kernel_model::OpenFiles;
@@ -66,7 +66,7 @@ pub struct Awaited {
 #[derive(Drop)]
 pub enum Called {
     Replies(Prepared),
-    Makes(Boxed<Child>),
+    Makes(Boxed<ClonedTask>),
     Sleeps(FutexKey),
     Waits(Awaited),
 }

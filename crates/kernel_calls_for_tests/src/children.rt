@@ -3,7 +3,7 @@
 use crate::act::Act;
 use crate::asked::{Asked, CLONE, WAIT4, ask};
 use crate::guest::Guest;
-use kernel_calls::{Called, Child, Effect, Words};
+use kernel_calls::{Called, ClonedTask, Effect, Words};
 use kernel_model::GuestSpace;
 use std::mem;
 use std::test::Fail;
@@ -20,7 +20,7 @@ fn wait4([child, address, options, usage]: [u64; 4]) -> Asked {
 
 impl Guest {
     /// The child that a clone makes.
-    pub fn child(&mut self, args: [u64; 5]) -> Result<Child, Fail> {
+    pub fn child(&mut self, args: [u64; 5]) -> Result<ClonedTask, Fail> {
         match self.called(clone_of(args))? {
             Called::Makes(child) => Ok(child.into_inner()),
             _ => Err(Fail::new("no child")),

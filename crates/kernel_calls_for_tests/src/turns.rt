@@ -8,7 +8,7 @@ ghost use Rattle.task_table.specs.Table.{is_live};
 
 use crate::families::lives;
 use crate::guest::Guest;
-use kernel_calls::{Child, Context, make};
+use kernel_calls::{ClonedTask, Context, make};
 use kernel_model::{GuestArea, GuestSpace, Named, OpenFiles};
 use mm_areas::Areas;
 use mm_space::Space;
@@ -33,7 +33,7 @@ fn may_make(tasks: &Tasks, task: u32, spaces: &Named<GuestSpace>, memory: Made) 
 fn take_place(
     alloc: Global,
     context: &Context<'_>,
-    child: Child,
+    child: ClonedTask,
     tasks: &mut Tasks,
     registers: &mut Map<Regs>,
     spaces: &mut Named<GuestSpace>,
@@ -72,7 +72,7 @@ impl Guest {
     }
 
     /// Has a child of its last call take its place, while its memory is among the others.
-    fn place_child(&mut self, child: Child) -> Result<(), Fail> {
+    fn place_child(&mut self, child: ClonedTask) -> Result<(), Fail> {
         let seed = self.seed;
         let context = Context {
             task: self.task,

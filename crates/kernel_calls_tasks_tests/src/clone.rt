@@ -1,6 +1,6 @@
 //! Calls that make tasks: why some are refused, and what a child begins with.
 
-use kernel_calls::Child;
+use kernel_calls::ClonedTask;
 use kernel_calls_for_tests::{
     Act, CLONE, EAGAIN, EFAULT, EINVAL, EXIT, Ends, Guest, HEAP, MAPPINGS_END, PRIVATE, RESERVE,
     SHARED, STORE, TOP, crowd, expect_acts, guest_among, new_guest,
@@ -209,7 +209,7 @@ fn registers_of(registers: &Regs, begins: &Begins) -> Regs {
 }
 
 /// Whether a child begins so.
-fn is_as_told(child: &Child, registers: &Regs, begins: &Begins) -> bool {
+fn is_as_told(child: &ClonedTask, registers: &Regs, begins: &Begins) -> bool {
     child.registers == registers_of(registers, begins)
         && child.clear == begins.clear
         && child.memory.is_some() == begins.own
@@ -358,7 +358,7 @@ const CLONES: &[Cloned] = &[
 /// That one of these comes to what is expected.
 fn expect_cloned(guest: &mut Guest, cloned: &Cloned) -> Result<(), Fail> {
     guest.expect(BEFORE)?;
-    let Child { memory, words, .. } = guest.child(cloned.args)?;
+    let ClonedTask { memory, words, .. } = guest.child(cloned.args)?;
     guest.go_on(words);
     guest.expect(cloned.caller)?;
     guest.expect_of_child(memory, cloned.child)?;

@@ -52,7 +52,7 @@ use Rattle.kernel_model.specs.machine.FutexWords.{key_at}
 use Rattle.kernel_model.specs.machine.Random.{random_at}
 use Rattle.kernel_model.specs.machine.Registers.{args_of, call_of as number_of}
 use Rattle.kernel_model.specs.machine.Spaces.{going_in, going_with}
-use Rattle.kernel_model.specs.calls.Answers.{Reply, Replies, Sleeps, NotReady, Answer, address_reply}
+use Rattle.kernel_model.specs.calls.Answers.{RowReply, Replies, Sleeps, NotReady, Answer, address_reply}
 use Rattle.kernel_model.specs.calls.Buffers.{filled, fills}
 use Rattle.kernel_model.specs.calls.Callers.{Context, context_of, caller_of}
 use Rattle.kernel_model.specs.calls.ClearWords.{Cleared, nothing_cleared, words_cleared}
@@ -462,7 +462,7 @@ module _ (k : Kernel) (dir : ℕ) (name : List ℕ) (shape : Shape) where
         (untouched _ (group_leaves (parts k) c (Killed signal)))) tt
 
     -- a task that goes to sleep, and one that was woken
-    slept_keeps : (answer : Answer) (reply : Reply) → LeavesNodes answer.changes → KeepsIf (slept_by answer reply)
+    slept_keeps : (answer : Answer) (reply : RowReply) → LeavesNodes answer.changes → KeepsIf (slept_by answer reply)
     slept_keeps answer (Replies value) leaves = tt
     slept_keeps answer NotReady leaves = tt
     slept_keeps answer Sleeps leaves = untouched answer.changes leaves
@@ -505,7 +505,7 @@ module _ (k : Kernel) (dir : ℕ) (name : List ℕ) (shape : Shape) where
           all : Keeps (node_changes nodes ++ answer.changes)
           all = more_keep (node_changes nodes) answer.changes leaves (nodes_keep nodes h)
 
-          by : (r : Reply) → KeepsIf (replied_by c reply (node_changes nodes ++ answer.changes) r)
+          by : (r : RowReply) → KeepsIf (replied_by c reply (node_changes nodes ++ answer.changes) r)
           by NotReady = tt
           by Sleeps = tt
           by (Replies value) =

@@ -44,5 +44,5 @@ pub use laws::locality;
 pub use limits::{CONSOLE_ROOM, LAST_NUMBER, LONGEST_IMAGE, MOST_MOVED, MOST_RANDOM};
 pub use named::{Former, Named};
 pub use open_files::{OpenFile, OpenFiles};
-pub use opening::{Fresh, Given, Left, LeftRise, Opened, Opening, Rise};
+pub use opening::{Fresh, Given, Left, LeftRise, OpenedTask, Opening, Rise};
 pub use traps::Next;

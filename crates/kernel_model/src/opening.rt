@@ -28,7 +28,7 @@ pub struct Given {
 
 /// An opening task: its arguments, and what its opening execve drew and met.
 #[derive(Drop)]
-pub struct Opened {
+pub struct OpenedTask {
     pub words: List<Text>,
     pub given: Given,
 }
@@ -38,7 +38,7 @@ pub struct Opened {
 pub struct Opening {
     pub mounts: List<Mount>,
     pub roots: List<u64>,
-    pub tasks: List<Opened>,
+    pub tasks: List<OpenedTask>,
 }
 
 /// The rises of a task's calls that reached no entry, with the fresh numbers of nodes that no entry numbers.

@@ -7,7 +7,7 @@ use Rattle.kernel_model.specs.declared.kernel.Kernel.{Kernel}
 use Rattle.mount_file.specs.declared.mounts.Mounts.{Mounts}
 use Rattle.mount_file.specs.declared.mounts.Program.{Program}
 use Rattle.kernel_model.specs.declared.opening.Opening.{Opening}
-use Rattle.kernel_model.specs.declared.opening.Opened.{Opened}
+use Rattle.kernel_model.specs.declared.opening.OpenedTask.{OpenedTask}
 use Rattle.plain_kernel.specs.declared.plain.OpeningErr.{OpeningErr}
 use Rattle.plain_kernel.specs.declared.walking.Execved.{Execved}
 use Rattle.plain_kernel.specs.declared.walking.Execved.TheVariants as answers
@@ -43,7 +43,7 @@ pub begun_at : (m n : ℕ) (program : Program) (k : Kernel) (does : Executed) (r
     → task_begun rest (with_task m program) m k does ≡ task_begun rest (with_task n program) n k does
 begun_at m n program k does rest same = ap (λ i. task_begun rest (with_task i program) i k does) same
 
-module _ (n : ℕ) (programs : List Program) (opened : List Opened) (k : Kernel) (i : ℕ) where
+module _ (n : ℕ) (programs : List Program) (opened : List OpenedTask) (k : Kernel) (i : ℕ) where
   -- a program with no record of its opening
   pub no_record : i < length programs → length opened ≤ i → tasks_begun n (drop i programs) (drop i opened) k
       ≡ Misfits n
@@ -56,7 +56,7 @@ module _ (n : ℕ) (programs : List Program) (opened : List Opened) (k : Kernel)
       by (p ∷ ps) e = refl
 
   -- the next program, by what it may meet
-  module _ (p : Program) (o : Opened) (inside : i < length programs) (program : p ≡ get_or programs i p)
+  module _ (p : Program) (o : OpenedTask) (inside : i < length programs) (program : p ≡ get_or programs i p)
       (within : i < length opened) (record_of : o ≡ get_or opened i o) where
     next_begun : tasks_begun n (drop i programs) (drop i opened) k
         ≡ cond (may_meet k.nodes o.given)
@@ -106,7 +106,7 @@ refused_same a b e same refused = subst (λ x. IsRefusedBy x e) (sym same) refus
 
 -- the tasks of an opening, begun from the kernel before them
 pub begun_from : (mounts : Mounts) (trees : List Shape) (opening : Opening) → is_of mounts opening ≡ true
-    → (programs : List Program) (opened : List Opened) (shapes : List Shape) (k : Kernel)
+    → (programs : List Program) (opened : List OpenedTask) (shapes : List Shape) (k : Kernel)
     → programs ≡ mounts.tasks → opened ≡ opening.tasks → shapes ≡ trees → k ≡ bare mounts shapes
     → opening_of mounts trees opening ≡ tasks_begun 1 programs opened k
 begun_from mounts trees opening same programs opened shapes k p o t b =

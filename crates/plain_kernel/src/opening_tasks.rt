@@ -19,7 +19,7 @@ use file_changes::open_files;
 use futex_core::Waiters;
 use host_node::Tree;
 use kernel_calls::{Beginning, open_task, opened};
-use kernel_model::{Given, Kernel, Named, Node, OpenFiles, Opened};
+use kernel_model::{Given, Kernel, Named, Node, OpenFiles, OpenedTask};
 use mount_file::{MOST_TASKS, Mounts, Program, copied_mounts};
 use node_numbers::{may_meet, root_node};
 use sn_base::{List, Map, Memory};
@@ -67,7 +67,7 @@ pub(crate) fn begin_tasks(
     alloc: Global,
     kernel: &mut Kernel,
     programs: &[Program],
-    opened: &[Opened],
+    opened: &[OpenedTask],
 ) -> Result<(), OpeningErr>
     requires few { length programs.now ≤ MOST_TASKS }
     requires none { kernel.old.tasks ≡ no_tasks }

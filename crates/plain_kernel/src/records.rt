@@ -3,13 +3,13 @@
 ghost use Rattle.std.specs.Prelude.{◌≡◌, ◌+◌, ◌<◌, ◌^◌, nat_eq, map};
 ghost use Rattle.std.specs.Str.{bytes_eq};
 ghost use Rattle.mount_file.specs.declared.mounts.Program.{Program as AProgram};
-ghost use Rattle.kernel_model.specs.declared.opening.Opened.{Opened as AnOpened};
+ghost use Rattle.kernel_model.specs.declared.opening.OpenedTask.{OpenedTask as AnOpenedTask};
 ghost use Rattle.kernel_model.specs.files.Numbers.{count_up};
 ghost use lib.Pointwise.{pointwise};
 ghost use Rattle.kernel_model.specs.opening.Records.{begins, same_flag, same_folder, same_mount};
 ghost use Rattle.kernel_model.specs.opening.Records.{is_of};
 
-use kernel_model::{Opened, Opening};
+use kernel_model::{OpenedTask, Opening};
 use mount_file::{Mount, Mounts, Program, is_same_place};
 use sn_text::{Folder, Text, same_names};
 
@@ -81,8 +81,8 @@ fn are_numbers(numbers: &[u64], first: u64, count: u64) -> bool
 }
 
 /// Whether the words of tasks are the arguments of the first of the programs.
-fn begin_words(tasks: &[Opened], programs: &[Program]) -> bool
-    ensures { result ≡ begins (pointwise bytes_eq) (map (λ (o : AnOpened). o.words) tasks.now)
+fn begin_words(tasks: &[OpenedTask], programs: &[Program]) -> bool
+    ensures { result ≡ begins (pointwise bytes_eq) (map (λ (o : AnOpenedTask). o.words) tasks.now)
         (map (λ (p : AProgram). p.args) programs.now) }
 {
     let [first, others @ ..] = tasks else {

@@ -3,7 +3,7 @@
 ghost use Rattle.std.specs.Prelude.{◌≤◌, length};
 
 use host_node::Tree;
-use kernel_model::{Fresh, Given, Opened, Opening, Rise};
+use kernel_model::{Fresh, Given, OpenedTask, Opening, Rise};
 use mount_file::{Mount, Mounts, Program};
 use plain_kernel::{OpeningErr, Plain};
 use sn_base::{List, Memory};
@@ -180,16 +180,16 @@ pub fn risen(alloc: Global, count: u64) -> Result<Given, Fail> {
 }
 
 /// A task's record.
-fn opened_of(alloc: Global, task: &Task) -> Result<Opened, Fail> {
+fn opened_of(alloc: Global, task: &Task) -> Result<OpenedTask, Fail> {
     let mut given = risen(alloc, task.rise)?;
     given.fresh = fresh_of(alloc, task.drawn)?;
-    Ok(Opened {
+    Ok(OpenedTask {
         words: one_of(alloc, task.argument)?,
         given,
     })
 }
 
-fn opened_tasks(alloc: Global, tasks: &[Task]) -> Result<List<Opened>, Fail> {
+fn opened_tasks(alloc: Global, tasks: &[Task]) -> Result<List<OpenedTask>, Fail> {
     let mut opened = List::new(alloc);
     for task in tasks {
         opened.push(opened_of(alloc, task)?)?;

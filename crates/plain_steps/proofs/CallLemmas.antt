@@ -19,7 +19,7 @@ use Rattle.kernel_model.specs.declared.kernel.Kernel.{Kernel}
 use Rattle.kernel_model.specs.declared.kernel.Part.TheVariants.{OfTask, OfFaults}
 use Rattle.kernel_model.specs.declared.opening.Fresh.{Fresh}
 use Rattle.kernel_model.specs.declared.opening.Given.{Given}
-use Rattle.kernel_model.specs.calls.Answers.{Answer, Key, Reply, Replies, Sleeps, NotReady, replies}
+use Rattle.kernel_model.specs.calls.Answers.{Answer, Key, RowReply, Replies, Sleeps, NotReady, replies}
 use Rattle.kernel_model.specs.calls.Callers.{Context, context_of}
 use Rattle.kernel_model.specs.calls.Pipes.{pipe_made}
 use Rattle.kernel_model.specs.calls.Table.{call_row}
@@ -38,7 +38,7 @@ use Rattle.kernel_model.proofs.Trees.{outcome-bind}
 use Rattle.kernel_calls.specs.Making.{with_new_child, with_registers, with_new_task, with_words}
 use Rattle.guest_access.specs.Memories.{with_memory}
 use Rattle.kernel_calls.specs.Prepared.{Comes, with_effect}
-use Rattle.kernel_calls.specs.declared.clone.Child.{Child}
+use Rattle.kernel_calls.specs.declared.clone.ClonedTask.{ClonedTask}
 use Rattle.kernel_calls.specs.declared.clone.Words.{Words}
 use Rattle.kernel_calls.specs.declared.prepared.Prepared.{Prepared}
 use Rattle.kernel_calls.specs.declared.prepared.Called.{Called as ACalled}
@@ -190,7 +190,7 @@ module _ (k : Kernel) (c : Caller) (row : Prog Answer) (d : CallEnd) (space : Ad
 
 -- ---- a task as its call left it
 
-replied_alike : (c : Caller) (space : AddressSpace) (reply : ℤ) (changes : List Change) (r : Reply)
+replied_alike : (c : Caller) (space : AddressSpace) (reply : ℤ) (changes : List Change) (r : RowReply)
     → replied_by (record c { space = space }) reply changes r ≡ replied_by c reply changes r
 replied_alike c space reply changes (Replies value) = refl
 replied_alike c space reply changes Sleeps = refl
@@ -206,7 +206,7 @@ task_alike : (place : ℕ) (memory : Option AddressSpace) (clear : ℕ) (c : Cal
 task_alike place None clear c own k = refl
 task_alike place (Some memory) clear c own k = refl
 
-child_alike : (child : Child) (place : ℕ) (c : Caller) (own : AddressSpace) (k : Kernel)
+child_alike : (child : ClonedTask) (place : ℕ) (c : Caller) (own : AddressSpace) (k : Kernel)
     → with_new_child child place (record c { space = own }) k ≡ with_new_child child place c k
 child_alike child place c own k =
     ap (with_registers child (k.tasks.last + 1))
@@ -289,7 +289,7 @@ module _ (k left : Kernel) (c : Caller) (areas : NamedMap AreaState) (told reply
       subst (Finishes k left c areas reply r) (sym is)
       (λ row comes. replied_so row p.reply comes.changes comes.row_is (does comes.changes comes.done_is))
 
-  pub finish_makes : (child : Child) → d ≡ Of (called.Makes child) → ((changes : List Change)
+  pub finish_makes : (child : ClonedTask) → d ≡ Of (called.Makes child) → ((changes : List Change)
       → changed changes k ≡ with_new_child child (k.entries + 1) c k
       → Does (replied_by c told changes (Replies (pos (k.tasks.last + 1)))) k left r)
       → Finishes k left c areas reply r d
@@ -410,7 +410,7 @@ words_registers None c k = refl
 words_registers (Some words) c k = refl
 
 -- it has registers beside those that there are
-child_registers : (child : Child) (place : ℕ) (c : Caller) (k : Kernel)
+child_registers : (child : ClonedTask) (place : ℕ) (c : Caller) (k : Kernel)
     → (with_new_child child place c k).registers ≡ map.insert k.registers (k.tasks.last + 1) child.registers
 child_registers child place c k =
     ap (λ m. map.insert m (k.tasks.last + 1) child.registers)
@@ -425,7 +425,8 @@ has_beside m key other v has =
       | inr apart ↦ ap is_some (get-insert_other m other key v apart) ∙ has
     ]
 
-pub caller_stays : (child : Child) (place : ℕ) (c : Caller) (k after : Kernel) → with_new_child child place c k ≡ after
+pub caller_stays : (child : ClonedTask) (place : ℕ) (c : Caller) (k after : Kernel)
+    → with_new_child child place c k ≡ after
     → map.contains_key k.registers c.task ≡ true → map.contains_key after.registers c.task ≡ true
 caller_stays child place c k after is has =
     ap (λ (m : Kernel). map.contains_key m.registers c.task) (sym is)

@@ -27,7 +27,7 @@ use crate::effects::{go_on, settle};
 use crate::moving::{move_bytes, open_pipe};
 use call_fs::{CallEnd, call};
 use guest_access::step;
-use kernel_calls::{Child, Prepared, args_of, call_of, make};
+use kernel_calls::{ClonedTask, Prepared, args_of, call_of, make};
 use kernel_model::{Args, Caller, Given, GuestArea, Kernel, Named, Next};
 use mount_file::MOST_ENTRIES;
 use node_numbers::{faulted, is_in_order};
@@ -271,7 +271,7 @@ fn make_child(
     kernel: &mut Kernel,
     caller: &Caller,
     reply: i64,
-    child: Boxed<Child>,
+    child: Boxed<ClonedTask>,
 ) -> Result<bool, Memory>
     requires few { kernel.old.entries < MOST_ENTRIES }
     requires there { IsThere caller.now kernel.old }

@@ -17,7 +17,7 @@ use Rattle.task_table.specs.Table.{TaskTable}
 use Rattle.kernel_model.specs.declared.limits.TheConstants.{LAST_NUMBER}
 use Rattle.kernel_model.specs.declared.kernel.Kernel.{Kernel}
 use Rattle.kernel_model.specs.declared.opening.Given.{Given}
-use Rattle.kernel_model.specs.declared.opening.Opened.{Opened}
+use Rattle.kernel_model.specs.declared.opening.OpenedTask.{OpenedTask}
 use Rattle.kernel_model.specs.declared.opening.Rise.{Rise}
 use Rattle.kernel_model.specs.entries.Given.{may_meet}
 use Rattle.kernel_model.specs.entries.Parts.{parts, outcome_in, changed}
@@ -29,8 +29,8 @@ use Rattle.kernel_model.specs.opening.Opening.{task_begun, tasks_begun, with_tas
 use Rattle.kernel_model.proofs.OpenedTasks.{AreOpened, opened_more}
 use Rattle.image_walk.specs.declared.granted.TheConstants.{MOST_ROOTS}
 use Rattle.image_walk.specs.declared.granted.Numbering.{Numbering}
-use Rattle.image_walk.specs.declared.loading.Answer.{Answer}
-use Rattle.image_walk.specs.declared.loading.Answer.TheVariants as answers
+use Rattle.image_walk.specs.declared.loading.ImageAnswer.{ImageAnswer}
+use Rattle.image_walk.specs.declared.loading.ImageAnswer.TheVariants as answers
 use Rattle.image_walk.specs.Executing.{AnswersExecve, Executes, named_then, walked_among}
 use Rattle.image_walk.specs.Granted.{LentChild}
 use Rattle.image_walk.specs.Standing.{IsNumbering, StandsLent, lent_from}
@@ -75,7 +75,7 @@ if_any (Some a) = tt
 -- ---- an execve
 
 -- what an execve did, for each tree that its nodes may tell
-abbrev pub ExecutesFor : Numbering → Program → Given → Answer → (root root' : Option Shape)
+abbrev pub ExecutesFor : Numbering → Program → Given → ImageAnswer → (root root' : Option Shape)
     → (children children' : List LentChild) → Type 0
 ExecutesFor num program given answer root root' children children' =
     (t : Shape) (names : List (List ℕ)) → StandsLent num t names [] root children
@@ -101,7 +101,7 @@ none_told m others p root children fact e =
     subst (λ (o : Option Shape). IfSome (kernel_told m (trees_told others o children) p 0) fact) (sym e) tt
 
 module _ (m : Mounts) (others : Others) (is : AreOthers m.mounts others) (t : Shape) (names : List (List ℕ)) (i : ℕ)
-    (tasks tasks' : List Opened) (p : Processes) (program : Program) (o : Opened)
+    (tasks tasks' : List OpenedTask) (p : Processes) (program : Program) (o : OpenedTask)
     (root root' : Option Shape) (children children' : List LentChild)
     (s : StandsLent (numbering_of m.mounts) t names [] root children) (at : slice_get m.tasks i ≡ Some program)
     (drawn : length children ≤ i) (few : i < 64) (pushed : tasks' ≡ tasks ++ o ∷ [])
@@ -125,7 +125,7 @@ module _ (m : Mounts) (others : Others) (is : AreOthers m.mounts others) (t : Sh
       omega arith
 
   -- what is left comes to what the next execve does, where what it drew and met may be
-  next : (rest : List Opened) → may_meet h.nodes o.given ≡ true
+  next : (rest : List OpenedTask) → may_meet h.nodes o.given ≡ true
       → tasks_begun (i + 1) (drop i m.tasks) (o ∷ rest) k
       ≡ task_begun (tasks_begun (i + 1 + 1) (drop (i + 1) m.tasks) rest) (with_task (i + 1) program) (i + 1) k
       (outcome_in (parts k) (execve_of num.root program o.given))
@@ -223,7 +223,7 @@ module _ (m : Mounts) (others : Others) (is : AreOthers m.mounts others) (t : Sh
 
 -- the folder stands, whatever an execve answers,
 pub standing : (num : Numbering) (long : Bool) (t : Shape) (names : List (List ℕ)) (name : List ℕ) (given : Given)
-    (answer : Answer)
+    (answer : ImageAnswer)
     (root : Option Shape) (children : List LentChild)
     → Executes num long t names name given answer root children → IsStanding num t root children
 standing num long t names name given answer root children e =
@@ -231,11 +231,11 @@ standing num long t names name given answer root children e =
 
 -- and no count has risen where an image begins,
 stands_then : (num : Numbering) (long : Bool) (t : Shape) (names : List (List ℕ)) (name : List ℕ) (given : Given)
-    (image : Executable) (answer : Answer) (root : Option Shape) (children : List LentChild)
+    (image : Executable) (answer : ImageAnswer) (root : Option Shape) (children : List LentChild)
     → answer ≡ answers.Starts image
     → Executes num long t names name given answer root children → StandsStill num t root children
 stands_then num long t names name given image answer root children is e =
-    let started = subst (λ (x : Answer). Executes num long t names name given x root children) is e in
+    let started = subst (λ (x : ImageAnswer). Executes num long t names name given x root children) is e in
     record {
       names = named_then started.drawn names name;
       stands = stands_on num long t names name given image root children started;
@@ -252,12 +252,12 @@ still_by num false walked drawn count t names (rise ∷ []) root children s a = 
 still_by num false walked drawn count t names (rise ∷ other ∷ rises) root children s a = absurd a
 
 lacks_then : (num : Numbering) (long : Bool) (t : Shape) (names : List (List ℕ)) (name : List ℕ) (given : Given)
-    (answer : Answer) (root : Option Shape) (children : List LentChild) → MayLackMemory answer
+    (answer : ImageAnswer) (root : Option Shape) (children : List LentChild) → MayLackMemory answer
     → Executes num long t names name given answer root children → StandsStill num t root children
 lacks_then num long t names name given answer root children (inl starts) e =
     stands_then num long t names name given starts.0 answer root children starts.1 e
 lacks_then num long t names name given answer root children (inr lacks) e =
-    let lacking = subst (λ (x : Answer). Executes num long t names name given x root children) lacks e in
+    let lacking = subst (λ (x : ImageAnswer). Executes num long t names name given x root children) lacks e in
     record {
       names = named_then lacking.drawn names name;
       stands =
@@ -269,14 +269,15 @@ lacks_then num long t names name given answer root children (inr lacks) e =
 -- ---- what comes of the answer
 
 -- what is told by the numbers of the folder, by those of the mount file
-pub executes_as : (m : Mounts) (num : Numbering) (program : Program) (given : Given) (answer : Answer)
+pub executes_as : (m : Mounts) (num : Numbering) (program : Program) (given : Given) (answer : ImageAnswer)
     (root root' : Option Shape) (children children' : List LentChild) → num ≡ numbering_of m.mounts
     → ExecutesFor num program given answer root root' children children'
     → ExecutesFor (numbering_of m.mounts) program given answer root root' children children'
 executes_as m num program given answer root root' children children' numbered e =
     subst (λ (x : Numbering). ExecutesFor x program given answer root root' children children') numbered e
 
-pub begins_as : (m : Mounts) (num : Numbering) (seed : List ℕ) (program : Program) (answer : Answer) (p : Processes)
+pub begins_as : (m : Mounts) (num : Numbering) (seed : List ℕ) (program : Program) (answer : ImageAnswer)
+    (p : Processes)
     (result : Result Processes OpenErr) → num ≡ numbering_of m.mounts → seed ≡ m.seed
     → Begins seed num.root program answer p result → Begins m.seed (root_of m.mounts) program answer p result
 begins_as m num seed program answer p result numbered same b =
@@ -290,13 +291,13 @@ before num None children g = inl refl
 before num (Some r) children g = inr (g.0, g.1, g.3)
 
 -- an execve of the program of an index, and what came of its answer
-pub record Deed (m : Mounts) (i : ℕ) (tasks tasks' : List Opened) (p : Processes) (root root' : Option Shape)
+pub record Deed (m : Mounts) (i : ℕ) (tasks tasks' : List OpenedTask) (p : Processes) (root root' : Option Shape)
     (children children' : List LentChild) (result : Result Processes OpenErr) : Type 0 where
   pub program : Program
   pub at : slice_get m.tasks i ≡ Some program
-  pub opened : Opened
+  pub opened : OpenedTask
   pub pushed : tasks' ≡ tasks ++ opened ∷ []
-  pub answer : Answer
+  pub answer : ImageAnswer
   pub executes : ExecutesFor (numbering_of m.mounts) program opened.given answer root root' children children'
   pub begins : Begins m.seed (root_of m.mounts) program answer p result
   pub last : p.cells.tasks.last ≡ i
@@ -305,7 +306,7 @@ pub record Deed (m : Mounts) (i : ℕ) (tasks tasks' : List Opened) (p : Process
   pub facts : IsNumbering (numbering_of m.mounts)
   pub grant : IsGrant (numbering_of m.mounts) root children
 
-module _ (m : Mounts) (i : ℕ) (tasks tasks' : List Opened) (p : Processes) (root root' : Option Shape)
+module _ (m : Mounts) (i : ℕ) (tasks tasks' : List OpenedTask) (p : Processes) (root root' : Option Shape)
     (children children' : List LentChild) where
   abbrev numbers : Numbering
   numbers = numbering_of m.mounts
@@ -321,7 +322,7 @@ module _ (m : Mounts) (i : ℕ) (tasks tasks' : List Opened) (p : Processes) (ro
     | inr g ↦
         task_begins m others is g.0 g.1 i tasks tasks' p d.program d.opened root root' children children' g.2
         d.at d.drawn d.few d.pushed d.facts d.begins.0 q
-        (subst (λ (x : Answer). Executes numbers (is_too_long d.program.args d.program.env) g.0 g.1 d.program.name
+        (subst (λ (x : ImageAnswer). Executes numbers (is_too_long d.program.args d.program.env) g.0 g.1 d.program.name
         d.opened.given x root' children') d.begins.1 (d.executes g.0 g.1 g.2)) d.last d.begins.3
   ]
 
@@ -336,7 +337,7 @@ module _ (m : Mounts) (i : ℕ) (tasks tasks' : List Opened) (p : Processes) (ro
     | inr g ↦
         task_refused m others is g.0 g.1 i tasks tasks' p d.program d.opened root root' children children' g.2
         d.at d.drawn d.few d.pushed d.facts errno
-        (subst (λ (x : Answer). Executes numbers (is_too_long d.program.args d.program.env) g.0 g.1 d.program.name
+        (subst (λ (x : ImageAnswer). Executes numbers (is_too_long d.program.args d.program.env) g.0 g.1 d.program.name
         d.opened.given x root' children') d.begins.1 (d.executes g.0 g.1 g.2)) task
         (d.begins.0 ∙ ap (λ n. n + 1) d.last)
   ]
@@ -351,7 +352,7 @@ module _ (m : Mounts) (i : ℕ) (tasks tasks' : List Opened) (p : Processes) (ro
       d.begins.0 d.answer root' children' d.begins.1 (d.executes t s.names s.stands)
 
 -- what an execve that did not begin leaves of the folder
-pub stands_err : (m : Mounts) (seed : List ℕ) (at : ℕ) (program : Program) (given : Given) (answer : Answer)
+pub stands_err : (m : Mounts) (seed : List ℕ) (at : ℕ) (program : Program) (given : Given) (answer : ImageAnswer)
     (p : Processes) (root root' : Option Shape) (children children' : List LentChild)
     → ExecutesFor (numbering_of m.mounts) program given answer root root' children children'
     → (result : Result Processes OpenErr) → Begins seed at program answer p result
@@ -378,7 +379,7 @@ stands_kept num root root' children children' (Err e) same alike is = λ t s.
     (subst (λ (cs : List LentChild). StandsStill num t root cs) (sym alike) s))
 
 -- so many tasks live, and there is room for more
-pub opened_then : (seed : List ℕ) (root : ℕ) (program : Program) (answer : Answer) (i : ℕ) (p : Processes)
+pub opened_then : (seed : List ℕ) (root : ℕ) (program : Program) (answer : ImageAnswer) (i : ℕ) (p : Processes)
     (result : Result Processes OpenErr) → AreOpened i p.cells.tasks → i < 64 → Begins seed root program answer p result
     → IfOk result (λ q. AreOpened (i + 1) q.cells.tasks)
 opened_then seed root program answer i p (Err e) o few b = tt

@@ -5,7 +5,7 @@ use Rattle.std.proofs.lemmas.List.{append_assoc, append-nil}
 use Rattle.host_node.specs.Tree.{Shape}
 use Rattle.mount_file.specs.declared.mounts.Mounts.{Mounts}
 use Rattle.kernel_model.specs.declared.kernel.Kernel.{Kernel}
-use Rattle.kernel_model.specs.declared.opening.Opened.{Opened}
+use Rattle.kernel_model.specs.declared.opening.OpenedTask.{OpenedTask}
 use Rattle.kernel_model.specs.files.FileTree.{Nodes}
 use Rattle.kernel_model.specs.opening.Opening.{bare, rooted, tasks_begun}
 use Rattle.image_walk.specs.declared.granted.Numbering.{Numbering}
@@ -26,7 +26,7 @@ use Rattle.run_opening.proofs.Telling.{told_nodes}
 
 -- before the first task the state tells the kernel that the definitions begin with
 pub begun_none : (m : Mounts) (others : Others) (t : Shape) (p : Processes) (root : Option Shape)
-    (children : List LentChild) (tasks : List Opened) → AreOthers m.mounts others
+    (children : List LentChild) (tasks : List OpenedTask) → AreOthers m.mounts others
     → StandsLent (numbering_of m.mounts) t [] [] root children
     → ((nodes : Nodes) → kernel_of_processes p (beside_of m nodes) 0
     ≡ record (bare m (trees_with others t)) { nodes = nodes })
@@ -45,7 +45,7 @@ begun_none m others t p root children tasks is s same =
     (record { opened = []; added = sym (append-nil tasks); begun = λ rest. refl })
 
 -- one task more, behind those that began
-pub goes_on : (m : Mounts) (i j : ℕ) (first tasks tasks' : List Opened) (k : Kernel) (here there : Option Kernel)
+pub goes_on : (m : Mounts) (i j : ℕ) (first tasks tasks' : List OpenedTask) (k : Kernel) (here there : Option Kernel)
     → IsSomeAnd here (HasBegun m 0 i first tasks k) → GoesOn m i j tasks tasks' here there
     → IsSomeAnd there (HasBegun m 0 j first tasks' k)
 goes_on m i j first tasks tasks' k None there h g = absurd h
@@ -59,7 +59,7 @@ goes_on m i j first tasks tasks' k (Some a) (Some b) h g = record {
 }
 
 -- one that is refused, behind those that began
-stops_behind : (m : Mounts) (i : ℕ) (first tasks tasks' : List Opened) (why : OpenErr) (f : TreesTold) (k : Kernel)
+stops_behind : (m : Mounts) (i : ℕ) (first tasks tasks' : List OpenedTask) (why : OpenErr) (f : TreesTold) (k : Kernel)
     (before : Option Kernel) → IsSomeAnd before (HasBegun m 0 i first tasks k)
     → IfSome before (Stops m i tasks tasks' why f) → Stops m 0 first tasks' why f k
 stops_behind m i first tasks tasks' why f k None h r = absurd h
@@ -74,7 +74,7 @@ stops_behind m i first tasks tasks' (Image task errno) f k (Some b) h r = record
 }
 
 -- the error of the task that was refused is that of the whole opening
-pub stops_then : (m : Mounts) (i : ℕ) (first tasks tasks' : List Opened) (p : Processes)
+pub stops_then : (m : Mounts) (i : ℕ) (first tasks tasks' : List OpenedTask) (p : Processes)
     (told root root' : Option Shape) (children children' : List LentChild) (result : Result Processes OpenErr)
     (why : OpenErr) → IsErrAnd result (λ e. e ≡ why)
     → ((others : Others) (t : Shape) → AreOthers m.mounts others → told ≡ Some t

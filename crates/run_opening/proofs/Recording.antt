@@ -8,7 +8,7 @@ use Rattle.std.proofs.lemmas.List.{map-append, take_more, append-nil}
 use Rattle.std.proofs.lemmas.Option.{get_or_from_slice_get, slice_get_within}
 use Rattle.mount_file.specs.declared.mounts.Mounts.{Mounts}
 use Rattle.mount_file.specs.declared.mounts.Program.{Program}
-use Rattle.kernel_model.specs.declared.opening.Opened.{Opened}
+use Rattle.kernel_model.specs.declared.opening.OpenedTask.{OpenedTask}
 use Rattle.kernel_model.specs.entries.Given.{numbers_of}
 use Rattle.kernel_model.specs.files.Numbers.{count_up}
 use Rattle.image_walk.specs.declared.granted.Numbering.{Numbering}
@@ -24,10 +24,10 @@ taken_more programs i p e =
     take_more programs i p (slice_get_within programs i p e)
     ∙ ap (λ q. take i programs ++ q ∷ []) (get_or_from_slice_get programs i p p e)
 
-numbers_more : (tasks : List Opened) (o : Opened) → numbers_of_tasks (tasks ++ o ∷ [])
+numbers_more : (tasks : List OpenedTask) (o : OpenedTask) → numbers_of_tasks (tasks ++ o ∷ [])
     ≡ numbers_of_tasks tasks ++ numbers_of o.given.fresh
 numbers_more tasks o =
-    flat_map-append (λ (x : Opened). numbers_of x.given.fresh) tasks (o ∷ [])
+    flat_map-append (λ (x : OpenedTask). numbers_of x.given.fresh) tasks (o ∷ [])
     ∙ ap (λ ns. numbers_of_tasks tasks ++ ns) (append-nil (numbers_of o.given.fresh))
 
 counted : (num : Numbering) (numbers : List ℕ) (drawn drawn' : ℕ) → NumbersNext num numbers drawn drawn'
@@ -44,14 +44,14 @@ one_more num [] drawn drawn' h = omega (arith, h)
 one_more num (n ∷ []) drawn drawn' h = omega (arith, h.1)
 one_more num (n ∷ m ∷ numbers) drawn drawn' h = absurd h
 
-pub record_more : (m : Mounts) (num : Numbering) (tasks tasks' : List Opened) (i drawn drawn' : ℕ) (p : Program)
-    (o : Opened)
+pub record_more : (m : Mounts) (num : Numbering) (tasks tasks' : List OpenedTask) (i drawn drawn' : ℕ) (p : Program)
+    (o : OpenedTask)
     → num ≡ numbering_of m.mounts → IsRecord m tasks i drawn → slice_get m.tasks i ≡ Some p → o.words ≡ p.args
     → NumbersNext num (numbers_of o.given.fresh) drawn drawn' → tasks' ≡ tasks ++ o ∷ []
     → IsRecord m tasks' (i + 1) drawn'
 record_more m num tasks tasks' i drawn drawn' p o numbered r e w n pushed = record {
   words =
-      ap (map (λ (x : Opened). x.words)) pushed ∙ map-append (λ (x : Opened). x.words) tasks (o ∷ [])
+      ap (map (λ (x : OpenedTask). x.words)) pushed ∙ map-append (λ (x : OpenedTask). x.words) tasks (o ∷ [])
       ∙ ap (λ ws. ws ++ o.words ∷ []) r.words ∙ ap (λ v. map (λ (q : Program). q.args) (take i m.tasks) ++ v ∷ []) w
       ∙ sym (map-append (λ (q : Program). q.args) (take i m.tasks) (p ∷ []))
       ∙ ap (map (λ (q : Program). q.args)) (sym (taken_more m.tasks i p e));
@@ -66,16 +66,16 @@ record_more m num tasks tasks' i drawn drawn' p o numbered r e w n pushed = reco
       omega arith;
 }
 
-pub recorded : (m : Mounts) (tasks : List Opened) (count drawn : ℕ) → IsRecord m tasks count drawn
+pub recorded : (m : Mounts) (tasks : List OpenedTask) (count drawn : ℕ) → IsRecord m tasks count drawn
     → IsRecorded m tasks
 recorded m tasks count drawn r = record { count = count; drawn = drawn; is = r }
 
 -- before the first
-pub record_none : (m : Mounts) (tasks : List Opened) (n : ℕ) → tasks ≡ [] → n ≡ 0
+pub record_none : (m : Mounts) (tasks : List OpenedTask) (n : ℕ) → tasks ≡ [] → n ≡ 0
     → IsRecord m tasks 0 n
 unfolding count_up
 record_none m tasks n e z =
-    subst (λ (ts : List Opened). IsRecord m ts 0 n) (sym e)
+    subst (λ (ts : List OpenedTask). IsRecord m ts 0 n) (sym e)
     (subst (λ (x : ℕ). IsRecord m [] 0 x) (sym z)
     (record { words = refl; few = omega arith; numbers = refl; one_each = omega arith }))
 

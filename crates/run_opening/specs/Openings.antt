@@ -12,8 +12,8 @@ use Rattle.kernel_model.specs.declared.opening.Rise.{Rise}
 use Rattle.kernel_model.specs.files.FileTree.{Nodes}
 use Rattle.kernel_model.specs.opening.Opening.{made_by, root_of, with_task}
 use Rattle.image_walk.specs.declared.granted.Numbering.{Numbering}
-use Rattle.image_walk.specs.declared.loading.Answer.{Answer}
-use Rattle.image_walk.specs.declared.loading.Answer.TheVariants as answers
+use Rattle.image_walk.specs.declared.loading.ImageAnswer.{ImageAnswer}
+use Rattle.image_walk.specs.declared.loading.ImageAnswer.TheVariants as answers
 use Rattle.image_walk.specs.Granted.{LentChild}
 use Rattle.image_walk.specs.Standing.{StandsLent}
 use Rattle.call_table.specs.declared.processes.Processes.{Processes}
@@ -54,12 +54,12 @@ StandsAfter Memory num t root children = StandsStill num t root children
 
 -- an answer that is no error: an image that may lack memory to begin, or want of memory
 -- execve(2)
-abbrev pub MayLackMemory : Answer → Type 0
+abbrev pub MayLackMemory : ImageAnswer → Type 0
 MayLackMemory answer = ((image : Executable) × (answer ≡ answers.Starts image)) ⊎ (answer ≡ answers.Memory)
 
 -- what comes of an opening execve's answer: the task of the next number begins its image, or why not
 -- execve(2)
-abbrev pub Begins : (seed : List ℕ) → (root : ℕ) → Program → Answer → Processes
+abbrev pub Begins : (seed : List ℕ) → (root : ℕ) → Program → ImageAnswer → Processes
     → Result Processes OpenErr → Type 0
 Begins seed root program answer p (Ok next) =
     (image : Executable) × (answer ≡ answers.Starts image)

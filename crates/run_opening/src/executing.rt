@@ -12,8 +12,8 @@ ghost use Rattle.image_walk.specs.Standing.{IsNumbering, StandsLent};
 ghost use Rattle.image_walk.specs.Walking.{IsGrant, IsSilent, NumbersNext};
 
 use host_node::HostNode;
-use image_walk::{Answer, Executed, Granted, execve};
-use kernel_model::Opened;
+use image_walk::{ImageAnswer, OpeningExecve, Granted, execve};
+use kernel_model::OpenedTask;
 use mount_file::Program;
 use sn_base::{List, Memory};
 use sn_text::Text;
@@ -22,8 +22,8 @@ use std::alloc::Global;
 /// An opening execve that was done: its record, and what it answers.
 #[derive(Drop)]
 pub(crate) struct Done {
-    pub(crate) opened: Opened,
-    pub(crate) answer: Answer,
+    pub(crate) opened: OpenedTask,
+    pub(crate) answer: ImageAnswer,
     ghost pages: { is_roomy answer ≡ true },
 }
 
@@ -56,14 +56,14 @@ pub(crate) fn execute<N: HostNode>(
     ensures silent { IsSilent (N.told granted.old.root) (told_of N.told granted.old.lent.items) →
         IsSilent (N.told granted.new.root) (told_of N.told granted.new.lent.items) }
     ensures long { IfOk result (λ d. is_too_long program.now.args program.now.env ≡ true →
-        d.answer ≡ Answer.Refuses E2BIG) }
+        d.answer ≡ ImageAnswer.Refuses E2BIG) }
     ensures err { OnErr result (N.told granted.new.root ≡ N.told granted.old.root) }
     ensures err_lent { OnErr result (told_of N.told granted.new.lent.items ≡ told_of N.told granted.old.lent.items) }
 {
     let words = copied_words(alloc, program.args.as_slice())?;
-    let Executed { given, answer } = execve(alloc, granted, program)?;
+    let OpeningExecve { given, answer } = execve(alloc, granted, program)?;
     Ok(Done {
-        opened: Opened { words, given },
+        opened: OpenedTask { words, given },
         answer,
     })
 }

@@ -23,8 +23,8 @@ ghost use Rattle.run_opening.specs.Trees.{AreOthers, Others, trees_with};
 use crate::executing::{Done, execute};
 use call_table::Processes;
 use host_node::HostNode;
-use image_walk::{Answer, Granted};
-use kernel_model::Opened;
+use image_walk::{ImageAnswer, Granted};
+use kernel_model::OpenedTask;
 use mount_file::{Mounts, Program};
 use sn_base::Memory;
 use sn_errno::Errno;
@@ -56,29 +56,29 @@ fn begin(
     seed: &[u8],
     root: u64,
     program: &Program,
-    answer: Answer,
+    answer: ImageAnswer,
     processes: Processes,
 ) -> Result<Processes, OpenErr>
-    requires long { is_too_long program.now.args program.now.env ≡ true → answer ≡ Answer.Refuses E2BIG }
+    requires long { is_too_long program.now.args program.now.env ≡ true → answer ≡ ImageAnswer.Refuses E2BIG }
     requires pages { is_roomy answer ≡ true }
     requires room { MayOpen processes.cells.tasks }
     ensures { Begins seed.now root program.now answer processes result }
 {
     match answer {
-        Answer::Starts(image) => {
+        ImageAnswer::Starts(image) => {
             let more = processes.open(alloc, seed, root, program, &image)?;
             Ok(more)
         }
-        Answer::Refuses(errno) => Err(OpenErr::Image {
+        ImageAnswer::Refuses(errno) => Err(OpenErr::Image {
             task: processes.cells.tasks.last() + 1,
             errno,
         }),
-        Answer::Memory => Err(OpenErr::Memory),
+        ImageAnswer::Memory => Err(OpenErr::Memory),
     }
 }
 
 /// Makes room for the record of one task more.
-fn make_room(tasks: &mut Vec<Opened>) -> Result<(), Memory>
+fn make_room(tasks: &mut Vec<OpenedTask>) -> Result<(), Memory>
     ensures same { tasks.new.items ≡ tasks.old.items }
     ensures ok { OnOk result (vec_len tasks.new < vec_capacity tasks.new) }
 {
@@ -93,7 +93,7 @@ fn open_task<N: HostNode>(
     index: usize,
     granted: &mut Granted<N>,
     processes: Processes,
-    tasks: &mut Vec<Opened>,
+    tasks: &mut Vec<OpenedTask>,
 ) -> Result<Processes, OpenErr>
     requires within { index < length mounts.now.tasks }
     requires few { length mounts.now.tasks ≤ MOST_TASKS }
@@ -156,7 +156,7 @@ pub fn open_tasks<N: HostNode>(
     alloc: Global,
     mounts: &Mounts,
     granted: &mut Granted<N>,
-    tasks: &mut Vec<Opened>,
+    tasks: &mut Vec<OpenedTask>,
 ) -> Result<Processes, OpenErr>
     requires form { HasForm mounts.now }
     requires numbers { granted.old.numbers ≡ numbering_of mounts.now.mounts }

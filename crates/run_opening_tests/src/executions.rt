@@ -6,7 +6,7 @@ ghost use Rattle.host_node.specs.Tree.{none_lent};
 use crate::folders::{Failing, expect_faults, world_of};
 use crate::visits::execute_in;
 use host_memory::{Op, World};
-use image_walk::{Answer, Executed, Numbering};
+use image_walk::{ImageAnswer, OpeningExecve, Numbering};
 use kernel_model::{Fresh, Given, Rise};
 use mount_file::Program;
 use sn_base::List;
@@ -195,16 +195,16 @@ fn has_given(given: &Given, execution: &Execution) -> bool {
 }
 
 /// What it says in short, or `None` where memory ran out.
-fn answered(answer: &Answer) -> Option<Result<u64, Errno>> {
+fn answered(answer: &ImageAnswer) -> Option<Result<u64, Errno>> {
     match answer {
-        Answer::Starts(image) => Some(Ok(image.entry)),
-        Answer::Refuses(errno) => Some(Err(*errno)),
-        Answer::Memory => None,
+        ImageAnswer::Starts(image) => Some(Ok(image.entry)),
+        ImageAnswer::Refuses(errno) => Some(Err(*errno)),
+        ImageAnswer::Memory => None,
     }
 }
 
 /// Whether an execve came to that.
-fn has_come(executed: &Executed, execution: &Execution) -> bool {
+fn has_come(executed: &OpeningExecve, execution: &Execution) -> bool {
     answered(&executed.answer) == Some(execution.answer) && has_given(&executed.given, execution)
 }
 
@@ -217,7 +217,7 @@ fn failed(execution: &Execution) -> u64 {
 }
 
 /// The execve over a host.
-fn executed(alloc: Global, world: &mut World, execution: &Execution) -> Result<Executed, Fail>
+fn executed(alloc: Global, world: &mut World, execution: &Execution) -> Result<OpeningExecve, Fail>
     requires { none_lent world.old.tree ≡ true }
 {
     let program = program(alloc, execution.name, execution.environment)?;

@@ -7,7 +7,7 @@ ghost use Rattle.mount_file.specs.Form.{HasForm};
 use crate::folders::{Failing, expect_faults, world_of};
 use crate::visits::{Begun, open_in};
 use host_memory::{Op, World};
-use kernel_model::Opened;
+use kernel_model::OpenedTask;
 use mount_file::{Mounts, read_mounts};
 use run_opening::OpenErr;
 use sn_errno::Errno;
@@ -113,7 +113,7 @@ fn mounts_of(alloc: Global, names: &[&str]) -> Result<Mounts, Fail>
 }
 
 /// Whether an execve drew that number, or none.
-fn has_drawn(opened: &Opened, draws: Option<u64>) -> bool {
+fn has_drawn(opened: &OpenedTask, draws: Option<u64>) -> bool {
     match (opened.given.fresh.as_slice(), draws) {
         ([], None) => true,
         ([one], Some(ino)) => one.dir == 1 && one.ino == ino,
@@ -122,7 +122,7 @@ fn has_drawn(opened: &Opened, draws: Option<u64>) -> bool {
 }
 
 /// Whether the execves drew these, and there are no others.
-fn have_drawn(tasks: &[Opened], drawn: &[Option<u64>]) -> bool {
+fn have_drawn(tasks: &[OpenedTask], drawn: &[Option<u64>]) -> bool {
     if tasks.len() != drawn.len() {
         return false;
     }
@@ -135,7 +135,7 @@ fn have_drawn(tasks: &[Opened], drawn: &[Option<u64>]) -> bool {
 }
 
 /// The node of which a call of the last execve failed, where one failed, and that once.
-fn fails(tasks: &[Opened]) -> Option<u64> {
+fn fails(tasks: &[OpenedTask]) -> Option<u64> {
     match tasks {
         [.., last] => match last.given.rises.as_slice() {
             [one] if one.count == 1 => Some(one.ino),

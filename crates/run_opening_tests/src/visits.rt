@@ -11,8 +11,8 @@ ghost use Rattle.run_opening.specs.Openings.{numbering_of};
 use crate::folders::{granted, root_folder};
 use host_memory::World;
 use host_node::{HostNode, HostWorld};
-use image_walk::{Executed, Granted, MOST_ROOTS, Numbering, execve};
-use kernel_model::Opened;
+use image_walk::{OpeningExecve, Granted, MOST_ROOTS, Numbering, execve};
+use kernel_model::OpenedTask;
 use mount_file::{Mounts, Program};
 use run_opening::{OpenErr, numbering, open_tasks};
 use sn_base::Memory;
@@ -24,7 +24,7 @@ fn executed<N: HostNode>(
     alloc: Global,
     granted: &mut Granted<N>,
     program: &Program,
-) -> Result<Executed, Memory>
+) -> Result<OpeningExecve, Memory>
     requires numbers { IsNumbering granted.old.numbers }
     requires grant { IsGrant granted.old.numbers (N.told granted.old.root) (told_of N.told granted.old.lent.items) }
     ensures { OnOk result (CanGiveBack (N.told granted.new.root) (told_of N.told granted.new.lent.items)) }
@@ -39,7 +39,7 @@ fn execute<N: HostNode>(
     root: N,
     numbers: Numbering,
     program: &Program,
-) -> Result<(N, Executed), Memory>
+) -> Result<(N, OpeningExecve), Memory>
     requires numbers { IsNumbering numbers }
     requires root { IsRoot (N.told root) }
 {
@@ -54,7 +54,7 @@ pub fn execute_in(
     world: &mut World,
     numbers: Numbering,
     program: &Program,
-) -> Result<Executed, Fail>
+) -> Result<OpeningExecve, Fail>
     requires { none_lent world.old.tree ≡ true }
 {
     if numbers.root == 0 || numbers.first <= numbers.root || numbers.first > MOST_ROOTS + 1 {
@@ -73,7 +73,7 @@ fn opened<N: HostNode>(
     alloc: Global,
     mounts: &Mounts,
     granted: &mut Granted<N>,
-    tasks: &mut Vec<Opened>,
+    tasks: &mut Vec<OpenedTask>,
 ) -> Result<usize, OpenErr>
     requires form { HasForm mounts.now }
     requires numbers { granted.old.numbers ≡ numbering_of mounts.now.mounts }
@@ -94,7 +94,7 @@ fn opened<N: HostNode>(
 #[derive(Drop)]
 pub struct Begun {
     pub answer: Result<usize, OpenErr>,
-    pub tasks: Vec<Opened>,
+    pub tasks: Vec<OpenedTask>,
 }
 
 /// An opening over a root, with all nodes back then.

@@ -12,7 +12,7 @@ use Rattle.mount_file.specs.declared.mounts.Mounts.{Mounts}
 use Rattle.kernel_model.specs.declared.entry.Entry.{Entry}
 use Rattle.kernel_model.specs.declared.kernel.Kernel.{Kernel}
 use Rattle.kernel_model.specs.declared.opening.Opening.{Opening}
-use Rattle.kernel_model.specs.declared.opening.Opened.{Opened}
+use Rattle.kernel_model.specs.declared.opening.OpenedTask.{OpenedTask}
 use Rattle.kernel_model.specs.files.FileTree.{Nodes}
 use Rattle.kernel_model.specs.files.Settled.{tree_now}
 use Rattle.kernel_model.specs.opening.Opening.{bare, opening_of, root_of, rooted, tasks_begun, Opens}
@@ -35,7 +35,7 @@ use Rattle.run_opening.proofs.Roots.{have_trees}
 use Rattle.run_opening.proofs.Telling.{Tells, tells}
 use Rattle.sentry_run.specs.declared.play.End.{End}
 use Rattle.sentry_run.specs.declared.play.End.TheVariants as ends
-use Rattle.sentry_run.specs.Played.{Ended, EndsTold, RanFrom, ReplaysTo, Runs, SameText, end_of_opening, over_nodes, over_told}
+use Rattle.sentry_run.specs.Played.{RunEnded, EndsTold, RanFrom, ReplaysTo, Runs, SameText, end_of_opening, over_nodes, over_told}
 use Rattle.sentry_run.proofs.Records.{opened_by, record_with}
 
 -- ---- what is given back
@@ -71,7 +71,7 @@ ended_lacking m others t root children opening trace after s none gives =
 
 -- ---- an opening that did not begin all tasks
 
-pub ended_stopped : (m : Mounts) (others : Others) (t : Shape) (why : OpenErr) (tasks : List Opened)
+pub ended_stopped : (m : Mounts) (others : Others) (t : Shape) (why : OpenErr) (tasks : List OpenedTask)
     (root : Option Shape) (children : List LentChild) (opening : Opening) (trace : List Entry) → IsRecorded m tasks
     → opening ≡ record_with m tasks → trace ≡ []
     → Stops m 0 [] tasks why (trees_told others root children) (bare m (trees_with others t))
@@ -97,7 +97,7 @@ ended_stopped m others t (openings.Image task errno) tasks root children opening
 
 -- ---- one that began all
 
-module _ (m : Mounts) (others : Others) (is : AreOthers m.mounts others) (t : Shape) (tasks : List Opened)
+module _ (m : Mounts) (others : Others) (is : AreOthers m.mounts others) (t : Shape) (tasks : List OpenedTask)
     (p : Processes) (root : Option Shape) (children : List LentChild) (opening : Opening) (r : IsRecorded m tasks)
     (o : opening ≡ record_with m tasks) (s : StandsStill (numbering_of m.mounts) t root children)
     (b : IsSomeAnd (kernel_told m (trees_told others root children) p 0)
@@ -193,7 +193,7 @@ told_then m f k fact h = by (nodes_told (numbering_of m.mounts) f) h
 
 -- how a run ended, whatever told it
 pub ended_told : (m : Mounts) (f : TreesTold) (t after : Shape) (opening : Opening) (trace : List Entry) (end : End)
-    → EndsTold m f t after opening trace end → Ended m f.others t after opening trace end
+    → EndsTold m f t after opening trace end → RunEnded m f.others t after opening trace end
 ended_told m f t after opening trace (ends.Done k) h = let e = told_then m f k _ h in (e.0, e.1.0, e.2, e.1.1)
 ended_told m f t after opening trace (ends.Full k) h = let e = told_then m f k _ h in (e.0, e.1.0, e.2, e.1.1, e.1.2)
 ended_told m f t after opening trace (ends.Stuck k) h = let e = told_then m f k _ h in (e.0, e.1.0, e.2, e.1.1)

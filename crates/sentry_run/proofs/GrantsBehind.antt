@@ -21,7 +21,7 @@ use Rattle.sentry_run.specs.Granted.{EndsBehind, NotGranted, NothingRan}
 use Rattle.sentry_run.specs.Granted.{PlaysRoot, RunsBehind}
 use Rattle.sentry_run.specs.Granted.{with_behind}
 use Rattle.sentry_run.specs.Outcome.{granted}
-use Rattle.sentry_run.specs.Played.{Ended, EndsOver}
+use Rattle.sentry_run.specs.Played.{RunEnded, EndsOver}
 use Rattle.sentry_run.specs.Stopped.{IsInner}
 use Rattle.sentry_run.proofs.Folders.{AreApartFrom, granted_apart, granted_first}
 use Rattle.sentry_run.proofs.GivenBack.{Came, came, gives_same, gives_tree, small_more}
@@ -46,7 +46,7 @@ runs_inner m i world told root children played all inner ended = λ w e others a
       [],
       ap (λ ms. granted ms w) none,
       subst (λ (x : Others). AreOthers m.mounts x) (sym same) are,
-      subst (λ (x : Others). Ended m x t after played.opening played.trace played.end) (sym same)
+      subst (λ (x : Others). RunEnded m x t after played.opening played.trace played.end) (sym same)
           (ended_told m (trees_told others root children) t after played.opening played.trace played.end
           (ended others t are tells after gives)),
     )
@@ -83,7 +83,7 @@ runs_more m i mount world between told node root children count what played form
       c.tree ∷ o.0,
       granted_first mount ms w c.tree o.0 c.there (sym (granted_apart names (lent Dir) ms w apart) ∙ o.1),
       subst (λ (x : Others). AreOthers m.mounts x) same o.2,
-      subst (λ (x : Others). Ended m x t after played.opening played.trace played.end) same o.3,
+      subst (λ (x : Others). RunEnded m x t after played.opening played.trace played.end) same o.3,
     ))
     (inner (put_subtree names (lent Dir) w) between_is more next t tells after gives))
 

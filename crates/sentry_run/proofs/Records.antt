@@ -12,7 +12,7 @@ use Rattle.mount_file.specs.declared.mounts.Mount.{Mount}
 use Rattle.mount_file.specs.declared.mounts.Program.{Program}
 use Rattle.mount_file.specs.Rules.{is_same_place}
 use Rattle.kernel_model.specs.declared.opening.Opening.{Opening}
-use Rattle.kernel_model.specs.declared.opening.Opened.{Opened}
+use Rattle.kernel_model.specs.declared.opening.OpenedTask.{OpenedTask}
 use Rattle.kernel_model.specs.files.Numbers.{IsGapless, numbers_opened, count_up}
 use Rattle.kernel_model.specs.opening.Opening.{Misfits, bare, opening_of}
 use Rattle.kernel_model.specs.opening.Records.{begins, is_of, same_flag, same_folder}
@@ -60,24 +60,24 @@ begin_words (p ∷ programs) (suc n) = both (same_lists bytes_eq same_bytes p.ar
 -- ---- a record with the words of the first programs
 
 -- the record of an opening with these tasks so far
-abbrev pub record_with : Mounts → List Opened → Opening
+abbrev pub record_with : Mounts → List OpenedTask → Opening
 record_with m tasks = record (first_of m) { tasks = tasks }
 
-record_fits : (m : Mounts) (tasks : List Opened) → IsRecorded m tasks → is_of m (record_with m tasks) ≡ true
+record_fits : (m : Mounts) (tasks : List OpenedTask) → IsRecorded m tasks → is_of m (record_with m tasks) ≡ true
 record_fits m tasks r =
     both (both (same_lists same_mount same_mounts m.mounts) roots) words
   where
     roots : pointwise nat_eq (count_up 1 (length m.mounts)) (count_up 1 (length m.mounts)) ≡ true
     roots = same_lists nat_eq (λ n. eq-eqb n n refl) (count_up 1 (length m.mounts))
 
-    words : begins (pointwise bytes_eq) (map (λ (o : Opened). o.words) tasks)
+    words : begins (pointwise bytes_eq) (map (λ (o : OpenedTask). o.words) tasks)
         (map (λ (p : Program). p.args) m.tasks) ≡ true
     words =
         ap (λ ws. begins (pointwise bytes_eq) ws (map (λ (p : Program). p.args) m.tasks)) r.is.words
         ∙ begin_words m.tasks r.count
 
 -- the opening by such a record is that of its tasks in order
-pub opened_by : (m : Mounts) (trees : List Shape) (tasks : List Opened) → IsRecorded m tasks
+pub opened_by : (m : Mounts) (trees : List Shape) (tasks : List OpenedTask) → IsRecorded m tasks
     → opening_of m trees (record_with m tasks) ≡ tasks_begun 1 m.tasks tasks (bare m trees)
 unfolding opening_of
 opened_by m trees tasks r =
@@ -103,7 +103,7 @@ unfolding count_up
 counted first zero = refl
 counted first (suc n) = ap suc (counted (first + 1) n)
 
-pub gapless : (m : Mounts) (tasks : List Opened) (opening : Opening) → opening ≡ record_with m tasks
+pub gapless : (m : Mounts) (tasks : List OpenedTask) (opening : Opening) → opening ≡ record_with m tasks
     → IsRecorded m tasks → IsGapless (numbers_opened opening)
 gapless m tasks opening o r =
     let all : numbers_opened opening ≡ count_up 1 (length m.mounts + r.drawn) =

@@ -16,7 +16,7 @@ use Rattle.sentry_run.specs.declared.play.End.TheVariants as ends
 use Rattle.sentry_run.specs.declared.play.Played.{Played}
 use Rattle.sentry_run.specs.Causes.{is_grant_failed}
 use Rattle.sentry_run.specs.Outcome.{first_lacking, granted}
-use Rattle.sentry_run.specs.Played.{Ended, TraceOf, nothing_opened}
+use Rattle.sentry_run.specs.Played.{RunEnded, TraceOf, nothing_opened}
 
 -- ---- the folders
 
@@ -102,7 +102,7 @@ abbrev pub EndsBehind : Mounts → Others → (tree : Shape) → (number : ℕ) 
 EndsBehind mounts others tree number rest world after played =
     PlaysAs played.end ((after ≡ tree) × NothingRan played) (λ mount. first_lacking number rest world ≡ Some mount)
     ((behind : List Shape) × (granted rest world ≡ Some behind) × AreOthers mounts.mounts (with_behind others behind)
-    × Ended mounts (with_behind others behind) tree after played.opening played.trace played.end)
+    × RunEnded mounts (with_behind others behind) tree after played.opening played.trace played.end)
 
 -- the same from an index on, of a granted root that told itself so before, and with its children then tells this
 -- profile
@@ -138,7 +138,7 @@ pub record PlaysOver (mounts : Mounts) (before : List Shape) (rest : List Mount)
   pub all : before ++ trees ≡ trees_with others tree
   pub tree_then : Shape
   pub put : after ≡ Some (put_subtree (root_names rest) tree_then world)
-  pub ended : Ended mounts others tree tree_then played.opening played.trace played.end
+  pub ended : RunEnded mounts others tree tree_then played.opening played.trace played.end
 
 -- what grants from the mount of that number on, the opening and the run leave of the world
 -- profile

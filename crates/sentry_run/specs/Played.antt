@@ -68,22 +68,22 @@ pub record Failed (mounts : Mounts) (others : Others) (tree after : Shape) (open
 
 -- how a run over the tree of the mount at `/`, beside others, ended, and what it left of that tree
 -- profile
-abbrev pub Ended : Mounts → Others → (tree after : Shape) → Opening → List Entry → End → Type 0
-Ended mounts others tree after opening trace (ends.Done kernel) =
+abbrev pub RunEnded : Mounts → Others → (tree after : Shape) → Opening → List Entry → End → Type 0
+RunEnded mounts others tree after opening trace (ends.Done kernel) =
     (state : Kernel) × Runs mounts others tree after opening trace state × SameText state kernel
     × (any_live state ≡ false)
-Ended mounts others tree after opening trace (ends.Full kernel) =
+RunEnded mounts others tree after opening trace (ends.Full kernel) =
     (state : Kernel) × Runs mounts others tree after opening trace state × SameText state kernel
     × (any_live state ≡ true) × (length trace ≡ mounts.entries)
-Ended mounts others tree after opening trace (ends.Stuck kernel) =
+RunEnded mounts others tree after opening trace (ends.Stuck kernel) =
     (state : Kernel) × Runs mounts others tree after opening trace state × SameText state kernel
     × IsStuck mounts trace state
-Ended mounts others tree after opening trace (ends.Image task errno) =
+RunEnded mounts others tree after opening trace (ends.Image task errno) =
     Failed mounts others tree after opening task errno × (trace ≡ [])
-Ended mounts others tree after opening trace ends.Memory =
+RunEnded mounts others tree after opening trace ends.Memory =
     ((trace ≡ []) × (after ≡ tree)) ⊎ ((state : Kernel) × Runs mounts others tree after opening trace state)
-Ended mounts others tree after opening trace ends.HostFault = ⊥
-Ended mounts others tree after opening trace (ends.Grant mount) = ⊥
+RunEnded mounts others tree after opening trace ends.HostFault = ⊥
+RunEnded mounts others tree after opening trace (ends.Grant mount) = ⊥
 
 -- ---- by the kernel that the run's state tells
 

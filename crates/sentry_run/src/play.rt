@@ -14,7 +14,7 @@ ghost use Rattle.run_opening.specs.Trees.{AreOthers, Others};
 ghost use Rattle.sentry_run.specs.Played.{EndsOver, end_of_opening, RanFrom, TraceOf, first_of, nothing_opened};
 ghost use Rattle.sentry_run.specs.Stopped.{EndsAs, FinishesAs, IsInner};
 
-use call_table::{Processes, Ran, run_turns};
+use call_table::{Processes, EndedTurns, run_turns};
 use host_node::HostNode;
 use image_walk::Granted;
 use kernel_model::{Kernel, Opening, Trace};
@@ -118,13 +118,13 @@ fn run_processes<N: HostNode>(
 }
 
 /// How a run that may make so many entries has ended.
-fn finished(alloc: Global, ran: Ran, opening: Opening, entries: u64) -> Played
+fn finished(alloc: Global, ran: EndedTurns, opening: Opening, entries: u64) -> Played
     ensures end { FinishesAs ran.processes (length ran.trace) entries result.end }
     ensures inner { IsInner result.end }
     ensures trace { result.trace ≡ ran.trace }
     ensures opening { result.opening ≡ opening }
 {
-    let Ran { processes, trace } = ran;
+    let EndedTurns { processes, trace } = ran;
     let end = match processes {
         Some(processes) => ended(alloc, processes, trace.len() as u64, entries),
         None => End::Memory,

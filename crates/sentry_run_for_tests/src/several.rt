@@ -2,7 +2,7 @@
 
 use crate::told::Told;
 use crate::worlds::{Host, NEXT, faults_at, is_as_it_was};
-use kernel_model::{Entry, Opened, Opening, Rise};
+use kernel_model::{Entry, OpenedTask, Opening, Rise};
 use sentry_run::Fault;
 use sn_errno::Errno;
 use std::alloc::Global;
@@ -69,7 +69,7 @@ fn numbers_of(alloc: Global, opening: &Opening) -> Result<Vec<u64>, Fail> {
 }
 
 /// The record of the last execve that was done.
-fn last(opening: &Opening) -> Option<&Opened> {
+fn last(opening: &Opening) -> Option<&OpenedTask> {
     opening.tasks.as_slice().last()
 }
 

@@ -8,10 +8,10 @@ use Rattle.kernel_model.specs.entries.Parts.{Change}
 -- what a call replies: a value, of which a negative one is an error's number; or nothing so far, since it puts its task
 -- to sleep by an entry of its own, or since it waits
 -- syscall(2); futex(2), FUTEX_WAIT; the entry: profile
-pub data Reply : Type 0 where
-  Replies : ℤ → Reply
-  Sleeps : Reply
-  NotReady : Reply
+pub data RowReply : Type 0 where
+  Replies : ℤ → RowReply
+  Sleeps : RowReply
+  NotReady : RowReply
 
 -- a child by its directory's number and its name
 -- path_resolution(7)
@@ -23,7 +23,7 @@ pub record Key : Type 0 where
 -- children without an inode number that it walks to, lists or makes
 -- profile
 pub record Answer : Type 0 where
-  pub reply : Reply
+  pub reply : RowReply
   pub changes : List Change
   pub fresh : List Key
 
@@ -54,7 +54,7 @@ refuses errno = replies (reply_of errno) []
 
 -- whether there is an entry of a call: it replies, or puts its task to sleep
 -- profile
-abbrev pub makes_entry : Reply → Bool
+abbrev pub makes_entry : RowReply → Bool
 makes_entry (Replies value) = true
 makes_entry Sleeps = true
 makes_entry NotReady = false

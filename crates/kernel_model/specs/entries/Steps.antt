@@ -29,7 +29,7 @@ use Rattle.kernel_model.specs.declared.traps.Next.TheVariants.{Goes, Calls, Trap
 use Rattle.kernel_model.specs.machine.Instructions.{next_of}
 use Rattle.kernel_model.specs.machine.Registers.{args_of, call_of, replied}
 use Rattle.kernel_model.specs.machine.Spaces.{acting_in, going_in, going_with}
-use Rattle.kernel_model.specs.calls.Answers.{Reply, Replies, Sleeps, NotReady, Key, Answer}
+use Rattle.kernel_model.specs.calls.Answers.{RowReply, Replies, Sleeps, NotReady, Key, Answer}
 use Rattle.kernel_model.specs.calls.Callers.{Context, context_of, caller_of}
 use Rattle.kernel_model.specs.calls.Ending.{group_end}
 use Rattle.kernel_model.specs.calls.Table.{call_row}
@@ -104,7 +104,7 @@ going_on c value = task_change c.task (replied c.registers value) ∷ []
 
 -- the call's changes, where its reply is that of the entry; one that replies nothing so far has none
 -- syscall(2)
-abbrev pub replied_by : Caller → ℤ → List Change → Reply → Option (List Change)
+abbrev pub replied_by : Caller → ℤ → List Change → RowReply → Option (List Change)
 replied_by c reply changes (Replies value) = if int_eq reply value then Some (changes ++ going_on c value) else None
 replied_by c reply changes Sleeps = None
 replied_by c reply changes NotReady = None
@@ -205,7 +205,7 @@ woken_entry c call args reply given =
 
 -- Sleep: the next instruction makes a call that puts its task to sleep
 -- futex(2), FUTEX_WAIT; that it is an entry of its own: profile
-abbrev pub slept_by : Answer → Reply → Option (List Change)
+abbrev pub slept_by : Answer → RowReply → Option (List Change)
 slept_by answer Sleeps = Some answer.changes
 slept_by answer (Replies value) = None
 slept_by answer NotReady = None

@@ -6,7 +6,7 @@ use Rattle.kernel_model.specs.declared.entry.Entry.{Entry}
 use Rattle.kernel_model.specs.declared.entry.Entry.TheVariants.{Run, Call, Sleep, End}
 use Rattle.kernel_model.specs.declared.opening.Fresh.{Fresh}
 use Rattle.kernel_model.specs.declared.opening.Opening.{Opening}
-use Rattle.kernel_model.specs.declared.opening.Opened.{Opened}
+use Rattle.kernel_model.specs.declared.opening.OpenedTask.{OpenedTask}
 use Rattle.kernel_model.specs.declared.opening.Left.{Left}
 use Rattle.kernel_model.specs.declared.opening.LeftRise.{LeftRise}
 use Rattle.kernel_model.specs.files.FileTree.{Child, Missing, Known, Unnumbered}
@@ -21,7 +21,7 @@ count_up first (suc n) = first ∷ count_up (first + 1) n
 -- the numbers of an opening: the roots', and then the tasks'
 -- profile
 abbrev pub numbers_opened : Opening → List ℕ
-numbers_opened opening = opening.roots ++ flat_map (λ (o : Opened). numbers_of o.given.fresh) opening.tasks
+numbers_opened opening = opening.roots ++ flat_map (λ (o : OpenedTask). numbers_of o.given.fresh) opening.tasks
 
 -- the numbers of a trace
 -- profile

@@ -29,7 +29,7 @@ use Rattle.mount_file.specs.declared.mounts.Mount.{Mount}
 use Rattle.mount_file.specs.declared.mounts.Program.{Program}
 use Rattle.kernel_model.specs.declared.limits.TheConstants.{LONGEST_IMAGE}
 use Rattle.kernel_model.specs.declared.opening.Opening.{Opening}
-use Rattle.kernel_model.specs.declared.opening.Opened.{Opened}
+use Rattle.kernel_model.specs.declared.opening.OpenedTask.{OpenedTask}
 use Rattle.kernel_model.specs.declared.opening.Given.{Given}
 use Rattle.kernel_model.specs.declared.opening.Fresh.{Fresh}
 use Rattle.kernel_model.specs.opening.Arguments.{is_too_long}
@@ -243,7 +243,7 @@ task_begun rest begin number k (Starts image changes) = rest (begin image (chang
 task_begun rest begin number k (Fails errno changes) = Refuses (changed changes k) number errno
 task_begun rest begin number k Unfit = Misfits number
 
-abbrev pub tasks_begun : (number : ℕ) → List Program → List Opened → Kernel → Begun
+abbrev pub tasks_begun : (number : ℕ) → List Program → List OpenedTask → Kernel → Begun
 tasks_begun number [] records k = Opens k
 tasks_begun number (p ∷ ps) [] k = Misfits number
 tasks_begun number (p ∷ ps) (o ∷ os) k =

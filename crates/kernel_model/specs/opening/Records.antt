@@ -7,7 +7,7 @@ use Rattle.mount_file.specs.declared.mounts.Mount.{Mount}
 use Rattle.mount_file.specs.declared.mounts.Mounts.{Mounts}
 use Rattle.mount_file.specs.declared.mounts.Program.{Program}
 use Rattle.mount_file.specs.Rules.{is_same_place}
-use Rattle.kernel_model.specs.declared.opening.Opened.{Opened}
+use Rattle.kernel_model.specs.declared.opening.OpenedTask.{OpenedTask}
 use Rattle.kernel_model.specs.declared.opening.Opening.{Opening}
 use Rattle.kernel_model.specs.files.Numbers.{count_up}
 
@@ -34,5 +34,5 @@ abbrev pub is_of : Mounts → Opening → Bool
 is_of mounts opening =
     pointwise same_mount opening.mounts mounts.mounts
     && pointwise nat_eq opening.roots (count_up 1 (length mounts.mounts))
-    && begins (pointwise bytes_eq) (map (λ (o : Opened). o.words) opening.tasks)
+    && begins (pointwise bytes_eq) (map (λ (o : OpenedTask). o.words) opening.tasks)
     (map (λ (p : Program). p.args) mounts.tasks)

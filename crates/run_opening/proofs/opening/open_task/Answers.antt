@@ -1,6 +1,6 @@
 -- A task more has begun as its execve answered, and the record has it.
 use Rattle.std.proofs.Common.{◌≡◌, ◌+◌, List, [], ◌∷◌, ◌++◌, length, ap, ◌∙◌, subst, arith}
-use Rattle.kernel_model.specs.declared.opening.Opened.{Opened}
+use Rattle.kernel_model.specs.declared.opening.OpenedTask.{OpenedTask}
 use Rattle.std.proofs.lemmas.List.{length-map}
 use Rattle.image_walk.specs.declared.granted.Numbering.{Numbering}
 use Rattle.image_walk.specs.Granted.{told_of}
@@ -21,7 +21,7 @@ pushed : (g : _) (c : After-begin g)
     → c.push_reserved.new.self.items ≡ c.args.tasks.now.items ++ c.in_ok-opened.field-0.opened ∷ []
 pushed g c =
     c.push_reserved.ensures.items
-    ∙ ap (λ (os : List Opened). os ++ c.in_ok-opened.field-0.opened ∷ []) c.make_room.ensures.same
+    ∙ ap (λ (os : List OpenedTask). os ++ c.in_ok-opened.field-0.opened ∷ []) c.make_room.ensures.same
 
 grown : (g : _) (c : After-begin g)
     → IsRecord c.args.mounts.now c.push_reserved.new.self.items (c.args.index + 1)

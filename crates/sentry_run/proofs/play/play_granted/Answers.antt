@@ -1,7 +1,7 @@
 -- The opening and the run end as the tasks' opening came out, and the folder can be put together again.
 use Rattle.std.proofs.Common.{List, [], length, ap, sym, ◌∙◌, subst}
 use Rattle.std.specs.Prelude.{IsSomeAnd}
-use Rattle.kernel_model.specs.declared.opening.Opened.{Opened}
+use Rattle.kernel_model.specs.declared.opening.OpenedTask.{OpenedTask}
 use Rattle.kernel_model.specs.declared.opening.Opening.{Opening}
 use Rattle.kernel_model.specs.opening.Opening.{bare}
 use Rattle.image_walk.specs.declared.granted.Numbering.{Numbering}
@@ -47,7 +47,7 @@ returns-in-Ok-opened-clause-ended g c = λ others t are e after gives.
     ∙ ap (λ (o : Opening). record o { tasks = c.from_vec.result }) c.in-Ok.ensures
     ∙ ap (record_with c.args.mounts.now) c.from_vec.ensures)
     (c.in-Ok-opened.ensures.stands t e)
-    (subst (λ (first : List Opened). IsSomeAnd (kernel_told m (trees_told others root children)
+    (subst (λ (first : List OpenedTask). IsSomeAnd (kernel_told m (trees_told others root children)
     c.in-Ok-opened.processes 0)
     (HasBegun m 0 (length m.tasks) first c.open_tasks-opened.new.tasks.items (bare m (trees_with others t))))
     c.new-tasks.ensures.items (c.in-Ok-opened.ensures.begun others t are e))
@@ -85,7 +85,7 @@ returns-in-Err-opened-clause-ended g c = λ others t are e after gives.
     (c.unbegun.ensures.opening
     ∙ ap (λ (o : Opening). record o { tasks = c.from_vec.result }) c.in-Ok.ensures
     ∙ ap (record_with c.args.mounts.now) c.from_vec.ensures) c.unbegun.ensures.trace
-    (subst (λ (first : List Opened). Stops m 0 first c.open_tasks-opened.new.tasks.items c.in-Err-opened.why f
+    (subst (λ (first : List OpenedTask). Stops m 0 first c.open_tasks-opened.new.tasks.items c.in-Err-opened.why f
     (bare m (trees_with others t))) c.new-tasks.ensures.items
     (c.in-Err-opened.ensures.stopped others t are e))
     (c.in-Err-opened.ensures.standing t e) after gives)
