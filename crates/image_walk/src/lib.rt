@@ -2,8 +2,8 @@
 //!
 //! A caller sees `Granted`, a folder's root with the children of the root that were lent so far, numbered in this order
 //! from the first of its `Numbering` up. `Granted::new` makes one of a root, and `execve` walks it to a program's name:
-//! it answers an `Executed`, which has what the walk drew and met, and an `Answer`: an image, an error or want of
-//! memory. A name that was walked to before leads to the same node, which draws no other number and is asked anew.
+//! it answers an `OpeningExecve`, which has what the walk drew and met, and an `ImageAnswer`: an image, an error or want
+//! of memory. A name that was walked to before leads to the same node, which draws no other number and is asked anew.
 //! `give_back` puts the children back, and answers the root.
 //!
 //! Proved, where the root tells its tree: what was drawn, met and answered is what the definitions say of that tree,

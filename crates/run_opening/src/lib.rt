@@ -2,7 +2,7 @@
 //!
 //! A caller sees `open_tasks`, which has each program execute in turn and begins a task of its image, and answers the
 //! processes; where an execve is refused it answers which and why (`OpenErr`). What each drew and met stands in the
-//! record of the opening, as an `Opened` for each execve that was done. `numbering` tells the inode numbers of the
+//! record of the opening, as an `OpenedTask` for each execve that was done. `numbering` tells the inode numbers of the
 //! folder that is mounted at `/`.
 //!
 //! Proved, where the folder's root tells its tree, whatever trees the other mounts have: the kernel that the state then
