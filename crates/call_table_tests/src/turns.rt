@@ -4,7 +4,7 @@ ghost use Rattle.std.specs.Prelude.{IsTrue};
 ghost use Rattle.task_table.specs.Table.{is_live};
 
 use crate::guests::{SEED, processes_of};
-use call_table::{Processes, EndedTurns, run_turns};
+use call_table::{EndedTurns, Processes, run_turns};
 use kernel_model::{Entry, Kernel};
 use sn_vectors::programs::{STORES, WRITES_NOTHING};
 use sn_vectors::words::{EBREAK, JUMP_TO_ITSELF};

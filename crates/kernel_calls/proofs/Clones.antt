@@ -77,7 +77,7 @@ module _ (c : Caller) (k : Kernel) where
 -- one whose words leave memory as it is, and one whose words leave this
 module _ {c : Caller} {k : Kernel} {context : Context} {space : AddressSpace} {areas : NamedMap AreaState}
     {list : TaskTable} {waiting : FutexList} {console : ℕ} (child : ClonedTask) (args : Args)
-        (own : Option AddressSpace)
+    (own : Option AddressSpace)
     (registers : Regs) (calling : IsCalling c k context space areas list waiting console)
     (before : c.registers ≡ registers) (begins : child.registers
     ≡ child_registers (cloning_of args).flags (cloning_of args).stack (cloning_of args).tls registers)

@@ -12,7 +12,7 @@ ghost use Rattle.image_walk.specs.Standing.{IsNumbering, StandsLent};
 ghost use Rattle.image_walk.specs.Walking.{IsGrant, IsSilent, NumbersNext};
 
 use host_node::HostNode;
-use image_walk::{ImageAnswer, OpeningExecve, Granted, execve};
+use image_walk::{Granted, ImageAnswer, OpeningExecve, execve};
 use kernel_model::OpenedTask;
 use mount_file::Program;
 use sn_base::{List, Memory};

@@ -23,7 +23,7 @@ ghost use Rattle.run_opening.specs.Trees.{AreOthers, Others, trees_with};
 use crate::executing::{Done, execute};
 use call_table::Processes;
 use host_node::HostNode;
-use image_walk::{ImageAnswer, Granted};
+use image_walk::{Granted, ImageAnswer};
 use kernel_model::OpenedTask;
 use mount_file::{Mounts, Program};
 use sn_base::Memory;

@@ -6,7 +6,7 @@ ghost use Rattle.host_node.specs.Tree.{none_lent};
 use crate::folders::{Failing, expect_faults, world_of};
 use crate::visits::execute_in;
 use host_memory::{Op, World};
-use image_walk::{ImageAnswer, OpeningExecve, Numbering};
+use image_walk::{ImageAnswer, Numbering, OpeningExecve};
 use kernel_model::{Fresh, Given, Rise};
 use mount_file::Program;
 use sn_base::List;

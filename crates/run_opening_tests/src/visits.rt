@@ -11,7 +11,7 @@ ghost use Rattle.run_opening.specs.Openings.{numbering_of};
 use crate::folders::{granted, root_folder};
 use host_memory::World;
 use host_node::{HostNode, HostWorld};
-use image_walk::{OpeningExecve, Granted, MOST_ROOTS, Numbering, execve};
+use image_walk::{Granted, MOST_ROOTS, Numbering, OpeningExecve, execve};
 use kernel_model::OpenedTask;
 use mount_file::{Mounts, Program};
 use run_opening::{OpenErr, numbering, open_tasks};

@@ -14,7 +14,7 @@ ghost use Rattle.run_opening.specs.Trees.{AreOthers, Others};
 ghost use Rattle.sentry_run.specs.Played.{EndsOver, end_of_opening, RanFrom, TraceOf, first_of, nothing_opened};
 ghost use Rattle.sentry_run.specs.Stopped.{EndsAs, FinishesAs, IsInner};
 
-use call_table::{Processes, EndedTurns, run_turns};
+use call_table::{EndedTurns, Processes, run_turns};
 use host_node::HostNode;
 use image_walk::Granted;
 use kernel_model::{Kernel, Opening, Trace};
