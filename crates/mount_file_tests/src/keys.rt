@@ -1,6 +1,6 @@
 //! Keys that are missing, unknown or of another type.
 
-use crate::parts::{ENTRIES, Gap, MOUNT, Part, SEED, TASK, expect_each, expect_fault};
+use crate::parts::{ENTRIES, Gap, MOUNT, SEED, TASK, TASKS, expect_each, expect_fault};
 use mount_file::MountFault;
 use std::test::Fail;
 
@@ -30,16 +30,15 @@ fn a_key_of_the_document_missing_unknown_or_of_another_type_is_field(
     rt: HostRuntime,
 ) -> Result<(), Fail> {
     for parts in DOCUMENTS {
-        expect_fault(&rt, rt.alloc(), *parts, MountFault::Field)?;
+        expect_fault(&rt, rt.alloc(), parts, MountFault::Field)?;
     }
     Ok(())
 }
 
 /// Where the mounts of a file stand.
-const MOUNTS: Gap = Gap {
-    part: Part::Mounts,
-    before: "",
-    after: "",
+const MOUNTS: &Gap = &Gap {
+    before: &[ENTRIES, SEED],
+    after: &[TASK],
 };
 
 const MOUNT_KEYS: &[&str] = &[
@@ -57,15 +56,8 @@ const MOUNT_KEYS: &[&str] = &[
 fn a_key_of_a_mount_missing_unknown_or_of_another_type_is_field(
     rt: HostRuntime,
 ) -> Result<(), Fail> {
-    expect_each(&rt, rt.alloc(), &MOUNTS, MOUNT_KEYS, MountFault::Field)
+    expect_each(&rt, rt.alloc(), MOUNTS, MOUNT_KEYS, MountFault::Field)
 }
-
-/// Where the tasks of a file stand.
-const TASKS: Gap = Gap {
-    part: Part::Tasks,
-    before: "",
-    after: "",
-};
 
 const TASK_KEYS: &[&str] = &[
     "[[task]]\n",
@@ -82,5 +74,5 @@ const TASK_KEYS: &[&str] = &[
 fn a_key_of_a_task_missing_unknown_or_of_another_type_is_field(
     rt: HostRuntime,
 ) -> Result<(), Fail> {
-    expect_each(&rt, rt.alloc(), &TASKS, TASK_KEYS, MountFault::Field)
+    expect_each(&rt, rt.alloc(), TASKS, TASK_KEYS, MountFault::Field)
 }

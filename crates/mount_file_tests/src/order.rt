@@ -1,6 +1,6 @@
 //! Faults of the bytes and of the document, and which of two is told.
 
-use crate::parts::{ENTRIES, MOUNT, SEED, TASK, expect_fault, refused, tasks_of};
+use crate::parts::{ENTRIES, Gap, MOUNT, SEED, TASK, expect_fault, fault_with, refused, tasks_of};
 use mount_file::MountFault;
 use std::alloc::Global;
 use std::process::Abort;
@@ -73,38 +73,24 @@ const DOCUMENTS: &[([&str; 4], MountFault)] = &[
 #[test]
 fn of_two_faults_of_a_document_the_first_in_order_is_told(rt: HostRuntime) -> Result<(), Fail> {
     for (parts, fault) in DOCUMENTS {
-        expect_fault(&rt, rt.alloc(), *parts, *fault)?;
+        expect_fault(&rt, rt.alloc(), parts, *fault)?;
     }
     Ok(())
 }
 
-/// Entries and mounts, and the fault of a file that has them and too many tasks.
-const WITH_MANY_TASKS: &[(&str, &str, MountFault)] = &[
-    ("entries = 0\nx = 1\n", MOUNT, MountFault::Field),
-    ("entries = 0\n", MOUNT, MountFault::Range),
-    (ENTRIES, "mount = []\n", MountFault::NoRoot),
-    (ENTRIES, ROOTS, MountFault::Twice),
-    (ENTRIES, MOUNT, MountFault::TooMany),
+/// Files without their tasks, and the faults of those that have too many tasks.
+#[rattlefmt::skip]
+const WITH_MANY_TASKS: &[(Gap, MountFault)] = &[
+    (Gap { before: &["entries = 0\nx = 1\n", SEED, MOUNT], after: &[] }, MountFault::Field),
+    (Gap { before: &["entries = 0\n", SEED, MOUNT], after: &[] }, MountFault::Range),
+    (Gap { before: &[ENTRIES, SEED, "mount = []\n"], after: &[] }, MountFault::NoRoot),
+    (Gap { before: &[ENTRIES, SEED, ROOTS], after: &[] }, MountFault::Twice),
+    (Gap { before: &[ENTRIES, SEED, MOUNT], after: &[] }, MountFault::TooMany),
 ];
 
-/// The fault of a file of these entries, mounts and tasks.
-fn fault_with_tasks(
-    alloc: Global,
-    entries: &str,
-    mounts: &str,
-    tasks: &str,
-) -> Result<Option<MountFault>, Fail> {
-    let file = format!(in alloc; "{entries}{SEED}{mounts}{tasks}")?;
-    Ok(refused(alloc, file.as_bytes()))
-}
-
 fn expect_with_tasks(rt: &impl Abort, alloc: Global, tasks: &str) -> Result<(), Fail> {
-    for (entries, mounts, fault) in WITH_MANY_TASKS {
-        assert_eq!(rt;
-            fault_with_tasks(alloc, entries, mounts, tasks)?,
-            Some(*fault),
-            "{entries}{mounts}"
-        );
+    for (row, (gap, fault)) in WITH_MANY_TASKS.iter().enumerate() {
+        assert_eq!(rt; fault_with(alloc, gap, tasks)?, Some(*fault), "row {row}");
     }
     Ok(())
 }

@@ -14,49 +14,59 @@ pub(crate) const MOUNT: &str = "[[mount]]\nat = \"/\"\nfolder = \"root\"\n";
 
 pub(crate) const TASK: &str = "[[task]]\npath = \"/init\"\n";
 
-/// A part of a file.
-#[derive(Clone, Copy)]
-pub(crate) enum Part {
-    Entries,
-    Seed,
-    Mounts,
-    Tasks,
-}
-
-/// A gap in a good file: the part that has it, and what that part has before and behind it.
+/// A gap in a good file: what the file has before and behind it.
 pub(crate) struct Gap {
-    pub(crate) part: Part,
-    pub(crate) before: &'static str,
-    pub(crate) after: &'static str,
+    pub(crate) before: &'static [&'static str],
+    pub(crate) after: &'static [&'static str],
 }
 
 /// The folder of the mount at `/`.
-pub(crate) const FOLDER: Gap = Gap {
-    part: Part::Mounts,
-    before: "[[mount]]\nat = \"/\"\nfolder = \"",
-    after: "\"\n",
+pub(crate) const FOLDER: &Gap = &Gap {
+    before: &[ENTRIES, SEED, "[[mount]]\nat = \"/\"\nfolder = \""],
+    after: &["\"\n", TASK],
 };
 
-/// The parts of a good file, but for one, which is this text.
-fn parts_with(part: Part, text: &str) -> [&str; 4] {
-    match part {
-        Part::Entries => [text, SEED, MOUNT, TASK],
-        Part::Seed => [ENTRIES, text, MOUNT, TASK],
-        Part::Mounts => [ENTRIES, SEED, text, TASK],
-        Part::Tasks => [ENTRIES, SEED, MOUNT, text],
+/// Where the tasks of a file stand.
+pub(crate) const TASKS: &Gap = &Gap {
+    before: &[ENTRIES, SEED, MOUNT],
+    after: &[],
+};
+
+/// Writes texts one behind another.
+fn add_texts(file: &mut String, texts: &[&str]) -> Result<(), Fail> {
+    for text in texts {
+        file.push_str(text)?;
     }
+    Ok(())
+}
+
+/// Writes a text so many times.
+pub(crate) fn add_times(file: &mut String, text: &str, count: usize) -> Result<(), Fail> {
+    for _ in 0..count {
+        file.push_str(text)?;
+    }
+    Ok(())
 }
 
 /// A file of these parts.
-fn file_of(alloc: Global, parts: [&str; 4]) -> Result<String, Fail> {
-    let [entries, seed, mounts, tasks] = parts;
-    Ok(format!(in alloc; "{entries}{seed}{mounts}{tasks}")?)
+fn file_of(alloc: Global, parts: &[&str]) -> Result<String, Fail> {
+    let mut file = String::new(alloc);
+    add_texts(&mut file, parts)?;
+    Ok(file)
+}
+
+/// Writes what is before a gap, a text in it, and what is behind.
+fn add_filled(file: &mut String, gap: &Gap, text: &str) -> Result<(), Fail> {
+    add_texts(file, gap.before)?;
+    file.push_str(text)?;
+    add_texts(file, gap.after)
 }
 
 /// A file with a text in its gap.
 fn filled(alloc: Global, gap: &Gap, text: &str) -> Result<String, Fail> {
-    let part = format!(in alloc; "{}{text}{}", gap.before, gap.after)?;
-    file_of(alloc, parts_with(gap.part, part.as_str()))
+    let mut file = String::new(alloc);
+    add_filled(&mut file, gap, text)?;
+    Ok(file)
 }
 
 /// How a file of bytes is refused, or `None` where it is read.
@@ -65,7 +75,7 @@ pub(crate) fn refused(alloc: Global, bytes: &[u8]) -> Option<MountFault> {
 }
 
 /// The fault of a file of these parts, or `None` where it is read.
-pub(crate) fn fault_of(alloc: Global, parts: [&str; 4]) -> Result<Option<MountFault>, Fail> {
+fn fault_of(alloc: Global, parts: &[&str]) -> Result<Option<MountFault>, Fail> {
     let file = file_of(alloc, parts)?;
     Ok(refused(alloc, file.as_bytes()))
 }
@@ -80,7 +90,7 @@ pub(crate) fn fault_with(alloc: Global, gap: &Gap, text: &str) -> Result<Option<
 pub(crate) fn expect_fault(
     rt: &impl Abort,
     alloc: Global,
-    parts: [&str; 4],
+    parts: &[&str; 4],
     fault: MountFault,
 ) -> Result<(), Fail> {
     let [entries, seed, mounts, tasks] = parts;
@@ -107,7 +117,7 @@ pub(crate) fn expect_each(
 }
 
 /// What is read of a file of these parts.
-pub(crate) fn read(alloc: Global, parts: [&str; 4]) -> Result<Mounts, Fail> {
+pub(crate) fn read(alloc: Global, parts: &[&str]) -> Result<Mounts, Fail> {
     let file = file_of(alloc, parts)?;
     Ok(read_mounts(alloc, file.as_bytes())?)
 }

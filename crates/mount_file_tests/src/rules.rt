@@ -1,86 +1,67 @@
 //! Mounts and tasks that each are good and together break a rule.
 
-use crate::parts::{ENTRIES, MOUNT, SEED, TASK, fault_of, tasks_of};
+use crate::parts::{
+    ENTRIES, Gap, MOUNT, SEED, TASK, TASKS, expect_each, expect_fault, fault_with, tasks_of,
+};
 use mount_file::MountFault;
 use std::alloc::Global;
+use std::process::Abort;
 use std::test::Fail;
+
+/// A file of no mounts, by its parts.
+const NO_MOUNTS: &[&str; 4] = &[ENTRIES, SEED, "mount = []\n", TASK];
 
 #[test]
 fn without_mounts_it_is_no_root(rt: HostRuntime) -> Result<(), Fail> {
-    assert_eq!(rt;
-        fault_of(rt.alloc(), [ENTRIES, SEED, "mount = []\n", TASK])?,
-        Some(MountFault::NoRoot)
-    );
-    Ok(())
+    expect_fault(&rt, rt.alloc(), NO_MOUNTS, MountFault::NoRoot)
 }
 
-/// A mount of a folder at a place.
-fn mount_of(alloc: Global, at: &str, folder: &str) -> Result<String, Fail> {
-    Ok(format!(in alloc; "[[mount]]\nat = \"{at}\"\nfolder = \"{folder}\"\n")?)
-}
+/// Where a mount stands behind a good one.
+const BEHIND: &Gap = &Gap {
+    before: &[ENTRIES, SEED, MOUNT],
+    after: &[TASK],
+};
 
-/// The fault of a file of two mounts.
-fn fault_of_two(alloc: Global, first: &str, second: &str) -> Result<Option<MountFault>, Fail> {
-    let mounts = format!(in alloc; "{first}{second}")?;
-    fault_of(alloc, [ENTRIES, SEED, mounts.as_str(), TASK])
-}
+/// Where a mount stands before a good one.
+const BEFORE: &Gap = &Gap {
+    before: &[ENTRIES, SEED],
+    after: &[MOUNT, TASK],
+};
 
-/// The fault of a file that has this mount behind a good one.
-fn fault_behind(alloc: Global, at: &str, folder: &str) -> Result<Option<MountFault>, Fail> {
-    let mount = mount_of(alloc, at, folder)?;
-    fault_of_two(alloc, MOUNT, mount.as_str())
-}
-
-/// The fault of a file that has this mount before a good one.
-fn fault_before(alloc: Global, at: &str, folder: &str) -> Result<Option<MountFault>, Fail> {
-    let mount = mount_of(alloc, at, folder)?;
-    fault_of_two(alloc, mount.as_str(), MOUNT)
-}
-
-/// Places and folders of mounts that clash with the good one.
-const CLASHES: &[(&str, &str)] = &[
-    ("/", "b"),
-    ("/d", "root"),
-    ("/d", "root/a"),
-    ("/d", "/root/a"),
-    ("/d", "/root"),
-    ("/", "root"),
+/// Mounts that clash with the good one.
+const CLASHES: &[&str] = &[
+    "[[mount]]\nat = \"/\"\nfolder = \"b\"\n",
+    "[[mount]]\nat = \"/d\"\nfolder = \"root\"\n",
+    "[[mount]]\nat = \"/d\"\nfolder = \"root/a\"\n",
+    "[[mount]]\nat = \"/d\"\nfolder = \"/root/a\"\n",
+    "[[mount]]\nat = \"/d\"\nfolder = \"/root\"\n",
+    "[[mount]]\nat = \"/\"\nfolder = \"root\"\n",
 ];
 
 #[test]
 fn two_mounts_at_one_place_or_of_one_folder_are_twice(rt: HostRuntime) -> Result<(), Fail> {
-    let twice = Some(MountFault::Twice);
-    for (at, folder) in CLASHES {
-        let faults = [
-            fault_behind(rt.alloc(), at, folder)?,
-            fault_before(rt.alloc(), at, folder)?,
-        ];
-        assert_eq!(rt; faults, [twice, twice], "{at} {folder}");
-    }
-    Ok(())
+    expect_each(&rt, rt.alloc(), BEHIND, CLASHES, MountFault::Twice)?;
+    expect_each(&rt, rt.alloc(), BEFORE, CLASHES, MountFault::Twice)
 }
 
-/// Places and folders of mounts that don't.
-const APART: &[(&str, &str)] = &[("/d", "rootx"), ("/d", "a/root"), ("/root", "b")];
+/// Mounts that don't.
+const APART: &[&str] = &[
+    "[[mount]]\nat = \"/d\"\nfolder = \"rootx\"\n",
+    "[[mount]]\nat = \"/d\"\nfolder = \"a/root\"\n",
+    "[[mount]]\nat = \"/root\"\nfolder = \"b\"\n",
+];
 
 #[test]
 fn two_mounts_that_share_no_place_and_no_folder_are_too_many_so_far(
     rt: HostRuntime,
 ) -> Result<(), Fail> {
-    for (at, folder) in APART {
-        assert_eq!(rt;
-            fault_behind(rt.alloc(), at, folder)?,
-            Some(MountFault::TooMany),
-            "{at} {folder}"
-        );
-    }
-    Ok(())
+    expect_each(&rt, rt.alloc(), BEHIND, APART, MountFault::TooMany)
 }
 
 /// The fault of a file of so many tasks.
 fn fault_of_tasks(alloc: Global, count: usize) -> Result<Option<MountFault>, Fail> {
     let tasks = tasks_of(alloc, count)?;
-    fault_of(alloc, [ENTRIES, SEED, MOUNT, tasks.as_str()])
+    fault_with(alloc, TASKS, tasks.as_str())
 }
 
 /// How many tasks a file has, and its fault.
@@ -92,10 +73,14 @@ const COUNTS: &[(usize, Option<MountFault>)] = &[
     (66, Some(MountFault::TooMany)),
 ];
 
-#[test]
-fn sixty_five_tasks_are_too_many(rt: HostRuntime) -> Result<(), Fail> {
+fn expect_counts(rt: &impl Abort, alloc: Global) -> Result<(), Fail> {
     for (count, fault) in COUNTS {
-        assert_eq!(rt; fault_of_tasks(rt.alloc(), *count)?, *fault, "{count}");
+        assert_eq!(rt; fault_of_tasks(alloc, *count)?, *fault, "{count}");
     }
     Ok(())
+}
+
+#[test]
+fn sixty_five_tasks_are_too_many(rt: HostRuntime) -> Result<(), Fail> {
+    expect_counts(&rt, rt.alloc())
 }

@@ -1,47 +1,58 @@
 //! Values outside their form.
 
-use crate::parts::{ENTRIES, FOLDER, Gap, MOUNT, Part, SEED, expect_each, fault_of, fault_with};
+use crate::parts::{
+    ENTRIES, FOLDER, Gap, MOUNT, SEED, TASK, add_times, expect_each, expect_fault, fault_with,
+};
 use mount_file::MountFault;
 use std::alloc::Global;
+use std::process::Abort;
 use std::test::Fail;
 
-const NUMBER: Gap = Gap {
-    part: Part::Entries,
-    before: "entries = ",
-    after: "\n",
+const NUMBER: &Gap = &Gap {
+    before: &["entries = "],
+    after: &["\n", SEED, MOUNT, TASK],
 };
 
-#[test]
-fn a_number_of_entries_outside_its_range_is_range(rt: HostRuntime) -> Result<(), Fail> {
-    let numbers = ["0", "1048577", "-1"];
-    expect_each(&rt, rt.alloc(), &NUMBER, &numbers, MountFault::Range)?;
-    assert_eq!(rt; fault_with(rt.alloc(), &NUMBER, "1")?, None);
+const NUMBERS: &[&str] = &["0", "1048577", "-1"];
+
+/// Aborts unless a file is read with this text in its gap.
+fn expect_read(rt: &impl Abort, alloc: Global, gap: &Gap, text: &str) -> Result<(), Fail> {
+    assert_eq!(rt; fault_with(alloc, gap, text)?, None, "{text}");
     Ok(())
 }
 
+#[test]
+fn a_number_of_entries_outside_its_range_is_range(rt: HostRuntime) -> Result<(), Fail> {
+    expect_each(&rt, rt.alloc(), NUMBER, NUMBERS, MountFault::Range)?;
+    expect_read(&rt, rt.alloc(), NUMBER, "1")
+}
+
 /// Behind 63 zeros of a seed.
-const SEED_END: Gap = Gap {
-    part: Part::Seed,
-    before: "seed = \"000000000000000000000000000000000000000000000000000000000000000",
-    after: "\"\n",
+const SEED_END: &Gap = &Gap {
+    before: &[
+        ENTRIES,
+        "seed = \"000000000000000000000000000000000000000000000000000000000000000",
+    ],
+    after: &["\"\n", MOUNT, TASK],
 };
+
+const SEED_ENDS: &[&str] = &["", "00", "g", "G", " ", "/", ":", "@", "`", "é"];
 
 #[test]
 fn a_seed_of_other_than_64_hexadecimal_digits_is_range(rt: HostRuntime) -> Result<(), Fail> {
-    let ends = ["", "00", "g", "G", " ", "/", ":", "@", "`", "é"];
-    expect_each(&rt, rt.alloc(), &SEED_END, &ends, MountFault::Range)
+    expect_each(&rt, rt.alloc(), SEED_END, SEED_ENDS, MountFault::Range)
 }
 
-const PLACE: Gap = Gap {
-    part: Part::Mounts,
-    before: "[[mount]]\nat = \"",
-    after: "\"\nfolder = \"root\"\n",
+const PLACE: &Gap = &Gap {
+    before: &[ENTRIES, SEED, "[[mount]]\nat = \""],
+    after: &["\"\nfolder = \"root\"\n", TASK],
 };
+
+const PLACES: &[&str] = &["", "d", "/a/b", "//", "/.", "/..", "/d/", "/\\u0000"];
 
 #[test]
 fn a_place_other_than_the_root_or_a_name_in_it_is_range(rt: HostRuntime) -> Result<(), Fail> {
-    let places = ["", "d", "/a/b", "//", "/.", "/..", "/d/", "/\\u0000"];
-    expect_each(&rt, rt.alloc(), &PLACE, &places, MountFault::Range)
+    expect_each(&rt, rt.alloc(), PLACE, PLACES, MountFault::Range)
 }
 
 const FOLDERS: &[&str] = &[
@@ -50,14 +61,16 @@ const FOLDERS: &[&str] = &[
 
 #[test]
 fn a_folder_with_a_piece_that_is_no_name_is_range(rt: HostRuntime) -> Result<(), Fail> {
-    expect_each(&rt, rt.alloc(), &FOLDER, FOLDERS, MountFault::Range)
+    expect_each(&rt, rt.alloc(), FOLDER, FOLDERS, MountFault::Range)
 }
 
-const FIRST_TASK: Gap = Gap {
-    part: Part::Tasks,
-    before: "[[task]]\n",
-    after: "\n",
+const FIRST_TASK: &Gap = &Gap {
+    before: &[ENTRIES, SEED, MOUNT, "[[task]]\n"],
+    after: &["\n"],
 };
+
+/// A file of no tasks, by its parts.
+const NO_TASKS: &[&str; 4] = &[ENTRIES, SEED, "task = []\n", MOUNT];
 
 const TASKS: &[&str] = &[
     "path = \"\"",
@@ -71,32 +84,20 @@ const TASKS: &[&str] = &[
 
 #[test]
 fn a_task_outside_its_form_is_range(rt: HostRuntime) -> Result<(), Fail> {
-    expect_each(&rt, rt.alloc(), &FIRST_TASK, TASKS, MountFault::Range)?;
-    assert_eq!(rt;
-        fault_of(rt.alloc(), [ENTRIES, SEED, "task = []\n", MOUNT])?,
-        Some(MountFault::Range)
-    );
-    Ok(())
+    expect_each(&rt, rt.alloc(), FIRST_TASK, TASKS, MountFault::Range)?;
+    expect_fault(&rt, rt.alloc(), NO_TASKS, MountFault::Range)
 }
 
-const NAME: Gap = Gap {
-    part: Part::Mounts,
-    before: "[[mount]]\nat = \"/\"\nfolder = \"b/",
-    after: "\"\n",
+const NAME: &Gap = &Gap {
+    before: &[ENTRIES, SEED, "[[mount]]\nat = \"/\"\nfolder = \"b/"],
+    after: &["\"\n", TASK],
 };
 
 /// The fault of a file whose folder has a name of so many letters.
 fn fault_of_name(alloc: Global, length: usize) -> Result<Option<MountFault>, Fail> {
     let mut name = String::new(alloc);
-    add_letters(&mut name, length)?;
-    fault_with(alloc, &NAME, name.as_str())
-}
-
-fn add_letters(name: &mut String, length: usize) -> Result<(), Fail> {
-    for _ in 0..length {
-        name.push('a')?;
-    }
-    Ok(())
+    add_times(&mut name, "a", length)?;
+    fault_with(alloc, NAME, name.as_str())
 }
 
 #[test]

@@ -1,33 +1,42 @@
 //! Whole mount files, and what is read of them.
 
-use crate::parts::{ENTRIES, FOLDER, Gap, MOUNT, Part, SEED, TASK, read, read_with, tasks_of};
+use crate::parts::{ENTRIES, FOLDER, Gap, MOUNT, SEED, TASK, read, read_with, tasks_of};
 use mount_file::{Mounts, Program, copied_mounts};
 use sn_base::List;
-use sn_text::{Folder, Text};
+use sn_text::{Folder, Route, Text};
 use std::alloc::Global;
 use std::process::Abort;
 use std::test::Fail;
 
+/// Whether the name at this place is of these bytes.
+fn is_name(route: &Route, index: usize, expected: &str) -> bool {
+    match route.get(index) {
+        Some(name) => name.is(expected.as_bytes()),
+        None => false,
+    }
+}
+
 /// Whether a folder is of these names.
 fn is_folder(folder: &Folder, rooted: bool, names: &[&str]) -> bool {
+    let route = folder.route();
+    let mut each = names.iter().enumerate();
     folder.is_rooted() == rooted
-        && folder.route().names().len() == names.len()
-        && folder
-            .route()
-            .names()
-            .iter()
-            .zip(names.iter())
-            .all(|(name, bytes)| name.is(bytes.as_bytes()))
+        && route.len() == names.len()
+        && each.all(|(index, name)| is_name(route, index, name))
+}
+
+/// Whether the text at this place is of these bytes.
+fn is_text(texts: &List<Text>, index: usize, expected: &str) -> bool {
+    match texts.get(index) {
+        Some(text) => text.as_bytes() == expected.as_bytes(),
+        None => false,
+    }
 }
 
 /// Whether texts are these.
 fn are(texts: &List<Text>, expected: &[&str]) -> bool {
-    texts.len() == expected.len()
-        && texts
-            .as_slice()
-            .iter()
-            .zip(expected.iter())
-            .all(|(text, bytes)| text.as_bytes() == bytes.as_bytes())
+    let mut each = expected.iter().enumerate();
+    texts.len() == expected.len() && each.all(|(index, text)| is_text(texts, index, text))
 }
 
 /// Whether a task's image has this name, and it has these arguments and this environment.
@@ -44,11 +53,18 @@ const BYTES: [u8; 32] = [
     248, 249, 250, 251, 252, 253, 254, 255,
 ];
 
+/// A file of numbers, by its parts.
+const NUMBERS: &[&str] = &["entries = 1048576\n", DIGITS, MOUNT, TASK];
+
+/// How many entries a file of these parts tells, and whether it tells these bytes as its seed.
+fn numbers_of(alloc: Global, parts: &[&str], seed: &[u8]) -> Result<(u64, bool), Fail> {
+    let mounts = read(alloc, parts)?;
+    Ok((mounts.entries, mounts.seed.as_slice() == seed))
+}
+
 #[test]
 fn the_numbers_of_a_file_are_read(rt: HostRuntime) -> Result<(), Fail> {
-    let mounts = read(rt.alloc(), ["entries = 1048576\n", DIGITS, MOUNT, TASK])?;
-    assert_eq!(rt; mounts.entries, 1_048_576);
-    assert!(rt; mounts.seed.as_slice() == BYTES.as_slice());
+    assert_eq!(rt; numbers_of(rt.alloc(), NUMBERS, &BYTES)?, (1_048_576, true));
     Ok(())
 }
 
@@ -70,7 +86,7 @@ fn is_mounted(mounts: &Mounts, rooted: bool, names: &[&str]) -> bool {
 
 /// Whether a folder is read as these names.
 fn is_read(alloc: Global, folder: &str, rooted: bool, names: &[&str]) -> Result<bool, Fail> {
-    let mounts = read_with(alloc, &FOLDER, folder)?;
+    let mounts = read_with(alloc, FOLDER, folder)?;
     Ok(is_mounted(&mounts, rooted, names))
 }
 
@@ -83,18 +99,17 @@ fn a_folder_is_read_name_by_name(rt: HostRuntime) -> Result<(), Fail> {
 }
 
 /// Behind the other keys of a mount.
-const MOUNT_END: Gap = Gap {
-    part: Part::Mounts,
-    before: MOUNT,
-    after: "",
+const MOUNT_END: &Gap = &Gap {
+    before: &[ENTRIES, SEED, MOUNT],
+    after: &[TASK],
 };
 
-/// Whether the only mount of a file with this line may be written. `None`: the file has not one mount.
-fn is_written(alloc: Global, line: &str) -> Result<Option<bool>, Fail> {
-    let mounts = read_with(alloc, &MOUNT_END, line)?;
+/// Whether a file with this line has one mount, which may be written where it is told so.
+fn is_written(alloc: Global, line: &str, write: bool) -> Result<bool, Fail> {
+    let mounts = read_with(alloc, MOUNT_END, line)?;
     match mounts.mounts.as_slice() {
-        [mount] => Ok(Some(mount.write)),
-        _ => Ok(None),
+        [mount] => Ok(mount.write == write),
+        _ => Ok(false),
     }
 }
 
@@ -108,16 +123,15 @@ const WRITES: &[(&str, bool)] = &[
 #[test]
 fn a_mount_may_be_written_only_where_it_says_so(rt: HostRuntime) -> Result<(), Fail> {
     for (line, write) in WRITES {
-        assert_eq!(rt; is_written(rt.alloc(), line)?, Some(*write), "{line}");
+        assert!(rt; is_written(rt.alloc(), line, *write)?, "{line}");
     }
     Ok(())
 }
 
 /// Behind the path of a task.
-const TASK_END: Gap = Gap {
-    part: Part::Tasks,
-    before: TASK,
-    after: "",
+const TASK_END: &Gap = &Gap {
+    before: &[ENTRIES, SEED, MOUNT, TASK],
+    after: &[],
 };
 
 /// Lines of a task, its arguments and its environment.
@@ -131,7 +145,7 @@ const GIVEN: &[(&str, &[&str], &[&str])] = &[
 
 /// Whether a file whose task has these lines has that task alone, `init`, with these arguments and this environment.
 fn is_given(alloc: Global, lines: &str, args: &[&str], env: &[&str]) -> Result<bool, Fail> {
-    let mounts = read_with(alloc, &TASK_END, lines)?;
+    let mounts = read_with(alloc, TASK_END, lines)?;
     match mounts.tasks.as_slice() {
         [task] => Ok(is_task(task, "init", args, env)),
         _ => Ok(false),
@@ -156,18 +170,23 @@ fn are_two(mounts: &Mounts) -> bool {
     }
 }
 
+/// Whether a file with these lines behind its task has those two.
+fn are_two_with(alloc: Global, lines: &str) -> Result<bool, Fail> {
+    let mounts = read_with(alloc, TASK_END, lines)?;
+    Ok(are_two(&mounts))
+}
+
 #[test]
 fn two_tasks_are_read_in_the_order_of_the_file(rt: HostRuntime) -> Result<(), Fail> {
     let second = "[[task]]\npath = \"/second\"\nargs = [\"b\"]\nenv = [\"B=2\"]\n";
-    let mounts = read_with(rt.alloc(), &TASK_END, second)?;
-    assert!(rt; are_two(&mounts));
+    assert!(rt; are_two_with(rt.alloc(), second)?);
     Ok(())
 }
 
 /// What is read of a file of so many tasks.
 fn read_tasks(alloc: Global, count: usize) -> Result<Mounts, Fail> {
     let tasks = tasks_of(alloc, count)?;
-    read(alloc, [ENTRIES, SEED, MOUNT, tasks.as_str()])
+    read(alloc, &[ENTRIES, SEED, MOUNT, tasks.as_str()])
 }
 
 /// Whether a task's image has the name `task` with this number.
@@ -176,7 +195,14 @@ fn is_numbered(alloc: Global, task: &Program, number: usize) -> Result<bool, Fai
     Ok(task.name.is(name.as_bytes()))
 }
 
-fn expect_numbered(rt: &impl Abort, alloc: Global, tasks: &[Program]) -> Result<(), Fail> {
+/// Aborts unless there are so many tasks, and each has the name with its number.
+fn expect_numbered(
+    rt: &impl Abort,
+    alloc: Global,
+    tasks: &[Program],
+    count: usize,
+) -> Result<(), Fail> {
+    assert_eq!(rt; tasks.len(), count);
     for (number, task) in tasks.iter().enumerate() {
         assert!(rt; is_numbered(alloc, task, number)?, "{number}");
     }
@@ -186,8 +212,7 @@ fn expect_numbered(rt: &impl Abort, alloc: Global, tasks: &[Program]) -> Result<
 #[test]
 fn sixty_four_tasks_are_read_each_with_its_name(rt: HostRuntime) -> Result<(), Fail> {
     let mounts = read_tasks(rt.alloc(), 64)?;
-    assert_eq!(rt; mounts.tasks.len(), 64);
-    expect_numbered(&rt, rt.alloc(), mounts.tasks.as_slice())
+    expect_numbered(&rt, rt.alloc(), mounts.tasks.as_slice(), 64)
 }
 
 /// Whether a copy of these mounts is one at `/` of the folder `root`, which may be written.
@@ -201,7 +226,7 @@ fn is_copied(alloc: Global, mounts: &Mounts) -> Result<bool, Fail> {
 
 /// Whether the mount of a file with this line is copied so.
 fn is_copied_with(alloc: Global, line: &str) -> Result<bool, Fail> {
-    let mounts = read_with(alloc, &MOUNT_END, line)?;
+    let mounts = read_with(alloc, MOUNT_END, line)?;
     is_copied(alloc, &mounts)
 }
 
