@@ -154,10 +154,12 @@ fn expect_letter(
     alloc: Global,
     name: &str,
     bytes: &mut Vec<u8>,
-    letter: char,
+    letter: u8,
 ) -> Result<(), Fail> {
-    let at = format!(in alloc; "at = \"/{letter}\"\n")?;
-    let folder = format!(in alloc; "folder = \"{letter}\"\n")?;
+    let mut at = *b"at = \"/_\"\n";
+    at[7] = letter;
+    let mut folder = *b"folder = \"_\"\n";
+    folder[10] = letter;
     let lines = [
         Line {
             text: b"[[mount]]\n",
@@ -165,12 +167,12 @@ fn expect_letter(
             answer: Some(Field),
         },
         Line {
-            text: at.as_bytes(),
+            text: &at,
             from: 9,
             answer: Some(Field),
         },
         Line {
-            text: folder.as_bytes(),
+            text: &folder,
             from: 12,
             answer: Some(TooMany),
         },
@@ -199,7 +201,7 @@ fn expect_letters(
     letters: &[u8],
 ) -> Result<(), Fail> {
     for letter in letters {
-        expect_letter(rt, alloc, name, bytes, char::from(*letter))?;
+        expect_letter(rt, alloc, name, bytes, *letter)?;
     }
     Ok(())
 }
