@@ -56,7 +56,7 @@ const MOUNT_KEYS: &[&str] = &[
 fn a_key_of_a_mount_missing_unknown_or_of_another_type_is_field(
     rt: HostRuntime,
 ) -> Result<(), Fail> {
-    expect_each(&rt, rt.alloc(), MOUNTS, MOUNT_KEYS, MountFault::Field)
+    expect_each(&rt, rt.alloc(), MOUNTS, MOUNT_KEYS, Some(MountFault::Field))
 }
 
 const TASK_KEYS: &[&str] = &[
@@ -74,5 +74,5 @@ const TASK_KEYS: &[&str] = &[
 fn a_key_of_a_task_missing_unknown_or_of_another_type_is_field(
     rt: HostRuntime,
 ) -> Result<(), Fail> {
-    expect_each(&rt, rt.alloc(), TASKS, TASK_KEYS, MountFault::Field)
+    expect_each(&rt, rt.alloc(), TASKS, TASK_KEYS, Some(MountFault::Field))
 }

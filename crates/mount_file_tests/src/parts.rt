@@ -102,16 +102,16 @@ pub(crate) fn expect_fault(
     Ok(())
 }
 
-/// Aborts unless a file has this fault with each of these texts in its gap.
+/// Aborts unless a file has this fault, or is read for `None`, with each of these texts in its gap.
 pub(crate) fn expect_each(
     rt: &impl Abort,
     alloc: Global,
     gap: &Gap,
     texts: &[&str],
-    fault: MountFault,
+    fault: Option<MountFault>,
 ) -> Result<(), Fail> {
     for text in texts {
-        assert_eq!(rt; fault_with(alloc, gap, text)?, Some(fault), "{text}");
+        assert_eq!(rt; fault_with(alloc, gap, text)?, fault, "{text}");
     }
     Ok(())
 }

@@ -40,8 +40,8 @@ const CLASHES: &[&str] = &[
 
 #[test]
 fn two_mounts_at_one_place_or_of_one_folder_are_twice(rt: HostRuntime) -> Result<(), Fail> {
-    expect_each(&rt, rt.alloc(), BEHIND, CLASHES, MountFault::Twice)?;
-    expect_each(&rt, rt.alloc(), BEFORE, CLASHES, MountFault::Twice)
+    expect_each(&rt, rt.alloc(), BEHIND, CLASHES, Some(MountFault::Twice))?;
+    expect_each(&rt, rt.alloc(), BEFORE, CLASHES, Some(MountFault::Twice))
 }
 
 /// Mounts that don't.
@@ -55,7 +55,7 @@ const APART: &[&str] = &[
 fn two_mounts_that_share_no_place_and_no_folder_are_too_many_so_far(
     rt: HostRuntime,
 ) -> Result<(), Fail> {
-    expect_each(&rt, rt.alloc(), BEHIND, APART, MountFault::TooMany)
+    expect_each(&rt, rt.alloc(), BEHIND, APART, Some(MountFault::TooMany))
 }
 
 /// The fault of a file of so many tasks.
