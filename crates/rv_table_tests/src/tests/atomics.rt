@@ -2,9 +2,6 @@
 
 use super::*;
 
-/// A row's name, and the numbers of rd, rs1 and rs2 that it takes from a word; rs2 is 0 for LR.
-type Three = (&'static str, usize, usize, usize);
-
 fn three(name: &'static str, rd: Reg, rs1: Reg, rs2: usize) -> Option<Three> {
     Some((name, rd.number(), rs1.number(), rs2))
 }
@@ -45,45 +42,47 @@ fn double_atomic(word: u32) -> Option<Three> {
 
 // The words have aq, rl, both or neither, in turn.
 
+#[rattlefmt::skip]
+const ON_WORDS: &[RowOfThree] = &[
+    ("LrW", 0x100120af, 1, 2, 0),
+    ("ScW", 0x1c62a22f, 4, 5, 6),
+    ("AmoswapW", 0x0a9423af, 7, 8, 9),
+    ("AmoaddW", 0x06c5a52f, 10, 11, 12),
+    ("AmoxorW", 0x20f726af, 13, 14, 15),
+    ("AmoandW", 0x6528a82f, 16, 17, 18),
+    ("AmoorW", 0x435a29af, 19, 20, 21),
+    ("AmominW", 0x878bab2f, 22, 23, 24),
+    ("AmomaxW", 0xa1bd2caf, 25, 26, 27),
+    ("AmominuW", 0xc5eeae2f, 28, 29, 30),
+    ("AmomaxuW", 0xe3f02faf, 31, 0, 31),
+];
+
 #[test]
 fn atomic_instructions_on_words_are_told_apart_by_funct5(rt: HostRuntime) {
-    for (name, word, rd, rs1, rs2) in [
-        ("LrW", 0x100120af, 1, 2, 0),
-        ("ScW", 0x1c62a22f, 4, 5, 6),
-        ("AmoswapW", 0x0a9423af, 7, 8, 9),
-        ("AmoaddW", 0x06c5a52f, 10, 11, 12),
-        ("AmoxorW", 0x20f726af, 13, 14, 15),
-        ("AmoandW", 0x6528a82f, 16, 17, 18),
-        ("AmoorW", 0x435a29af, 19, 20, 21),
-        ("AmominW", 0x878bab2f, 22, 23, 24),
-        ("AmomaxW", 0xa1bd2caf, 25, 26, 27),
-        ("AmominuW", 0xc5eeae2f, 28, 29, 30),
-        ("AmomaxuW", 0xe3f02faf, 31, 0, 31),
-    ] {
-        assert_eq!(rt; word_atomic(word), Some((name, rd, rs1, rs2)), "{word:#x}");
+    for row in ON_WORDS {
+        expect_three(&rt, word_atomic(row.1), row);
     }
 }
 
+#[rattlefmt::skip]
+const ON_DOUBLE_WORDS: &[RowOfThree] = &[
+    ("LrD", 0x160fb02f, 0, 31, 0),
+    ("ScD", 0x19ffbfaf, 31, 31, 31),
+    ("AmoswapD", 0x0c3130af, 1, 2, 3),
+    ("AmoaddD", 0x0262b22f, 4, 5, 6),
+    ("AmoxorD", 0x269433af, 7, 8, 9),
+    ("AmoandD", 0x60c5b52f, 10, 11, 12),
+    ("AmoorD", 0x44f736af, 13, 14, 15),
+    ("AmominD", 0x8328b82f, 16, 17, 18),
+    ("AmomaxD", 0xa75a39af, 19, 20, 21),
+    ("AmominuD", 0xc18bbb2f, 22, 23, 24),
+    ("AmomaxuD", 0xe5bd3caf, 25, 26, 27),
+];
+
 #[test]
 fn atomic_instructions_on_double_words_are_told_apart_by_funct5(rt: HostRuntime) {
-    for (name, word, rd, rs1, rs2) in [
-        ("LrD", 0x160fb02f, 0, 31, 0),
-        ("ScD", 0x19ffbfaf, 31, 31, 31),
-        ("AmoswapD", 0x0c3130af, 1, 2, 3),
-        ("AmoaddD", 0x0262b22f, 4, 5, 6),
-        ("AmoxorD", 0x269433af, 7, 8, 9),
-        ("AmoandD", 0x60c5b52f, 10, 11, 12),
-        ("AmoorD", 0x44f736af, 13, 14, 15),
-        ("AmominD", 0x8328b82f, 16, 17, 18),
-        ("AmomaxD", 0xa75a39af, 19, 20, 21),
-        ("AmominuD", 0xc18bbb2f, 22, 23, 24),
-        ("AmomaxuD", 0xe5bd3caf, 25, 26, 27),
-    ] {
-        assert_eq!(rt;
-            double_atomic(word),
-            Some((name, rd, rs1, rs2)),
-            "{word:#x}"
-        );
+    for row in ON_DOUBLE_WORDS {
+        expect_three(&rt, double_atomic(row.1), row);
     }
 }
 

@@ -2,9 +2,6 @@
 
 use super::*;
 
-/// A row's name, and the numbers of rd, rs1 and rs2 that it takes from a word.
-type Three = (&'static str, usize, usize, usize);
-
 fn three(name: &'static str, rd: Reg, rs1: Reg, rs2: Reg) -> Option<Three> {
     Some((name, rd.number(), rs1.number(), rs2.number()))
 }
@@ -59,81 +56,82 @@ fn word_immediate(word: u32) -> Option<Parts> {
     }
 }
 
+#[rattlefmt::skip]
+const ON_REGISTERS: &[RowOfThree] = &[
+    ("Add", 0x003100b3, 1, 2, 3),
+    ("Sub", 0x40628233, 4, 5, 6),
+    ("Sll", 0x009413b3, 7, 8, 9),
+    ("Slt", 0x00c5a533, 10, 11, 12),
+    ("Sltu", 0x00f736b3, 13, 14, 15),
+    ("Xor", 0x0128c833, 16, 17, 18),
+    ("Srl", 0x015a59b3, 19, 20, 21),
+    ("Sra", 0x418bdb33, 22, 23, 24),
+    ("Or", 0x01bd6cb3, 25, 26, 27),
+    ("And", 0x01eefe33, 28, 29, 30),
+    ("Mul", 0x03f00fb3, 31, 0, 31),
+    ("Mulh", 0x030f9033, 0, 31, 16),
+    ("Mulhsu", 0x03ffafb3, 31, 31, 31),
+    ("Mulhu", 0x023130b3, 1, 2, 3),
+    ("Div", 0x0262c233, 4, 5, 6),
+    ("Divu", 0x029453b3, 7, 8, 9),
+    ("Rem", 0x02c5e533, 10, 11, 12),
+    ("Remu", 0x02f776b3, 13, 14, 15),
+];
+
 #[test]
 fn computations_on_two_registers_are_told_apart_by_funct7_and_funct3(rt: HostRuntime) {
-    for (name, word, rd, rs1, rs2) in [
-        ("Add", 0x003100b3, 1, 2, 3),
-        ("Sub", 0x40628233, 4, 5, 6),
-        ("Sll", 0x009413b3, 7, 8, 9),
-        ("Slt", 0x00c5a533, 10, 11, 12),
-        ("Sltu", 0x00f736b3, 13, 14, 15),
-        ("Xor", 0x0128c833, 16, 17, 18),
-        ("Srl", 0x015a59b3, 19, 20, 21),
-        ("Sra", 0x418bdb33, 22, 23, 24),
-        ("Or", 0x01bd6cb3, 25, 26, 27),
-        ("And", 0x01eefe33, 28, 29, 30),
-        ("Mul", 0x03f00fb3, 31, 0, 31),
-        ("Mulh", 0x030f9033, 0, 31, 16),
-        ("Mulhsu", 0x03ffafb3, 31, 31, 31),
-        ("Mulhu", 0x023130b3, 1, 2, 3),
-        ("Div", 0x0262c233, 4, 5, 6),
-        ("Divu", 0x029453b3, 7, 8, 9),
-        ("Rem", 0x02c5e533, 10, 11, 12),
-        ("Remu", 0x02f776b3, 13, 14, 15),
-    ] {
-        assert_eq!(rt; register(word), Some((name, rd, rs1, rs2)), "{word:#x}");
+    for row in ON_REGISTERS {
+        expect_three(&rt, register(row.1), row);
     }
 }
+
+#[rattlefmt::skip]
+const ON_WORDS: &[RowOfThree] = &[
+    ("Addw", 0x003100bb, 1, 2, 3),
+    ("Subw", 0x4062823b, 4, 5, 6),
+    ("Sllw", 0x009413bb, 7, 8, 9),
+    ("Srlw", 0x00c5d53b, 10, 11, 12),
+    ("Sraw", 0x40f756bb, 13, 14, 15),
+    ("Mulw", 0x0328883b, 16, 17, 18),
+    ("Divw", 0x035a49bb, 19, 20, 21),
+    ("Divuw", 0x038bdb3b, 22, 23, 24),
+    ("Remw", 0x03bd6cbb, 25, 26, 27),
+    ("Remuw", 0x03eefe3b, 28, 29, 30),
+];
 
 #[test]
 fn computations_on_two_words_are_told_apart_by_funct7_and_funct3(rt: HostRuntime) {
-    for (name, word, rd, rs1, rs2) in [
-        ("Addw", 0x003100bb, 1, 2, 3),
-        ("Subw", 0x4062823b, 4, 5, 6),
-        ("Sllw", 0x009413bb, 7, 8, 9),
-        ("Srlw", 0x00c5d53b, 10, 11, 12),
-        ("Sraw", 0x40f756bb, 13, 14, 15),
-        ("Mulw", 0x0328883b, 16, 17, 18),
-        ("Divw", 0x035a49bb, 19, 20, 21),
-        ("Divuw", 0x038bdb3b, 22, 23, 24),
-        ("Remw", 0x03bd6cbb, 25, 26, 27),
-        ("Remuw", 0x03eefe3b, 28, 29, 30),
-    ] {
-        assert_eq!(rt;
-            word_register(word),
-            Some((name, rd, rs1, rs2)),
-            "{word:#x}"
-        );
+    for row in ON_WORDS {
+        expect_three(&rt, word_register(row.1), row);
     }
 }
 
+#[rattlefmt::skip]
+const SHIFTS_OF_WORDS: &[Row] = &[
+    ("Addiw", 0x8001009b, 1, 2, -2048),
+    ("Addiw", 0xfff2019b, 3, 4, -1),
+    ("Addiw", 0x0003029b, 5, 6, 0),
+    ("Addiw", 0x0014039b, 7, 8, 1),
+    ("Addiw", 0x7fff0f9b, 31, 30, 2047),
+    ("Addiw", 0x555f801b, 0, 31, 1365),
+    ("Slliw", 0x0001109b, 1, 2, 0),
+    ("Slliw", 0x0012921b, 4, 5, 1),
+    ("Slliw", 0x01e4139b, 7, 8, 30),
+    ("Slliw", 0x01f5951b, 10, 11, 31),
+    ("Srliw", 0x0007569b, 13, 14, 0),
+    ("Srliw", 0x0018d81b, 16, 17, 1),
+    ("Srliw", 0x01ea599b, 19, 20, 30),
+    ("Srliw", 0x01fbdb1b, 22, 23, 31),
+    ("Sraiw", 0x400d5c9b, 25, 26, 0),
+    ("Sraiw", 0x401ede1b, 28, 29, 1),
+    ("Sraiw", 0x41e05f9b, 31, 0, 30),
+    ("Sraiw", 0x41ffd01b, 0, 31, 31),
+];
+
 #[test]
 fn shifts_of_a_word_go_up_to_31_places(rt: HostRuntime) {
-    for (name, word, rd, rs1, imm) in [
-        ("Addiw", 0x8001009b, 1, 2, -2048),
-        ("Addiw", 0xfff2019b, 3, 4, -1),
-        ("Addiw", 0x0003029b, 5, 6, 0),
-        ("Addiw", 0x0014039b, 7, 8, 1),
-        ("Addiw", 0x7fff0f9b, 31, 30, 2047),
-        ("Addiw", 0x555f801b, 0, 31, 1365),
-        ("Slliw", 0x0001109b, 1, 2, 0),
-        ("Slliw", 0x0012921b, 4, 5, 1),
-        ("Slliw", 0x01e4139b, 7, 8, 30),
-        ("Slliw", 0x01f5951b, 10, 11, 31),
-        ("Srliw", 0x0007569b, 13, 14, 0),
-        ("Srliw", 0x0018d81b, 16, 17, 1),
-        ("Srliw", 0x01ea599b, 19, 20, 30),
-        ("Srliw", 0x01fbdb1b, 22, 23, 31),
-        ("Sraiw", 0x400d5c9b, 25, 26, 0),
-        ("Sraiw", 0x401ede1b, 28, 29, 1),
-        ("Sraiw", 0x41e05f9b, 31, 0, 30),
-        ("Sraiw", 0x41ffd01b, 0, 31, 31),
-    ] {
-        assert_eq!(rt;
-            word_immediate(word),
-            Some((name, rd, rs1, imm)),
-            "{word:#x}"
-        );
+    for row in SHIFTS_OF_WORDS {
+        expect(&rt, word_immediate(row.1), row);
     }
 }
 

@@ -38,70 +38,91 @@ fn jump_to_register(word: u32) -> Option<(usize, usize, i64)> {
     }
 }
 
+#[rattlefmt::skip]
+const BRANCHES: &[Row] = &[
+    ("Beq", 0x80310063, 2, 3, -4096),
+    ("Bne", 0x7e629fe3, 5, 6, 4094),
+    ("Blt", 0x00944063, 8, 9, 0),
+    ("Bge", 0x00c5d163, 11, 12, 2),
+    ("Bltu", 0x00f760e3, 14, 15, 2048),
+    ("Bgeu", 0x0128f863, 17, 18, 16),
+    ("Beq", 0x035a0063, 20, 21, 32),
+    ("Bne", 0x418b9063, 23, 24, 1024),
+    ("Blt", 0xffbd4fe3, 26, 27, -2),
+    ("Bge", 0x55eeda63, 29, 30, 1364),
+    ("Bltu", 0xd5f06a63, 0, 31, -2732),
+];
+
 #[test]
 fn branches_have_each_bit_in_its_place(rt: HostRuntime) {
-    for (name, word, rs1, rs2, imm) in [
-        ("Beq", 0x80310063, 2, 3, -4096),
-        ("Bne", 0x7e629fe3, 5, 6, 4094),
-        ("Blt", 0x00944063, 8, 9, 0),
-        ("Bge", 0x00c5d163, 11, 12, 2),
-        ("Bltu", 0x00f760e3, 14, 15, 2048),
-        ("Bgeu", 0x0128f863, 17, 18, 16),
-        ("Beq", 0x035a0063, 20, 21, 32),
-        ("Bne", 0x418b9063, 23, 24, 1024),
-        ("Blt", 0xffbd4fe3, 26, 27, -2),
-        ("Bge", 0x55eeda63, 29, 30, 1364),
-        ("Bltu", 0xd5f06a63, 0, 31, -2732),
-    ] {
-        assert_eq!(rt; branch(word), Some((name, rs1, rs2, imm)), "{word:#x}");
+    for row in BRANCHES {
+        expect(&rt, branch(row.1), row);
     }
 }
+
+#[rattlefmt::skip]
+const STORES: &[Row] = &[
+    ("Sb", 0x80310023, 2, 3, -2048),
+    ("Sh", 0xfe629fa3, 5, 6, -1),
+    ("Sw", 0x00942023, 8, 9, 0),
+    ("Sd", 0x00c5b423, 11, 12, 8),
+    ("Sb", 0x7ef70fa3, 14, 15, 2047),
+    ("Sh", 0x01289fa3, 17, 18, 31),
+    ("Sw", 0x035a2023, 20, 21, 32),
+    ("Sd", 0x558bbaa3, 23, 24, 1365),
+    ("Sb", 0xabbd0523, 26, 27, -1366),
+];
 
 #[test]
 fn stores_have_each_bit_in_its_place(rt: HostRuntime) {
-    for (name, word, rs1, rs2, imm) in [
-        ("Sb", 0x80310023, 2, 3, -2048),
-        ("Sh", 0xfe629fa3, 5, 6, -1),
-        ("Sw", 0x00942023, 8, 9, 0),
-        ("Sd", 0x00c5b423, 11, 12, 8),
-        ("Sb", 0x7ef70fa3, 14, 15, 2047),
-        ("Sh", 0x01289fa3, 17, 18, 31),
-        ("Sw", 0x035a2023, 20, 21, 32),
-        ("Sd", 0x558bbaa3, 23, 24, 1365),
-        ("Sb", 0xabbd0523, 26, 27, -1366),
-    ] {
-        assert_eq!(rt; store(word), Some((name, rs1, rs2, imm)), "{word:#x}");
+    for row in STORES {
+        expect(&rt, store(row.1), row);
     }
 }
+
+/// A word, and the numbers of rd and rs1 and the immediate that JALR takes from it.
+#[rattlefmt::skip]
+const JUMPS_TO_REGISTERS: &[(u32, usize, usize, i64)] = &[
+    (0x800100e7, 1, 2, -2048),
+    (0xfff201e7, 3, 4, -1),
+    (0x000302e7, 5, 6, 0),
+    (0x001403e7, 7, 8, 1),
+    (0x7fff0fe7, 31, 30, 2047),
+    (0x555f8067, 0, 31, 1365),
+];
 
 #[test]
 fn a_jump_to_a_register_keeps_its_odd_distance(rt: HostRuntime) {
-    for (word, rd, rs1, imm) in [
-        (0x800100e7, 1, 2, -2048),
-        (0xfff201e7, 3, 4, -1),
-        (0x000302e7, 5, 6, 0),
-        (0x001403e7, 7, 8, 1),
-        (0x7fff0fe7, 31, 30, 2047),
-        (0x555f8067, 0, 31, 1365),
-    ] {
-        assert_eq!(rt; jump_to_register(word), Some((rd, rs1, imm)), "{word:#x}");
+    for &(word, rd, rs1, imm) in JUMPS_TO_REGISTERS {
+        assert!(rt; jump_to_register(word) == Some((rd, rs1, imm)), "{word:#x}");
     }
 }
 
+/// The name of a fence's row.
+fn fence(word: u32) -> &'static str {
+    match decode(word) {
+        Instr::Fence => "Fence",
+        Instr::FenceI => "FenceI",
+        _ => "",
+    }
+}
+
+/// A row's name, and a word: FENCE, FENCE R,W, FENCE.TSO, PAUSE and one with registers; FENCE.I, and one with all bits.
+#[rattlefmt::skip]
+const FENCES: &[(&str, u32)] = &[
+    ("Fence", 0x0ff0000f),
+    ("Fence", 0x0210000f),
+    ("Fence", 0x8330000f),
+    ("Fence", 0x0100000f),
+    ("Fence", 0x0ff78f8f),
+    ("FenceI", 0x0000100f),
+    ("FenceI", 0xffff9f8f),
+];
+
 #[test]
 fn of_a_fence_only_funct3_is_looked_at(rt: HostRuntime) {
-    let fence = 0x0ff0000f;
-    let fence_r_w = 0x0210000f;
-    let fence_tso = 0x8330000f;
-    let pause = 0x0100000f;
-    let with_registers = 0x0ff78f8f;
-    for word in [fence, fence_r_w, fence_tso, pause, with_registers] {
-        assert!(rt; matches!(decode(word), Instr::Fence), "{word:#x}");
-    }
-    let fence_i = 0x0000100f;
-    let fence_i_with_all = 0xffff9f8f;
-    for word in [fence_i, fence_i_with_all] {
-        assert!(rt; matches!(decode(word), Instr::FenceI), "{word:#x}");
+    for &(name, word) in FENCES {
+        assert!(rt; fence(word) == name, "{word:#x}");
     }
 }
 
