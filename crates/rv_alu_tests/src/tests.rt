@@ -14,11 +14,20 @@ mod shifts;
 mod sums;
 mod upper;
 
+/// What rs1 holds, or pc; what rs2 holds, or the immediate; and the value.
+type Row = (u64, u64, u64);
+
 /// That an instruction of two registers has the values of its rows.
-fn expect(rt: &impl Abort, instr: Instr, rows: &[(u64, u64, u64)]) {
+fn expect(rt: &impl Abort, instr: Instr, rows: &[Row]) {
     for &(a, b, value) in rows {
-        assert_eq!(rt; alu(&instr, a, b), value, "of {a:x} and {b:x}");
+        assert!(rt; alu(&instr, a, b) == value, "of {a:x} and {b:x}");
     }
+}
+
+/// That an instruction with an immediate has the value of its row.
+fn expect_immediate(rt: &impl Abort, name: &str, instr: Instr, row: &Row) {
+    let &(a, imm, value) = row;
+    assert!(rt; alu(&instr, a, u64::MAX) == value, "{name} {a:x} {imm:x}");
 }
 
 #[test]

@@ -30,7 +30,7 @@ const SLTU: [(u64, u64, u64); 10] = [
 ];
 
 #[rattlefmt::skip]
-const SLTI: [(u64, u64, u64); 9] = [
+const SLTI: &[Row] = &[
     (0, 0, 0),
     (1, 0xffff_ffff_ffff_ffff, 0),
     (0x7fff_ffff_ffff_ffff, 1, 0),
@@ -43,7 +43,7 @@ const SLTI: [(u64, u64, u64); 9] = [
 ];
 
 #[rattlefmt::skip]
-const SLTIU: [(u64, u64, u64); 9] = [
+const SLTIU: &[Row] = &[
     (0, 0, 0),
     (1, 0xffff_ffff_ffff_ffff, 1),
     (0x7fff_ffff_ffff_ffff, 1, 0),
@@ -81,12 +81,20 @@ fn registers_are_compared_in_both_orders(rt: HostRuntime) {
 #[test]
 fn immediates_are_compared_in_both_orders(rt: HostRuntime) {
     let x = Reg::new(0);
-    for (a, imm, value) in SLTI {
-        let instr = Instr::Slti { rd: x, rs1: x, imm };
-        assert_eq!(rt; alu(&instr, a, u64::MAX), value, "slti {a:x} {imm:x}");
+    for row in SLTI {
+        let instr = Instr::Slti {
+            rd: x,
+            rs1: x,
+            imm: row.1,
+        };
+        expect_immediate(&rt, "slti", instr, row);
     }
-    for (a, imm, value) in SLTIU {
-        let instr = Instr::Sltiu { rd: x, rs1: x, imm };
-        assert_eq!(rt; alu(&instr, a, u64::MAX), value, "sltiu {a:x} {imm:x}");
+    for row in SLTIU {
+        let instr = Instr::Sltiu {
+            rd: x,
+            rs1: x,
+            imm: row.1,
+        };
+        expect_immediate(&rt, "sltiu", instr, row);
     }
 }

@@ -44,7 +44,7 @@ const AND: [(u64, u64, u64); 10] = [
 ];
 
 #[rattlefmt::skip]
-const XORI: [(u64, u64, u64); 9] = [
+const XORI: &[Row] = &[
     (0, 0, 0),
     (1, 0xffff_ffff_ffff_ffff, 0xffff_ffff_ffff_fffe),
     (0x7fff_ffff_ffff_ffff, 1, 0x7fff_ffff_ffff_fffe),
@@ -57,7 +57,7 @@ const XORI: [(u64, u64, u64); 9] = [
 ];
 
 #[rattlefmt::skip]
-const ORI: [(u64, u64, u64); 9] = [
+const ORI: &[Row] = &[
     (0, 0, 0),
     (1, 0xffff_ffff_ffff_ffff, 0xffff_ffff_ffff_ffff),
     (0x7fff_ffff_ffff_ffff, 1, 0x7fff_ffff_ffff_ffff),
@@ -70,7 +70,7 @@ const ORI: [(u64, u64, u64); 9] = [
 ];
 
 #[rattlefmt::skip]
-const ANDI: [(u64, u64, u64); 9] = [
+const ANDI: &[Row] = &[
     (0, 0, 0),
     (1, 0xffff_ffff_ffff_ffff, 1),
     (0x7fff_ffff_ffff_ffff, 1, 1),
@@ -117,16 +117,28 @@ fn bits_of_registers_are_joined(rt: HostRuntime) {
 #[test]
 fn bits_of_immediates_are_joined(rt: HostRuntime) {
     let x = Reg::new(0);
-    for (a, imm, value) in XORI {
-        let instr = Instr::Xori { rd: x, rs1: x, imm };
-        assert_eq!(rt; alu(&instr, a, u64::MAX), value, "xori {a:x} {imm:x}");
+    for row in XORI {
+        let instr = Instr::Xori {
+            rd: x,
+            rs1: x,
+            imm: row.1,
+        };
+        expect_immediate(&rt, "xori", instr, row);
     }
-    for (a, imm, value) in ORI {
-        let instr = Instr::Ori { rd: x, rs1: x, imm };
-        assert_eq!(rt; alu(&instr, a, u64::MAX), value, "ori {a:x} {imm:x}");
+    for row in ORI {
+        let instr = Instr::Ori {
+            rd: x,
+            rs1: x,
+            imm: row.1,
+        };
+        expect_immediate(&rt, "ori", instr, row);
     }
-    for (a, imm, value) in ANDI {
-        let instr = Instr::Andi { rd: x, rs1: x, imm };
-        assert_eq!(rt; alu(&instr, a, u64::MAX), value, "andi {a:x} {imm:x}");
+    for row in ANDI {
+        let instr = Instr::Andi {
+            rd: x,
+            rs1: x,
+            imm: row.1,
+        };
+        expect_immediate(&rt, "andi", instr, row);
     }
 }

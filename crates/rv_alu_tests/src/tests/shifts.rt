@@ -1,6 +1,15 @@
 //! Shifts, of 64 bits and of words.
 use super::*;
 
+/// What rs1 holds, the number of places, and the value.
+type ShiftRow = (u64, u8, u64);
+
+/// That a shift by the number of places that the instruction says has the value of its row.
+fn expect_shift(rt: &impl Abort, name: &str, instr: Instr, row: &ShiftRow) {
+    let &(a, shamt, value) = row;
+    assert!(rt; alu(&instr, a, u64::MAX) == value, "{name} {a:x} {shamt}");
+}
+
 #[rattlefmt::skip]
 const SLL: [(u64, u64, u64); 8] = [
     (0xffff_ffff_ffff_ffff, 0, 0xffff_ffff_ffff_ffff),
@@ -38,7 +47,7 @@ const SRA: [(u64, u64, u64); 8] = [
 ];
 
 #[rattlefmt::skip]
-const SLLI: [(u64, u8, u64); 6] = [
+const SLLI: &[ShiftRow] = &[
     (0xffff_ffff_ffff_ffff, 0, 0xffff_ffff_ffff_ffff),
     (1, 31, 0x8000_0000),
     (0xffff_ffff_ffff_ffff, 32, 0xffff_ffff_0000_0000),
@@ -48,7 +57,7 @@ const SLLI: [(u64, u8, u64); 6] = [
 ];
 
 #[rattlefmt::skip]
-const SRLI: [(u64, u8, u64); 6] = [
+const SRLI: &[ShiftRow] = &[
     (0xffff_ffff_ffff_ffff, 0, 0xffff_ffff_ffff_ffff),
     (1, 31, 0),
     (0xffff_ffff_ffff_ffff, 32, 0xffff_ffff),
@@ -58,7 +67,7 @@ const SRLI: [(u64, u8, u64); 6] = [
 ];
 
 #[rattlefmt::skip]
-const SRAI: [(u64, u8, u64); 6] = [
+const SRAI: &[ShiftRow] = &[
     (0xffff_ffff_ffff_ffff, 0, 0xffff_ffff_ffff_ffff),
     (1, 31, 0),
     (0xffff_ffff_ffff_ffff, 32, 0xffff_ffff_ffff_ffff),
@@ -104,7 +113,7 @@ const SRAW: [(u64, u64, u64); 8] = [
 ];
 
 #[rattlefmt::skip]
-const SLLIW: [(u64, u8, u64); 6] = [
+const SLLIW: &[ShiftRow] = &[
     (0x8000_0000, 0, 0xffff_ffff_8000_0000),
     (1, 31, 0xffff_ffff_8000_0000),
     (0x7fff_ffff, 1, 0xffff_ffff_ffff_fffe),
@@ -114,7 +123,7 @@ const SLLIW: [(u64, u8, u64); 6] = [
 ];
 
 #[rattlefmt::skip]
-const SRLIW: [(u64, u8, u64); 6] = [
+const SRLIW: &[ShiftRow] = &[
     (0x8000_0000, 0, 0xffff_ffff_8000_0000),
     (1, 31, 0),
     (0x7fff_ffff, 1, 0x3fff_ffff),
@@ -124,7 +133,7 @@ const SRLIW: [(u64, u8, u64); 6] = [
 ];
 
 #[rattlefmt::skip]
-const SRAIW: [(u64, u8, u64); 6] = [
+const SRAIW: &[ShiftRow] = &[
     (0x8000_0000, 0, 0xffff_ffff_8000_0000),
     (1, 31, 0),
     (0x7fff_ffff, 1, 0x3fff_ffff),
@@ -168,29 +177,29 @@ fn shifts_take_the_low_six_bits(rt: HostRuntime) {
 #[test]
 fn shifts_go_as_far_as_the_instruction_says(rt: HostRuntime) {
     let x = Reg::new(0);
-    for (a, shamt, value) in SLLI {
+    for row in SLLI {
         let instr = Instr::Slli {
             rd: x,
             rs1: x,
-            shamt,
+            shamt: row.1,
         };
-        assert_eq!(rt; alu(&instr, a, u64::MAX), value, "slli {a:x} {shamt}");
+        expect_shift(&rt, "slli", instr, row);
     }
-    for (a, shamt, value) in SRLI {
+    for row in SRLI {
         let instr = Instr::Srli {
             rd: x,
             rs1: x,
-            shamt,
+            shamt: row.1,
         };
-        assert_eq!(rt; alu(&instr, a, u64::MAX), value, "srli {a:x} {shamt}");
+        expect_shift(&rt, "srli", instr, row);
     }
-    for (a, shamt, value) in SRAI {
+    for row in SRAI {
         let instr = Instr::Srai {
             rd: x,
             rs1: x,
-            shamt,
+            shamt: row.1,
         };
-        assert_eq!(rt; alu(&instr, a, u64::MAX), value, "srai {a:x} {shamt}");
+        expect_shift(&rt, "srai", instr, row);
     }
 }
 
@@ -229,28 +238,28 @@ fn shifts_of_words_take_the_low_five_bits(rt: HostRuntime) {
 #[test]
 fn shifts_of_words_go_as_far_as_the_instruction_says(rt: HostRuntime) {
     let x = Reg::new(0);
-    for (a, shamt, value) in SLLIW {
+    for row in SLLIW {
         let instr = Instr::Slliw {
             rd: x,
             rs1: x,
-            shamt,
+            shamt: row.1,
         };
-        assert_eq!(rt; alu(&instr, a, u64::MAX), value, "slliw {a:x} {shamt}");
+        expect_shift(&rt, "slliw", instr, row);
     }
-    for (a, shamt, value) in SRLIW {
+    for row in SRLIW {
         let instr = Instr::Srliw {
             rd: x,
             rs1: x,
-            shamt,
+            shamt: row.1,
         };
-        assert_eq!(rt; alu(&instr, a, u64::MAX), value, "srliw {a:x} {shamt}");
+        expect_shift(&rt, "srliw", instr, row);
     }
-    for (a, shamt, value) in SRAIW {
+    for row in SRAIW {
         let instr = Instr::Sraiw {
             rd: x,
             rs1: x,
-            shamt,
+            shamt: row.1,
         };
-        assert_eq!(rt; alu(&instr, a, u64::MAX), value, "sraiw {a:x} {shamt}");
+        expect_shift(&rt, "sraiw", instr, row);
     }
 }

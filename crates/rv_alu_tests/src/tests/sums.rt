@@ -30,7 +30,7 @@ const SUB: [(u64, u64, u64); 10] = [
 ];
 
 #[rattlefmt::skip]
-const ADDI: [(u64, u64, u64); 9] = [
+const ADDI: &[Row] = &[
     (0, 0, 0),
     (1, 0xffff_ffff_ffff_ffff, 0),
     (0x7fff_ffff_ffff_ffff, 1, 0x8000_0000_0000_0000),
@@ -71,7 +71,7 @@ const SUBW: [(u64, u64, u64); 10] = [
 ];
 
 #[rattlefmt::skip]
-const ADDIW: [(u64, u64, u64); 9] = [
+const ADDIW: &[Row] = &[
     (0, 0, 0),
     (1, 0xffff_ffff_ffff_ffff, 0),
     (0x7fff_ffff_ffff_ffff, 1, 0),
@@ -104,9 +104,13 @@ fn sums_and_differences_wrap(rt: HostRuntime) {
         },
         &SUB,
     );
-    for (a, imm, value) in ADDI {
-        let instr = Instr::Addi { rd: x, rs1: x, imm };
-        assert_eq!(rt; alu(&instr, a, u64::MAX), value, "addi {a:x} {imm:x}");
+    for row in ADDI {
+        let instr = Instr::Addi {
+            rd: x,
+            rs1: x,
+            imm: row.1,
+        };
+        expect_immediate(&rt, "addi", instr, row);
     }
 }
 
@@ -131,8 +135,12 @@ fn words_are_added_with_their_sign_carried_on(rt: HostRuntime) {
         },
         &SUBW,
     );
-    for (a, imm, value) in ADDIW {
-        let instr = Instr::Addiw { rd: x, rs1: x, imm };
-        assert_eq!(rt; alu(&instr, a, u64::MAX), value, "addiw {a:x} {imm:x}");
+    for row in ADDIW {
+        let instr = Instr::Addiw {
+            rd: x,
+            rs1: x,
+            imm: row.1,
+        };
+        expect_immediate(&rt, "addiw", instr, row);
     }
 }

@@ -2,7 +2,7 @@
 use super::*;
 
 #[rattlefmt::skip]
-const LUI: [(u64, u64, u64); 5] = [
+const LUI: &[Row] = &[
     (0, 0, 0),
     (0, 0x1000, 0x1000),
     (0, 0x7fff_f000, 0x7fff_f000),
@@ -11,7 +11,7 @@ const LUI: [(u64, u64, u64); 5] = [
 ];
 
 #[rattlefmt::skip]
-const AUIPC: [(u64, u64, u64); 5] = [
+const AUIPC: &[Row] = &[
     (0x1_2848, 0, 0x1_2848),
     (0x1_286e, 0x1000, 0x1_386e),
     (0x1_2896, 0x7fff_f000, 0x8001_1896),
@@ -22,12 +22,12 @@ const AUIPC: [(u64, u64, u64); 5] = [
 #[test]
 fn lui_and_auipc_carry_the_top_bit_on(rt: HostRuntime) {
     let x = Reg::new(0);
-    for (a, imm, value) in LUI {
-        let instr = Instr::Lui { rd: x, imm };
-        assert_eq!(rt; alu(&instr, a, u64::MAX), value, "lui {a:x} {imm:x}");
+    for row in LUI {
+        let instr = Instr::Lui { rd: x, imm: row.1 };
+        expect_immediate(&rt, "lui", instr, row);
     }
-    for (a, imm, value) in AUIPC {
-        let instr = Instr::Auipc { rd: x, imm };
-        assert_eq!(rt; alu(&instr, a, u64::MAX), value, "auipc {a:x} {imm:x}");
+    for row in AUIPC {
+        let instr = Instr::Auipc { rd: x, imm: row.1 };
+        expect_immediate(&rt, "auipc", instr, row);
     }
 }
