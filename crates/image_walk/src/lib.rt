@@ -2,9 +2,9 @@
 //!
 //! A caller sees `Granted`, a folder's root with the children of the root that were lent so far, numbered in this order
 //! from the first of its `Numbering` up. `Granted::new` makes one of a root, and `execve` walks it to a program's name:
-//! it answers an `OpeningExecve`, which has what the walk drew and met, and an `ImageAnswer`: an image, an error or want
-//! of memory. A name that was walked to before leads to the same node, which draws no other number and is asked anew.
-//! `give_back` puts the children back, and answers the root.
+//! it answers an `OpeningExecve`, which has what the walk drew and met, and an `ImageAnswer`: an image, an error or
+//! want of memory. A name that was walked to before leads to the same node, which draws no other number and is asked
+//! anew. `give_back` puts the children back, and answers the root.
 //!
 //! Proved, where the root tells its tree: what was drawn, met and answered is what the definitions say of that tree,
 //! of which then a child more may be lent and the count of a node that failed has risen (`executes`); want of memory
