@@ -2,8 +2,8 @@
 
 use crate::made::{folder, name};
 use host_folder::{FolderNode, Folders};
-use host_node::{Attr, HostErr, HostNode, HostWorld, Kind, Listing};
-use sn_text::{Route, name_of};
+use host_node::{Attr, HostErr, HostNode, HostWorld, Kind, Listed, Listing};
+use sn_text::{Folder, Name, Route, name_of};
 use std::alloc::Global;
 use std::fs::Files;
 use std::test::Fail;
@@ -45,6 +45,31 @@ pub struct Held<R: Files> {
     pub alloc: Global,
 }
 
+/// The directory of a folder, which must be there.
+pub fn granted_for<R: Files + AllocGlobal + Clone + Drop + Send>(
+    world: &mut Folders<R>,
+    alloc: Global,
+    folder: &Folder,
+) -> Result<Held<R>, Fail>
+where
+    R::File: Send,
+{
+    let node = world.grant(folder)?.ok_or("the folder")?;
+    let route = Route::new(alloc);
+    Ok(Held { node, route, alloc })
+}
+
+/// Whether a folder is granted.
+pub fn is_granted<R: Files + AllocGlobal + Clone + Drop + Send>(
+    world: &mut Folders<R>,
+    folder: &Folder,
+) -> Result<bool, HostErr>
+where
+    R::File: Send,
+{
+    Ok(world.grant(folder)?.is_some())
+}
+
 /// The directory at a path, which must be there.
 pub fn granted<R: Files + AllocGlobal + Clone + Drop + Send>(
     world: &mut Folders<R>,
@@ -55,9 +80,7 @@ where
     R::File: Send,
 {
     let folder = folder(alloc, path)?;
-    let node = world.grant(&folder)?.ok_or("the folder")?;
-    let route = Route::new(alloc);
-    Ok(Held { node, route, alloc })
+    granted_for(world, alloc, &folder)
 }
 
 /// The same of a new host over these files.
@@ -73,18 +96,41 @@ where
     granted(&mut world, alloc, path)
 }
 
+/// That these rows are so of it.
+pub fn expect_by<R: Files + AllocGlobal + Clone + Drop + Send>(
+    files: R,
+    path: &str,
+    rows: &[Row],
+) -> Result<(), Fail>
+where
+    R::File: Send,
+{
+    let mut root = granted_by(files, path)?;
+    root.expect_rows(rows)
+}
+
 impl<R: Files + AllocGlobal + Clone + Drop + Send> Held<R>
 where
     R::File: Send,
 {
     /// What stands under a name of the directory, which must be there.
     pub fn lent(&mut self, text: &str) -> Result<Held<R>, Fail> {
+        let name = name(self.alloc, text)?;
+        self.lent_for(&name)
+    }
+
+    fn lent_for(&mut self, name: &Name) -> Result<Held<R>, Fail> {
         let alloc = self.alloc;
-        let name = name(alloc, text)?;
-        let mut route = self.route.copy(alloc)?;
-        route.push(name.copy(alloc)?)?;
-        let node = self.node.lend(&self.route, &name)?.ok_or("the node")?;
+        let node = self.node.lend(&self.route, name)?.ok_or("the node")?;
+        let route = self.route_of(name)?;
         Ok(Held { node, route, alloc })
+    }
+
+    /// The route that leads to a name of the directory.
+    fn route_of(&self, name: &Name) -> Result<Route, Fail> {
+        let mut route = self.route.copy(self.alloc)?;
+        route.push(name.copy(self.alloc)?)?;
+        Ok(route)
     }
 
     /// Whether a node of that kind is lent under a name.
@@ -199,10 +245,14 @@ fn has_entries(listing: &Listing, wanted: &[Entry]) -> bool {
     if listing.len() != wanted.len() {
         return false;
     }
-    for ((name, kind), entry) in wanted.iter().zip(listing.entries()) {
-        if !entry.name.is(name.as_bytes()) || entry.kind != *kind {
+    for (entry, found) in wanted.iter().zip(listing.entries()) {
+        if !is_entry(found, entry) {
             return false;
         }
     }
     true
+}
+
+fn is_entry(found: &Listed, (name, kind): &Entry) -> bool {
+    found.name.is(name.as_bytes()) && found.kind == *kind
 }

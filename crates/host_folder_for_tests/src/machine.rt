@@ -1,9 +1,10 @@
 //! What is done over folders of the machine, which are made for it.
 
-use crate::held::{Held, Row, granted_by};
+use crate::held::{Held, Row, expect_by, granted_for, is_granted};
 use crate::made::{folder, make_folder};
 use host_folder::Folders;
 use host_node::HostWorld;
+use sn_text::Folder;
 use std::alloc::Global;
 use std::fs;
 use std::test::Fail;
@@ -16,8 +17,7 @@ pub fn expect_folder(rt: HostRuntime, path: &str, rows: &[Row]) -> Result<(), Fa
 
 /// The same of one that is there.
 pub fn expect_made(rt: HostRuntime, path: &str, rows: &[Row]) -> Result<(), Fail> {
-    let mut root = granted_by(rt, path)?;
-    root.expect_rows(rows)?;
+    expect_by(rt, path, rows)?;
     fs::remove_dir_all(&rt, path)?;
     Ok(())
 }
@@ -28,19 +28,27 @@ pub fn expect_no_grant(
     world: &mut Folders<HostRuntime>,
     path: &str,
 ) -> Result<(), Fail> {
-    let folder = folder(alloc, path)?;
-    let is_granted = world.grant(&folder)?.is_some();
-    if is_granted || world.faults() != 0 {
+    if grants(alloc, world, path)? || world.faults() != 0 {
         return Err(Fail::new(format_args!("{path}")));
     }
     Ok(())
 }
 
+/// Whether the folder at a path is granted.
+fn grants(alloc: Global, world: &mut Folders<HostRuntime>, path: &str) -> Result<bool, Fail> {
+    let folder = folder(alloc, path)?;
+    Ok(is_granted(world, &folder)?)
+}
+
 /// Grants the folder at a path, and settles it.
 pub fn settle_at(alloc: Global, world: &mut Folders<HostRuntime>, path: &str) -> Result<(), Fail> {
     let below = folder(alloc, path)?;
-    let inner = world.grant(&below)?.ok_or("the folder below")?;
-    world.settle(&below, inner);
+    settle(alloc, world, &below)
+}
+
+fn settle(alloc: Global, world: &mut Folders<HostRuntime>, below: &Folder) -> Result<(), Fail> {
+    let Held { node, .. } = granted_for(world, alloc, below)?;
+    world.settle(below, node);
     Ok(())
 }
 
