@@ -13,12 +13,17 @@ use sn_text::{Folder, Route, name_of};
 use std::alloc::Global;
 use std::test::Fail;
 
-/// The folder of these names.
-pub(crate) fn folder_of(alloc: Global, names: &[&str]) -> Result<Folder, Fail> {
-    let mut route = Route::new(alloc);
+fn push_names(alloc: Global, route: &mut Route, names: &[&str]) -> Result<(), Fail> {
     for name in names {
         route.push(name_of(alloc, name.as_bytes())?)?;
     }
+    Ok(())
+}
+
+/// The folder of these names.
+pub(crate) fn folder_of(alloc: Global, names: &[&str]) -> Result<Folder, Fail> {
+    let mut route = Route::new(alloc);
+    push_names(alloc, &mut route, names)?;
     if route.is_empty() {
         return Err(Fail::from("a folder has a name"));
     }
@@ -62,15 +67,22 @@ pub(crate) fn granted(world: &mut World, folder: &Folder) -> Result<MemoryNode, 
     }
 }
 
+/// The plan that a call of a node is to fail.
+pub(crate) fn plan_of(alloc: Global, op: Op, k: u64) -> Result<Plan, Fail> {
+    let mut plan = Plan::new();
+    let place = Route::new(alloc);
+    plan.add(alloc, Line { place, op, left: k })?;
+    Ok(plan)
+}
+
 /// The node of a file of which a call is to fail.
 pub(crate) fn file_node(alloc: Global, bytes: &[u8], op: Op, k: u64) -> Result<MemoryNode, Fail>
     ensures tree { IfOk result (λ node. node.tree ≡ regular bytes.now 420 0) }
     ensures closed { IfOk result (λ node. node.access ≡ NotOpened) }
 {
-    let mut plan = Plan::new();
-    let place = Route::new(alloc);
-    plan.add(alloc, Line { place, op, left: k })?;
-    let tree = Tree::file(0o644, List::from_slice(alloc, bytes)?);
+    let bytes = List::from_slice(alloc, bytes)?;
+    let plan = plan_of(alloc, op, k)?;
+    let tree = Tree::file(0o644, bytes);
     Ok(MemoryNode::new(alloc, tree, Route::new(alloc), plan))
 }
 

@@ -4,8 +4,8 @@ ghost use Rattle.std.specs.Prelude.{◌≡◌, true, IfOk};
 ghost use Rattle.host_node.specs.Tree.{directory as dir, file as regular, no_children, file_bytes, faults_of, none_lent};
 ghost use Rattle.host_memory.specs.declared.node.NodeAccess.TheVariants.{Reading as Reads};
 
-use crate::hosts::{file_node, folder_of, granted, is_failure, open_file, world_of};
-use host_memory::{Line, MemoryNode, Op, Plan, World};
+use crate::hosts::{file_node, folder_of, granted, is_failure, open_file, plan_of, world_of};
+use host_memory::{MemoryNode, Op, World};
 use host_node::{HostErr, HostNode, HostWorld, Listing, Tree};
 use sn_text::{Folder, Name, Route, name_of};
 use std::alloc::Global;
@@ -21,9 +21,7 @@ fn count_after(call: u64, k: u64) -> u64 {
 fn directory_node(alloc: Global, op: Op, k: u64) -> Result<MemoryNode, Fail>
     ensures { IfOk result (λ node. node.tree ≡ dir 448 (faults_of node.tree) no_children) }
 {
-    let mut plan = Plan::new();
-    let place = Route::new(alloc);
-    plan.add(alloc, Line { place, op, left: k })?;
+    let plan = plan_of(alloc, op, k)?;
     let tree = Tree::directory(alloc, 0o700);
     Ok(MemoryNode::new(alloc, tree, Route::new(alloc), plan))
 }
@@ -174,17 +172,24 @@ fn a_grant_fails_where_it_was_planned(rt: HostRuntime) -> Result<(), Fail> {
 }
 
 /// The directory of a host in which no `stat` of it is planned to fail.
+fn granted_for_none(world: &mut World, folder: &Folder) -> Result<MemoryNode, Fail>
+    requires { none_lent world.old.tree ≡ true }
+{
+    world.plan(folder, Op::Stat, 0)?;
+    granted(world, folder)
+}
+
+/// The same of a new host.
 fn planned_for_none(alloc: Global) -> Result<MemoryNode, Fail> {
     let folder = folder_of(alloc, &["d"])?;
     let mut world = world_of(alloc, &folder)?;
-    world.plan(&folder, Op::Stat, 0)?;
-    granted(&mut world, &folder)
+    granted_for_none(&mut world, &folder)
 }
 
 /// That a `stat` of a node does not fail.
 fn expect_told(rt: &impl Abort, node: &mut MemoryNode, route: &Route) -> Result<(), Fail> {
-    assert!(rt; !is_failure(node.stat(route))?);
-    assert_eq!(rt; node.faults(), 0);
+    let failed = is_failure(node.stat(route))?;
+    assert_eq!(rt; (failed, node.faults()), (false, 0));
     Ok(())
 }
 

@@ -41,12 +41,22 @@ fn expect_no_parent(
     Ok(())
 }
 
+/// The same of a new host.
+fn expect_no_parent_there(
+    rt: &impl Abort,
+    alloc: Global,
+    above: &Folder,
+    below: &Folder,
+) -> Result<(), Fail> {
+    let mut world = World::new(alloc);
+    expect_no_parent(rt, alloc, &mut world, above, below)
+}
+
 #[test]
 fn nothing_is_put_below_what_is_not_there(rt: HostRuntime) -> Result<(), Fail> {
     let above = folder_of(rt.alloc(), &["d"])?;
     let below = folder_of(rt.alloc(), &["d", "e"])?;
-    let mut world = World::new(rt.alloc());
-    expect_no_parent(&rt, rt.alloc(), &mut world, &above, &below)
+    expect_no_parent_there(&rt, rt.alloc(), &above, &below)
 }
 
 /// That nothing is put over the file where a folder's names lead.
@@ -73,7 +83,8 @@ fn nothing_is_put_over_what_is_there(rt: HostRuntime) -> Result<(), Fail> {
 fn nothing_is_planned_where_nothing_is(rt: HostRuntime) -> Result<(), Fail> {
     let folder = folder_of(rt.alloc(), &["d"])?;
     let mut world = World::new(rt.alloc());
-    assert!(rt; world.plan(&folder, Op::Stat, 1) == Err(PlanErr::NoNode));
+    let is_refused = world.plan(&folder, Op::Stat, 1) == Err(PlanErr::NoNode);
+    assert!(rt; is_refused);
     Ok(())
 }
 
