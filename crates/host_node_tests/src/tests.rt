@@ -1,7 +1,7 @@
 //! Trees in memory: what they tell, list, and give out and take back.
 
-ghost use Rattle.std.specs.Prelude.{◌≡◌};
-ghost use Rattle.host_node.specs.Tree.{directory as dir, no_children};
+ghost use Rattle.std.specs.Prelude.{◌≡◌, IsSome, IsTrue, OnOk};
+ghost use Rattle.host_node.specs.Tree.{directory as dir, child_of, is_directory, no_children};
 
 use host_node::{Attr, Kind, Listed, Listing, Tree};
 use sn_base::List;
@@ -37,9 +37,9 @@ fn places_tell() -> bool {
 
 #[test]
 fn stat_tells_kind_mode_and_size(rt: HostRuntime) -> Result<(), Fail> {
-    assert!(rt; file_tells(rt.alloc())?);
-    assert!(rt; link_tells(rt.alloc())?);
-    assert!(rt; directory_tells(rt.alloc()) && places_tell());
+    let (file, link) = (file_tells(rt.alloc())?, link_tells(rt.alloc())?);
+    let looks = [file, link, directory_tells(rt.alloc()), places_tell()];
+    assert_eq!(rt; looks, [true, true, true, true]);
     Ok(())
 }
 
@@ -48,8 +48,23 @@ fn failed_calls_are_counted(rt: HostRuntime) -> Result<(), Fail> {
     let mut folder = Tree::directory(rt.alloc(), 0o700);
     folder.count_fault();
     folder.count_fault();
-    assert_eq!(rt; folder.faults(), 2);
-    assert_eq!(rt; Tree::lent(Kind::Dir).faults(), 0);
+    let counts = (folder.faults(), Tree::lent(Kind::Dir).faults());
+    assert_eq!(rt; counts, (2, 0));
+    Ok(())
+}
+
+fn empty_link(alloc: Global) -> Tree {
+    Tree::link(Text::new(alloc))
+}
+
+/// Puts a link under a name of a directory, where nothing is.
+fn put_link(alloc: Global, folder: &mut Tree, name: Name) -> Result<(), Fail>
+    requires { IsTrue (is_directory folder.old) }
+{
+    if folder.find(&name).is_some() {
+        return Err(Fail::from("something is there"));
+    }
+    folder.put(name, empty_link(alloc))?;
     Ok(())
 }
 
@@ -58,11 +73,7 @@ fn put_both(alloc: Global, folder: &mut Tree, b: Name, a: Name) -> Result<(), Fa
     requires { folder.old ≡ dir 493 0 no_children }
 {
     folder.put(b, Tree::directory(alloc, 0o755))?;
-    if folder.find(&a).is_some() {
-        return Err(Fail::from("something is there"));
-    }
-    folder.put(a, Tree::link(Text::new(alloc)))?;
-    Ok(())
+    put_link(alloc, folder, a)
 }
 
 /// A directory in which `b` was put before `a`.
@@ -77,8 +88,20 @@ fn two_entries(alloc: Global) -> Result<Tree, Fail> {
 /// What a copy of a directory lists.
 fn listed(alloc: Global, folder: &Tree) -> Result<Listing, Fail> {
     let mut out = Listing::new(alloc);
-    folder.copy(alloc)?.listing(&mut out)?;
+    list_copy(alloc, folder, &mut out)?;
     Ok(out)
+}
+
+fn list_copy(alloc: Global, folder: &Tree, out: &mut Listing) -> Result<(), Fail> {
+    let copy = folder.copy(alloc)?;
+    copy.listing(out)?;
+    Ok(())
+}
+
+/// What a copy of a directory lists in which `b` was put before `a`.
+fn listed_of_two(alloc: Global) -> Result<Listing, Fail> {
+    let folder = two_entries(alloc)?;
+    listed(alloc, &folder)
 }
 
 /// Whether a listing has two entries, of which the link `a` is the first.
@@ -96,39 +119,67 @@ fn has_a_first(listing: &Listing) -> bool {
 
 #[test]
 fn entries_are_listed_by_the_order_of_their_names(rt: HostRuntime) -> Result<(), Fail> {
-    let folder = two_entries(rt.alloc())?;
-    let mut out = listed(rt.alloc(), &folder)?;
-    assert!(rt; has_a_first(&out));
+    let mut out = listed_of_two(rt.alloc())?;
+    let is_so = has_a_first(&out);
     out.clear();
-    assert!(rt; out.is_empty());
+    assert_eq!(rt; (is_so, out.is_empty()), (true, true));
     Ok(())
+}
+
+/// A directory with a file.
+fn file_under(alloc: Global, name: &Name) -> Result<Tree, Fail> {
+    let name = name.copy(alloc)?;
+    let mut folder = Tree::directory(alloc, 0o755);
+    folder.put(name, Tree::file(0o600, List::new(alloc)))?;
+    Ok(folder)
+}
+
+/// The kind of what stands under a name, and the count of its failed calls.
+type Found = (Kind, u64);
+
+fn found(folder: &Tree, name: &Name) -> Result<Found, Fail>
+    ensures { OnOk result (IsSome (child_of name.now folder.now)) }
+{
+    let tree = folder.find(name).ok_or("nothing there")?;
+    Ok((tree.kind(), tree.faults()))
+}
+
+/// What stands in the place of a child that is taken, and once it is given back with a failed call.
+fn taken(folder: &mut Tree, name: &Name) -> Result<(Found, Found), Fail> {
+    let mut child = folder.take(name).ok_or("the child")?;
+    let place = found(folder, name)?;
+    child.count_fault();
+    folder.give(name, child);
+    Ok((place, found(folder, name)?))
+}
+
+/// The same of the file of a new directory.
+fn taken_file(alloc: Global) -> Result<(Found, Found), Fail> {
+    let name = name_of(alloc, b"a")?;
+    let mut folder = file_under(alloc, &name)?;
+    taken(&mut folder, &name)
 }
 
 #[test]
 fn a_child_that_is_taken_leaves_its_place(rt: HostRuntime) -> Result<(), Fail> {
-    let mut folder = Tree::directory(rt.alloc(), 0o755);
-    let name = name_of(rt.alloc(), b"a")?;
-    let file = Tree::file(0o600, List::new(rt.alloc()));
-    folder.put(name.copy(rt.alloc())?, file)?;
-    let mut child = folder.take(&name).ok_or("the child")?;
-    assert_eq!(rt;
-        folder.find(&name).map(|place| place.kind()),
-        Some(Kind::File)
-    );
-    child.count_fault();
-    folder.give(&name, child);
-    assert_eq!(rt; folder.find(&name).map(|file| file.faults()), Some(1));
+    let told = taken_file(rt.alloc())?;
+    assert_eq!(rt; told, ((Kind::File, 0), (Kind::File, 1)));
+    Ok(())
+}
+
+fn push_directory(listing: &mut Listing) -> Result<(), Fail> {
+    let name = name_of(listing.allocator(), b"x")?;
+    listing.push(Listed {
+        name,
+        kind: Kind::Dir,
+    })?;
     Ok(())
 }
 
 #[test]
 fn a_listing_keeps_what_is_pushed(rt: HostRuntime) -> Result<(), Fail> {
     let mut listing = Listing::new(rt.alloc());
-    let name = name_of(listing.allocator(), b"x")?;
-    listing.push(Listed {
-        name,
-        kind: Kind::Dir,
-    })?;
+    push_directory(&mut listing)?;
     assert_eq!(rt; listing.len(), 1);
     Ok(())
 }
