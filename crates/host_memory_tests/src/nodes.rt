@@ -44,12 +44,11 @@ fn a_read_begins_at_its_offset_and_leaves_the_rest_of_the_buffer(
 }
 
 /// What a folder of a host tells, which is granted for it and settled.
-fn stat_of(alloc: Global, world: &mut World, folder: &Folder) -> Result<Attr, Fail>
+fn stat_of(world: &mut World, folder: &Folder, route: &Route) -> Result<Attr, Fail>
     requires { none_lent world.old.tree ≡ true }
 {
-    let route = Route::new(alloc);
     let mut node = granted(world, folder)?;
-    let attr = node.stat(&route);
+    let attr = node.stat(route);
     world.settle(folder, node);
     Ok(attr?)
 }
@@ -58,7 +57,7 @@ fn stat_of(alloc: Global, world: &mut World, folder: &Folder) -> Result<Attr, Fa
 fn stat_of_directory(alloc: Global) -> Result<Attr, Fail> {
     let folder = folder_of(alloc, &["d"])?;
     let mut world = world_of(alloc, &folder)?;
-    stat_of(alloc, &mut world, &folder)
+    stat_of(&mut world, &folder, &Route::new(alloc))
 }
 
 #[test]
