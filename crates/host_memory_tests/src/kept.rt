@@ -12,19 +12,13 @@ use std::alloc::Global;
 use std::process::Abort;
 use std::test::Fail;
 
-fn empty_file(alloc: Global) -> Tree
-    ensures { none_lent result ≡ true }
-{
-    Tree::file(0o644, List::new(alloc))
-}
-
 /// Puts an empty file where names lead in a host.
 fn put_file(alloc: Global, world: &mut World, names: &[&str]) -> Result<(), Fail>
     requires { none_lent world.old.tree ≡ true }
     ensures { IfOk result (λ _. none_lent world.new.tree ≡ true) }
 {
     let folder = folder_of(alloc, names)?;
-    put(alloc, world, &folder, empty_file(alloc))
+    put(alloc, world, &folder, Tree::file(0o644, List::new(alloc)))
 }
 
 /// Plans that a `stat` is to fail of the node where names lead in a host: the k-th from now.

@@ -44,11 +44,12 @@ fn a_read_begins_at_its_offset_and_leaves_the_rest_of_the_buffer(
 }
 
 /// What a folder of a host tells, which is granted for it and settled.
-fn stat_of(world: &mut World, folder: &Folder, route: &Route) -> Result<Attr, Fail>
+fn stat_of(alloc: Global, world: &mut World, folder: &Folder) -> Result<Attr, Fail>
     requires { none_lent world.old.tree ≡ true }
 {
+    let route = Route::new(alloc);
     let mut node = granted(world, folder)?;
-    let attr = node.stat(route);
+    let attr = node.stat(&route);
     world.settle(folder, node);
     Ok(attr?)
 }
@@ -57,7 +58,7 @@ fn stat_of(world: &mut World, folder: &Folder, route: &Route) -> Result<Attr, Fa
 fn stat_of_directory(alloc: Global) -> Result<Attr, Fail> {
     let folder = folder_of(alloc, &["d"])?;
     let mut world = world_of(alloc, &folder)?;
-    stat_of(&mut world, &folder, &Route::new(alloc))
+    stat_of(alloc, &mut world, &folder)
 }
 
 #[test]
@@ -67,19 +68,13 @@ fn a_stat_tells_what_was_put(rt: HostRuntime) -> Result<(), Fail> {
     Ok(())
 }
 
-fn empty_link(alloc: Global) -> Tree
-    ensures { result ≡ symlink [] 0 }
-{
-    Tree::link(Text::new(alloc))
-}
-
 /// Puts a link under a name of an empty directory.
 fn put_link(alloc: Global, tree: &mut Tree, name: &Name) -> Result<(), Fail>
     requires { tree.old ≡ dir 493 0 no_children }
     ensures { IfOk result (λ _. tree.new ≡ with_child name.now (symlink [] 0) (dir 493 0 no_children)) }
 {
     let name = name.copy(alloc)?;
-    tree.put(name, empty_link(alloc))?;
+    tree.put(name, Tree::link(Text::new(alloc)))?;
     Ok(())
 }
 

@@ -6,7 +6,7 @@ ghost use Rattle.host_memory.specs.declared.node.NodeAccess.TheVariants.{Reading
 
 use crate::hosts::{file_node, folder_of, granted, is_failure, open_file, plan_of, world_of};
 use host_memory::{MemoryNode, Op, World};
-use host_node::{HostNode, HostWorld, Listing, Tree};
+use host_node::{HostErr, HostNode, HostWorld, Listing, Tree};
 use sn_text::{Folder, Name, Route, name_of};
 use std::alloc::Global;
 use std::process::Abort;
@@ -137,7 +137,8 @@ fn grant_fails(world: &mut World, folder: &Folder) -> Result<bool, Fail>
             Ok(false)
         }
         Ok(None) => Err(Fail::from("nothing granted")),
-        Err(e) => is_failure::<()>(Err(e)),
+        Err(HostErr::Failed) => Ok(true),
+        Err(e) => Err(Fail::from(e)),
     }
 }
 
