@@ -133,28 +133,18 @@ where
         Ok(route)
     }
 
-    /// Whether a node of that kind is lent under a name.
-    fn lends(&mut self, text: &str, kind: Kind) -> Result<bool, Fail> {
-        let name = name(self.alloc, text)?;
-        match self.node.lend(&self.route, &name)? {
-            Some(child) => Ok(child.kind() == kind),
-            None => Ok(false),
+    /// The kind of what is lent under a name, or how that is refused.
+    fn kind_for(&mut self, name: &Name) -> Result<Option<Kind>, HostErr> {
+        match self.node.lend(&self.route, name)? {
+            Some(child) => Ok(Some(child.kind())),
+            None => Ok(None),
         }
     }
 
-    /// Whether nothing is lent under a name.
-    fn has_nothing(&mut self, text: &str) -> Result<bool, Fail> {
-        let name = name(self.alloc, text)?;
-        Ok(self.node.lend(&self.route, &name)?.is_none())
-    }
-
-    /// Whether lending what stands under a name is refused so.
-    fn refuses(&mut self, bytes: &[u8], wanted: HostErr) -> Result<bool, Fail> {
+    /// Whether lending what stands under a name gives a node of that kind, or none, or is refused so.
+    fn lends(&mut self, bytes: &[u8], wanted: Result<Option<Kind>, HostErr>) -> Result<bool, Fail> {
         let name = name_of(self.alloc, bytes)?;
-        match self.node.lend(&self.route, &name) {
-            Err(error) => Ok(error == wanted),
-            Ok(_) => Ok(false),
-        }
+        Ok(self.kind_for(&name) == wanted)
     }
 
     /// Whether a read answers that.
@@ -189,9 +179,9 @@ where
             Ask::Opens(write, wanted) => Ok(self.node.open(&self.route, write) == wanted),
             Ask::Reads(at, count, wanted) => self.reads(at, count, wanted),
             Ask::Lists(wanted, entries) => self.lists(wanted, entries),
-            Ask::Lends(text, kind) => self.lends(text, kind),
-            Ask::Nothing(text) => self.has_nothing(text),
-            Ask::Refuses(bytes, wanted) => self.refuses(bytes, wanted),
+            Ask::Lends(text, kind) => self.lends(text.as_bytes(), Ok(Some(kind))),
+            Ask::Nothing(text) => self.lends(text.as_bytes(), Ok(None)),
+            Ask::Refuses(bytes, wanted) => self.lends(bytes, Err(wanted)),
         }
     }
 
