@@ -35,29 +35,47 @@ fn values(names: &Named<u8>) -> [Option<u8>; 3] {
     [value(names, 7, 0), value(names, 7, 1), value(names, 8, 0)]
 }
 
-#[test]
-fn things_of_one_entry_have_names_of_their_own(rt: HostRuntime) -> Result<(), Fail> {
-    let mut names: Named<u8> = Named::new(rt.alloc());
-    let rows = [
-        (7, 0, 1),
-        (7, 1, 2),
-        (8, 0, 3),
-        (7, 0, 4),
-        (u64::MAX, u32::MAX, 5),
-    ];
-    insert(rt.alloc(), &mut names, &rows)?;
-    assert_eq!(rt; values(&names), [Some(4), Some(2), Some(3)]);
-    assert_eq!(rt; value(&names, u64::MAX, u32::MAX), Some(5));
-    assert_eq!(rt; (value(&names, 8, 1), value(&names, 0, 7)), (None, None));
+/// Things by their places and indices: the fourth takes the place of the first.
+#[rattlefmt::skip]
+const ROWS: &[(u64, u32, u8)] = &[
+    (7, 0, 1),
+    (7, 1, 2),
+    (8, 0, 3),
+    (7, 0, 4),
+    (u64::MAX, u32::MAX, 5),
+];
+
+/// What stands under the greatest name, and under two that nothing has.
+fn at_the_ends(names: &Named<u8>) -> [Option<u8>; 3] {
+    [
+        value(names, u64::MAX, u32::MAX),
+        value(names, 8, 1),
+        value(names, 0, 7),
+    ]
+}
+
+/// Changes two of them, and answers whether a third name has nothing that could be.
+fn change(names: &mut Named<u8>) -> bool {
     if names.contains(7, 1) {
         names.replace(7, 1, 6);
     }
     if let Some(value) = names.get_mut(8, 0) {
         *value = 9;
     }
-    assert!(rt; names.get_mut(8, 1).is_none());
-    assert_eq!(rt; (names.remove(7, 1), names.remove(7, 1)), (Some(6), None));
-    assert_eq!(rt; values(&names), [Some(4), None, Some(9)]);
+    names.get_mut(8, 1).is_none()
+}
+
+#[test]
+fn things_of_one_entry_have_names_of_their_own(rt: HostRuntime) -> Result<(), Fail> {
+    let mut names: Named<u8> = Named::new(rt.alloc());
+    insert(rt.alloc(), &mut names, ROWS)?;
+    let put = (values(&names), at_the_ends(&names));
+    assert_eq!(rt; put, ([Some(4), Some(2), Some(3)], [Some(5), None, None]));
+    let is_missing = change(&mut names);
+    let removed = (names.remove(7, 1), names.remove(7, 1));
+    let left = values(&names);
+    assert_eq!(rt; (is_missing, removed), (true, (Some(6), None)));
+    assert_eq!(rt; left, [Some(4), None, Some(9)]);
     Ok(())
 }
 
@@ -66,7 +84,10 @@ fn what_was_put_is_given_back(rt: HostRuntime) -> Result<(), Fail> {
     let mut names: Named<u8> = Named::new(rt.alloc());
     names.insert(rt.alloc(), 7, 0, 1)?;
     let there = put_and_give_back(rt.alloc(), &mut names)?;
-    assert_eq!(rt; there, [Some(2), Some(3), Some(4)]);
-    assert_eq!(rt; values(&names), [Some(1), None, None]);
+    let left = values(&names);
+    assert_eq!(rt;
+        (there, left),
+        ([Some(2), Some(3), Some(4)], [Some(1), None, None])
+    );
     Ok(())
 }
