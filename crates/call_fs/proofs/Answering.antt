@@ -10,15 +10,16 @@ use Rattle.kernel_model.specs.Names.{get_named}
 use Rattle.kernel_model.specs.declared.caller.Caller.{Caller}
 use Rattle.kernel_model.specs.declared.kernel.Kernel.{Kernel}
 use Rattle.kernel_model.specs.declared.open_files.OpenFile.{OpenFile}
-use Rattle.kernel_model.specs.declared.open_files.OpenFiles.{OpenFiles}
 use Rattle.kernel_model.specs.calls.Answers.{Answer, refuses}
 use Rattle.kernel_model.specs.calls.Lookups.{descriptor}
 use Rattle.kernel_model.specs.calls.Lookups.{or_refuse, with_descriptor, with_file}
 use Rattle.kernel_model.specs.entries.Parts.{Prog, done, outcome_in, parts}
-use Rattle.call_fs.specs.Lookups.{IsOpen, descriptor_in, file_at, file_in}
+use Rattle.kernel_calls.specs.Prepared.{HasTable}
+use Rattle.call_fs.specs.Lookups.{IsOpen, file_at, file_in, descriptor_at}
 use Rattle.call_fs.specs.Prepared.{AnswersFiles}
 use Rattle.call_fs.specs.declared.lookups.Looked.{Looked}
 use Rattle.call_fs.specs.declared.prepared.FilePrepared.{FilePrepared}
+use Rattle.call_fs.proofs.Opened.{outcome_by_file}
 
 -- two rows that come to the same are answered alike
 pub answers_alike : (row other : Prog Answer) (p : FilePrepared) (c : Caller) (k : Kernel)
@@ -36,14 +37,12 @@ module _ (row : Table → Descriptor → Prog Answer) (p : FilePrepared) (c : Ca
   missing None none = refl
   missing (Some t) none = ap (λ o. outcome_in (parts k) (or_refuse EBADF (row t) o)) none
 
-  pub answers_missing : (table : Made) (files : OpenFiles) → c.table ≡ table → k.files ≡ files
-      → descriptor_in files table (descriptor fd) ≡ None → AnswersFiles (done (refuses EBADF)) p c k
-      → AnswersFiles (with_descriptor c fd row) p c k
-  answers_missing table files same files_are none refused =
+  pub answers_missing : (table : Option Table) → HasTable c k table → descriptor_at table (descriptor fd) ≡ None
+      → AnswersFiles (done (refuses EBADF)) p c k → AnswersFiles (with_descriptor c fd row) p c k
+  answers_missing table has none refused =
       answers_alike (with_descriptor c fd row) (done (refuses EBADF)) p c k
       (missing (get_named k.files.tables c.table.place c.table.index)
-      (ap (λ (n : Made). descriptor_in k.files n (descriptor fd)) same
-      ∙ ap (λ f. descriptor_in f table (descriptor fd)) files_are ∙ none)) refused
+      (ap (λ t. descriptor_at t (descriptor fd)) has ∙ none)) refused
 
   -- it is open
   found : (l : Looked) → IsOpen l c k → l.number ≡ descriptor fd
@@ -68,34 +67,19 @@ answers_at_file row p c k name file is answers =
     answers_alike (with_file name row) (or_refuse EBADF row file) p c k
     (ap (λ o. outcome_in (parts k) (or_refuse EBADF row o)) is) answers
 
-module _ (row : OpenFile → Prog Answer) (k : Kernel) (fd : ℕ) where
-  by_file : (d : Option Descriptor) → outcome_in (parts k) (or_refuse EBADF (λ e. with_file e.description row) d)
-      ≡ outcome_in (parts k) (or_refuse EBADF row (option_and_then (file_at k.files) d))
-  by_file None = refl
-  by_file (Some d) = refl
+-- what a register's descriptor has open
+pub answers_by_file : (row : OpenFile → Prog Answer) (p : FilePrepared) (c : Caller) (k : Kernel) (fd : ℕ)
+    (file : Option OpenFile) → file_in k.files c.table (descriptor fd) ≡ file
+    → AnswersFiles (or_refuse EBADF row file) p c k
+    → AnswersFiles (with_descriptor c fd (λ t d. with_file d.description row)) p c k
+answers_by_file row p c k fd file is answers =
+    answers_alike (with_descriptor c fd (λ t d. with_file d.description row)) (or_refuse EBADF row file) p c k
+    (outcome_by_file row c k fd file is) answers
 
-  by_table : (t : Option Table)
-      → outcome_in (parts k) (or_refuse EBADF (λ table. or_refuse EBADF (λ e. with_file e.description row)
-      (map.get table (descriptor fd))) t) ≡ outcome_in (parts k)
-      (or_refuse EBADF row (option_and_then (file_at k.files) (option_and_then (λ t. map.get t (descriptor fd)) t)))
-  by_table None = refl
-  by_table (Some t) = by_file (map.get t (descriptor fd))
-
-  -- what a register's descriptor has open
-  pub at_open_file : (c : Caller) (table : Made) (files : OpenFiles) (file : Option OpenFile) → c.table ≡ table
-      → k.files ≡ files → file ≡ file_in files table (descriptor fd)
-      → outcome_in (parts k) (with_descriptor c fd (λ t d. with_file d.description row))
-      ≡ outcome_in (parts k) (or_refuse EBADF row file)
-  at_open_file c table files file same files_are is =
-      by_table (get_named k.files.tables c.table.place c.table.index)
-      ∙ ap (λ o. outcome_in (parts k) (or_refuse EBADF row o))
-      (ap (λ (n : Made). file_in k.files n (descriptor fd)) same
-      ∙ ap (λ f. file_in f table (descriptor fd)) files_are ∙ sym is)
-
-  pub answers_by_file : (p : FilePrepared) (c : Caller) (table : Made) (files : OpenFiles) (file : Option OpenFile)
-      → c.table ≡ table → k.files ≡ files → file ≡ file_in files table (descriptor fd)
-      → AnswersFiles (or_refuse EBADF row file) p c k
-      → AnswersFiles (with_descriptor c fd (λ t d. with_file d.description row)) p c k
-  answers_by_file p c table files file same files_are is answers =
-      answers_alike (with_descriptor c fd (λ t d. with_file d.description row)) (or_refuse EBADF row file) p c k
-      (at_open_file c table files file same files_are is) answers
+-- the same of a number that is open
+pub file_looked : (l : Looked) (c : Caller) (k : Kernel) (fd : ℕ) → IsOpen l c k → l.number ≡ descriptor fd
+    → file_in k.files c.table (descriptor fd) ≡ file_at k.files l.descriptor
+file_looked l c k fd is number =
+    ap (λ t. option_and_then (file_at k.files) (descriptor_at t (descriptor fd))) is.there
+    ∙ ap (λ n. option_and_then (file_at k.files) (map.get l.numbers.now n)) (sym number)
+    ∙ ap (option_and_then (file_at k.files)) is.has

@@ -32,15 +32,16 @@ use Rattle.guest_access.specs.Memories.{with_memory}
 use Rattle.guest_access.specs.Trying.{Wrote}
 use Rattle.kernel_calls.specs.declared.context.Context.{Context}
 use Rattle.guest_access.proofs.KernelAreas.{areas_changed}
-use Rattle.call_fs.specs.Transfers.{AnswersTransfer, HasMemory, IsMoving}
+use Rattle.call_fs.specs.Transfers.{AnswersTransfer, HasMemory, IsReading}
+use Rattle.call_fs.specs.declared.lookups.FileInHand.{FileInHand}
 use Rattle.call_fs.specs.declared.transfers.Transfer.TheVariants.{Takes}
 
 -- a task at a call, with areas that are the same
-pub moving_on : (c : Caller) (k : Kernel) (context : Context) (own : AddressSpace) (shared other : NamedMap AreaState)
-    (files : OpenFiles) (taken : ℕ) → other ≡ shared → IsMoving c k context own shared files taken
-    → IsMoving c k context own other files taken
-moving_on c k context own shared other files taken same moving =
-    subst (λ m. IsMoving c k context own m files taken) (sym same) moving
+pub reading_on : (c : Caller) (k : Kernel) (context : Context) (own : AddressSpace) (shared other : NamedMap AreaState)
+    (opened : FileInHand) → other ≡ shared → IsReading c k context own shared opened
+    → IsReading c k context own other opened
+reading_on c k context own shared other opened same reading =
+    subst (λ m. IsReading c k context own m opened) (sym same) reading
 
 -- ---- whether it is tested
 

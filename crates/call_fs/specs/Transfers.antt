@@ -1,5 +1,5 @@
 -- What a read or a write does to what is open and to the console, and that a call's row comes to what was prepared.
-use Rattle.std.specs.Prelude.{◌≡◌, ⊤, ℕ, ℤ, ◌+◌, ◌≤◌, List, ◌++◌, length, take, Option, Some}
+use Rattle.std.specs.Prelude.{◌≡◌, ⊤, ℕ, ℤ, ◌+◌, ◌≤◌, List, ◌++◌, length, take, Option, Some, None, option_copied}
 use Rattle.std.specs.Option.{option_map_or}
 use Rattle.sn_errno.specs.declared.errno.Errno.TheVariants.{EFAULT}
 use Rattle.fd_table.specs.declared.description.Description.{Description}
@@ -21,7 +21,9 @@ use Rattle.kernel_model.specs.calls.Vectors.{gathered}
 use Rattle.kernel_model.specs.entries.Parts.{Change, Prog, ◌>>=◌, changed, outcome_in, parts}
 use Rattle.guest_access.specs.Memories.{with_memory}
 use Rattle.kernel_calls.specs.declared.context.Context.{Context}
+use Rattle.call_fs.specs.Lookups.{HasPipe}
 use Rattle.call_fs.specs.Records.{buffers_in}
+use Rattle.call_fs.specs.declared.lookups.FileInHand.{FileInHand}
 use Rattle.call_fs.specs.declared.transfers.Transfer.{Transfer}
 use Rattle.call_fs.specs.declared.transfers.Transfer.TheVariants.{Nothing, Takes, Puts, Appends}
 use Rattle.call_fs.specs.declared.transfers.Transferred.{Transferred}
@@ -99,6 +101,26 @@ pub record IsMoving (c : Caller) (k : Kernel) (context : Context) (own : Address
   pub memory : HasMemory c k own shared
   pub files : k.files ≡ open_files
   pub console : length k.console ≡ taken
+
+-- the same with what is open by one open file alone: a read by a task with that number, and a write
+-- read(2), write(2); profile
+pub record IsReading (c : Caller) (k : Kernel) (context : Context) (own : AddressSpace) (shared : NamedMap AreaState)
+    (opened : FileInHand) : Type 0 where
+  pub task : c.task ≡ context.task
+  pub memory : HasMemory c k own shared
+  pub pipe : HasPipe opened.file.description.object k.files (option_copied opened.pipe)
+
+pub record IsWriting (c : Caller) (k : Kernel) (own : AddressSpace) (shared : NamedMap AreaState)
+    (opened : FileInHand) (taken : ℕ) : Type 0 where
+  pub memory : HasMemory c k own shared
+  pub pipe : HasPipe opened.file.description.object k.files (option_copied opened.pipe)
+  pub console : length k.console ≡ taken
+
+-- what is open has the pipe of an open file, where one was handed in
+-- pipe(2), DESCRIPTION
+abbrev pub HasPipeOf : Option FileInHand → OpenFiles → Type 0
+HasPipeOf None files = ⊤
+HasPipeOf (Some opened) files = HasPipe opened.file.description.object files (option_copied opened.pipe)
 
 -- a row comes to a reply, and to the transfer beside what memory is then
 -- syscall(2)

@@ -19,6 +19,7 @@ ghost use Rattle.call_fs.specs.Prepared.{AnswersFiles};
 
 use crate::call_end::CallEnd;
 use crate::descriptors::{close, dup, dup3, fcntl, ioctl};
+use crate::lookups::open_file;
 use crate::moving::{By, piping, reading, writing};
 use crate::prepared::FilePrepared;
 use crate::seek::{lseek, pread64, pwrite64};
@@ -86,7 +87,16 @@ pub fn call(
         Asked::Pipes => piping(alloc, context, args.a0, args.a1, space, areas, files),
         Asked::Changes(prepared) => Ok(CallEnd::Of(kernel_calls::Called::Replies(prepared))),
         Asked::Others => Ok(CallEnd::Of(kernel_calls::call(
-            alloc, context, number, registers, args, space, areas, tasks, sleepers, files,
+            alloc,
+            context,
+            number,
+            registers,
+            args,
+            space,
+            areas,
+            tasks,
+            sleepers,
+            files.tables.get(context.table.place, context.table.index),
         )?)),
     }
 }
@@ -114,20 +124,24 @@ fn asked_by(call: CallNo, table: Made, args: &Args, files: &OpenFiles) -> Asked
     ensures own { IfChanges result (λ p. (task : ℕ) → EndsOnly p.effect task) }
     ensures ended { IfChanges result (λ p. (task group : ℕ) (list : TaskTable) → EndsEach p.effect task group list) }
 {
+    let numbers = files.tables.get(table.place, table.index);
     match call {
         CallNo::Read => Asked::Reads(By::Buffer),
         CallNo::Readv => Asked::Reads(By::Records),
         CallNo::Write => Asked::Writes(By::Buffer),
         CallNo::Writev => Asked::Writes(By::Records),
         CallNo::Pipe2 => Asked::Pipes,
-        CallNo::Dup => Asked::Changes(changes(table, dup(table, args.a0, files))),
-        CallNo::Dup3 => Asked::Changes(changes(table, dup3(table, args.a0, args.a1, args.a2, files))),
-        CallNo::Fcntl => Asked::Changes(changes(table, fcntl(table, args.a0, args.a1, args.a2, files))),
-        CallNo::Ioctl => Asked::Changes(changes(table, ioctl(table, args.a0, files))),
-        CallNo::Close => Asked::Changes(changes(table, close(table, args.a0, files))),
-        CallNo::Lseek => Asked::Changes(changes(table, lseek(table, args.a0, files))),
-        CallNo::Pread64 => Asked::Changes(changes(table, pread64(table, args.a0, files))),
-        CallNo::Pwrite64 => Asked::Changes(changes(table, pwrite64(table, args.a0, files))),
+        CallNo::Dup => Asked::Changes(changes(table, dup(numbers, args.a0))),
+        CallNo::Dup3 => Asked::Changes(changes(table, dup3(numbers, args.a0, args.a1, args.a2))),
+        CallNo::Fcntl => {
+            let file = open_file(table, args.a0, files);
+            Asked::Changes(changes(table, fcntl(numbers, args.a0, file, args.a1, args.a2)))
+        }
+        CallNo::Ioctl => Asked::Changes(changes(table, ioctl(numbers, args.a0))),
+        CallNo::Close => Asked::Changes(changes(table, close(numbers, args.a0))),
+        CallNo::Lseek => Asked::Changes(changes(table, lseek(open_file(table, args.a0, files)))),
+        CallNo::Pread64 => Asked::Changes(changes(table, pread64(open_file(table, args.a0, files)))),
+        CallNo::Pwrite64 => Asked::Changes(changes(table, pwrite64(open_file(table, args.a0, files)))),
         CallNo::Getcwd | CallNo::Mkdirat | CallNo::Unlinkat | CallNo::Symlinkat | CallNo::Linkat
         | CallNo::Ftruncate | CallNo::Faccessat | CallNo::Chdir | CallNo::Openat | CallNo::Getdents64
         | CallNo::Readlinkat | CallNo::Newfstatat | CallNo::Fstat | CallNo::Exit

@@ -1,33 +1,34 @@
 //! dup, dup3, fcntl, ioctl and close.
 
-ghost use Rattle.std.specs.Prelude.{◌≡◌, ◌≢◌, None};
+ghost use Rattle.std.specs.Prelude.{◌≡◌, ◌≢◌, None, option_copied};
 ghost use Rattle.std.specs.FinMap as map;
 ghost use Rattle.fd_table.specs.Tables.{dup3_fault};
+ghost use Rattle.fd_table.specs.declared.descriptor.Descriptor.{Descriptor as ADescriptor};
 ghost use Rattle.kernel_model.specs.declared.caller.Caller.{Caller as ACaller};
 ghost use Rattle.kernel_model.specs.declared.kernel.Kernel.{Kernel as AKernel};
 ghost use Rattle.kernel_model.specs.calls.Descriptors.{by_command, close_row, dup3_row, dup_row, dupfd_of, fcntl_row};
 ghost use Rattle.kernel_model.specs.calls.Descriptors.{gives, gives_at, ioctl_row, is_cloexec_or_none, is_possible};
 ghost use Rattle.kernel_model.specs.calls.Descriptors.{mark_of, opens_from, sets_status, tells_status};
-ghost use Rattle.kernel_model.specs.calls.Lookups.{with_file};
-ghost use Rattle.call_fs.specs.Lookups.{IsOpen};
+ghost use Rattle.kernel_model.specs.calls.Lookups.{descriptor, with_file};
+ghost use Rattle.kernel_calls.specs.Prepared.{HasTable};
+ghost use Rattle.call_fs.specs.Lookups.{IsOpen, file_at, file_in};
 ghost use Rattle.call_fs.specs.Prepared.{AnswersFiles};
 
-use crate::lookups::{Looked, descriptor, file_of, look, lowest_free};
+use crate::lookups::{Looked, descriptor, look, lowest_free};
 use crate::prepared::{FilePrepared, refused, replied};
-use fd_table::{Descriptor, O_CLOEXEC, OPEN_MAX};
+use fd_table::{Descriptor, FdTable, O_CLOEXEC, OPEN_MAX};
 use file_changes::FileChange;
-use kernel_model::OpenFiles;
-use sn_base::Made;
+use kernel_model::OpenFile;
 use sn_errno::Errno;
 
 /// dup(fd): the lowest free number gets what the descriptor stands for, and is the reply. execve(2) doesn't close it.
 ///
 /// EBADF: the descriptor isn't open; EMFILE: no number is free.
-pub fn dup(table: Made, fd: u64, files: &OpenFiles) -> FilePrepared
-    ensures row { (c : ACaller) (k : AKernel) → c.table ≡ table → k.files ≡ files.now →
+pub fn dup(numbers: Option<&FdTable>, fd: u64) -> FilePrepared
+    ensures row { (c : ACaller) (k : AKernel) → HasTable c k (option_copied numbers.entry) →
         AnswersFiles (dup_row fd c) result c k }
 {
-    match look(table, fd, files) {
+    match look(numbers, fd) {
         None => refused(Errno::EBADF),
         Some(looked) => opens_from(&looked, 0, false),
     }
@@ -38,15 +39,15 @@ pub fn dup(table: Made, fd: u64, files: &OpenFiles) -> FilePrepared
 ///
 /// EINVAL: a flag that is neither 0 nor O_CLOEXEC, or two numbers that are one; EBADF: the descriptor isn't open, or no
 /// table has the number.
-pub fn dup3(table: Made, fd: u64, number: u64, flags: u64, files: &OpenFiles) -> FilePrepared
-    ensures row { (c : ACaller) (k : AKernel) → c.table ≡ table → k.files ≡ files.now →
+pub fn dup3(numbers: Option<&FdTable>, fd: u64, number: u64, flags: u64) -> FilePrepared
+    ensures row { (c : ACaller) (k : AKernel) → HasTable c k (option_copied numbers.entry) →
         AnswersFiles (dup3_row fd number flags c) result c k }
 {
     let flags = (flags % (1 << 32)) as u32;
     if !is_cloexec_or_none(flags) || descriptor(fd) == descriptor(number) {
         return refused(Errno::EINVAL);
     }
-    match look(table, fd, files) {
+    match look(numbers, fd) {
         None => refused(Errno::EBADF),
         Some(looked) => gives_at(&looked, descriptor(number), flags),
     }
@@ -54,30 +55,37 @@ pub fn dup3(table: Made, fd: u64, number: u64, flags: u64, files: &OpenFiles) ->
 
 /// fcntl(fd, command, argument): F_DUPFD and F_DUPFD_CLOEXEC give the lowest free number from the argument on what the
 /// descriptor stands for; F_GETFD and F_SETFD are of the descriptor's own mark, FD_CLOEXEC; F_GETFL and F_SETFL are of
-/// the status flags of its open file description. Command and argument are the low 32 bits.
+/// the status flags of its open file description, which is handed in. Command and argument are the low 32 bits.
 ///
 /// EBADF: the descriptor isn't open; EINVAL: another command, or an argument that no table has as a number; EMFILE: no
 /// number is free from there on.
-pub fn fcntl(table: Made, fd: u64, command: u64, argument: u64, files: &OpenFiles) -> FilePrepared
-    ensures row { (c : ACaller) (k : AKernel) → c.table ≡ table → k.files ≡ files.now →
+pub fn fcntl(
+    numbers: Option<&FdTable>,
+    fd: u64,
+    file: Option<OpenFile>,
+    command: u64,
+    argument: u64,
+) -> FilePrepared
+    ensures row { (c : ACaller) (k : AKernel) → HasTable c k (option_copied numbers.entry) →
+        file_in k.files c.table (descriptor fd) ≡ file →
         AnswersFiles (fcntl_row fd command argument c) result c k }
 {
     let command = (command % (1 << 32)) as u32;
     let argument = (argument % (1 << 32)) as u32;
-    match look(table, fd, files) {
+    match look(numbers, fd) {
         None => refused(Errno::EBADF),
-        Some(looked) => by_command(&looked, command, argument, files),
+        Some(looked) => by_command(&looked, file, command, argument),
     }
 }
 
 /// ioctl(fd): nothing is a terminal.
 ///
 /// EBADF: the descriptor isn't open; ENOTTY: it is.
-pub fn ioctl(table: Made, fd: u64, files: &OpenFiles) -> FilePrepared
-    ensures row { (c : ACaller) (k : AKernel) → c.table ≡ table → k.files ≡ files.now →
+pub fn ioctl(numbers: Option<&FdTable>, fd: u64) -> FilePrepared
+    ensures row { (c : ACaller) (k : AKernel) → HasTable c k (option_copied numbers.entry) →
         AnswersFiles (ioctl_row fd c) result c k }
 {
-    match look(table, fd, files) {
+    match look(numbers, fd) {
         None => refused(Errno::EBADF),
         Some(_) => refused(Errno::ENOTTY),
     }
@@ -86,11 +94,11 @@ pub fn ioctl(table: Made, fd: u64, files: &OpenFiles) -> FilePrepared
 /// close(fd): the number is free. With the last descriptor of an open file description that is closed too.
 ///
 /// EBADF: the descriptor isn't open.
-pub fn close(table: Made, fd: u64, files: &OpenFiles) -> FilePrepared
-    ensures row { (c : ACaller) (k : AKernel) → c.table ≡ table → k.files ≡ files.now →
+pub fn close(numbers: Option<&FdTable>, fd: u64) -> FilePrepared
+    ensures row { (c : ACaller) (k : AKernel) → HasTable c k (option_copied numbers.entry) →
         AnswersFiles (close_row fd c) result c k }
 {
-    match look(table, fd, files) {
+    match look(numbers, fd) {
         None => refused(Errno::EBADF),
         Some(looked) => FilePrepared {
             reply: 0,
@@ -155,8 +163,13 @@ fn gives_at(looked: &Looked<'_>, number: u32, flags: u32) -> FilePrepared
 }
 
 /// What a command of fcntl comes to.
-fn by_command(looked: &Looked<'_>, command: u32, argument: u32, files: &OpenFiles) -> FilePrepared
-    ensures row { (c : ACaller) (k : AKernel) → IsOpen looked.now c k → k.files ≡ files.now →
+fn by_command(
+    looked: &Looked<'_>,
+    file: Option<OpenFile>,
+    command: u32,
+    argument: u32,
+) -> FilePrepared
+    ensures row { (c : ACaller) (k : AKernel) → IsOpen looked.now c k → file_at k.files looked.now.descriptor ≡ file →
         AnswersFiles (by_command command argument looked.now.number c looked.now.numbers.now looked.now.descriptor)
         result c k }
 {
@@ -175,9 +188,9 @@ fn by_command(looked: &Looked<'_>, command: u32, argument: u32, files: &OpenFile
             },
         }
     } else if command == 3 {
-        tells_status(looked.descriptor, files)
+        tells_status(file)
     } else if command == 4 {
-        sets_status(looked.descriptor, argument, files)
+        sets_status(looked.descriptor, file, argument)
     } else {
         refused(Errno::EINVAL)
     }
@@ -203,22 +216,22 @@ fn mark_of(descriptor: Descriptor) -> u32
 }
 
 /// F_GETFL.
-fn tells_status(descriptor: Descriptor, files: &OpenFiles) -> FilePrepared
-    ensures row { (c : ACaller) (k : AKernel) → k.files ≡ files.now →
-        AnswersFiles (with_file descriptor.description tells_status) result c k }
+fn tells_status(file: Option<OpenFile>) -> FilePrepared
+    ensures row { (c : ACaller) (k : AKernel) (d : ADescriptor) → file_at k.files d ≡ file →
+        AnswersFiles (with_file d.description tells_status) result c k }
 {
-    match file_of(descriptor.description, files) {
+    match file {
         None => refused(Errno::EBADF),
         Some(file) => replied(file.description.status_flags()),
     }
 }
 
 /// F_SETFL.
-fn sets_status(descriptor: Descriptor, flags: u32, files: &OpenFiles) -> FilePrepared
-    ensures row { (c : ACaller) (k : AKernel) → k.files ≡ files.now →
+fn sets_status(descriptor: Descriptor, file: Option<OpenFile>, flags: u32) -> FilePrepared
+    ensures row { (c : ACaller) (k : AKernel) → file_at k.files descriptor ≡ file →
         AnswersFiles (with_file descriptor.description (sets_status descriptor flags)) result c k }
 {
-    match file_of(descriptor.description, files) {
+    match file {
         None => refused(Errno::EBADF),
         Some(_) => FilePrepared {
             reply: 0,

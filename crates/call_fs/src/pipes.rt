@@ -1,6 +1,6 @@
 //! pipe2.
 
-ghost use Rattle.std.specs.Prelude.{◌≡◌, ℕ, ◌<◌, None, Some, IfOk, OnOk, OnErr};
+ghost use Rattle.std.specs.Prelude.{◌≡◌, ℕ, ◌<◌, None, Some, IfOk, OnOk, OnErr, option_copied};
 ghost use Rattle.std.specs.FinMap as map;
 ghost use Rattle.fd_table.specs.Flags.{has_flag};
 ghost use Rattle.fd_table.specs.Tables.{Table};
@@ -16,7 +16,8 @@ ghost use Rattle.kernel_model.specs.calls.Pipes.{with_ends_of};
 ghost use Rattle.kernel_model.specs.entries.Parts.{Prog, changed};
 ghost use Rattle.guest_access.specs.Memories.{with_memory};
 ghost use Rattle.call_fs.specs.Pipes.{MakesPipe, Prepares, PutsInts, read_file, write_file};
-ghost use Rattle.call_fs.specs.Transfers.{IsMoving};
+ghost use Rattle.kernel_calls.specs.Prepared.{HasTable};
+ghost use Rattle.call_fs.specs.Transfers.{HasMemory, IsMoving};
 
 use crate::lookups::lowest_free;
 use fd_table::{
@@ -57,22 +58,21 @@ pub enum PipeCall {
     Makes(NewPipe),
 }
 
-/// pipe2(buffer, flags): a pipe, and the two lowest free numbers for its ends, which go into the buffer as an array of
-/// two int. Flags are the low 32 bits. Nothing is done yet: `make_pipe` does it.
+/// pipe2(buffer, flags), with the caller's table: a pipe, and the two lowest free numbers for its ends, which go into
+/// the buffer as an array of two int. Flags are the low 32 bits. Nothing is done yet: `make_pipe` does it.
 ///
 /// EINVAL: a flag that is neither O_NONBLOCK nor O_CLOEXEC; EFAULT: a byte of the buffer that may not be written;
 /// EMFILE: no two numbers are free.
 pub fn pipe2(
     alloc: Global,
-    context: &Context<'_>,
+    numbers: Option<&FdTable>,
     buffer: u64,
     flags: u64,
     space: &GuestSpace,
     areas: &mut Named<GuestArea>,
-    files: &OpenFiles,
 ) -> Result<PipeCall, Memory>
-    ensures row { IfOk result (λ p. (c : ACaller) (k : AKernel) (console : ℕ) (of_row : RowContext) →
-        IsMoving c k context.now space.now areas.old files.now console →
+    ensures row { IfOk result (λ p. (c : ACaller) (k : AKernel) (of_row : RowContext) →
+        HasMemory c k space.now areas.old → HasTable c k (option_copied numbers.entry) →
         Prepares (pipe2_row of_row buffer flags c) p of_row c k) }
     ensures kept { areas.new ≡ areas.old }
 {
@@ -83,7 +83,7 @@ pub fn pipe2(
     if !is_accessible(alloc, space, areas, Rights::WRITE, buffer, 8)? {
         return Ok(PipeCall::Refused(Errno::EFAULT));
     }
-    match files.tables.get(context.table.place, context.table.index) {
+    match numbers {
         None => Ok(PipeCall::Refused(Errno::EBADF)),
         Some(numbers) => match two_free(numbers) {
             None => Ok(PipeCall::Refused(Errno::EMFILE)),

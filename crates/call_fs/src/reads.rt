@@ -12,20 +12,22 @@ ghost use Rattle.kernel_model.specs.declared.kernel.Kernel.{Kernel as AKernel};
 ghost use Rattle.kernel_model.specs.declared.open_files.OpenFiles.{OpenFiles as AFiles};
 ghost use Rattle.kernel_model.specs.declared.kernel.Part.TheVariants.{OfPipe};
 ghost use Rattle.kernel_model.specs.calls.Answers.{refuses};
+ghost use Rattle.kernel_model.specs.calls.Lookups.{descriptor};
 ghost use Rattle.kernel_model.specs.calls.ReadWrite.{from_pipe, is_awaited, put_into, read_row, reads, reads_into};
 ghost use Rattle.kernel_model.specs.calls.ReadWrite.{reads_of};
 ghost use Rattle.kernel_model.specs.calls.Vectors.{cut};
 ghost use Rattle.kernel_model.specs.entries.Parts.{done};
 ghost use Rattle.call_fs.specs.CallEnd.{IsApartBy};
-ghost use Rattle.call_fs.specs.Transfers.{HasMemory, IsMoving, IsSure, Moves};
+ghost use Rattle.call_fs.specs.Lookups.{StandsFor};
+ghost use Rattle.call_fs.specs.Transfers.{HasMemory, IsReading, IsSure, Moves};
 
-use crate::lookups::open_file;
+use crate::lookups::FileInHand;
 use crate::transfers::{Transfer, Transferred, denied, told, waits};
 use crate::vectors::are_accessible;
-use fd_table::{Description, Object};
+use fd_table::Object;
 use guest_access::{front, scatter};
 use kernel_calls::Context;
-use kernel_model::{GuestArea, GuestSpace, MOST_MOVED, Named, OpenFiles};
+use kernel_model::{GuestArea, GuestSpace, MOST_MOVED, Named};
 use mm_areas::Rights;
 use pipe_core::Pipe;
 use sn_base::{Made, Memory};
@@ -33,44 +35,30 @@ use sn_errno::Errno;
 use stat_layout::IoVec;
 use std::alloc::Global;
 
-/// read(fd, buffer, count): the oldest bytes of a pipe, as many as are there and fit, go into the buffer, and their
-/// number is the reply: 0 where no write end is left. It waits for bytes. The console and the empty input are at their
-/// end. No call moves more than 65,536 bytes. An `Err` changes nothing.
+/// read(fd, buffer, count), with what the descriptor has open: the oldest bytes of a pipe, as many as are there and
+/// fit, go into the buffer, and their number is the reply: 0 where no write end is left. It waits for bytes. The
+/// console and the empty input are at their end. No call moves more than 65,536 bytes. An `Err` changes nothing.
 ///
 /// EBADF: the descriptor isn't open, or not for reading; EFAULT: a byte of the buffer that may not be written; EAGAIN:
 /// with O_NONBLOCK, where it would wait.
 pub fn read(
     alloc: Global,
     context: &Context<'_>,
-    fd: u64,
-    buffer: u64,
-    count: u64,
+    opened: Option<FileInHand<'_>>,
+    buffer: IoVec,
     space: &mut GuestSpace,
     areas: &mut Named<GuestArea>,
-    files: &OpenFiles,
 ) -> Result<Transferred, Memory>
-    ensures row { IfOk result (λ t. (c : ACaller) (k : AKernel) (console : ℕ) →
-        IsMoving c k context.now space.old areas.old files.now console →
-        Moves (read_row fd buffer count c) t c k space.new areas.new) }
-    ensures sure { IfOk result (λ t. IsSure t files.now) }
+    ensures row { IfOk result (λ t. (fd : ℕ) (c : ACaller) (k : AKernel) → c.task ≡ context.now.task →
+        HasMemory c k space.old areas.old → StandsFor k.files c.table (descriptor fd) opened.entry →
+        Moves (read_row fd buffer.base buffer.length c) t c k space.new areas.new) }
+    ensures sure { IfOk result (λ t. (open_files : AFiles) → IsSure t open_files) }
     ensures apart { IfOk result (λ t. IsApartBy t → (space.new ≡ space.old) × (areas.new ≡ areas.old)) }
     ensures err { OnErr result ((space.new ≡ space.old) × (areas.new ≡ areas.old)) }
 {
-    let buffer = IoVec {
-        base: buffer,
-        length: count,
-    };
-    match open_file(context.table, fd, files) {
+    match opened {
         None => Ok(denied(Errno::EBADF)),
-        Some(file) => read_open(
-            alloc,
-            context,
-            &file.description,
-            buffer,
-            space,
-            areas,
-            files,
-        ),
+        Some(opened) => read_open(alloc, context, &opened, buffer, space, areas),
     }
 }
 
@@ -78,22 +66,21 @@ pub fn read(
 fn read_open(
     alloc: Global,
     context: &Context<'_>,
-    description: &Description,
+    opened: &FileInHand<'_>,
     buffer: IoVec,
     space: &mut GuestSpace,
     areas: &mut Named<GuestArea>,
-    files: &OpenFiles,
 ) -> Result<Transferred, Memory>
-    ensures row { IfOk result (λ t. (c : ACaller) (k : AKernel) (console : ℕ) →
-        IsMoving c k context.now space.old areas.old files.now console →
-        Moves (if may_read description.now.access then reads c (buffer ∷ []) description.now else done (refuses EBADF))
-        t c k space.new areas.new) }
-    ensures sure { IfOk result (λ t. IsSure t files.now) }
+    ensures row { IfOk result (λ t. (c : ACaller) (k : AKernel) →
+        IsReading c k context.now space.old areas.old opened.now →
+        Moves (if may_read opened.now.file.description.access then reads c (buffer ∷ []) opened.now.file.description
+        else done (refuses EBADF)) t c k space.new areas.new) }
+    ensures sure { IfOk result (λ t. (open_files : AFiles) → IsSure t open_files) }
     ensures apart { IfOk result (λ t. IsApartBy t → (space.new ≡ space.old) × (areas.new ≡ areas.old)) }
     ensures err { OnErr result ((space.new ≡ space.old) × (areas.new ≡ areas.old)) }
 {
-    if description.access.may_read() {
-        reads(alloc, context, description, buffer, space, areas, files)
+    if opened.file.description.access.may_read() {
+        reads(alloc, context, opened, buffer, space, areas)
     } else {
         Ok(denied(Errno::EBADF))
     }
@@ -103,16 +90,15 @@ fn read_open(
 fn reads(
     alloc: Global,
     context: &Context<'_>,
-    description: &Description,
+    opened: &FileInHand<'_>,
     buffer: IoVec,
     space: &mut GuestSpace,
     areas: &mut Named<GuestArea>,
-    files: &OpenFiles,
 ) -> Result<Transferred, Memory>
-    ensures row { IfOk result (λ t. (c : ACaller) (k : AKernel) (console : ℕ) →
-        IsMoving c k context.now space.old areas.old files.now console →
-        Moves (reads c (buffer ∷ []) description.now) t c k space.new areas.new) }
-    ensures sure { IfOk result (λ t. IsSure t files.now) }
+    ensures row { IfOk result (λ t. (c : ACaller) (k : AKernel) →
+        IsReading c k context.now space.old areas.old opened.now →
+        Moves (reads c (buffer ∷ []) opened.now.file.description) t c k space.new areas.new) }
+    ensures sure { IfOk result (λ t. (open_files : AFiles) → IsSure t open_files) }
     ensures apart { IfOk result (λ t. IsApartBy t → (space.new ≡ space.old) × (areas.new ≡ areas.old)) }
     ensures err { OnErr result ((space.new ≡ space.old) × (areas.new ≡ areas.old)) }
 {
@@ -120,16 +106,7 @@ fn reads(
         Ok(told(0))
     } else {
         let first = cut(buffer);
-        reads_into(
-            alloc,
-            context,
-            description,
-            &[first],
-            first.length,
-            space,
-            areas,
-            files,
-        )
+        reads_into(alloc, context, opened, &[first], first.length, space, areas)
     }
 }
 
@@ -148,33 +125,23 @@ pub(crate) fn cut(buffer: IoVec) -> IoVec
 pub(crate) fn reads_into(
     alloc: Global,
     context: &Context<'_>,
-    description: &Description,
+    opened: &FileInHand<'_>,
     buffers: &[IoVec],
     count: u64,
     space: &mut GuestSpace,
     areas: &mut Named<GuestArea>,
-    files: &OpenFiles,
 ) -> Result<Transferred, Memory>
     requires few { count ≤ MOST_MOVED }
     requires all { count ≡ total_of buffers.now }
-    ensures row { IfOk result (λ t. (c : ACaller) (k : AKernel) (console : ℕ) →
-        IsMoving c k context.now space.old areas.old files.now console →
-        Moves (reads_into c description.now buffers.now) t c k space.new areas.new) }
-    ensures sure { IfOk result (λ t. IsSure t files.now) }
+    ensures row { IfOk result (λ t. (c : ACaller) (k : AKernel) →
+        IsReading c k context.now space.old areas.old opened.now →
+        Moves (reads_into c opened.now.file.description buffers.now) t c k space.new areas.new) }
+    ensures sure { IfOk result (λ t. (open_files : AFiles) → IsSure t open_files) }
     ensures apart { IfOk result (λ t. IsApartBy t → (space.new ≡ space.old) × (areas.new ≡ areas.old)) }
     ensures err { OnErr result ((space.new ≡ space.old) × (areas.new ≡ areas.old)) }
 {
     if are_accessible(alloc, space, areas, Rights::WRITE, buffers)? {
-        reads_of(
-            alloc,
-            context,
-            description,
-            buffers,
-            count,
-            space,
-            areas,
-            files,
-        )
+        reads_of(alloc, context, opened, buffers, count, space, areas)
     } else {
         Ok(denied(Errno::EFAULT))
     }
@@ -184,30 +151,30 @@ pub(crate) fn reads_into(
 fn reads_of(
     alloc: Global,
     context: &Context<'_>,
-    description: &Description,
+    opened: &FileInHand<'_>,
     buffers: &[IoVec],
     count: u64,
     space: &mut GuestSpace,
     areas: &mut Named<GuestArea>,
-    files: &OpenFiles,
 ) -> Result<Transferred, Memory>
     requires few { count ≤ MOST_MOVED }
     requires all { count ≡ total_of buffers.now }
-    ensures row { IfOk result (λ t. (c : ACaller) (k : AKernel) (console : ℕ) →
-        IsMoving c k context.now space.old areas.old files.now console →
-        Moves (reads_of c description.now.nonblock buffers.now description.now.object) t c k space.new areas.new) }
-    ensures sure { IfOk result (λ t. IsSure t files.now) }
+    ensures row { IfOk result (λ t. (c : ACaller) (k : AKernel) →
+        IsReading c k context.now space.old areas.old opened.now →
+        Moves (reads_of c opened.now.file.description.nonblock buffers.now opened.now.file.description.object) t c k
+        space.new areas.new) }
+    ensures sure { IfOk result (λ t. (open_files : AFiles) → IsSure t open_files) }
     ensures apart { IfOk result (λ t. IsApartBy t → (space.new ≡ space.old) × (areas.new ≡ areas.old)) }
     ensures err { OnErr result ((space.new ≡ space.old) × (areas.new ≡ areas.old)) }
 {
-    match description.object {
+    match opened.file.description.object {
         Object::Node(_) => Ok(denied(Errno::ENOSYS)),
-        Object::PipeEnd { pipe: name, .. } => match files.pipes.get(name.place, name.index) {
+        Object::PipeEnd { pipe: name, .. } => match opened.pipe {
             None => Ok(denied(Errno::EBADF)),
             Some(pipe) => from_pipe(
                 alloc,
                 context,
-                description.nonblock,
+                opened.file.description.nonblock,
                 buffers,
                 count,
                 name,

@@ -14,84 +14,70 @@ ghost use Rattle.kernel_model.specs.declared.open_files.OpenFiles.{OpenFiles as 
 ghost use Rattle.kernel_model.specs.declared.kernel.Part.TheVariants.{OfConsole, OfPipe};
 ghost use Rattle.pipe_core.specs.Pipes.{after_write, room_in, room_wanted};
 ghost use Rattle.kernel_model.specs.calls.Answers.{refuses, replies};
+ghost use Rattle.kernel_model.specs.calls.Lookups.{descriptor};
 ghost use Rattle.kernel_model.specs.calls.ReadWrite.{appended, to_pipe, write_row, writes, writes_of};
 ghost use Rattle.kernel_model.specs.entries.Parts.{done};
 ghost use Rattle.call_fs.specs.Records.{buffers_in};
-ghost use Rattle.call_fs.specs.Transfers.{HasMemory, IsGathered, IsMoving, IsSure, Moves, writes_from};
+ghost use Rattle.call_fs.specs.Lookups.{StandsFor};
+ghost use Rattle.call_fs.specs.Transfers.{HasMemory, HasPipeOf, IsGathered, IsSure, IsWriting, Moves, writes_from};
 
-use crate::lookups::open_file;
+use crate::lookups::FileInHand;
 use crate::reads::cut;
 use crate::transfers::{Transfer, Transferred, denied, told, waits};
 use crate::vectors::{Buffers, may_be_read};
-use fd_table::{Description, Object};
-use kernel_calls::Context;
-use kernel_model::{CONSOLE_ROOM, GuestArea, GuestSpace, MOST_MOVED, Named, OpenFiles};
+use fd_table::Object;
+use kernel_model::{CONSOLE_ROOM, GuestArea, GuestSpace, MOST_MOVED, Named};
 use pipe_core::{ATOMIC, CAPACITY, Pipe};
 use sn_base::{Made, Memory};
 use sn_errno::Errno;
 use stat_layout::IoVec;
 use std::alloc::Global;
 
-/// write(fd, buffer, count): the bytes of the buffer go behind those of a pipe, all of up to 4,096 and of more as many
-/// as fit, and their number is the reply; it waits for room. The console takes all of them, or none. No call moves more
-/// than 65,536 bytes. Nothing is read before it is done but which bytes may be.
+/// write(fd, buffer, count), with what the descriptor has open: the bytes of the buffer go behind those of a pipe, all
+/// of up to 4,096 and of more as many as fit, and their number is the reply; it waits for room. The console takes all
+/// of them, or none. No call moves more than 65,536 bytes. Nothing is read before it is done but which bytes may be.
 ///
 /// EBADF: the descriptor isn't open, or not for writing; EFAULT: a byte of the buffer that may not be read; EPIPE: no
 /// read end is left; EAGAIN: with O_NONBLOCK, where it would wait; ENOSPC: the console has no room.
 pub fn write(
     alloc: Global,
-    context: &Context<'_>,
-    fd: u64,
-    buffer: u64,
-    count: u64,
+    opened: Option<FileInHand<'_>>,
+    buffer: IoVec,
     space: &GuestSpace,
     areas: &mut Named<GuestArea>,
-    files: &OpenFiles,
     console: usize,
 ) -> Result<Transferred, Memory>
-    ensures row { IfOk result (λ t. (c : ACaller) (k : AKernel) →
-        IsMoving c k context.now space.now areas.old files.now console →
-        Moves (write_row fd buffer count c) t c k space.now areas.old) }
-    ensures sure { IfOk result (λ t. IsSure t files.now) }
+    ensures row { IfOk result (λ t. (fd : ℕ) (c : ACaller) (k : AKernel) → HasMemory c k space.now areas.old →
+        StandsFor k.files c.table (descriptor fd) opened.entry → length k.console ≡ console →
+        Moves (write_row fd buffer.base buffer.length c) t c k space.now areas.old) }
+    ensures sure { IfOk result (λ t. (open_files : AFiles) → HasPipeOf opened.entry open_files → IsSure t open_files) }
     ensures kept { areas.new ≡ areas.old }
 {
-    let buffer = IoVec {
-        base: buffer,
-        length: count,
-    };
-    match open_file(context.table, fd, files) {
+    match opened {
         None => Ok(denied(Errno::EBADF)),
-        Some(file) => write_open(
-            alloc,
-            &file.description,
-            buffer,
-            space,
-            areas,
-            files,
-            console,
-        ),
+        Some(opened) => write_open(alloc, &opened, buffer, space, areas, console),
     }
 }
 
 /// A write to what is open, where the access lets the caller write.
 fn write_open(
     alloc: Global,
-    description: &Description,
+    opened: &FileInHand<'_>,
     buffer: IoVec,
     space: &GuestSpace,
     areas: &mut Named<GuestArea>,
-    files: &OpenFiles,
     console: usize,
 ) -> Result<Transferred, Memory>
     ensures row { IfOk result (λ t. (c : ACaller) (k : AKernel) →
-        HasMemory c k space.now areas.old → k.files ≡ files.now → length k.console ≡ console →
-        Moves (if may_write description.now.access then writes c (buffer ∷ []) description.now
+        IsWriting c k space.now areas.old opened.now console →
+        Moves (if may_write opened.now.file.description.access then writes c (buffer ∷ []) opened.now.file.description
         else done (refuses EBADF)) t c k space.now areas.old) }
-    ensures sure { IfOk result (λ t. IsSure t files.now) }
+    ensures sure { IfOk result (λ t. (open_files : AFiles) → HasPipeOf (Some opened.now) open_files →
+        IsSure t open_files) }
     ensures kept { areas.new ≡ areas.old }
 {
-    if description.access.may_write() {
-        writes(alloc, description, buffer, space, areas, files, console)
+    if opened.file.description.access.may_write() {
+        writes(alloc, opened, buffer, space, areas, console)
     } else {
         Ok(denied(Errno::EBADF))
     }
@@ -100,17 +86,17 @@ fn write_open(
 /// A write from a buffer: none of no bytes.
 fn writes(
     alloc: Global,
-    description: &Description,
+    opened: &FileInHand<'_>,
     buffer: IoVec,
     space: &GuestSpace,
     areas: &mut Named<GuestArea>,
-    files: &OpenFiles,
     console: usize,
 ) -> Result<Transferred, Memory>
     ensures row { IfOk result (λ t. (c : ACaller) (k : AKernel) →
-        HasMemory c k space.now areas.old → k.files ≡ files.now → length k.console ≡ console →
-        Moves (writes c (buffer ∷ []) description.now) t c k space.now areas.old) }
-    ensures sure { IfOk result (λ t. IsSure t files.now) }
+        IsWriting c k space.now areas.old opened.now console →
+        Moves (writes c (buffer ∷ []) opened.now.file.description) t c k space.now areas.old) }
+    ensures sure { IfOk result (λ t. (open_files : AFiles) → HasPipeOf (Some opened.now) open_files →
+        IsSure t open_files) }
     ensures kept { areas.new ≡ areas.old }
 {
     if buffer.length == 0 {
@@ -119,12 +105,11 @@ fn writes(
         let first = cut(buffer);
         writes_from(
             alloc,
-            description,
+            opened,
             Buffers::One(first),
             first.length,
             space,
             areas,
-            files,
             console,
         )
     }
@@ -133,50 +118,44 @@ fn writes(
 /// A write from buffers of so many bytes in all, which are all tested before.
 pub(crate) fn writes_from(
     alloc: Global,
-    description: &Description,
+    opened: &FileInHand<'_>,
     from: Buffers,
     count: u64,
     space: &GuestSpace,
     areas: &mut Named<GuestArea>,
-    files: &OpenFiles,
     console: usize,
 ) -> Result<Transferred, Memory>
     requires few { count ≤ MOST_MOVED }
     requires all { count ≡ total_of (buffers_in from) }
-    ensures row { IfOk result (λ t. (c : ACaller) (k : AKernel) → HasMemory c k space.now areas.old →
-        k.files ≡ files.now → length k.console ≡ console →
-        Moves (writes_from c description.now (buffers_in from)) t c k space.now areas.old) }
-    ensures sure { IfOk result (λ t. IsSure t files.now) }
+    ensures row { IfOk result (λ t. (c : ACaller) (k : AKernel) →
+        IsWriting c k space.now areas.old opened.now console →
+        Moves (writes_from c opened.now.file.description (buffers_in from)) t c k space.now areas.old) }
+    ensures sure { IfOk result (λ t. (open_files : AFiles) → HasPipeOf (Some opened.now) open_files →
+        IsSure t open_files) }
     ensures kept { areas.new ≡ areas.old }
 {
     if may_be_read(alloc, space, areas, &from)? {
-        Ok(writes_of(description, from, count, files, console))
+        Ok(writes_of(opened, from, count, console))
     } else {
         Ok(denied(Errno::EFAULT))
     }
 }
 
 /// What is written to an object, from buffers that may be read.
-fn writes_of(
-    description: &Description,
-    from: Buffers,
-    count: u64,
-    files: &OpenFiles,
-    console: usize,
-) -> Transferred
+fn writes_of(opened: &FileInHand<'_>, from: Buffers, count: u64, console: usize) -> Transferred
     requires few { count ≤ MOST_MOVED }
     requires all { count ≡ total_of (buffers_in from) }
     ensures row { (c : ACaller) (k : AKernel) (own : AddressSpace) (shared : NamedMap AreaState) (bytes : List ℕ) →
-        HasMemory c k own shared → k.files ≡ files.now → length k.console ≡ console →
-        IsGathered (buffers_in from) own k bytes →
-        Moves (writes_of description.now.nonblock bytes description.now.object) result c k own shared }
-    ensures sure { IsSure result files.now }
+        IsWriting c k own shared opened.now console → IsGathered (buffers_in from) own k bytes →
+        Moves (writes_of opened.now.file.description.nonblock bytes opened.now.file.description.object) result c k
+        own shared }
+    ensures sure { (open_files : AFiles) → HasPipeOf (Some opened.now) open_files → IsSure result open_files }
 {
-    match description.object {
+    match opened.file.description.object {
         Object::Node(_) => denied(Errno::ENOSYS),
-        Object::PipeEnd { pipe: name, .. } => match files.pipes.get(name.place, name.index) {
+        Object::PipeEnd { pipe: name, .. } => match opened.pipe {
             None => denied(Errno::EBADF),
-            Some(pipe) => to_pipe(description.nonblock, from, count, name, pipe),
+            Some(pipe) => to_pipe(opened.file.description.nonblock, from, count, name, pipe),
         },
         Object::Console => to_console(from, count, console),
         Object::EmptyInput => to_console(from, count, console),

@@ -1,6 +1,6 @@
 //! Numbers that get what another stands for.
 
-use crate::helpers::{TABLE, five_open};
+use crate::helpers::{TABLE, five_open, numbers};
 use crate::rows::{Row, expect_rows, hold};
 use call_fs::{dup, dup3};
 use fd_table::Descriptor;
@@ -47,7 +47,8 @@ const REPLIES: &[(Made, u64, i64)] = &[
 /// That dup replies so.
 fn expect_replies(files: &OpenFiles) -> Result<(), Fail> {
     for (row, (table, fd, reply)) in REPLIES.iter().enumerate() {
-        if dup(*table, *fd, files).reply != *reply {
+        let numbers = files.tables.get(table.place, table.index);
+        if dup(numbers, *fd).reply != *reply {
             return Err(Fail::new(format_args!("row {row}")));
         }
     }
@@ -109,7 +110,7 @@ const ONTO: &[([u64; 3], i64)] = &[
 
 /// Whether dup3 replies this, and changes something where it isn't refused.
 fn is_as_told(files: &OpenFiles, [fd, number, flags]: [u64; 3], reply: i64) -> bool {
-    let call = dup3(TABLE, fd, number, flags, files);
+    let call = dup3(numbers(files), fd, number, flags);
     call.reply == reply && (call.change == FileChange::Nothing) == (reply < 0)
 }
 

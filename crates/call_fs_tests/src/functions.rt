@@ -4,11 +4,11 @@ ghost use Rattle.std.specs.Prelude.{IfOk};
 ghost use Rattle.call_fs.specs.Transfers.{IsSure};
 
 use crate::begun::{BYTES, END, RECORDS};
-use crate::helpers::{TABLE, five_open};
+use crate::helpers::{TABLE, five_open, numbers};
 use crate::rows::{Row, hold};
 use call_fs::{
-    PipeCall, Transferred, Vectors, buffers_at, commit_transfer, make_pipe, pipe2, read, readv,
-    write, writev,
+    PipeCall, Transferred, Vectors, buffers_at, commit_transfer, file_in_hand, make_pipe, pipe2,
+    read, readv, write, writev,
 };
 use fd_table::Descriptor;
 use guest_access::read as read_bytes;
@@ -60,11 +60,16 @@ fn transferred(
     ensures { IfOk result (λ t. IsSure t files.now) }
 {
     let [fd, at, count] = args;
+    let file = file_in_hand(TABLE, fd, files);
+    let buffer = IoVec {
+        base: at,
+        length: count,
+    };
     match moving {
-        Moving::Read => Ok(read(alloc, context, fd, at, count, space, areas, files)?),
-        Moving::Write => Ok(write(alloc, context, fd, at, count, space, areas, files, console)?),
-        Moving::Readv => Ok(readv(alloc, context, fd, at, count, space, areas, files)?),
-        Moving::Writev => Ok(writev(alloc, context, fd, at, count, space, areas, files, console)?),
+        Moving::Read => Ok(read(alloc, context, file, buffer, space, areas)?),
+        Moving::Write => Ok(write(alloc, file, buffer, space, areas, console)?),
+        Moving::Readv => Ok(readv(alloc, context, file, at, count, space, areas)?),
+        Moving::Writev => Ok(writev(alloc, file, at, count, space, areas, console)?),
     }
 }
 
@@ -210,12 +215,11 @@ fn piped(guest: &mut Guest, place: u64, buffer: u64, flags: u64) -> Result<i64, 
     };
     let call = pipe2(
         guest.alloc,
-        &context,
+        numbers(&guest.files),
         buffer,
         flags,
         &guest.space,
         &mut guest.areas,
-        &guest.files,
     )?;
     match call {
         PipeCall::Refused(errno) => Ok(Reply::of(errno).number()),

@@ -1,7 +1,7 @@
 //! What is open where the tests begin, and how a call is done.
 
-use call_fs::FilePrepared;
-use fd_table::{AccessMode, Description, Descriptor, Object, PipeSide};
+use call_fs::{FilePrepared, file_in_hand};
+use fd_table::{AccessMode, Description, Descriptor, FdTable, Object, PipeSide};
 use file_changes::{FileChange, change_files, open_files};
 use kernel_model::{OpenFile, OpenFiles};
 use pipe_core::Pipe;
@@ -80,9 +80,20 @@ pub(crate) fn changes_nothing(call: &FilePrepared, reply: i64) -> bool {
     call.reply == reply && call.change == FileChange::Nothing
 }
 
+/// The caller's numbers.
+pub(crate) fn numbers(files: &OpenFiles) -> Option<&FdTable> {
+    files.tables.get(TABLE.place, TABLE.index)
+}
+
+/// The open file description that a number has.
+pub(crate) fn file(files: &OpenFiles, fd: u64) -> Option<OpenFile> {
+    let hand = file_in_hand(TABLE, fd, files)?;
+    Some(hand.file)
+}
+
 /// What a number stands for.
 pub(crate) fn open_at(files: &OpenFiles, fd: u32) -> Option<Descriptor> {
-    files.tables.get(TABLE.place, TABLE.index)?.get(fd)
+    numbers(files)?.get(fd)
 }
 
 /// How many descriptors have the description that a number has.

@@ -26,6 +26,8 @@ mod functions;
 #[cfg(test)]
 mod helpers;
 #[cfg(test)]
+mod lookups;
+#[cfg(test)]
 mod mappings;
 #[cfg(test)]
 mod open_files;

@@ -1,6 +1,6 @@
 //! Calls at a position: which objects have none.
 
-use crate::helpers::{TABLE, changes_nothing, five_open, open};
+use crate::helpers::{changes_nothing, file, five_open, open};
 use call_fs::{lseek, pread64, pwrite64};
 use fd_table::{AccessMode, Object};
 use kernel_model::OpenFiles;
@@ -24,9 +24,10 @@ const REPLIES: &[(u64, [i64; 3])] = &[
 
 /// Whether each of the three replies so, and changes nothing.
 fn are_refused(files: &OpenFiles, fd: u64, [sought, read, written]: [i64; 3]) -> bool {
-    changes_nothing(&lseek(TABLE, fd, files), sought)
-        && changes_nothing(&pread64(TABLE, fd, files), read)
-        && changes_nothing(&pwrite64(TABLE, fd, files), written)
+    let file = file(files, fd);
+    changes_nothing(&lseek(file), sought)
+        && changes_nothing(&pread64(file), read)
+        && changes_nothing(&pwrite64(file), written)
 }
 
 /// Opens 5 and 6, and expects the replies.

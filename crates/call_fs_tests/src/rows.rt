@@ -1,6 +1,6 @@
 //! Calls on descriptors in a row, and what is open then, as rows of a table.
 
-use crate::helpers::{TABLE, changes_nothing, counted, done, ends, five_open, open_at};
+use crate::helpers::{changes_nothing, counted, done, ends, file, five_open, numbers, open_at};
 use call_fs::{close, dup, dup3, fcntl, ioctl};
 use fd_table::Descriptor;
 use kernel_model::OpenFiles;
@@ -34,26 +34,26 @@ pub(crate) enum Row {
 pub(crate) fn holds(files: &mut OpenFiles, row: Row) -> bool {
     match row {
         Row::Dup(fd, reply) => {
-            let call = dup(TABLE, fd, files);
+            let call = dup(numbers(files), fd);
             done(files, call) == reply
         }
         Row::Dup3(args, reply) => {
             let [fd, number, flags] = args;
-            let call = dup3(TABLE, fd, number, flags, files);
+            let call = dup3(numbers(files), fd, number, flags);
             done(files, call) == reply
         }
         Row::Close(fd, reply) => {
-            let call = close(TABLE, fd, files);
+            let call = close(numbers(files), fd);
             done(files, call) == reply
         }
         Row::Fcntl(args, reply) => {
             let [fd, command, argument] = args;
-            let call = fcntl(TABLE, fd, command, argument, files);
+            let call = fcntl(numbers(files), fd, file(files, fd), command, argument);
             done(files, call) == reply
         }
         Row::RefusesFcntl(args, reply) => refuses_fcntl(files, args, reply),
-        Row::RefusesIoctl(fd, reply) => changes_nothing(&ioctl(TABLE, fd, files), reply),
-        Row::ClosesNothing(fd) => changes_nothing(&close(TABLE, fd, files), -9),
+        Row::RefusesIoctl(fd, reply) => changes_nothing(&ioctl(numbers(files), fd), reply),
+        Row::ClosesNothing(fd) => changes_nothing(&close(numbers(files), fd), -9),
         Row::Stands(fd, there) => stands(files, fd, there),
         Row::Counts(fd, count) => counted(files, fd) == Some(count),
         Row::Ends(open) => has_ends(files, open),
@@ -62,7 +62,8 @@ pub(crate) fn holds(files: &mut OpenFiles, row: Row) -> bool {
 }
 
 fn refuses_fcntl(files: &OpenFiles, [fd, command, argument]: [u64; 3], reply: i64) -> bool {
-    changes_nothing(&fcntl(TABLE, fd, command, argument, files), reply)
+    let call = fcntl(numbers(files), fd, file(files, fd), command, argument);
+    changes_nothing(&call, reply)
 }
 
 fn stands(files: &OpenFiles, fd: u32, there: Option<Descriptor>) -> bool {

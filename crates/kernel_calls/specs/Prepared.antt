@@ -2,6 +2,7 @@
 use Rattle.std.specs.Prelude.{◌≡◌, ℕ, ◌+◌, ⊤, Option, Some, None, IsTrue, IsFalse, true, List, [], ◌∷◌}
 use Rattle.std.specs.Prelude.{length, pos}
 use Rattle.std.specs.FinMap as map
+use Rattle.fd_table.specs.Tables.{Table}
 use Rattle.rv_table.specs.declared.error.Area.{Area}
 use Rattle.mm_space.specs.Handed.{AreaState}
 use Rattle.mm_space.specs.Spaces.{AddressSpace}
@@ -87,6 +88,11 @@ pub record IsCalling (c : Caller) (k : Kernel) (context : Context) (own : Addres
   pub tasks : k.tasks ≡ list
   pub sleepers : k.sleepers ≡ waiting
   pub console : length k.console ≡ taken
+
+-- the table of a task's descriptors is that one, or none is there
+-- open(2), DESCRIPTION
+abbrev pub HasTable : Caller → Kernel → Option Table → Type 0
+HasTable c k table = get_named k.files.tables c.table.place c.table.index ≡ table
 
 -- a task whose address space is this, in a kernel that has it
 -- profile

@@ -1,6 +1,6 @@
 //! What system calls come to: the table of the calls that the kernel has.
 
-ghost use Rattle.std.specs.Prelude.{◌≡◌, ℕ, false, true, IfOk, IsTrue, OnErr};
+ghost use Rattle.std.specs.Prelude.{◌≡◌, ℕ, false, true, IfOk, IsTrue, OnErr, option_copied};
 ghost use Rattle.futex_core.specs.Waiters.{FutexList};
 ghost use Rattle.sn_errno.specs.Calls.{call_numbered};
 ghost use Rattle.sn_errno.specs.Errors.{reply_of};
@@ -14,7 +14,7 @@ ghost use Rattle.kernel_model.specs.entries.Parts.{parts};
 ghost use Rattle.kernel_calls.specs.Families.{always_replies, is_on_files};
 ghost use Rattle.guest_access.specs.Lending.{AreAlike};
 ghost use Rattle.kernel_calls.specs.Prepared.{Answers, Comes, EndsCaller, EndsEach, EndsOnly, EndsTheirs, HasRoomFor};
-ghost use Rattle.kernel_calls.specs.Prepared.{IfWaits, IsApart, IsCalling, WaitsWith};
+ghost use Rattle.kernel_calls.specs.Prepared.{HasTable, IfWaits, IsApart, IsCalling, WaitsWith};
 ghost use Rattle.kernel_calls.specs.declared.prepared.Effect.TheVariants.{Nothing};
 
 use crate::Context;
@@ -28,8 +28,9 @@ use crate::prepared::{Called, Effect, Prepared};
 use crate::random::getrandom;
 use crate::time::{clock_gettime, sched_yield};
 use crate::wait::wait4;
+use fd_table::FdTable;
 use futex_core::Waiters;
-use kernel_model::{Args, GuestArea, GuestSpace, Named, OpenFiles};
+use kernel_model::{Args, GuestArea, GuestSpace, Named};
 use rv_table::Regs;
 use sn_base::Memory;
 use sn_errno::{CallNo, Errno, Reply};
@@ -38,9 +39,10 @@ use task_table::Tasks;
 
 /// The call of a number, of a live task with that memory, with the shared areas there are, with that task list and that
 /// futex list, as far as the kernel has it: those that may do something else than reply here, and the table of the
-/// others below. Calls on what is open are of `call_fs`, and none of them comes here. Any other answers ENOSYS. What is
-/// mapped and what lies in memory is changed at once; what is to be done to the task list or the futex list is told,
-/// and where that may lack memory nothing has changed so far. An `Err` changes nothing.
+/// others below. Calls on what is open are of `call_fs`, and none of them comes here: of what is open the caller's
+/// descriptor table is looked at alone, where there is one. Any other answers ENOSYS. What is mapped and what lies in
+/// memory is changed at once; what is to be done to the task list or the futex list is told, and where that may lack
+/// memory nothing has changed so far. An `Err` changes nothing.
 #[tactic(auto, using(crate::proofs::Answering::answers_lacking))]
 pub fn call(
     alloc: Global,
@@ -52,13 +54,13 @@ pub fn call(
     areas: &mut Named<GuestArea>,
     tasks: &Tasks,
     sleepers: &Waiters,
-    files: &OpenFiles,
+    numbers: Option<&FdTable>,
 ) -> Result<Called, Memory>
     requires lives { IsTrue (is_live tasks.now.tasks context.now.task) }
     requires others { is_on_files (call_numbered number) ≡ false }
     ensures row { IfOk result (λ d. (c : ACaller) (k : AKernel) (console : ℕ) →
-        IsCalling c k context.now space.old areas.old tasks.now sleepers.now console → k.files ≡ files.now →
-        c.registers ≡ registers.now →
+        IsCalling c k context.now space.old areas.old tasks.now sleepers.now console →
+        HasTable c k (option_copied numbers.entry) → c.registers ≡ registers.now →
         Comes (call_row (context_of k) c number args.now) d c k space.new areas.new) }
     ensures apart { IfOk result (λ d. IsApart d → (space.new ≡ space.old) × (areas.new ≡ areas.old)) }
     ensures own { IfOk result (λ d. EndsCaller d context.now.task) }
@@ -78,7 +80,7 @@ pub fn call(
         CallNo::Clone => clone(alloc, context, registers, args, space, areas, tasks),
         CallNo::Wait4 => wait4(alloc, context, args, space, areas, tasks),
         _ => {
-            let prepared = replying(alloc, context, call, args, space, areas, tasks, files)?;
+            let prepared = replying(alloc, context, call, args, space, areas, tasks, numbers)?;
             Ok(Called::Replies(prepared))
         }
     }
@@ -95,12 +97,13 @@ fn replying(
     space: &mut GuestSpace,
     areas: &mut Named<GuestArea>,
     tasks: &Tasks,
-    files: &OpenFiles,
+    numbers: Option<&FdTable>,
 ) -> Result<Prepared, Memory>
     requires lives { IsTrue (is_live tasks.now.tasks context.now.task) }
     requires replies { always_replies call ≡ true }
     ensures row { IfOk result (λ p. (c : ACaller) (k : AKernel) (waiting : FutexList) (console : ℕ) →
-        IsCalling c k context.now space.old areas.old tasks.now waiting console → k.files ≡ files.now →
+        IsCalling c k context.now space.old areas.old tasks.now waiting console →
+        HasTable c k (option_copied numbers.entry) →
         Answers (row_of_call (context_of k) c args.now call) p c k space.new areas.new) }
     ensures own { IfOk result (λ p. EndsOnly p.effect context.now.task) }
     ensures ended { IfOk result (λ p. EndsEach p.effect context.now.task context.now.group tasks.now) }
@@ -121,7 +124,7 @@ fn replying(
         CallNo::Gettid => Ok(gettid(context)),
         CallNo::Brk => brk(alloc, args.a0, space),
         CallNo::Munmap => munmap(args.a0, args.a1, space),
-        CallNo::Mmap => mmap(alloc, context, args, space, areas, files),
+        CallNo::Mmap => mmap(alloc, context, args, space, areas, numbers),
         CallNo::Mprotect => Ok(mprotect(args.a0, args.a1, args.a2, space)),
         CallNo::Getrandom => getrandom(alloc, context, args.a0, args.a1, args.a2, space, areas),
         CallNo::Getcwd | CallNo::Mkdirat | CallNo::Unlinkat | CallNo::Symlinkat | CallNo::Linkat

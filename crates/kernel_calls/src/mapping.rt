@@ -1,6 +1,6 @@
 //! mmap.
 
-ghost use Rattle.std.specs.Prelude.{◌≡◌, ◌+◌, None, Some, IfOk, OnOk, OnErr};
+ghost use Rattle.std.specs.Prelude.{◌≡◌, ◌+◌, None, Some, IfOk, OnOk, OnErr, option_copied};
 ghost use Rattle.mm_areas.specs.Mappings.{map_fault, pages_in};
 ghost use Rattle.mm_space.specs.Changes.{mapped_in};
 ghost use Rattle.mm_space.specs.Handed.{zero_area};
@@ -13,7 +13,7 @@ ghost use Rattle.kernel_model.specs.calls.Memory.{is_anonymous, is_fixed, is_of_
 ghost use Rattle.kernel_model.specs.calls.Memory.{map_refusal, maps, mmap_row};
 ghost use Rattle.kernel_model.specs.entries.Parts.{done, outcome_in, parts};
 ghost use Rattle.guest_access.specs.Lending.{AreAlike};
-ghost use Rattle.kernel_calls.specs.Prepared.{Answers, HasSpace};
+ghost use Rattle.kernel_calls.specs.Prepared.{Answers, HasSpace, HasTable};
 ghost use Rattle.kernel_calls.specs.declared.prepared.Effect.TheVariants.{Nothing};
 
 use crate::Context;
@@ -21,10 +21,10 @@ use crate::calls::refused;
 use crate::memory::{area_errno, is_no_protection, replied, rights_in};
 use crate::prepared::Prepared;
 use fd_table::FdTable;
-use kernel_model::{Args, GuestArea, GuestSpace, Named, OpenFiles};
+use kernel_model::{Args, GuestArea, GuestSpace, Named};
 use mm_areas::{AreaErr, Backing, Rights};
 use rv_table::Area;
-use sn_base::{Made, Memory};
+use sn_base::Memory;
 use sn_errno::Errno;
 use std::alloc::Global;
 
@@ -49,10 +49,10 @@ pub(crate) fn mmap(
     args: &Args,
     space: &mut GuestSpace,
     areas: &mut Named<GuestArea>,
-    files: &OpenFiles,
+    numbers: Option<&FdTable>,
 ) -> Result<Prepared, Memory>
     ensures row { IfOk result (λ p. (c : ACaller) (k : AKernel) → HasSpace c k space.old → k.areas ≡ areas.old →
-        k.entries + 1 ≡ context.now.place → c.table ≡ context.now.table → k.files ≡ files.now →
+        k.entries + 1 ≡ context.now.place → HasTable c k (option_copied numbers.entry) →
         Answers (mmap_row (context_of k) args.now.a0 args.now.a1 args.now.a2 args.now.a3 args.now.a4 args.now.a5 c)
         p c k space.new areas.new) }
     ensures effect { IfOk result (λ p. p.effect ≡ Nothing) }
@@ -64,7 +64,7 @@ pub(crate) fn mmap(
         a4: fd,
         ..
     } = *args;
-    let file = file_refusal(context.table, flags, fd, files);
+    let file = file_refusal(flags, fd, numbers);
     map(alloc, context.place, args, file, space, areas)
 }
 
@@ -239,22 +239,22 @@ fn is_of_one_kind(flags: u64) -> bool
 }
 
 /// Why a file can't be mapped, where one is asked for.
-fn file_refusal(table: Made, flags: u64, fd: u64, files: &OpenFiles) -> Option<Errno>
-    ensures { (c : ACaller) (k : AKernel) → c.table ≡ table → k.files ≡ files.now →
+fn file_refusal(flags: u64, fd: u64, numbers: Option<&FdTable>) -> Option<Errno>
+    ensures { (c : ACaller) (k : AKernel) → HasTable c k (option_copied numbers.entry) →
         outcome_in (parts k) (file_refusal flags fd c) ≡ result }
 {
     if is_anonymous(flags) {
         None
     } else {
-        Some(file_errno(table, fd, files))
+        Some(file_errno(fd, numbers))
     }
 }
 
 /// The error of a mapping of a file: nothing that is open can be mapped so far.
-fn file_errno(table: Made, fd: u64, files: &OpenFiles) -> Errno
-    ensures { result ≡ file_errno fd (get_named files.now.tables table.place table.index) }
+fn file_errno(fd: u64, numbers: Option<&FdTable>) -> Errno
+    ensures { result ≡ file_errno fd (option_copied numbers.entry) }
 {
-    match files.tables.get(table.place, table.index) {
+    match numbers {
         Some(numbers) => open_errno(numbers, fd),
         None => Errno::EBADF,
     }

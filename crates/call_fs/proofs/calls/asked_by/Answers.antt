@@ -10,6 +10,8 @@ use Rattle.kernel_model.specs.calls.Callers.{Context}
 use Rattle.kernel_model.specs.calls.Table.{row_of_call}
 use Rattle.kernel_calls.specs.Prepared.{AnswersKept}
 use Rattle.kernel_calls.specs.declared.prepared.Prepared.{Prepared}
+use Rattle.kernel_model.specs.calls.Lookups.{descriptor}
+use Rattle.call_fs.proofs.Opened.{file_so, table_so}
 use Rattle.call_fs.proofs.calls.asked_by.Goals as goal
 
 -- of a call that is known
@@ -23,46 +25,56 @@ pub returns-in-Dup-clause-row : goal.returns-in-Dup-clause-row
 returns-in-Dup-clause-row c context caller k table files =
     of_row context caller k c.args.args.now c.args.call Dup _ c.in-Dup.is
     (c.changes.ensures.row _ caller k caller.group table
-    (c.dup.ensures.row caller k table files))
+    (c.dup.ensures.row caller k (table_so caller k c.args.table c.args.files.now table files _
+    c.get-numbers.ensures)))
 
 pub returns-in-Dup3-clause-row : goal.returns-in-Dup3-clause-row
 returns-in-Dup3-clause-row c context caller k table files =
     of_row context caller k c.args.args.now c.args.call Dup3 _ c.in-Dup3.is
     (c.changes-in-Dup3.ensures.row _ caller k caller.group table
-    (c.dup3.ensures.row caller k table files))
+    (c.dup3.ensures.row caller k (table_so caller k c.args.table c.args.files.now table files _
+    c.get-numbers.ensures)))
 
 pub returns-in-Fcntl-clause-row : goal.returns-in-Fcntl-clause-row
 returns-in-Fcntl-clause-row c context caller k table files =
     of_row context caller k c.args.args.now c.args.call Fcntl _ c.in-Fcntl.is
     (c.changes-in-Fcntl.ensures.row _ caller k caller.group table
-    (c.fcntl.ensures.row caller k table files))
+    (c.fcntl.ensures.row caller k (table_so caller k c.args.table c.args.files.now table files _
+    c.get-numbers.ensures)
+    (file_so caller k c.args.table c.args.files.now table files (descriptor c.args.args.now.a0) _
+    c.open_file-file.ensures)))
 
 pub returns-in-Ioctl-clause-row : goal.returns-in-Ioctl-clause-row
 returns-in-Ioctl-clause-row c context caller k table files =
     of_row context caller k c.args.args.now c.args.call Ioctl _ c.in-Ioctl.is
     (c.changes-in-Ioctl.ensures.row _ caller k caller.group table
-    (c.ioctl.ensures.row caller k table files))
+    (c.ioctl.ensures.row caller k (table_so caller k c.args.table c.args.files.now table files _
+    c.get-numbers.ensures)))
 
 pub returns-in-Close-clause-row : goal.returns-in-Close-clause-row
 returns-in-Close-clause-row c context caller k table files =
     of_row context caller k c.args.args.now c.args.call Close _ c.in-Close.is
     (c.changes-in-Close.ensures.row _ caller k caller.group table
-    (c.close.ensures.row caller k table files))
+    (c.close.ensures.row caller k (table_so caller k c.args.table c.args.files.now table files _
+    c.get-numbers.ensures)))
 
 pub returns-in-Lseek-clause-row : goal.returns-in-Lseek-clause-row
 returns-in-Lseek-clause-row c context caller k table files =
     of_row context caller k c.args.args.now c.args.call Lseek _ c.in-Lseek.is
     (c.changes-in-Lseek.ensures.row _ caller k caller.group table
-    (c.lseek.ensures.row caller k table files))
+    (c.lseek.ensures.row c.args.args.now.a0 caller k (file_so caller k c.args.table c.args.files.now table files
+    (descriptor c.args.args.now.a0) _ c.open_file.ensures)))
 
 pub returns-in-Pread64-clause-row : goal.returns-in-Pread64-clause-row
 returns-in-Pread64-clause-row c context caller k table files =
     of_row context caller k c.args.args.now c.args.call Pread64 _ c.in-Pread64.is
     (c.changes-in-Pread64.ensures.row _ caller k caller.group table
-    (c.pread64.ensures.row caller k table files))
+    (c.pread64.ensures.row c.args.args.now.a0 caller k (file_so caller k c.args.table c.args.files.now table files
+    (descriptor c.args.args.now.a0) _ c.open_file-in-Pread64.ensures)))
 
 pub returns-in-Pwrite64-clause-row : goal.returns-in-Pwrite64-clause-row
 returns-in-Pwrite64-clause-row c context caller k table files =
     of_row context caller k c.args.args.now c.args.call Pwrite64 _ c.in-Pwrite64.is
     (c.changes-in-Pwrite64.ensures.row _ caller k caller.group table
-    (c.pwrite64.ensures.row caller k table files))
+    (c.pwrite64.ensures.row c.args.args.now.a0 caller k (file_so caller k c.args.table c.args.files.now table files
+    (descriptor c.args.args.now.a0) _ c.open_file-in-Pwrite64.ensures)))

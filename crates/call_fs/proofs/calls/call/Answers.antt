@@ -10,6 +10,7 @@ use Rattle.kernel_calls.proofs.Answering.{answers_kept, has_space}
 use Rattle.call_fs.specs.Asked.{read_row_by, write_row_by}
 use Rattle.call_fs.specs.CallEnd.{ComesTo}
 use Rattle.call_fs.proofs.Calling.{called_read, called_write, moving, never_waits, waits_alike}
+use Rattle.call_fs.proofs.Opened.{table_so}
 use Rattle.call_fs.proofs.calls.call.Goals as goal
 
 pub returns-in-Reads-clause-row : goal.returns-in-Reads-clause-row
@@ -92,7 +93,9 @@ returns-in-Changes-clause-apart c lacks = absurd lacks
 
 pub returns-in_ok-call-in-Others-clause-row : goal.returns-in_ok-call-in-Others-clause-row
 returns-in_ok-call-in-Others-clause-row c caller k calling files registers =
-    c.in_ok-call-in-Others.ensures.row caller k c.args.console calling files registers
+    let a = c.args in
+    c.in_ok-call-in-Others.ensures.row caller k a.console calling
+    (table_so caller k a.context.now.table a.files.now calling.table files _ c.get.ensures) registers
 
 pub returns-in_ok-call-in-Others-clause-waits : goal.returns-in_ok-call-in-Others-clause-waits
 returns-in_ok-call-in-Others-clause-waits c caller k calling files =

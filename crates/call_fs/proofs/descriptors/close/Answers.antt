@@ -10,17 +10,16 @@ use Rattle.call_fs.proofs.descriptors.close.Goals as goal
 
 pub returns-in-None : goal.returns-in-None
 returns-in-None c = record {
-  row = λ caller k same files.
+  row = λ caller k table.
       answers_missing (λ table d. dropped d.description
       >>= λ changes. done (leaves_table caller 0 (map.remove table (descriptor c.args.fd)) changes))
-      c.refused.result caller k c.args.fd c.args.table c.args.files.now same files c.in-None.ensures.none
-      (c.refused.ensures.row caller k);
+      c.refused.result caller k c.args.fd _ table c.in-None.ensures.none (c.refused.ensures.row caller k);
 }
 
 pub returns-in-Some : goal.returns-in-Some
 returns-in-Some c = record {
-  row = λ caller k same files.
-      let is = c.in-Some.ensures.open caller k same files in
+  row = λ caller k table.
+      let is = c.in-Some.ensures.open caller k table in
       answers_found (λ table d. dropped d.description
       >>= λ changes. done (leaves_table caller 0 (map.remove table (descriptor c.args.fd)) changes))
       _ caller k c.args.fd c.in-Some.looked is c.in-Some.ensures.number

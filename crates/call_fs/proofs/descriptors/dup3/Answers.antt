@@ -12,13 +12,13 @@ use Rattle.call_fs.proofs.descriptors.dup3.Goals as goal
 
 pub returns-in-None : goal.returns-in-None
 returns-in-None c = record {
-  row = λ caller k same files.
+  row = λ caller k table.
       let to = gives_at caller (descriptor c.args.number) (c.args.flags % 2 ^ 32) in
       let flags = c.args.flags % 2 ^ 32 in
       let test : (not (is_cloexec_or_none flags) || (descriptor c.args.fd == descriptor c.args.number)) ≡ false
       = search (rules, tests) in
       answers_alike _ (with_descriptor caller c.args.fd to) c.refused-in-None.result caller k
       (ap (λ b. outcome_in (parts k) (cond b (done (refuses EINVAL)) (with_descriptor caller c.args.fd to))) test)
-      (answers_missing to c.refused-in-None.result caller k c.args.fd c.args.table c.args.files.now
-      same files c.in-None.ensures.none (c.refused-in-None.ensures.row caller k));
+      (answers_missing to c.refused-in-None.result caller k c.args.fd _ table c.in-None.ensures.none
+      (c.refused-in-None.ensures.row caller k));
 }

@@ -7,14 +7,14 @@ use Rattle.call_fs.proofs.descriptors.ioctl.Goals as goal
 
 pub returns-in-None : goal.returns-in-None
 returns-in-None c = record {
-  row = λ caller k same files.
-      answers_missing (λ table d. done (refuses ENOTTY)) c.refused.result caller k c.args.fd c.args.table
-      c.args.files.now same files c.in-None.ensures.none (c.refused.ensures.row caller k);
+  row = λ caller k table.
+      answers_missing (λ t d. done (refuses ENOTTY)) c.refused.result caller k c.args.fd _ table
+      c.in-None.ensures.none (c.refused.ensures.row caller k);
 }
 
 pub returns-in-Some : goal.returns-in-Some
 returns-in-Some c = record {
-  row = λ caller k same files.
-      answers_found (λ table d. done (refuses ENOTTY)) c.refused-in-Some.result caller k c.args.fd c.in-Some.field-0
-      (c.in-Some.ensures.open caller k same files) c.in-Some.ensures.number (c.refused-in-Some.ensures.row caller k);
+  row = λ caller k table.
+      answers_found (λ t d. done (refuses ENOTTY)) c.refused-in-Some.result caller k c.args.fd c.in-Some.field-0
+      (c.in-Some.ensures.open caller k table) c.in-Some.ensures.number (c.refused-in-Some.ensures.row caller k);
 }

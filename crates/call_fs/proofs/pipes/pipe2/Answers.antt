@@ -1,7 +1,6 @@
 -- What pipe2 is refused with, or the pipe that it makes.
 use Rattle.std.proofs.Common.{◌%◌, ◌^◌, None, Some, ap, sym, ◌∙◌}
-use Rattle.kernel_model.specs.Names.{get_named}
-use Rattle.kernel_model.specs.declared.open_files.OpenFiles.{OpenFiles}
+use Rattle.std.specs.Prelude.{option_copied}
 use Rattle.kernel_model.specs.entries.Parts.{outcome_in, parts}
 use Rattle.mm_space.specs.Accesses.{writable}
 use Rattle.kernel_model.specs.entries.Areas.{access_row}
@@ -10,53 +9,50 @@ use Rattle.call_fs.proofs.MadePipes.{nothing, of_fds, of_table, something, teste
 use Rattle.call_fs.proofs.pipes.pipe2.Goals as goal
 
 pub returns-then-not-branch-clause-row : goal.returns-then-not-branch-clause-row
-returns-then-not-branch-clause-row c caller k console of_row moving =
+returns-then-not-branch-clause-row c caller k of_row has numbers =
     let a = c.args in
     tested of_row caller k a.buffer (a.flags % 2 ^ 32) a.space.now None
-    (sym c.are_pipe_flags.ensures ∙ c.if-not-are_pipe_flags.false) moving.memory.space
-    (nothing _ (c.in_ok-is_accessible.ensures.row (parts k) (are_those k a.areas.now moving.memory.areas)
+    (sym c.are_pipe_flags.ensures ∙ c.if-not-are_pipe_flags.false) has.space
+    (nothing _ (c.in_ok-is_accessible.ensures.row (parts k) (are_those k a.areas.now has.areas)
     ∙ c.if-not-branch.true))
 
 pub returns-in-None-clause-row : goal.returns-in-None-clause-row
-returns-in-None-clause-row c caller k console of_row moving =
+returns-in-None-clause-row c caller k of_row has numbers =
     let a = c.args in
-    let hand = something _ (c.in_ok-is_accessible.ensures.row (parts k) (are_those k a.areas.now moving.memory.areas)
+    let hand = something _ (c.in_ok-is_accessible.ensures.row (parts k) (are_those k a.areas.now has.areas)
     ∙ c.if-not-branch.false) in
     tested of_row caller k a.buffer (a.flags % 2 ^ 32) a.space.now (Some hand.0)
-    (sym c.are_pipe_flags.ensures ∙ c.if-not-are_pipe_flags.false) moving.memory.space hand.1
+    (sym c.are_pipe_flags.ensures ∙ c.if-not-are_pipe_flags.false) has.space hand.1
     ∙ of_table of_row caller k a.buffer (a.flags % 2 ^ 32) hand.0 None
-    (ap (λ (f : OpenFiles). get_named f.tables caller.table.place caller.table.index) moving.files
-    ∙ ap (λ n. get_named a.files.now.tables n.place n.index) moving.table ∙ sym c.in-None.ensures)
+    (numbers ∙ ap option_copied c.in-None.is)
 
 pub returns-in-None-two_free-clause-row : goal.returns-in-None-two_free-clause-row
-returns-in-None-two_free-clause-row c caller k console of_row moving =
+returns-in-None-two_free-clause-row c caller k of_row has numbers =
     let a = c.args in
-    let hand = something _ (c.in_ok-is_accessible.ensures.row (parts k) (are_those k a.areas.now moving.memory.areas)
+    let hand = something _ (c.in_ok-is_accessible.ensures.row (parts k) (are_those k a.areas.now has.areas)
     ∙ c.if-not-branch.false) in
     tested of_row caller k a.buffer (a.flags % 2 ^ 32) a.space.now (Some hand.0)
-    (sym c.are_pipe_flags.ensures ∙ c.if-not-are_pipe_flags.false) moving.memory.space hand.1
+    (sym c.are_pipe_flags.ensures ∙ c.if-not-are_pipe_flags.false) has.space hand.1
     ∙ of_table of_row caller k a.buffer (a.flags % 2 ^ 32) hand.0 (Some c.in-Some.numbers.now)
-    (ap (λ (f : OpenFiles). get_named f.tables caller.table.place caller.table.index) moving.files
-    ∙ ap (λ n. get_named a.files.now.tables n.place n.index) moving.table ∙ sym c.in-Some.ensures)
+    (numbers ∙ ap option_copied c.in-Some.is)
     ∙ of_fds of_row caller k a.buffer (a.flags % 2 ^ 32) hand.0 c.in-Some.numbers.now None
     (sym c.in-None-two_free.ensures)
 
 pub returns-in_ok-new-in-Some-two_free-clause-row : goal.returns-in_ok-new-in-Some-two_free-clause-row
-returns-in_ok-new-in-Some-two_free-clause-row c caller k console of_row moving =
+returns-in_ok-new-in-Some-two_free-clause-row c caller k of_row has numbers =
     let a = c.args in
-    let hand = something _ (c.in_ok-is_accessible.ensures.row (parts k) (are_those k a.areas.now moving.memory.areas)
+    let hand = something _ (c.in_ok-is_accessible.ensures.row (parts k) (are_those k a.areas.now has.areas)
     ∙ c.if-not-branch.false) in
-    let there = ap (λ (f : OpenFiles). get_named f.tables caller.table.place caller.table.index) moving.files
-    ∙ ap (λ n. get_named a.files.now.tables n.place n.index) moving.table ∙ sym c.in-Some.ensures in
+    let there = numbers ∙ ap option_copied c.in-Some.is in
     record {
       hand = hand.0;
       table = c.in-Some.numbers.now;
       there = there;
-      granted = ap (λ s. outcome_in (parts k) (access_row writable s a.buffer 8)) moving.memory.space ∙ hand.1;
+      granted = ap (λ s. outcome_in (parts k) (access_row writable s a.buffer 8)) has.space ∙ hand.1;
       free = sym c.in-Some-two_free.ensures;
       empty = c.in_ok-new-in-Some-two_free.ensures;
       row_is = tested of_row caller k a.buffer (a.flags % 2 ^ 32) a.space.now (Some hand.0)
-          (sym c.are_pipe_flags.ensures ∙ c.if-not-are_pipe_flags.false) moving.memory.space hand.1
+          (sym c.are_pipe_flags.ensures ∙ c.if-not-are_pipe_flags.false) has.space hand.1
           ∙ of_table of_row caller k a.buffer (a.flags % 2 ^ 32) hand.0 (Some c.in-Some.numbers.now) there
           ∙ of_fds of_row caller k a.buffer (a.flags % 2 ^ 32) hand.0 c.in-Some.numbers.now
           (Some (c.in-Some-two_free.first, c.in-Some-two_free.second)) (sym c.in-Some-two_free.ensures);

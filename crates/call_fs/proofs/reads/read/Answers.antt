@@ -1,34 +1,38 @@
 -- A register's open file description, or none.
-use Rattle.std.proofs.Common.{Some, None}
+use Rattle.std.proofs.Common.{Some, None, subst}
 use Rattle.std.proofs.lemmas.Result.{IfOk-weaker}
 use Rattle.sn_errno.specs.declared.errno.Errno.TheVariants.{EBADF}
 use Rattle.fd_table.specs.Flags.{may_read}
 use Rattle.kernel_model.specs.calls.Answers.{refuses}
-use Rattle.kernel_model.specs.calls.Lookups.{if_may, or_refuse}
+use Rattle.kernel_model.specs.calls.Lookups.{descriptor, if_may, or_refuse}
 use Rattle.kernel_model.specs.calls.ReadWrite.{read_row, reads}
 use Rattle.kernel_model.specs.calls.Vectors.{one_buffer}
 use Rattle.kernel_model.specs.entries.Parts.{done}
-use Rattle.call_fs.proofs.Opened.{outcome_by_file}
+use Rattle.call_fs.specs.Lookups.{StandsFor}
+use Rattle.call_fs.proofs.Opened.{file_opened, outcome_by_file}
 use Rattle.call_fs.proofs.Transferring.{moves_alike}
 use Rattle.call_fs.proofs.reads.read.Goals as goal
 
 pub returns-in-None-clause-row : goal.returns-in-None-clause-row
-returns-in-None-clause-row c caller k console moving =
+returns-in-None-clause-row c fd caller k same has stands =
     let a = c.args in
-    let row = if_may may_read (reads caller (one_buffer a.buffer a.count)) in
-    moves_alike (read_row a.fd a.buffer a.count caller) (done (refuses EBADF)) c.denied.result caller k a.space.now
-    a.areas.now
-    (outcome_by_file row caller k a.fd a.context.now.table a.files.now None moving.table moving.files c.in-None.ensures)
-    (c.denied.ensures.row caller k a.space.now a.areas.now moving.memory)
+    let row = if_may may_read (reads caller (one_buffer a.buffer.base a.buffer.length)) in
+    moves_alike (read_row fd a.buffer.base a.buffer.length caller) (done (refuses EBADF)) c.denied.result caller k
+    a.space.now a.areas.now
+    (outcome_by_file row caller k fd None
+    (subst (StandsFor k.files caller.table (descriptor fd)) c.in-None.is stands))
+    (c.denied.ensures.row caller k a.space.now a.areas.now has)
 
 pub returns-in-Some-clause-row : goal.returns-in-Some-clause-row
 returns-in-Some-clause-row c =
     let a = c.args in
+    let opened = c.in-Some.opened in
     IfOk-weaker c.read_open.result _ _
-    (λ t gives caller k console moving.
-    let row = if_may may_read (reads caller (one_buffer a.buffer a.count)) in
-    moves_alike (read_row a.fd a.buffer a.count caller) (or_refuse EBADF row (Some c.in-Some.file)) t caller k
+    (λ t gives fd caller k same has stands.
+    let row = if_may may_read (reads caller (one_buffer a.buffer.base a.buffer.length)) in
+    let is = subst (StandsFor k.files caller.table (descriptor fd)) c.in-Some.is stands in
+    moves_alike (read_row fd a.buffer.base a.buffer.length caller) (or_refuse EBADF row (Some opened.file)) t caller k
     c.read_open.new.space c.read_open.new.areas
-    (outcome_by_file row caller k a.fd a.context.now.table a.files.now (Some c.in-Some.file) moving.table moving.files
-    c.in-Some.ensures)
-    (gives caller k console moving)) c.read_open.ensures.row
+    (outcome_by_file row caller k fd (Some opened.file)
+    (file_opened k.files caller.table (descriptor fd) opened is))
+    (gives caller k (record { task = same; memory = has; pipe = is.pipe }))) c.read_open.ensures.row

@@ -6,34 +6,34 @@ use Rattle.kernel_model.specs.calls.Answers.{refuses}
 use Rattle.kernel_model.specs.calls.ReadWrite.{reads_into, reads_of}
 use Rattle.kernel_model.specs.entries.Parts.{done, parts}
 use Rattle.guest_access.proofs.KernelAreas.{are_those}
-use Rattle.call_fs.proofs.Reading.{into_by, moving_on}
+use Rattle.call_fs.proofs.Reading.{into_by, reading_on}
 use Rattle.call_fs.proofs.Transferring.{moves_alike}
 use Rattle.call_fs.proofs.reads.reads_into.Goals as goal
 
 pub returns-then-branch-clause-row : goal.returns-then-branch-clause-row
 returns-then-branch-clause-row c =
     let a = c.args in
-    let d = a.description.now in
+    let d = a.opened.now.file.description in
     IfOk-weaker c.reads_of.result _ _
-    (λ t gives caller k console moving.
+    (λ t gives caller k reading.
     moves_alike (reads_into caller d a.buffers.now) (reads_of caller d.nonblock a.buffers.now d.object) t caller k
     c.reads_of.new.space c.reads_of.new.areas
-    (into_by caller k a.space.now d a.buffers.now _ moving.memory.space
-    (c.in_ok-are_accessible.ensures.row (parts k) (are_those k a.areas.now moving.memory.areas) ∙ c.if-branch.true))
-    (gives caller k console
-    (moving_on caller k a.context.now a.space.now a.areas.now c.are_accessible.new.areas a.files.now console
-    c.are_accessible.ensures.kept moving))) c.reads_of.ensures.row
+    (into_by caller k a.space.now d a.buffers.now _ reading.memory.space
+    (c.in_ok-are_accessible.ensures.row (parts k) (are_those k a.areas.now reading.memory.areas) ∙ c.if-branch.true))
+    (gives caller k
+    (reading_on caller k a.context.now a.space.now a.areas.now c.are_accessible.new.areas a.opened.now
+    c.are_accessible.ensures.kept reading))) c.reads_of.ensures.row
 
 pub returns-else-branch-clause-row : goal.returns-else-branch-clause-row
-returns-else-branch-clause-row c caller k console moving =
+returns-else-branch-clause-row c caller k reading =
     let a = c.args in
-    let d = a.description.now in
-    let on = moving_on caller k a.context.now a.space.now a.areas.now c.are_accessible.new.areas a.files.now console
-    c.are_accessible.ensures.kept moving in
+    let d = a.opened.now.file.description in
+    let on = reading_on caller k a.context.now a.space.now a.areas.now c.are_accessible.new.areas a.opened.now
+    c.are_accessible.ensures.kept reading in
     moves_alike (reads_into caller d a.buffers.now) (done (refuses EFAULT)) c.denied.result caller k a.space.now
     c.are_accessible.new.areas
-    (into_by caller k a.space.now d a.buffers.now _ moving.memory.space
-    (c.in_ok-are_accessible.ensures.row (parts k) (are_those k a.areas.now moving.memory.areas) ∙ c.if-branch.false))
+    (into_by caller k a.space.now d a.buffers.now _ reading.memory.space
+    (c.in_ok-are_accessible.ensures.row (parts k) (are_those k a.areas.now reading.memory.areas) ∙ c.if-branch.false))
     (c.denied.ensures.row caller k a.space.now c.are_accessible.new.areas on.memory)
 
 pub returns-then-branch-clause-apart : goal.returns-then-branch-clause-apart

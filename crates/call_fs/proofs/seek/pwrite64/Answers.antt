@@ -1,5 +1,5 @@
 -- A register's open file description, or none.
-use Rattle.std.proofs.Common.{Bool, Some, None, cond, ap, sym}
+use Rattle.std.proofs.Common.{Bool, Some, None, cond, ap, sym, ◌∙◌}
 use Rattle.fd_table.specs.Flags.{may_write}
 use Rattle.sn_errno.specs.declared.errno.Errno.TheVariants.{EBADF}
 use Rattle.kernel_model.specs.calls.Answers.{refuses}
@@ -11,18 +11,18 @@ use Rattle.call_fs.proofs.seek.pwrite64.Goals as goal
 
 pub returns-in-None : goal.returns-in-None
 returns-in-None c = record {
-  row = λ caller k same files.
-      answers_by_file (if_may may_write (λ d. positioned d.object)) k c.args.fd c.refused.result caller c.args.table
-      c.args.files.now None same files c.in-None.ensures (c.refused.ensures.row caller k);
+  row = λ fd caller k is.
+      answers_by_file (if_may may_write (λ d. positioned d.object)) c.refused.result caller k fd None
+      (is ∙ c.in-None.is) (c.refused.ensures.row caller k);
 }
 
 pub returns-in-Some : goal.returns-in-Some
 returns-in-Some c = record {
-  row = λ caller k same files.
+  row = λ fd caller k is.
       let file = c.in-Some.file in
       let at = λ (b : Bool). cond b (positioned file.description.object) (done (refuses EBADF)) in
-      answers_by_file (if_may may_write (λ d. positioned d.object)) k c.args.fd c.if_may.result caller c.args.table
-      c.args.files.now (Some file) same files c.in-Some.ensures
+      answers_by_file (if_may may_write (λ d. positioned d.object)) c.if_may.result caller k fd (Some file)
+      (is ∙ c.in-Some.is)
       (answers_alike _ (at c.may_write.result) c.if_may.result caller k
       (ap (λ b. outcome_in (parts k) (at b)) (sym c.may_write.ensures)) (c.if_may.ensures.row caller k));
 }

@@ -10,7 +10,7 @@ use Rattle.kernel_calls.proofs.mapping.mmap.Goals as goal
 pub returns-clause-row : goal.returns-clause-row
 returns-clause-row c =
     let a = c.args.args.now in
-    IfOk-weaker c.map.result _ _ (λ p row caller k has shared place same files.
+    IfOk-weaker c.map.result _ _ (λ p row caller k has shared place table.
     let answers = row caller k has shared place in
     record {
       changes = answers.changes;
@@ -18,7 +18,7 @@ returns-clause-row c =
           outcome-bind (parts k) (file_refusal a.a3 a.a4 caller)
           (λ file. done (maps (context_of k) caller a.a0 a.a1 a.a2 a.a3 a.a5 file))
           ∙ ap (λ file. maps (context_of k) caller a.a0 a.a1 a.a2 a.a3 a.a5 file)
-          (c.file_refusal-file.ensures caller k same files)
+          (c.file_refusal-file.ensures caller k table)
           ∙ answers.row_is;
       done_is = answers.done_is;
     }) c.map.ensures.row
