@@ -19,7 +19,7 @@ ghost use Rattle.call_fs.specs.Prepared.{AnswersFiles};
 
 use crate::call_end::CallEnd;
 use crate::descriptors::{close, dup, dup3, fcntl, ioctl};
-use crate::lookups::open_file;
+use crate::lookups::{numbers_of, open_file};
 use crate::moving::{By, piping, reading, writing};
 use crate::prepared::FilePrepared;
 use crate::seek::{lseek, pread64, pwrite64};
@@ -96,7 +96,7 @@ pub fn call(
             areas,
             tasks,
             sleepers,
-            files.tables.get(context.table.place, context.table.index),
+            numbers_of(context.table, files),
         )?)),
     }
 }
@@ -124,21 +124,20 @@ fn asked_by(call: CallNo, table: Made, args: &Args, files: &OpenFiles) -> Asked
     ensures own { IfChanges result (λ p. (task : ℕ) → EndsOnly p.effect task) }
     ensures ended { IfChanges result (λ p. (task group : ℕ) (list : TaskTable) → EndsEach p.effect task group list) }
 {
-    let numbers = files.tables.get(table.place, table.index);
     match call {
         CallNo::Read => Asked::Reads(By::Buffer),
         CallNo::Readv => Asked::Reads(By::Records),
         CallNo::Write => Asked::Writes(By::Buffer),
         CallNo::Writev => Asked::Writes(By::Records),
         CallNo::Pipe2 => Asked::Pipes,
-        CallNo::Dup => Asked::Changes(changes(table, dup(numbers, args.a0))),
-        CallNo::Dup3 => Asked::Changes(changes(table, dup3(numbers, args.a0, args.a1, args.a2))),
+        CallNo::Dup => Asked::Changes(changes(table, dup(numbers_of(table, files), args.a0))),
+        CallNo::Dup3 => Asked::Changes(changes(table, dup3(numbers_of(table, files), args.a0, args.a1, args.a2))),
         CallNo::Fcntl => {
             let file = open_file(table, args.a0, files);
-            Asked::Changes(changes(table, fcntl(numbers, args.a0, file, args.a1, args.a2)))
+            Asked::Changes(changes(table, fcntl(numbers_of(table, files), args.a0, file, args.a1, args.a2)))
         }
-        CallNo::Ioctl => Asked::Changes(changes(table, ioctl(numbers, args.a0))),
-        CallNo::Close => Asked::Changes(changes(table, close(numbers, args.a0))),
+        CallNo::Ioctl => Asked::Changes(changes(table, ioctl(numbers_of(table, files), args.a0))),
+        CallNo::Close => Asked::Changes(changes(table, close(numbers_of(table, files), args.a0))),
         CallNo::Lseek => Asked::Changes(changes(table, lseek(open_file(table, args.a0, files)))),
         CallNo::Pread64 => Asked::Changes(changes(table, pread64(open_file(table, args.a0, files)))),
         CallNo::Pwrite64 => Asked::Changes(changes(table, pwrite64(open_file(table, args.a0, files)))),

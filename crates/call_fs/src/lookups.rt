@@ -57,6 +57,13 @@ pub(crate) fn look(numbers: Option<&FdTable>, fd: u64) -> Option<Looked<'_>>
     })
 }
 
+/// The table of a name.
+pub(crate) fn numbers_of(table: Made, files: &OpenFiles) -> Option<&FdTable>
+    ensures { option_copied result ≡ get_named files.now.tables table.place table.index }
+{
+    files.tables.get(table.place, table.index)
+}
+
 /// An open file description.
 pub(crate) fn file_of(name: Made, files: &OpenFiles) -> Option<OpenFile>
     ensures { result ≡ get_named files.now.descriptions name.place name.index }

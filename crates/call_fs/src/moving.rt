@@ -17,7 +17,7 @@ ghost use Rattle.call_fs.specs.Lookups.{StandsFor, end_in};
 ghost use Rattle.call_fs.specs.Transfers.{HasMemory, HasPipeOf, IsMoving, IsSure, Moves};
 
 use crate::call_end::CallEnd;
-use crate::lookups::{FileInHand, file_in_hand};
+use crate::lookups::{FileInHand, file_in_hand, numbers_of};
 use crate::pipes::{PipeCall, pipe2};
 use crate::reads::read;
 use crate::transfers::Transferred;
@@ -211,7 +211,7 @@ pub(crate) fn piping(
     ensures goes { IfOk result (λ d. IfOf d (λ o. IfWaits o (λ awaited. ⊥))) }
     ensures kept { areas.new ≡ areas.old }
 {
-    let numbers = files.tables.get(context.table.place, context.table.index);
+    let numbers = numbers_of(context.table, files);
     match pipe2(alloc, numbers, buffer, flags, space, areas)? {
         PipeCall::Refused(errno) => {
             Ok(CallEnd::Of(kernel_calls::Called::Replies(refused(errno))))

@@ -26,21 +26,21 @@ returns-in-Dup-clause-row c context caller k table files =
     of_row context caller k c.args.args.now c.args.call Dup _ c.in-Dup.is
     (c.changes.ensures.row _ caller k caller.group table
     (c.dup.ensures.row caller k (table_so caller k c.args.table c.args.files.now table files _
-    c.get-numbers.ensures)))
+    c.numbers_of.ensures)))
 
 pub returns-in-Dup3-clause-row : goal.returns-in-Dup3-clause-row
 returns-in-Dup3-clause-row c context caller k table files =
     of_row context caller k c.args.args.now c.args.call Dup3 _ c.in-Dup3.is
     (c.changes-in-Dup3.ensures.row _ caller k caller.group table
     (c.dup3.ensures.row caller k (table_so caller k c.args.table c.args.files.now table files _
-    c.get-numbers.ensures)))
+    c.numbers_of-in-Dup3.ensures)))
 
 pub returns-in-Fcntl-clause-row : goal.returns-in-Fcntl-clause-row
 returns-in-Fcntl-clause-row c context caller k table files =
     of_row context caller k c.args.args.now c.args.call Fcntl _ c.in-Fcntl.is
     (c.changes-in-Fcntl.ensures.row _ caller k caller.group table
     (c.fcntl.ensures.row caller k (table_so caller k c.args.table c.args.files.now table files _
-    c.get-numbers.ensures)
+    c.numbers_of-in-Fcntl.ensures)
     (file_so caller k c.args.table c.args.files.now table files (descriptor c.args.args.now.a0) _
     c.open_file-file.ensures)))
 
@@ -49,14 +49,14 @@ returns-in-Ioctl-clause-row c context caller k table files =
     of_row context caller k c.args.args.now c.args.call Ioctl _ c.in-Ioctl.is
     (c.changes-in-Ioctl.ensures.row _ caller k caller.group table
     (c.ioctl.ensures.row caller k (table_so caller k c.args.table c.args.files.now table files _
-    c.get-numbers.ensures)))
+    c.numbers_of-in-Ioctl.ensures)))
 
 pub returns-in-Close-clause-row : goal.returns-in-Close-clause-row
 returns-in-Close-clause-row c context caller k table files =
     of_row context caller k c.args.args.now c.args.call Close _ c.in-Close.is
     (c.changes-in-Close.ensures.row _ caller k caller.group table
     (c.close.ensures.row caller k (table_so caller k c.args.table c.args.files.now table files _
-    c.get-numbers.ensures)))
+    c.numbers_of-in-Close.ensures)))
 
 pub returns-in-Lseek-clause-row : goal.returns-in-Lseek-clause-row
 returns-in-Lseek-clause-row c context caller k table files =

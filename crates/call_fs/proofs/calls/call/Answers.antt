@@ -95,7 +95,7 @@ pub returns-in_ok-call-in-Others-clause-row : goal.returns-in_ok-call-in-Others-
 returns-in_ok-call-in-Others-clause-row c caller k calling files registers =
     let a = c.args in
     c.in_ok-call-in-Others.ensures.row caller k a.console calling
-    (table_so caller k a.context.now.table a.files.now calling.table files _ c.get.ensures) registers
+    (table_so caller k a.context.now.table a.files.now calling.table files _ c.numbers_of.ensures) registers
 
 pub returns-in_ok-call-in-Others-clause-waits : goal.returns-in_ok-call-in-Others-clause-waits
 returns-in_ok-call-in-Others-clause-waits c caller k calling files =

@@ -15,7 +15,7 @@ returns-in-Refused-clause-row c caller k console moving =
     a.areas.now (record { space = moving.memory.space; there = moving.memory.there }) c.in-Refused.errno
     (subst (λ p. Prepares (pipe2_row (context_of k) a.buffer a.flags caller) p (context_of k) caller k) c.in-Refused.is
     (c.in_ok-errno.ensures.row caller k (context_of k) moving.memory
-    (table_so caller k a.context.now.table a.files.now moving.table moving.files _ c.get-numbers.ensures)))
+    (table_so caller k a.context.now.table a.files.now moving.table moving.files _ c.numbers_of-numbers.ensures)))
     c.refused.ensures.reply c.refused.ensures.effect refl (sym moving.memory.areas)
 
 pub returns-in_ok-new-in-Makes-clause-row : goal.returns-in_ok-new-in-Makes-clause-row
@@ -24,4 +24,4 @@ returns-in_ok-new-in-Makes-clause-row c caller k console moving =
     subst (λ p. Prepares (pipe2_row (context_of k) a.buffer a.flags caller) p (context_of k) caller k)
     (c.in-Makes.is ∙ ap Makes (sym c.in_ok-new-in-Makes.ensures))
     (c.in_ok-errno.ensures.row caller k (context_of k) moving.memory
-    (table_so caller k a.context.now.table a.files.now moving.table moving.files _ c.get-numbers.ensures))
+    (table_so caller k a.context.now.table a.files.now moving.table moving.files _ c.numbers_of-numbers.ensures))
