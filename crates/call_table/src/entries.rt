@@ -21,7 +21,7 @@ ghost use Rattle.call_table.specs.Parks.{Parks};
 
 use crate::answers::{call_entry, finish, go_on, make_child, put_to_sleep};
 use crate::entered::{Entered, Turn};
-use crate::moving::{move_bytes, open_pipe};
+use crate::moving::{Moved, move_bytes, open_pipe};
 use call_fs::{CallEnd, call};
 use guest_access::{InstructionRun, run, step};
 use kernel_calls::{Awaited, Context, Effect, args_of, call_of, commit, end_group};
@@ -59,35 +59,36 @@ fn run_in(
     }
 }
 
-/// Makes the next entry of a live task that is not on the futex list, of that place, by the mount file's seed, and does
-/// it; or none, where the task's next step is not ready, which changes nothing. Want of memory leaves what some whole
+/// Makes the next entry of a live task that is not on the futex list, of its context's place and seed, and does it; or
+/// none, where the task's next step is not ready, which changes nothing. Want of memory leaves what some whole
 /// instructions, fewer than 10,000, have left.
 pub(crate) fn advance(
     alloc: Global,
     cells: &mut Cells,
-    task: u32,
+    context: &Context<'_>,
     standing: Standing,
-    seed: &[u8],
-    place: u64,
 ) -> Result<Turn, Memory>
-    requires stands { StandsAs cells.old task standing }
-    requires alive { IsTrue (is_live cells.old.tasks.tasks task) }
-    requires awake { IsAwake cells.old task }
+    requires stands { StandsAs cells.old context.now.task standing }
+    requires known { IsOf context.now standing }
+    requires alive { IsTrue (is_live cells.old.tasks.tasks context.now.task) }
+    requires awake { IsAwake cells.old context.now.task }
     requires there { IsTrue (map.contains_key cells.old.tasks.groups standing.group) }
     requires lives { IsFalse (has_ended cells.old.tasks.groups standing.group) }
-    requires registers { IsTrue (map.contains_key cells.old.registers task) }
-    requires later { 0 < place }
-    ensures step { IfEnters result (λ made. StepsTo cells.old cells.new seed.now place made.entry) }
+    requires registers { IsTrue (map.contains_key cells.old.registers context.now.task) }
+    requires later { 0 < context.now.place }
+    ensures step { IfEnters result (λ made.
+        StepsTo cells.old cells.new context.now.seed.now context.now.place made.entry) }
     ensures whole { IfEnters result (λ made. IsWholeTo cells.old cells.new made.entry) }
-    ensures task { IfEnters result (λ made. task_of made.entry ≡ task) }
+    ensures task { IfEnters result (λ made. task_of made.entry ≡ context.now.task) }
     ensures numbers { IfEnters result (λ made. numbers_in made.entry ≡ []) }
-    ensures ready { IfEnters result (λ made. ReadyIs cells.old task true) }
-    ensures moves { IfEnters result (λ made. LeavesRest task standing.memory made cells.old cells.new) }
-    ensures waits { IfTurnWaits result (λ _. ReadyIs cells.old task false) }
-    ensures parks { IfTurnWaits result (Parks cells.old task) }
+    ensures ready { IfEnters result (λ made. ReadyIs cells.old context.now.task true) }
+    ensures moves { IfEnters result (λ made. LeavesRest context.now.task standing.memory made cells.old cells.new) }
+    ensures waits { IfTurnWaits result (λ _. ReadyIs cells.old context.now.task false) }
+    ensures parks { IfTurnWaits result (Parks cells.old context.now.task) }
     ensures kept { IfTurnWaits result (λ _. AreKept cells.old cells.new) }
-    ensures memory { OnErr result (HasRunPart task cells.old cells.new) }
+    ensures memory { OnErr result (HasRunPart context.now.task cells.old cells.new) }
 {
+    let task = context.task;
     let ran = run_standing(alloc, cells, task, standing)?;
     if ran.count > 0 {
         return Ok(Turn::Enters(Entered {
@@ -97,19 +98,11 @@ pub(crate) fn advance(
             touched: None,
         }));
     }
-    let context = Context {
-        task,
-        group: standing.group,
-        memory: standing.memory,
-        table: standing.table,
-        place,
-        seed,
-    };
     match ran.next {
         Next::Goes => unreachable!(),
-        Next::Calls => answer(alloc, cells, &context, standing, false),
-        Next::Traps(signal) => Ok(Turn::Enters(end(alloc, cells, &context, standing, signal)?)),
-        Next::Touches(_) => touch(alloc, cells, &context, standing),
+        Next::Calls => answer(alloc, cells, context, standing, false),
+        Next::Traps(signal) => Ok(Turn::Enters(end(alloc, cells, context, standing, signal)?)),
+        Next::Touches(_) => touch(alloc, cells, context, standing),
     }
 }
 
@@ -319,7 +312,14 @@ fn answer(
             Ok(Turn::Waits(spot_of(standing, in_area, awaited)))
         }
         CallEnd::Moves { reply, transfer } => Ok(Turn::Enters(move_bytes(
-            alloc, cells, context, registers, reply, transfer,
+            alloc,
+            cells,
+            context,
+            registers,
+            Moved {
+                value: reply,
+                transfer,
+            },
         )?)),
         CallEnd::MakesPipe(pipe) => Ok(Turn::Enters(open_pipe(
             alloc, cells, context, registers, pipe,

@@ -34,5 +34,5 @@ mod processes;
 mod schedule;
 mod turns;
 
-pub use processes::Processes;
+pub use processes::{Processes, TaskOpening};
 pub use turns::{EndedTurns, run_turns};

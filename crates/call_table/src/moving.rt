@@ -29,6 +29,13 @@ use rv_table::Regs;
 use sn_base::{Boxed, Made, Memory};
 use std::alloc::Global;
 
+/// A call that moves bytes: what it replies, and the bytes.
+#[derive(Drop)]
+pub(crate) struct Moved {
+    pub(crate) value: i64,
+    pub(crate) transfer: Transfer,
+}
+
 /// Moves the bytes of a call that replies, and lets its task go on. What a read stores it has stored before; it tells
 /// too whether that may be so. An `Err` changes nothing.
 pub(crate) fn move_bytes(
@@ -36,34 +43,34 @@ pub(crate) fn move_bytes(
     cells: &mut Cells,
     context: &Context<'_>,
     registers: Regs,
-    value: i64,
-    transfer: Transfer,
+    moved: Moved,
 ) -> Result<Entered, Memory>
     requires awake { IsAwake cells.old context.now.task }
     requires memory { IsTrue (has_named cells.old.spaces context.now.memory.place context.now.memory.index) }
-    requires room { FitsPipe transfer cells.old.files }
+    requires room { FitsPipe moved.transfer cells.old.files }
     requires registered { IsTrue (map.contains_key cells.old.registers context.now.task) }
     ensures does { IfOk result (λ _. (space : AddressSpace) (k : AKernel) →
         get_named cells.old.spaces context.now.memory.place context.now.memory.index ≡ Some space →
         k.areas ≡ cells.old.areas → k.files ≡ cells.old.files → k.console ≡ cells.old.console →
-        after_transfer transfer space k ≡ record k { files = cells.new.files; console = cells.new.console }) }
+        after_transfer moved.transfer space k ≡ record k { files = cells.new.files; console = cells.new.console }) }
     ensures entry { IfOk result (λ made. made.entry ≡ ACall context.now.task (call_of registers) (args_of registers)
-        (record { fresh = []; rises = [] }) value) }
+        (record { fresh = []; rises = [] }) moved.value) }
     ensures moves { IfOk result (λ made.
         LeavesRest context.now.task context.now.memory made cells.old cells.new) }
-    ensures told { IfOk result (λ made. made.areas ≡ may_have_read transfer) }
+    ensures told { IfOk result (λ made. made.areas ≡ may_have_read moved.transfer) }
     ensures registers { IfOk result (λ _. cells.new.registers
-        ≡ map.insert cells.old.registers context.now.task (replied registers value)) }
+        ≡ map.insert cells.old.registers context.now.task (replied registers moved.value)) }
     ensures tasks { cells.new.tasks ≡ cells.old.tasks }
     ensures spaces { cells.new.spaces ≡ cells.old.spaces }
     ensures areas { cells.new.areas ≡ cells.old.areas }
     ensures sleepers { cells.new.sleepers ≡ cells.old.sleepers }
     ensures err { OnErr result (AreKept cells.old cells.new) }
-    ensures lacking { OnErr result (MayLack transfer) }
+    ensures lacking { OnErr result (MayLack moved.transfer) }
 {
     let Some(space) = cells.spaces.get(context.memory.place, context.memory.index) else {
         unreachable!()
     };
+    let Moved { value, transfer } = moved;
     let areas = may_have_read(&transfer);
     let touched = touched_by_transfer(&transfer);
     commit_transfer(

@@ -14,13 +14,19 @@ ghost use Rattle.proc_cells.specs.Cells.{held_by, kernel_of as kernel_of_cells};
 use elf_image::Image;
 use file_changes::open_files;
 use kernel_calls::{Beginning, open_task, opened};
-use kernel_model::{GuestSpace, Named, OpenFiles};
 use mount_file::Program;
 use proc_cells::{Cells, Rooms};
-use rv_table::Regs;
-use sn_base::{Map, Memory};
+use sn_base::Memory;
 use std::alloc::Global;
-use task_table::Tasks;
+
+/// What a task is opened with beside its image: the mount file's seed, the node of the root of the mount at `/`, and
+/// its program.
+#[derive(Clone, Copy)]
+pub struct TaskOpening<'a> {
+    pub seed: &'a [u8],
+    pub root: u64,
+    pub program: &'a Program,
+}
 
 /// The parts that the tasks of a run share.
 #[derive(Drop)]
@@ -48,25 +54,24 @@ impl Processes {
     pub fn open(
         self,
         alloc: Global,
-        seed: &[u8],
-        root: u64,
-        program: &Program,
+        opening: &TaskOpening<'_>,
         image: &Image,
     ) -> Result<Processes, Memory>
-        requires short { is_too_long program.now.args program.now.env ≡ false }
+        requires short { is_too_long opening.now.program.now.args opening.now.program.now.env ≡ false }
         requires pages { HasRoom image.now }
         requires room { MayOpen self.cells.tasks }
-        ensures begun { IfOk result (λ p. (beside : Beside) (n : ℕ) → beside.seed ≡ seed.now →
-            root_of beside.mounts ≡ root → kernel_of_processes p beside n ≡
-            with_task (self.cells.tasks.last + 1) program.now image.now (kernel_of_processes self beside n)) }
+        ensures begun { IfOk result (λ p. (beside : Beside) (n : ℕ) → beside.seed ≡ opening.now.seed.now →
+            root_of beside.mounts ≡ opening.now.root → kernel_of_processes p beside n ≡
+            with_task (self.cells.tasks.last + 1) opening.now.program.now image.now
+            (kernel_of_processes self beside n)) }
         ensures tasks { IfOk result (λ p. p.cells.tasks ≡
             opened_task self.cells.tasks (made_by (self.cells.tasks.last + 1))
-            (made_by (self.cells.tasks.last + 1)) root) }
+            (made_by (self.cells.tasks.last + 1)) opening.now.root) }
     {
         let Processes { cells } = self;
         let number = cells.tasks.last() + 1;
-        let beginning = opened(alloc, seed, number, program, image)?;
-        let cells = begin(alloc, cells, number, root, beginning)?;
+        let beginning = opened(alloc, opening.seed, number, opening.program, image)?;
+        let cells = begin(alloc, cells, number, opening.root, beginning)?;
         Ok(Processes { cells })
     }
 }
@@ -90,25 +95,17 @@ fn begin(
           files = files_opened number cells.files;
         }) beside n) }
 {
+    let mut rooms = cells.into_rooms();
+    place(alloc, number, root, beginning, &mut rooms)?;
     let Rooms {
-        mut tasks,
-        mut registers,
-        mut spaces,
+        tasks,
+        registers,
+        spaces,
         areas,
-        mut files,
+        files,
         sleepers,
         console,
-    } = cells.into_rooms();
-    place(
-        alloc,
-        number,
-        root,
-        beginning,
-        &mut tasks,
-        &mut registers,
-        &mut spaces,
-        &mut files,
-    )?;
+    } = rooms;
     Ok(Cells {
         tasks,
         registers,
@@ -127,22 +124,20 @@ fn place(
     number: u32,
     root: u64,
     beginning: Beginning,
-    tasks: &mut Tasks,
-    all_registers: &mut Map<Regs>,
-    spaces: &mut Named<GuestSpace>,
-    files: &mut OpenFiles,
+    rooms: &mut Rooms,
 ) -> Result<(), Memory>
-    requires room { MayOpen tasks.old }
-    requires next { number ≡ tasks.old.last + 1 }
-    ensures tasks { OnOk result (tasks.new ≡ opened_task tasks.old (made_by number) (made_by number) root) }
-    ensures registers { OnOk result
-        (all_registers.new ≡ map.insert all_registers.old number beginning.registers) }
-    ensures spaces { OnOk result (spaces.new ≡ with_named spaces.old 0 number beginning.space) }
-    ensures files { OnOk result (files.new ≡ files_opened number files.old) }
+    requires room { MayOpen rooms.old.tasks }
+    requires next { number ≡ rooms.old.tasks.last + 1 }
+    ensures { OnOk result (rooms.new ≡ record rooms.old {
+      tasks = opened_task rooms.old.tasks (made_by number) (made_by number) root;
+      registers = map.insert rooms.old.registers number beginning.registers;
+      spaces = with_named rooms.old.spaces 0 number beginning.space;
+      files = files_opened number rooms.old.files;
+    }) }
 {
     let Beginning { registers, space } = beginning;
-    open_task(tasks, number, root)?;
-    all_registers.insert(u64::from(number), registers)?;
-    spaces.insert(alloc, 0, number, space)?;
-    open_files(alloc, number, files)
+    open_task(&mut rooms.tasks, number, root)?;
+    rooms.registers.insert(u64::from(number), registers)?;
+    rooms.spaces.insert(alloc, 0, number, space)?;
+    open_files(alloc, number, &mut rooms.files)
 }

@@ -1,10 +1,10 @@
 //! The cells of a run with those of its tasks that are looked at: one task makes an entry, or is parked.
 
-ghost use Rattle.std.specs.Prelude.{◌≡◌, ◌<◌, ◌+◌, ◌||◌, ◌&&◌, ◌==◌, if◌then◌else◌, ℕ, [], true, false, IfOk, IsFalse};
+ghost use Rattle.std.specs.Prelude.{◌≡◌, ◌<◌, ◌+◌, ◌||◌, ◌&&◌, ◌==◌, if◌then◌else◌, ℕ, [], true, false, IfOk};
 ghost use Rattle.std.specs.Prelude.{IsTrue, OnOk, Some};
 ghost use Rattle.std.specs.FinMap as map;
 ghost use Rattle.task_table.specs.Kept.{IsKept};
-ghost use Rattle.task_table.specs.Table.{has_ended, is_live};
+ghost use Rattle.task_table.specs.Table.{is_live};
 ghost use Rattle.kernel_model.specs.declared.kernel.Kernel.{Kernel as AKernel};
 ghost use Rattle.kernel_model.specs.entries.History.{is_whole};
 ghost use Rattle.kernel_model.specs.entries.Steps.{step, task_of};
@@ -12,7 +12,7 @@ ghost use Rattle.kernel_model.specs.entries.Waiting.{Woken, wait_of};
 ghost use Rattle.kernel_model.specs.files.Numbers.{numbers_in};
 ghost use Rattle.proc_cells.specs.Beside.{Beside};
 ghost use Rattle.proc_cells.specs.declared.cells.Cells.{Cells as ACells};
-ghost use Rattle.proc_cells.specs.Cells.{AreKept, StandsAs, kernel_of};
+ghost use Rattle.proc_cells.specs.Cells.{AreKept, kernel_of};
 ghost use Rattle.parked_tasks.specs.Parking.{AreParkedAlike, AreWoken};
 ghost use Rattle.call_table.specs.Entries.{IfEntered, IfParked, IsWholeTo, ReadyIs, StepsTo};
 ghost use Rattle.call_table.specs.Moves.{LeavesRest, is_woken_by, puts_to_sleep};
@@ -21,9 +21,10 @@ ghost use Rattle.call_table.specs.Schedules.{AreParked, AreParkedBut, IsCandidat
 use crate::entered::{Entered, Turn};
 use crate::entries::{advance, go_on_woken};
 use futex_core::Waiters;
+use kernel_calls::Context;
 use kernel_model::Entry;
 use parked_tasks::Parking;
-use proc_cells::{Cells, Standing};
+use proc_cells::Cells;
 use sn_base::{Made, Memory};
 use std::alloc::Global;
 use task_table::Tasks;
@@ -94,17 +95,16 @@ impl Schedule {
             self.parking.rest(task);
             return Ok(None);
         }
-        let standing = self.cells.standing(task);
         if woken {
-            return Ok(Some(self.go_on(alloc, task, standing)?));
+            return Ok(Some(self.go_on(alloc, task)?));
         }
-        self.look_at(alloc, task, standing, seed, place)
+        self.look_at(alloc, task, seed, place)
     }
 
     /// Has a task that was woken make the entry of the call that it slept in.
-    fn go_on(&mut self, alloc: Global, task: u32, standing: Standing) -> Result<Entry, Memory>
+    fn go_on(&mut self, alloc: Global, task: u32) -> Result<Entry, Memory>
         requires parked { AreParked self.old.cells self.old.parking }
-        requires stands { StandsAs self.old.cells task standing }
+        requires alive { IsTrue (is_live self.old.cells.tasks.tasks task) }
         requires woken { wait_of self.old.cells.sleepers task ≡ Woken }
         requires registers { IsTrue (map.contains_key self.old.cells.registers task) }
         ensures step { IfOk result (λ entry. (beside : Beside) (n : ℕ) →
@@ -114,19 +114,11 @@ impl Schedule {
         ensures numbers { IfOk result (λ entry. numbers_in entry ≡ []) }
         ensures parked { OnOk result (AreParked self.new.cells self.new.parking) }
     {
+        let standing = self.cells.standing(task);
         let last = self.cells.tasks.last();
-        let cells = &mut self.cells;
-        let made = go_on_woken(alloc, cells, task, standing);
+        let made = go_on_woken(alloc, &mut self.cells, task, standing);
         self.parking.wake(task)?;
-        settle(
-            alloc,
-            &mut self.parking,
-            &self.cells,
-            task,
-            standing.memory,
-            last,
-            &made,
-        )?;
+        self.settle(alloc, standing.memory, last, &made)?;
         Ok(made.entry)
     }
 
@@ -135,7 +127,6 @@ impl Schedule {
         &mut self,
         alloc: Global,
         task: u32,
-        standing: Standing,
         seed: &[u8],
         place: u64,
     ) -> Result<Option<Entry>, Memory>
@@ -143,10 +134,6 @@ impl Schedule {
         requires parked { AreParked self.old.cells self.old.parking }
         requires looked_at { IsTrue (map.contains_key self.old.parking.awake task) }
         requires alive { IsTrue (is_live self.old.cells.tasks.tasks task) }
-        requires stands { StandsAs self.old.cells task standing }
-        requires there { IsTrue (map.contains_key self.old.cells.tasks.groups standing.group) }
-        requires lives { IsFalse (has_ended self.old.cells.tasks.groups standing.group) }
-        requires registers { IsTrue (map.contains_key self.old.cells.registers task) }
         ensures step { IfEntered result (StepsTo self.old.cells self.new.cells seed.now place) }
         ensures whole { IfEntered result (IsWholeTo self.old.cells self.new.cells) }
         ensures task { IfEntered result (λ entry. task_of entry ≡ task) }
@@ -156,46 +143,45 @@ impl Schedule {
         ensures kept { IfParked result (AreKept self.old.cells self.new.cells) }
         ensures parked { OnOk result (AreParked self.new.cells self.new.parking) }
     {
+        let standing = self.cells.standing(task);
         let last = self.cells.tasks.last();
-        let cells = &mut self.cells;
-        let made = match advance(alloc, cells, task, standing, seed, place)? {
+        let context = Context {
+            task,
+            group: standing.group,
+            memory: standing.memory,
+            table: standing.table,
+            place,
+            seed,
+        };
+        let made = match advance(alloc, &mut self.cells, &context, standing)? {
             Turn::Enters(made) => made,
             Turn::Waits(spot) => {
                 self.parking.park(alloc, task, spot)?;
                 return Ok(None);
             }
         };
-        settle(
-            alloc,
-            &mut self.parking,
-            &self.cells,
-            task,
-            standing.memory,
-            last,
-            &made,
-        )?;
+        self.settle(alloc, standing.memory, last, &made)?;
         Ok(Some(made.entry))
     }
-}
 
-/// Has those be looked at again for whom an entry of a task with this memory changed something, and the task that it
-/// made, where there was none above that number.
-fn settle(
-    alloc: Global,
-    parking: &mut Parking,
-    cells: &Cells,
-    task: u32,
-    memory: Made,
-    last: u32,
-    made: &Entered,
-) -> Result<(), Memory>
-    ensures { OnOk result ((before : ACells) → last ≡ before.tasks.last →
-        LeavesRest task memory made.now before cells.now → AreParkedBut task before parking.old →
-        AreParked cells.now parking.new) }
-{
-    rest_asleep(parking, task, &made.entry);
-    look_at_child(parking, cells, last)?;
-    wake_by(alloc, parking, memory, made)
+    /// Has those be looked at again for whom an entry of a task with this memory changed something, and the task that
+    /// it made, where there was none above that number.
+    fn settle(
+        &mut self,
+        alloc: Global,
+        memory: Made,
+        last: u32,
+        made: &Entered,
+    ) -> Result<(), Memory>
+        ensures parked { OnOk result ((task : ℕ) (before : ACells) → task ≡ task_of made.now.entry →
+            last ≡ before.tasks.last → LeavesRest task memory made.now before self.old.cells →
+            AreParkedBut task before self.old.parking → AreParked self.new.cells self.new.parking) }
+        ensures cells { self.new.cells ≡ self.old.cells }
+    {
+        rest_asleep(&mut self.parking, made.entry.task(), &made.entry);
+        look_at_child(&mut self.parking, &self.cells, last)?;
+        wake_by(alloc, &mut self.parking, memory, made)
+    }
 }
 
 /// Has the parked tasks be looked at again that used something which an entry of a task with this memory may have

@@ -107,14 +107,12 @@ fn childs_table(rt: &impl Abort, alloc: Global, words: &[u32]) -> Result<Made, F
     Ok(processes.cells.standing(2).table)
 }
 
-/// That a guest that makes a child makes these entries, up to the child's exit; which table the child has; and what is
-/// open.
+/// That a guest that makes a child makes these entries, up to the child's exit; and what is open.
 fn expect_child(
     rt: &impl Abort,
     alloc: Global,
     words: &[u32],
     lines: &[Line],
-    table: Made,
     opens: &[Open],
 ) -> Result<(), Fail> {
     let expected = Expected {
@@ -123,7 +121,6 @@ fn expect_child(
         console: b"",
     };
     expect_turns(alloc, words, 5, &expected)?;
-    assert_eq!(rt; childs_table(rt, alloc, words)?, table);
     expect_open(rt, alloc, words, opens)
 }
 
@@ -145,13 +142,13 @@ fn a_process_has_a_copy_of_its_parents_descriptors_until_it_ends(
     rt: HostRuntime,
 ) -> Result<(), Fail> {
     let words = with_child(rt.alloc(), FORKS)?;
-    let made = Made { place: 2, index: 0 };
+    let table = childs_table(&rt, rt.alloc(), words.as_slice())?;
+    assert_eq!(rt; table, Made { place: 2, index: 0 });
     expect_child(
         &rt,
         rt.alloc(),
         words.as_slice(),
         OF_A_PROCESS,
-        made,
         WITH_A_PROCESS,
     )
 }
@@ -172,13 +169,13 @@ fn a_thread_shares_its_groups_descriptors_and_its_exit_closes_none(
     rt: HostRuntime,
 ) -> Result<(), Fail> {
     let words = with_child(rt.alloc(), MAKES_A_THREAD)?;
-    let own = Made { place: 0, index: 1 };
+    let table = childs_table(&rt, rt.alloc(), words.as_slice())?;
+    assert_eq!(rt; table, Made { place: 0, index: 1 });
     expect_child(
         &rt,
         rt.alloc(),
         words.as_slice(),
         OF_A_THREAD,
-        own,
         WITH_A_THREAD,
     )
 }

@@ -6,7 +6,7 @@ ghost use Rattle.kernel_model.specs.opening.Opening.{made_by};
 ghost use Rattle.kernel_model.specs.laws.Room.{HasRoom, MayOpen};
 ghost use Rattle.task_table.specs.Clones.{opened as opened_task};
 
-use call_table::Processes;
+use call_table::{Processes, TaskOpening};
 use elf_image::Image;
 use kernel_calls::{is_too_long, read_executable};
 use mount_file::Program;
@@ -68,7 +68,12 @@ fn with_guest(
         (made_by (processes.cells.tasks.last + 1)) 1) }
 {
     let image = image_with(alloc, words)?;
-    Ok(processes.open(alloc, &SEED, 1, program, &image)?)
+    let opening = TaskOpening {
+        seed: &SEED,
+        root: 1,
+        program,
+    };
+    Ok(processes.open(alloc, &opening, &image)?)
 }
 
 /// The processes of guests of these words, each an opening task of that program, in order.

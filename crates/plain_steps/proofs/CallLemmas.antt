@@ -6,6 +6,7 @@ use Rattle.std.specs.Prelude.{Result, Ok}
 use Rattle.std.specs.List.{list_any}
 use Rattle.std.specs.Ordering.{int_eq, nat_cmp}
 use Rattle.std.specs.FinMap as map
+use Rattle.std.proofs.lemmas.Bool.Decides.{Decides-int_eq}
 use Rattle.sn_base.specs.declared.memory.Memory.{Memory}
 use Rattle.sn_base.proofs.Maps.{get-insert_same, get-insert_other}
 use Rattle.sn_errno.specs.declared.errno.Errno.TheVariants.{EIO}
@@ -265,6 +266,14 @@ memory_there k found c stay there =
 
 -- ---- what is done of a call, by what has become of it
 
+-- a reply that is not the entry's
+differs : (a b : ℤ) → (a ≡ b → ⊥) → int_eq a b ≡ false
+differs a b apart = by (int_eq a b) refl
+  where
+    by : (x : Bool) → int_eq a b ≡ x → int_eq a b ≡ false
+    by true e = absurd (apart ((Decides-int_eq a b).0 e))
+    by false e = e
+
 -- each row that comes to it is done
 abbrev pub Finishes : (k left : Kernel) → Caller → NamedMap AreaState → (reply : ℤ) → Result Bool Memory → CallEnd
     → Type 0
@@ -298,16 +307,29 @@ module _ (k left : Kernel) (c : Caller) (areas : NamedMap AreaState) (told reply
       (λ row comes.
       replied_so row (pos (k.tasks.last + 1)) comes.changes comes.row_is (does comes.changes comes.done_is))
 
+  -- bytes that are moved reply their value, and no other,
+  pub finish_refused : (value : ℤ) (transfer : Transfer) → d ≡ Moves value transfer → (reply ≡ value → ⊥)
+      → (row : Prog Answer) → ComesTo row d c k c.space areas
+      → Does (replied_to c reply (Some []) (outcome_in (parts k) row)) k k (Ok false)
+  finish_refused value transfer is apart row comes =
+      let moves : ComesTo row (Moves value transfer) c k c.space areas =
+      subst (λ x. ComesTo row x c k c.space areas) is comes in (
+        ap (λ (a : Answer). replied_to c reply (Some []) a) moves.row_is
+            ∙ ap (λ b. cond b (Some (moves.changes ++ going_on c value)) None) (differs reply value apart),
+        refl,
+      )
+
   pub finish_moves : (value given : ℤ) (transfer : Transfer) → d ≡ Moves value transfer → given ≡ value
-      → ((changes : List Change)
+      → reply ≡ value → ((changes : List Change)
       → changed changes k ≡ after_transfer transfer c.space (with_memory c c.space areas k)
-      → Does (replied_by c told changes (Replies given)) k left r) → Finishes k left c areas reply r d
-  finish_moves value given transfer is so does =
+      → Does (replied_by c given changes (Replies given)) k left r) → Finishes k left c areas reply r d
+  finish_moves value given transfer is so agrees does =
       subst (Finishes k left c areas reply r) (sym is)
       (λ row comes.
       replied_so row value comes.changes comes.row_is
-      (subst (λ v. Does (replied_by c told comes.changes (Replies v)) k left r) so
-      (does comes.changes comes.done_is)))
+      (subst (λ v. Does (replied_by c v comes.changes (Replies value)) k left r) (so ∙ sym agrees ∙ sym same)
+      (subst (λ v. Does (replied_by c given comes.changes (Replies v)) k left r) so
+      (does comes.changes comes.done_is))))
 
   pub finish_pipe : (new : NewPipe) → d ≡ MakesPipe new
       → ((row : Prog Answer) (makes : MakesAPipe row new (context_of k) c k)

@@ -1,2 +1,3 @@
 -- What contracts of this crate say.
 pub mod Doing
+pub mod Drafts

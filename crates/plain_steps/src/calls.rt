@@ -5,9 +5,7 @@ ghost use Rattle.std.specs.Ordering.{int_eq};
 ghost use Rattle.sn_errno.specs.Errors.{reply_of};
 ghost use Rattle.sn_errno.specs.declared.errno.Errno.TheVariants.{EIO};
 ghost use Rattle.kernel_calls.specs.Making.{with_new_child};
-ghost use Rattle.guest_access.specs.Memories.{with_memory};
 ghost use Rattle.kernel_calls.specs.Prepared.{EndsCaller, EndsOnly, HasRoomFor, with_effect};
-ghost use Rattle.kernel_model.specs.Names.{get_named};
 ghost use Rattle.kernel_model.specs.declared.kernel.Kernel.{Kernel as AKernel};
 ghost use Rattle.kernel_model.specs.declared.traps.Next.TheVariants.{Calls};
 ghost use Rattle.kernel_model.specs.calls.Answers.{Answer, Replies};
@@ -20,15 +18,17 @@ ghost use Rattle.kernel_model.specs.entries.Steps.{by_answer, call_entry, failin
 ghost use Rattle.kernel_model.specs.laws.Room.{IsRoomFor};
 ghost use Rattle.call_fs.specs.CallEnd.{ComesTo, HasRoomIn, IfOf, IsApartIn};
 ghost use Rattle.plain_steps.specs.Doing.{Does, IsThere};
+ghost use Rattle.plain_steps.specs.Drafts.{IsCopied, with_draft};
 ghost use Rattle.node_numbers.specs.Unused.{AreUnused};
 
 use crate::callers::{context, copied_areas};
+use crate::drafts::{CallEntry, Draft};
 use crate::effects::{go_on, settle};
 use crate::moving::{move_bytes, open_pipe};
 use call_fs::{CallEnd, call};
 use guest_access::step;
 use kernel_calls::{ClonedTask, Prepared, args_of, call_of, make};
-use kernel_model::{Args, Caller, Given, GuestArea, Kernel, Named, Next};
+use kernel_model::{Args, Caller, Given, Kernel, Next};
 use mount_file::MOST_ENTRIES;
 use node_numbers::{faulted, is_in_order};
 use rv_table::Regs;
@@ -42,105 +42,90 @@ use task_table::Tasks;
 pub(crate) fn call_task(
     alloc: Global,
     kernel: &mut Kernel,
-    caller: &mut Caller,
-    no: u64,
-    args: &Args,
-    reply: i64,
-    given: &Given,
+    caller: Caller,
+    call: &CallEntry<'_>,
 ) -> Result<bool, Memory>
     requires few { kernel.old.entries < MOST_ENTRIES }
-    requires may { may_meet kernel.old.nodes given.now ≡ true }
-    requires there { IsThere caller.old kernel.old }
-    requires space { get_named kernel.old.spaces caller.old.memory.place caller.old.memory.index
-        ≡ Some caller.old.space }
+    requires may { may_meet kernel.old.nodes call.now.given.now ≡ true }
+    requires there { IsThere caller kernel.old }
+    requires space { IsCopied caller kernel.old }
     ensures { Does (outcome_in (parts kernel.old)
-        (call_entry (context_of kernel.old) caller.old no args.now reply given.now)) kernel.old kernel.new result }
+        (call_entry (context_of kernel.old) caller
+        call.now.no call.now.args.now call.now.reply call.now.given.now)) kernel.old kernel.new result }
 {
-    let mut areas = copied_areas(alloc, kernel)?;
-    call_over(alloc, kernel, caller, &mut areas, no, args, reply, given)
+    let areas = copied_areas(alloc, kernel)?;
+    let mut draft = Draft { caller, areas };
+    call_over(alloc, kernel, &mut draft, call)
 }
 
-/// As `call_task`, over these shared areas.
+/// As `call_task`, over a draft of the task and the shared areas.
 fn call_over(
     alloc: Global,
     kernel: &mut Kernel,
-    caller: &mut Caller,
-    areas: &mut Named<GuestArea>,
-    no: u64,
-    args: &Args,
-    reply: i64,
-    given: &Given,
+    draft: &mut Draft,
+    call: &CallEntry<'_>,
 ) -> Result<bool, Memory>
     requires few { kernel.old.entries < MOST_ENTRIES }
-    requires may { may_meet kernel.old.nodes given.now ≡ true }
-    requires there { IsThere caller.old kernel.old }
-    requires space { get_named kernel.old.spaces caller.old.memory.place caller.old.memory.index
-        ≡ Some caller.old.space }
-    requires areas { kernel.old.areas ≡ areas.old }
+    requires may { may_meet kernel.old.nodes call.now.given.now ≡ true }
+    requires there { IsThere draft.old.caller kernel.old }
+    requires space { IsCopied draft.old.caller kernel.old }
+    requires areas { kernel.old.areas ≡ draft.old.areas }
     ensures { Does (outcome_in (parts kernel.old)
-        (call_entry (context_of kernel.old) caller.old no args.now reply given.now)) kernel.old kernel.new result }
+        (call_entry (context_of kernel.old) draft.old.caller
+        call.now.no call.now.args.now call.now.reply call.now.given.now)) kernel.old kernel.new result }
 {
-    if !stands_at(alloc, caller, areas, no, args)? {
+    if !stands_at(alloc, draft, call.no, call.args)? {
         return Ok(false);
     }
-    if !is_in_order(given) {
+    if !is_in_order(call.given) {
         return Ok(false);
     }
-    if !given.rises.is_empty() {
-        return failing(alloc, kernel, caller, reply, given);
+    if !call.given.rises.is_empty() {
+        return failing(alloc, kernel, &draft.caller, call.reply, call.given);
     }
-    answer_call(alloc, kernel, caller, areas, no, args, reply, given)
+    answer_call(alloc, kernel, draft, call)
 }
 
 /// Does the call that a task stands at, which met no fault.
 fn answer_call(
     alloc: Global,
     kernel: &mut Kernel,
-    caller: &mut Caller,
-    areas: &mut Named<GuestArea>,
-    no: u64,
-    args: &Args,
-    reply: i64,
-    given: &Given,
+    draft: &mut Draft,
+    call: &CallEntry<'_>,
 ) -> Result<bool, Memory>
     requires few { kernel.old.entries < MOST_ENTRIES }
-    requires there { IsThere caller.old kernel.old }
-    requires space { get_named kernel.old.spaces caller.old.memory.place caller.old.memory.index
-        ≡ Some caller.old.space }
-    requires areas { kernel.old.areas ≡ areas.old }
-    ensures { Does (outcome_in (parts kernel.old) (by_answer caller.old reply given.now
-        (outcome_in (parts kernel.old) (call_row (context_of kernel.old) caller.old no args.now))))
+    requires there { IsThere draft.old.caller kernel.old }
+    requires space { IsCopied draft.old.caller kernel.old }
+    requires areas { kernel.old.areas ≡ draft.old.areas }
+    ensures { Does (outcome_in (parts kernel.old) (by_answer draft.old.caller call.now.reply call.now.given.now
+        (outcome_in (parts kernel.old)
+        (call_row (context_of kernel.old) draft.old.caller call.now.no call.now.args.now))))
         kernel.old kernel.new result }
 {
-    let called = prepare(alloc, kernel, caller, areas, no, args)?;
-    if !given.fresh.is_empty() {
+    let called = prepare(alloc, kernel, draft, call.no, call.args)?;
+    if !call.given.fresh.is_empty() {
         return Ok(false);
     }
-    finish(alloc, kernel, caller, areas, reply, called)
+    finish(alloc, kernel, draft, call.reply, called)
 }
 
 /// Whether a task stands at an ECALL, with that call's number and arguments in its registers. Where it does, the task
 /// and the shared areas stay.
-fn stands_at(
-    alloc: Global,
-    caller: &mut Caller,
-    areas: &mut Named<GuestArea>,
-    no: u64,
-    args: &Args,
-) -> Result<bool, Memory>
-    ensures stands { IfOk result (λ b. (k : AKernel) → k.areas ≡ areas.old →
-        b ≡ stands_at no args.now caller.old.registers (outcome_in (parts k) (next_row caller.old)).next) }
-    ensures kept { IfOk result (λ b. b ≡ true → caller.new ≡ caller.old) }
-    ensures kept_areas { IfOk result (λ b. b ≡ true → areas.new ≡ areas.old) }
+fn stands_at(alloc: Global, draft: &mut Draft, no: u64, args: &Args) -> Result<bool, Memory>
+    ensures stands { IfOk result (λ b. (k : AKernel) → k.areas ≡ draft.old.areas →
+        b ≡ stands_at no args.now draft.old.caller.registers
+        (outcome_in (parts k) (next_row draft.old.caller)).next) }
+    ensures kept { IfOk result (λ b. b ≡ true → draft.new.caller ≡ draft.old.caller) }
+    ensures kept_areas { IfOk result (λ b. b ≡ true → draft.new.areas ≡ draft.old.areas) }
 {
     match step(
         alloc,
-        caller.task,
-        &mut caller.registers,
-        &mut caller.space,
-        areas,
+        draft.caller.task,
+        &mut draft.caller.registers,
+        &mut draft.caller.space,
+        &mut draft.areas,
     )? {
-        Next::Calls => Ok(is_call(&caller.registers, no, args)),
+        Next::Calls => Ok(is_call(&draft.caller.registers, no, args)),
         Next::Goes => Ok(false),
         Next::Traps(_) => Ok(false),
         Next::Touches(_) => Ok(false),
@@ -165,35 +150,33 @@ fn same_args(a: &Args, b: &Args) -> bool
 pub(crate) fn prepare(
     alloc: Global,
     kernel: &Kernel,
-    caller: &mut Caller,
-    areas: &mut Named<GuestArea>,
+    draft: &mut Draft,
     no: u64,
     args: &Args,
 ) -> Result<CallEnd, Memory>
     requires few { kernel.now.entries < MOST_ENTRIES }
-    requires there { IsThere caller.old kernel.now }
-    requires space { get_named kernel.now.spaces caller.old.memory.place caller.old.memory.index
-        ≡ Some caller.old.space }
-    requires areas { kernel.now.areas ≡ areas.old }
-    ensures row { IfOk result (λ d. ComesTo (call_row (context_of kernel.now) caller.old no args.now) d
-        caller.old kernel.now caller.new.space areas.new) }
+    requires there { IsThere draft.old.caller kernel.now }
+    requires space { IsCopied draft.old.caller kernel.now }
+    requires areas { kernel.now.areas ≡ draft.old.areas }
+    ensures row { IfOk result (λ d. ComesTo (call_row (context_of kernel.now) draft.old.caller no args.now) d
+        draft.old.caller kernel.now draft.new.caller.space draft.new.areas) }
     ensures apart { IfOk result (λ d. IsApartIn d →
-        (caller.new.space ≡ caller.old.space) × (areas.new ≡ areas.old)) }
-    ensures own { IfOk result (λ d. IfOf d (λ o. EndsCaller o caller.old.task)) }
+        (draft.new.caller.space ≡ draft.old.caller.space) × (draft.new.areas ≡ draft.old.areas)) }
+    ensures own { IfOk result (λ d. IfOf d (λ o. EndsCaller o draft.old.caller.task)) }
     ensures room { IfOk result (λ d. IfOf d (λ o. HasRoomFor o kernel.now.tasks)) }
     ensures sure { IfOk result (λ d. HasRoomIn d kernel.now.files) }
-    ensures kept { caller.new ≡ record caller.old { space = caller.new.space } }
+    ensures kept { draft.new.caller ≡ record draft.old.caller { space = draft.new.caller.space } }
 {
-    let registers = caller.registers;
-    let context = context(caller, kernel.entries + 1, kernel.seed.as_slice());
+    let registers = draft.caller.registers;
+    let context = context(&draft.caller, kernel.entries + 1, kernel.seed.as_slice());
     call(
         alloc,
         &context,
         no,
         &registers,
         args,
-        &mut caller.space,
-        areas,
+        &mut draft.caller.space,
+        &mut draft.areas,
         &kernel.tasks,
         &kernel.sleepers,
         kernel.console.len(),
@@ -206,61 +189,65 @@ pub(crate) fn prepare(
 fn finish(
     alloc: Global,
     kernel: &mut Kernel,
-    caller: &mut Caller,
-    areas: &mut Named<GuestArea>,
+    draft: &mut Draft,
     reply: i64,
     called: CallEnd,
 ) -> Result<bool, Memory>
     requires few { kernel.old.entries < MOST_ENTRIES }
-    requires there { IsThere caller.old kernel.old }
-    requires own { IfOf called (λ o. EndsCaller o caller.old.task) }
+    requires there { IsThere draft.old.caller kernel.old }
+    requires own { IfOf called (λ o. EndsCaller o draft.old.caller.task) }
     requires room { IfOf called (λ o. HasRoomFor o kernel.old.tasks) }
     requires sure { HasRoomIn called kernel.old.files }
-    requires space { IsApartIn called → get_named kernel.old.spaces caller.old.memory.place caller.old.memory.index
-        ≡ Some caller.old.space }
-    requires areas { IsApartIn called → kernel.old.areas ≡ areas.old }
-    ensures { (row : Prog Answer) → ComesTo row called caller.old kernel.old caller.old.space areas.old →
-        Does (replied_to caller.old reply (Some []) (outcome_in (parts kernel.old) row))
+    requires space { IsApartIn called → IsCopied draft.old.caller kernel.old }
+    requires areas { IsApartIn called → kernel.old.areas ≡ draft.old.areas }
+    ensures { (row : Prog Answer) →
+        ComesTo row called draft.old.caller kernel.old draft.old.caller.space draft.old.areas →
+        Does (replied_to draft.old.caller reply (Some []) (outcome_in (parts kernel.old) row))
         kernel.old kernel.new result }
 {
     match called {
         CallEnd::Of(kept) => match kept {
             kernel_calls::Called::Replies(prepared) => {
-                Ok(answer(kernel, caller, areas, reply, prepared))
+                Ok(answer(kernel, draft, reply, prepared))
             }
-            kernel_calls::Called::Makes(child) => make_child(alloc, kernel, caller, reply, child),
+            kernel_calls::Called::Makes(child) => make_child(
+                alloc,
+                kernel,
+                &draft.caller,
+                reply,
+                child,
+            ),
             kernel_calls::Called::Sleeps(_) => Ok(false),
             kernel_calls::Called::Waits(_) => Ok(false),
         },
         CallEnd::Moves {
             reply: value,
             transfer,
-        } => move_bytes(alloc, kernel, caller, areas, reply, value, transfer),
-        CallEnd::MakesPipe(pipe) => open_pipe(alloc, kernel, caller, areas, reply, pipe),
+        } => {
+            if reply != value {
+                return Ok(false);
+            }
+            move_bytes(alloc, kernel, draft, value, transfer)
+        }
+        CallEnd::MakesPipe(pipe) => open_pipe(alloc, kernel, draft, reply, pipe),
     }
 }
 
 /// Does what a call of a task comes to, where its reply is that of the entry: the task's memory and the shared areas
 /// are as the call left them.
-fn answer(
-    kernel: &mut Kernel,
-    caller: &mut Caller,
-    areas: &mut Named<GuestArea>,
-    reply: i64,
-    prepared: Prepared,
-) -> bool
-    requires there { IsThere caller.old kernel.old }
-    requires own { EndsOnly prepared.effect caller.old.task }
-    ensures { (changes : Items Change) → changed changes kernel.old ≡ with_effect prepared.effect caller.old.group
-        (with_memory caller.old caller.old.space areas.old kernel.old) →
-        Does (replied_by caller.old reply changes (Replies prepared.reply)) kernel.old kernel.new (Ok result) }
+fn answer(kernel: &mut Kernel, draft: &mut Draft, reply: i64, prepared: Prepared) -> bool
+    requires there { IsThere draft.old.caller kernel.old }
+    requires own { EndsOnly prepared.effect draft.old.caller.task }
+    ensures { (changes : Items Change) → changed changes kernel.old
+        ≡ with_effect prepared.effect draft.old.caller.group (with_draft draft.old kernel.old) →
+        Does (replied_by draft.old.caller reply changes (Replies prepared.reply)) kernel.old kernel.new (Ok result) }
 {
     if reply != prepared.reply {
         return false;
     }
-    let task = caller.task;
-    let registers = caller.registers;
-    settle(kernel, caller, areas, prepared.effect);
+    let task = draft.caller.task;
+    let registers = draft.caller.registers;
+    settle(kernel, draft, prepared.effect);
     go_on(kernel, task, registers, prepared.reply);
     true
 }

@@ -2,50 +2,50 @@
 
 ghost use Rattle.std.specs.Prelude.{◌≡◌, Some, IsTrue};
 ghost use Rattle.std.specs.FinMap as map;
-ghost use Rattle.guest_access.specs.Memories.{with_memory};
 ghost use Rattle.kernel_calls.specs.Prepared.{EndsOnly, with_effect};
 ghost use Rattle.kernel_model.specs.Names.{has_named, with_named};
 ghost use Rattle.kernel_model.specs.declared.kernel.Part.TheVariants.{OfTask};
 ghost use Rattle.kernel_model.specs.entries.Parts.{put};
 ghost use Rattle.kernel_model.specs.machine.Registers.{replied};
 ghost use Rattle.plain_steps.specs.Doing.{IsThere};
+ghost use Rattle.plain_steps.specs.Drafts.{with_draft};
 
+use crate::drafts::Draft;
 use kernel_calls::{Effect, commit, reply};
-use kernel_model::{Caller, GuestArea, GuestSpace, Kernel, Named};
+use kernel_model::{GuestSpace, Kernel, Named};
 use rv_table::Regs;
 use sn_base::Made;
 use std::mem;
 
 /// Does the effect of a call or an end. The task's memory and the shared areas take their places as they were left.
-pub(crate) fn settle(
-    kernel: &mut Kernel,
-    caller: &mut Caller,
-    areas: &mut Named<GuestArea>,
-    effect: Effect,
-)
-    requires there { IsThere caller.old kernel.old }
-    requires own { EndsOnly effect caller.old.task }
+pub(crate) fn settle(kernel: &mut Kernel, draft: &mut Draft, effect: Effect)
+    requires there { IsThere draft.old.caller kernel.old }
+    requires own { EndsOnly effect draft.old.caller.task }
     ensures does { kernel.new ≡
-        with_effect effect caller.old.group (with_memory caller.old caller.old.space areas.old kernel.old) }
+        with_effect effect draft.old.caller.group (with_draft draft.old kernel.old) }
     ensures registers { kernel.new.registers ≡ kernel.old.registers }
 {
     commit(
         effect,
-        caller.group,
+        draft.caller.group,
         &mut kernel.tasks,
         &mut kernel.sleepers,
         &mut kernel.files,
     );
-    put_memory(kernel, caller, areas);
+    put_memory(kernel, draft);
 }
 
 /// A task's memory and the shared areas take their places in a kernel. What was there stands where they were.
-pub(crate) fn put_memory(kernel: &mut Kernel, caller: &mut Caller, areas: &mut Named<GuestArea>)
-    requires { IsTrue (has_named kernel.old.spaces caller.old.memory.place caller.old.memory.index) }
-    ensures { kernel.new ≡ with_memory caller.old caller.old.space areas.old kernel.old }
+pub(crate) fn put_memory(kernel: &mut Kernel, draft: &mut Draft)
+    requires { IsTrue (has_named kernel.old.spaces draft.old.caller.memory.place draft.old.caller.memory.index) }
+    ensures { kernel.new ≡ with_draft draft.old kernel.old }
 {
-    put_space(&mut kernel.spaces, caller.memory, &mut caller.space);
-    mem::swap(&mut kernel.areas, areas);
+    put_space(
+        &mut kernel.spaces,
+        draft.caller.memory,
+        &mut draft.caller.space,
+    );
+    mem::swap(&mut kernel.areas, &mut draft.areas);
 }
 
 /// An address space takes its place among those that there are. What was there stands where it was.

@@ -2,17 +2,19 @@
 
 ghost use Rattle.std.specs.Prelude.{◌≡◌, ◌<◌, None, Some, IsTrue};
 ghost use Rattle.std.specs.FinMap as map;
-ghost use Rattle.kernel_model.specs.Names.{get_named, has_named};
+ghost use Rattle.kernel_model.specs.Names.{has_named};
 ghost use Rattle.kernel_model.specs.declared.kernel.Part.TheVariants.{OfSpace, OfTask};
 ghost use Rattle.kernel_model.specs.entries.Parts.{outcome_in, parts, put};
 ghost use Rattle.kernel_model.specs.entries.Steps.{end_row, killed, run_alone, run_row, step_row};
 ghost use Rattle.plain_steps.specs.Doing.{Does, IsThere};
+ghost use Rattle.plain_steps.specs.Drafts.{IsCopied};
 
 use crate::callers::{context, copied_areas};
+use crate::drafts::Draft;
 use crate::effects::{put_memory, put_space, settle};
 use guest_access::{run, step};
 use kernel_calls::{Effect, end_group};
-use kernel_model::{Caller, GuestArea, Kernel, Named, Next};
+use kernel_model::{Caller, Kernel, Next};
 use mount_file::MOST_ENTRIES;
 use quantum::QUANTUM;
 use sn_base::Memory;
@@ -24,11 +26,11 @@ use task_table::Status;
 pub(crate) fn run_task(
     alloc: Global,
     kernel: &mut Kernel,
-    caller: &mut Caller,
+    mut caller: Caller,
     n: u32,
 ) -> Result<bool, Memory>
-    requires { IsThere caller.old kernel.old }
-    ensures { Does (outcome_in (parts kernel.old) (run_row n caller.old)) kernel.old kernel.new result }
+    requires { IsThere caller kernel.old }
+    ensures { Does (outcome_in (parts kernel.old) (run_row n caller)) kernel.old kernel.new result }
 {
     if n < 1 || QUANTUM < n {
         return Ok(false);
@@ -41,7 +43,7 @@ pub(crate) fn run_task(
         n,
     )?;
     if ran.count == n {
-        put_run(kernel, caller);
+        put_run(kernel, &mut caller);
         return Ok(true);
     }
     if n != 1 {
@@ -64,39 +66,35 @@ fn put_run(kernel: &mut Kernel, left: &mut Caller)
 }
 
 /// Runs a task's next instruction, which does not run alone, if it runs with the shared areas that it touches.
-fn step_task(alloc: Global, kernel: &mut Kernel, caller: &mut Caller) -> Result<bool, Memory>
-    requires there { IsThere caller.old kernel.old }
-    requires alone { run_alone 1 caller.old ≡ None }
-    ensures { Does (outcome_in (parts kernel.old) (step_row caller.old)) kernel.old kernel.new result }
+fn step_task(alloc: Global, kernel: &mut Kernel, caller: Caller) -> Result<bool, Memory>
+    requires there { IsThere caller kernel.old }
+    requires alone { run_alone 1 caller ≡ None }
+    ensures { Does (outcome_in (parts kernel.old) (step_row caller)) kernel.old kernel.new result }
 {
-    let mut areas = copied_areas(alloc, kernel)?;
-    step_over(alloc, kernel, caller, &mut areas)
+    let areas = copied_areas(alloc, kernel)?;
+    let mut draft = Draft { caller, areas };
+    step_over(alloc, kernel, &mut draft)
 }
 
-/// As `step_task`, over these shared areas, which take their places where it runs.
-fn step_over(
-    alloc: Global,
-    kernel: &mut Kernel,
-    caller: &mut Caller,
-    areas: &mut Named<GuestArea>,
-) -> Result<bool, Memory>
-    requires there { IsThere caller.old kernel.old }
-    requires alone { run_alone 1 caller.old ≡ None }
-    requires areas { kernel.old.areas ≡ areas.old }
-    ensures { Does (outcome_in (parts kernel.old) (step_row caller.old)) kernel.old kernel.new result }
+/// As `step_task`, over a draft of the task and the shared areas, which take their places where it runs.
+fn step_over(alloc: Global, kernel: &mut Kernel, draft: &mut Draft) -> Result<bool, Memory>
+    requires there { IsThere draft.old.caller kernel.old }
+    requires alone { run_alone 1 draft.old.caller ≡ None }
+    requires areas { kernel.old.areas ≡ draft.old.areas }
+    ensures { Does (outcome_in (parts kernel.old) (step_row draft.old.caller)) kernel.old kernel.new result }
 {
     match step(
         alloc,
-        caller.task,
-        &mut caller.registers,
-        &mut caller.space,
-        areas,
+        draft.caller.task,
+        &mut draft.caller.registers,
+        &mut draft.caller.space,
+        &mut draft.areas,
     )? {
         Next::Goes => {
             kernel
                 .registers
-                .replace(u64::from(caller.task), caller.registers);
-            put_memory(kernel, caller, areas);
+                .replace(u64::from(draft.caller.task), draft.caller.registers);
+            put_memory(kernel, draft);
             Ok(true)
         }
         Next::Calls => Ok(false),
@@ -109,46 +107,44 @@ fn step_over(
 pub(crate) fn end_task(
     alloc: Global,
     kernel: &mut Kernel,
-    caller: &mut Caller,
+    caller: Caller,
     signal: u8,
 ) -> Result<bool, Memory>
     requires few { kernel.old.entries < MOST_ENTRIES }
-    requires there { IsThere caller.old kernel.old }
-    requires space { get_named kernel.old.spaces caller.old.memory.place caller.old.memory.index
-        ≡ Some caller.old.space }
-    ensures { Does (outcome_in (parts kernel.old) (end_row signal caller.old)) kernel.old kernel.new result }
+    requires there { IsThere caller kernel.old }
+    requires space { IsCopied caller kernel.old }
+    ensures { Does (outcome_in (parts kernel.old) (end_row signal caller)) kernel.old kernel.new result }
 {
-    let mut areas = copied_areas(alloc, kernel)?;
-    end_over(alloc, kernel, caller, &mut areas, signal)
+    let areas = copied_areas(alloc, kernel)?;
+    let mut draft = Draft { caller, areas };
+    end_over(alloc, kernel, &mut draft, signal)
 }
 
-/// As `end_task`, over these shared areas.
+/// As `end_task`, over a draft of the task and the shared areas.
 fn end_over(
     alloc: Global,
     kernel: &mut Kernel,
-    caller: &mut Caller,
-    areas: &mut Named<GuestArea>,
+    draft: &mut Draft,
     signal: u8,
 ) -> Result<bool, Memory>
     requires few { kernel.old.entries < MOST_ENTRIES }
-    requires there { IsThere caller.old kernel.old }
-    requires space { get_named kernel.old.spaces caller.old.memory.place caller.old.memory.index
-        ≡ Some caller.old.space }
-    requires areas { kernel.old.areas ≡ areas.old }
-    ensures { Does (outcome_in (parts kernel.old) (end_row signal caller.old)) kernel.old kernel.new result }
+    requires there { IsThere draft.old.caller kernel.old }
+    requires space { IsCopied draft.old.caller kernel.old }
+    requires areas { kernel.old.areas ≡ draft.old.areas }
+    ensures { Does (outcome_in (parts kernel.old) (end_row signal draft.old.caller)) kernel.old kernel.new result }
 {
     match step(
         alloc,
-        caller.task,
-        &mut caller.registers,
-        &mut caller.space,
-        areas,
+        draft.caller.task,
+        &mut draft.caller.registers,
+        &mut draft.caller.space,
+        &mut draft.areas,
     )? {
         Next::Traps(trap) => {
             if trap != signal {
                 return Ok(false);
             }
-            kill(alloc, kernel, caller, areas, signal)
+            kill(alloc, kernel, draft, signal)
         }
         Next::Goes => Ok(false),
         Next::Calls => Ok(false),
@@ -158,29 +154,22 @@ fn end_over(
 
 /// Ends the thread group of a task by a signal: the clear words of its tasks are cleared in its memory and in these
 /// shared areas.
-fn kill(
-    alloc: Global,
-    kernel: &mut Kernel,
-    caller: &mut Caller,
-    areas: &mut Named<GuestArea>,
-    signal: u8,
-) -> Result<bool, Memory>
+fn kill(alloc: Global, kernel: &mut Kernel, draft: &mut Draft, signal: u8) -> Result<bool, Memory>
     requires few { kernel.old.entries < MOST_ENTRIES }
-    requires there { IsThere caller.old kernel.old }
-    requires space { get_named kernel.old.spaces caller.old.memory.place caller.old.memory.index
-        ≡ Some caller.old.space }
-    requires areas { kernel.old.areas ≡ areas.old }
-    ensures { Does (outcome_in (parts kernel.old) (killed signal caller.old)) kernel.old kernel.new result }
+    requires there { IsThere draft.old.caller kernel.old }
+    requires space { IsCopied draft.old.caller kernel.old }
+    requires areas { kernel.old.areas ≡ draft.old.areas }
+    ensures { Does (outcome_in (parts kernel.old) (killed signal draft.old.caller)) kernel.old kernel.new result }
 {
-    let context = context(caller, kernel.entries + 1, kernel.seed.as_slice());
+    let context = context(&draft.caller, kernel.entries + 1, kernel.seed.as_slice());
     let ending = end_group(
         alloc,
         &context,
         Status::Killed(signal),
-        &mut caller.space,
-        areas,
+        &mut draft.caller.space,
+        &mut draft.areas,
         &kernel.tasks,
     )?;
-    settle(kernel, caller, areas, Effect::EndsGroup(ending));
+    settle(kernel, draft, Effect::EndsGroup(ending));
     Ok(true)
 }

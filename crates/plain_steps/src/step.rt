@@ -1,15 +1,16 @@
 //! What an entry does to a kernel.
 
 ghost use Rattle.std.specs.Prelude.{◌≡◌, ◌<◌, true, Some};
-ghost use Rattle.kernel_model.specs.Names.{get_named};
 ghost use Rattle.kernel_model.specs.calls.Callers.{context_of};
 ghost use Rattle.kernel_model.specs.entries.Parts.{outcome_in, parts};
 ghost use Rattle.kernel_model.specs.entries.Steps.{entry_row, may_enter, row_of};
 ghost use Rattle.kernel_model.specs.entries.Waiting.{Awake, wait_of};
 ghost use Rattle.plain_steps.specs.Doing.{Does, IsThere};
+ghost use Rattle.plain_steps.specs.Drafts.{IsCopied};
 
 use crate::callers::caller;
 use crate::calls::call_task;
+use crate::drafts::CallEntry;
 use crate::entries::{end_task, run_task};
 use crate::waiting::{sleep_task, woken};
 use kernel_model::{Caller, Entry, Kernel};
@@ -26,51 +27,38 @@ pub fn change(alloc: Global, kernel: &mut Kernel, entry: &Entry) -> Result<bool,
         kernel.old kernel.new result }
 {
     let number = entry.task();
-    let Some(mut caller) = caller(alloc, kernel, number)? else {
+    let Some(caller) = caller(alloc, kernel, number)? else {
         return Ok(false);
     };
-    enter(alloc, kernel, &mut caller, entry)
+    enter(alloc, kernel, caller, entry)
 }
 
-/// Does what an entry of a live task does, by how the task stands to the futex list. What it has changed of the caller
-/// counts for nothing afterwards.
-fn enter(
-    alloc: Global,
-    kernel: &mut Kernel,
-    caller: &mut Caller,
-    entry: &Entry,
-) -> Result<bool, Memory>
+/// Does what an entry of a live task does, by how the task stands to the futex list.
+fn enter(alloc: Global, kernel: &mut Kernel, caller: Caller, entry: &Entry) -> Result<bool, Memory>
     requires few { kernel.old.entries < MOST_ENTRIES }
     requires may { may_enter kernel.old.nodes entry.now ≡ true }
-    requires there { IsThere caller.old kernel.old }
-    requires space { get_named kernel.old.spaces caller.old.memory.place caller.old.memory.index
-        ≡ Some caller.old.space }
-    ensures { Does (outcome_in (parts kernel.old) (row_of (context_of kernel.old) entry.now caller.old
-        (wait_of kernel.old.sleepers caller.old.task))) kernel.old kernel.new result }
+    requires there { IsThere caller kernel.old }
+    requires space { IsCopied caller kernel.old }
+    ensures { Does (outcome_in (parts kernel.old) (row_of (context_of kernel.old) entry.now caller
+        (wait_of kernel.old.sleepers caller.task))) kernel.old kernel.new result }
 {
     if kernel.sleepers.is_asleep(caller.task) {
         return Ok(false);
     }
     if kernel.sleepers.is_woken(caller.task) {
-        return Ok(woken(kernel, caller, entry));
+        return Ok(woken(kernel, &caller, entry));
     }
     awake(alloc, kernel, caller, entry)
 }
 
 /// Does what an entry of a task does that is not on the futex list.
-fn awake(
-    alloc: Global,
-    kernel: &mut Kernel,
-    caller: &mut Caller,
-    entry: &Entry,
-) -> Result<bool, Memory>
+fn awake(alloc: Global, kernel: &mut Kernel, caller: Caller, entry: &Entry) -> Result<bool, Memory>
     requires few { kernel.old.entries < MOST_ENTRIES }
     requires may { may_enter kernel.old.nodes entry.now ≡ true }
-    requires there { IsThere caller.old kernel.old }
-    requires space { get_named kernel.old.spaces caller.old.memory.place caller.old.memory.index
-        ≡ Some caller.old.space }
-    requires waits { wait_of kernel.old.sleepers caller.old.task ≡ Awake }
-    ensures { Does (outcome_in (parts kernel.old) (row_of (context_of kernel.old) entry.now caller.old Awake))
+    requires there { IsThere caller kernel.old }
+    requires space { IsCopied caller kernel.old }
+    requires waits { wait_of kernel.old.sleepers caller.task ≡ Awake }
+    ensures { Does (outcome_in (parts kernel.old) (row_of (context_of kernel.old) entry.now caller Awake))
         kernel.old kernel.new result }
 {
     match entry {
@@ -81,7 +69,15 @@ fn awake(
             given,
             reply,
             ..
-        } => call_task(alloc, kernel, caller, *no, args, *reply, given),
+        } => {
+            let call = CallEntry {
+                no: *no,
+                args,
+                reply: *reply,
+                given,
+            };
+            call_task(alloc, kernel, caller, &call)
+        }
         Entry::Sleep { .. } => sleep_task(alloc, kernel, caller),
         Entry::End { signal, .. } => end_task(alloc, kernel, caller, *signal),
     }

@@ -21,11 +21,11 @@ ghost use Rattle.run_opening.specs.Told.{kernel_told, trees_told};
 ghost use Rattle.run_opening.specs.Trees.{AreOthers, Others, trees_with};
 
 use crate::executing::{Done, execute};
-use call_table::Processes;
+use call_table::{Processes, TaskOpening};
 use host_node::HostNode;
 use image_walk::{Granted, ImageAnswer};
 use kernel_model::OpenedTask;
-use mount_file::{Mounts, Program};
+use mount_file::Mounts;
 use sn_base::Memory;
 use sn_errno::Errno;
 use std::alloc::Global;
@@ -53,20 +53,19 @@ impl From<Memory> for OpenErr {
 /// Goes on from what an opening execve of a program answers: the task begins in that directory, or why not.
 fn begin(
     alloc: Global,
-    seed: &[u8],
-    root: u64,
-    program: &Program,
+    opening: &TaskOpening<'_>,
     answer: ImageAnswer,
     processes: Processes,
 ) -> Result<Processes, OpenErr>
-    requires long { is_too_long program.now.args program.now.env ≡ true → answer ≡ ImageAnswer.Refuses E2BIG }
+    requires long { is_too_long opening.now.program.now.args opening.now.program.now.env ≡ true →
+        answer ≡ ImageAnswer.Refuses E2BIG }
     requires pages { is_roomy answer ≡ true }
     requires room { MayOpen processes.cells.tasks }
-    ensures { Begins seed.now root program.now answer processes result }
+    ensures { Begins opening.now.seed.now opening.now.root opening.now.program.now answer processes result }
 {
     match answer {
         ImageAnswer::Starts(image) => {
-            let more = processes.open(alloc, seed, root, program, &image)?;
+            let more = processes.open(alloc, opening, &image)?;
             Ok(more)
         }
         ImageAnswer::Refuses(errno) => Err(OpenErr::Image {
@@ -137,14 +136,12 @@ fn open_task<N: HostNode>(
     make_room(tasks)?;
     let Done { opened, answer } = execute(alloc, granted, program)?;
     tasks.push_reserved(opened);
-    begin(
-        alloc,
-        mounts.seed.as_slice(),
+    let opening = TaskOpening {
+        seed: mounts.seed.as_slice(),
         root,
         program,
-        answer,
-        processes,
-    )
+    };
+    begin(alloc, &opening, answer, processes)
 }
 
 /// Opens the tasks of a mount file in order, over the granted folder of the mount at `/`, and records what each execve

@@ -125,28 +125,19 @@ fn granted<W: HostWorld>(
     Ok(trees)
 }
 
-/// Runs the words over a host in memory, which has the folders that they grant as these trees.
-fn record_over<S: Source>(
+/// Runs the words over a host in memory: what the run came to, and what its sink took.
+fn run_over<S: Source>(
     alloc: Global,
     words: &[String],
-    flag: bool,
     files: &mut S,
     world: World,
-    trees: List<Tree>,
-) -> Recording
-    requires lent { none_lent world.tree ≡ true }
-    ensures trees { result.trees ≡ trees }
-    ensures flag { result.flag ≡ flag }
+) -> (Outcome, MemSink)
+    requires { none_lent world.tree ≡ true }
 {
     let mut world = world;
     let mut out = MemSink::new(alloc);
     let outcome = run_sentry(alloc, words, files, &mut world, &mut out);
-    Recording {
-        outcome,
-        trees,
-        flag,
-        out,
-    }
+    (outcome, out)
 }
 
 /// The run, where it has its text.
@@ -180,5 +171,11 @@ pub fn record_run<S: Source, W: HostWorld>(
     let mounts = load_mounts(alloc, &command, files)?;
     let mut world = World::new(alloc);
     let trees = granted(alloc, mounts.mounts.as_slice(), host, &mut world)?;
-    with_text(record_over(alloc, words, command.trace, files, world, trees))
+    let (outcome, out) = run_over(alloc, words, files, world);
+    with_text(Recording {
+        outcome,
+        trees,
+        flag: command.trace,
+        out,
+    })
 }

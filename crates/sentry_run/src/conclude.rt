@@ -1,6 +1,6 @@
 //! How a run comes out, and the text that it leaves in the sink.
 
-ghost use Rattle.std.specs.Prelude.{◌≡◌, false, Some};
+ghost use Rattle.std.specs.Prelude.{◌≡◌, ℕ, false, List as Items, Some, IfOk};
 ghost use Rattle.sn_base.specs.Faults.{HasCause};
 ghost use Rattle.kernel_model.specs.printed.Printed.{printed};
 ghost use Rattle.image_walk.specs.Standing.{no_left};
@@ -11,7 +11,7 @@ ghost use Rattle.sentry_run.specs.Sides.{side};
 use crate::outcome::{Fault, Outcome};
 use crate::play::{End, Played};
 use crate::text::printed_text;
-use kernel_model::{Kernel, Left, Opening, Trace};
+use kernel_model::{Left, Opening, Trace};
 use mount_file::Mounts;
 use sn_base::{List, Memory};
 use sn_edge::{EdgeErr, Sink, write_all};
@@ -28,20 +28,13 @@ fn nothing_left(alloc: Global) -> Left
 }
 
 /// Writes the text of a run that comes out so where all of it is taken.
-fn written<K: Sink>(
-    alloc: Global,
-    kernel: &Kernel,
-    trace: &Trace,
-    flag: bool,
-    out: &mut K,
-    whole: Fault,
-) -> Fault
-    ensures writes { Writes (printed kernel.now trace.now flag) whole
+fn written<K: Sink>(text: Result<List<u8>, Memory>, out: &mut K, whole: Fault) -> Fault
+    ensures writes { (bytes : Items ℕ) → IfOk text (λ t. t ≡ bytes) → Writes bytes whole
         (side (K.told out.old) (K.count out.old)) (side (K.told out.new) (K.count out.new)) result }
     ensures cause { is_sink_fault whole ≡ false →
         HasCause (is_sink_fault result) (K.count out.old) (K.count out.new) }
 {
-    let text = match printed_text(alloc, kernel, trace, flag) {
+    let text = match text {
         Ok(text) => text,
         Err(Memory) => return Fault::Memory,
     };
@@ -59,9 +52,9 @@ fn concluded<K: Sink>(alloc: Global, end: &End, trace: &Trace, flag: bool, out: 
     ensures cause { HasCause (is_sink_fault result) (K.count out.old) (K.count out.new) }
 {
     match end {
-        End::Done(kernel) => written(alloc, kernel, trace, flag, out, Fault::Done),
-        End::Full(kernel) => written(alloc, kernel, trace, flag, out, Fault::Full),
-        End::Stuck(kernel) => written(alloc, kernel, trace, flag, out, Fault::Stuck),
+        End::Done(kernel) => written(printed_text(alloc, kernel, trace, flag), out, Fault::Done),
+        End::Full(kernel) => written(printed_text(alloc, kernel, trace, flag), out, Fault::Full),
+        End::Stuck(kernel) => written(printed_text(alloc, kernel, trace, flag), out, Fault::Stuck),
         End::Image { task, errno } => Fault::Image {
             task: *task,
             errno: *errno,

@@ -98,30 +98,16 @@ fn ran_narrow(alloc: Global, words: &[String], files: MemSource, world: World, o
     }
 }
 
-/// A run, which takes nothing from here on.
-fn ran(
-    alloc: Global,
-    case: &Case,
-    words: &[String],
-    files: MemSource,
-    world: World,
-    out: MemSink,
-) -> Told
-    requires { none_lent world.tree ≡ true }
-{
-    match case.failing {
-        Failing::Sink(_) => ran_narrow(alloc, words, files, world, out),
-        _ => ran_whole(alloc, words, files, world, out),
-    }
-}
-
 /// What a run came to.
 fn told_of(alloc: Global, case: &Case) -> Result<Told, Fail> {
     let words = words_of(alloc, case.words)?;
     let files = failing_source(alloc, case.mounts, case.failing)?;
     let out = failing_sink(alloc, case.failing)?;
     let world = planned_world(alloc, case.host, case.failing)?;
-    Ok(ran(alloc, case, words.as_slice(), files, world, out))
+    Ok(match case.failing {
+        Failing::Sink(_) => ran_narrow(alloc, words.as_slice(), files, world, out),
+        _ => ran_whole(alloc, words.as_slice(), files, world, out),
+    })
 }
 
 /// That each expectation holds of it.

@@ -18,7 +18,7 @@ returns-clause-does c = λ space k there areas files console.
     let q = c.go_on.new.cells in
     let found : Some c.in-Some.space.now ≡ Some space = c.in-Some.ensures ∙ there in
     let is : c.in-Some.space.now ≡ space = cc found in
-    ap (λ (s : AddressSpace). after_transfer c.args.transfer s k) (sym is)
+    ap (λ (s : AddressSpace). after_transfer c.args.moved.transfer s k) (sym is)
     ∙ c.in_ok-commit_transfer.ensures.ok k areas files console
     ∙ ap (λ f. record k { files = f; console = c.commit_transfer.new.console }) (sym c.go_on.ensures.files)
     ∙ ap (λ x. record k { files = q.files; console = x }) (sym c.go_on.ensures.console)
@@ -28,7 +28,7 @@ returns-clause-moves c =
     let p = c.args.cells.now in
     let q = c.go_on.new.cells in
     let task = c.args.context.now.task in
-    let transfer = c.args.transfer in
+    let transfer = c.args.moved.transfer in
     let space = c.in-Some.space.now in
     let k : Kernel =
     kernel_with (record nothing_held { areas = p.areas; files = p.files; console = p.console }) nothing_beside 0 in

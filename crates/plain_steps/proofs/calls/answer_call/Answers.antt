@@ -1,7 +1,7 @@
 -- A call that met nothing does what it comes to where it drew no number.
-use mir.Val.{to_z, of_z}
+use mir.Val.{SFits, to_z, of_z}
 use mir.Syntax.{w64}
-use Rattle.std.proofs.Common.{ap, refl, sym, ◌∙◌}
+use Rattle.std.proofs.Common.{ap, refl, sym, ◌∙◌, rules}
 use Rattle.std.specs.Prelude.{not}
 use Rattle.std.proofs.Math.Facts.{to_z-of_z}
 use Rattle.kernel_model.specs.calls.Callers.{context_of}
@@ -12,16 +12,19 @@ use Rattle.plain_steps.proofs.calls.answer_call.Goals as goal
 
 pub returns-then-not-is_empty : goal.returns-then-not-is_empty
 returns-then-not-is_empty c = (
-  call_that_draws c.args.kernel.now c.args.caller.now
-      (call_row (context_of c.args.kernel.now) c.args.caller.now c.args.no c.args.args.now) c.in_ok-called.called
-      c.prepare.new.caller.space c.prepare.new.areas c.in_ok-called.ensures.row c.args.reply c.args.given.now
-      (has_any_not c.args.given.now.fresh c.is_empty.result c.is_empty.ensures ∙ ap not c.if-not-is_empty.true),
+  call_that_draws c.args.kernel.now c.args.draft.now.caller
+      (call_row (context_of c.args.kernel.now) c.args.draft.now.caller c.args.call.now.no c.args.call.now.args.now)
+      c.in_ok-called.called
+      c.prepare.new.draft.caller.space c.prepare.new.draft.areas c.in_ok-called.ensures.row c.args.call.now.reply
+      c.args.call.now.given.now
+      (has_any_not c.args.call.now.given.now.fresh c.is_empty.result c.is_empty.ensures ∙ ap not
+      c.if-not-is_empty.true),
   refl,
 )
 
 pub finish-requires-clause-space : goal.finish-requires-clause-space
 finish-requires-clause-space c = λ apart.
-    memory_stays c.args.kernel.now c.args.caller.now c.prepare.new.caller c.in_ok-called.ensures.kept
+    memory_stays c.args.kernel.now c.args.draft.now.caller c.prepare.new.draft.caller c.in_ok-called.ensures.kept
     (c.in_ok-called.ensures.apart apart).0 c.requires.space
 
 pub finish-requires-clause-areas : goal.finish-requires-clause-areas
@@ -29,13 +32,16 @@ finish-requires-clause-areas c = λ apart. c.requires.areas ∙ sym (c.in_ok-cal
 
 pub returns : goal.returns
 returns c =
-    call_that_comes c.args.kernel.now c.args.caller.now
-    (call_row (context_of c.args.kernel.now) c.args.caller.now c.args.no c.args.args.now) c.in_ok-called.called
-    c.prepare.new.caller.space c.prepare.new.areas c.in_ok-called.ensures.row c.args.reply c.args.given.now
-    (has_any_not c.args.given.now.fresh c.is_empty.result c.is_empty.ensures ∙ ap not c.if-not-is_empty.false)
-    c.finish.new.kernel c.finish.result (to_z w64 (of_z w64 c.args.reply)) (to_z-of_z c.ranges.reply)
+    let fits : SFits w64 c.args.call.now.reply = search rules in
+    call_that_comes c.args.kernel.now c.args.draft.now.caller
+    (call_row (context_of c.args.kernel.now) c.args.draft.now.caller c.args.call.now.no c.args.call.now.args.now)
+    c.in_ok-called.called
+    c.prepare.new.draft.caller.space c.prepare.new.draft.areas c.in_ok-called.ensures.row c.args.call.now.reply
+    c.args.call.now.given.now
+    (has_any_not c.args.call.now.given.now.fresh c.is_empty.result c.is_empty.ensures ∙ ap not c.if-not-is_empty.false)
+    c.finish.new.kernel c.finish.result (to_z w64 (of_z w64 c.args.call.now.reply)) (to_z-of_z fits)
     (finished c.args.kernel.now c.finish.new.kernel
-    (call_row (context_of c.args.kernel.now) c.args.caller.now c.args.no c.args.args.now)
-    c.in_ok-called.called c.args.caller.now c.prepare.new.caller c.prepare.new.areas
-    (to_z w64 (of_z w64 c.args.reply)) c.finish.result c.in_ok-called.ensures.kept
+    (call_row (context_of c.args.kernel.now) c.args.draft.now.caller c.args.call.now.no c.args.call.now.args.now)
+    c.in_ok-called.called c.args.draft.now.caller c.prepare.new.draft.caller c.prepare.new.draft.areas
+    (to_z w64 (of_z w64 c.args.call.now.reply)) c.finish.result c.in_ok-called.ensures.kept
     (λ apart. (c.in_ok-called.ensures.apart apart).0) c.in_ok-called.ensures.row c.finish.ensures)

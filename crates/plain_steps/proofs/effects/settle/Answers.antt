@@ -6,5 +6,6 @@ use Rattle.plain_steps.proofs.effects.settle.Goals as goal
 
 pub returns-clause-does : goal.returns-clause-does
 returns-clause-does c =
-    let memory : Kernel = with_memory c.args.caller.now c.args.caller.now.space c.args.areas.now c.args.kernel.now in
+    let memory : Kernel = with_memory c.args.draft.now.caller c.args.draft.now.caller.space c.args.draft.now.areas
+    c.args.kernel.now in
     c.put_memory.ensures ∙ sym (c.commit.ensures memory refl refl refl)

@@ -8,5 +8,5 @@ use Rattle.plain_steps.proofs.entries.end_task.Goals as goal
 pub returns : goal.returns
 returns c =
     does_over c.args.kernel.now c.copied_areas.new.kernel c.end_over.new.kernel
-    (λ (m : Kernel). outcome_in (parts m) (end_row c.args.signal c.args.caller.now)) c.end_over.result
+    (λ (m : Kernel). outcome_in (parts m) (end_row c.args.signal c.args.caller)) c.end_over.result
     c.copied_areas.ensures.kept c.end_over.ensures

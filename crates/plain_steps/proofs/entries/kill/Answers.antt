@@ -5,8 +5,8 @@ use Rattle.plain_steps.proofs.entries.kill.Goals as goal
 
 pub returns : goal.returns
 returns c =
-    group_gone c.args.kernel.now c.settle.new.kernel c.args.caller.now c.args.signal
-    ((c.in_ok-ending.ensures.ends c.args.caller.now c.args.kernel.now c.args.kernel.now.sleepers
+    group_gone c.args.kernel.now c.settle.new.kernel c.args.draft.now.caller c.args.signal
+    ((c.in_ok-ending.ensures.ends c.args.draft.now.caller c.args.kernel.now c.args.kernel.now.sleepers
     (length c.args.kernel.now.console)
     (record {
       task = sym c.context-context.ensures.task;

@@ -12,35 +12,35 @@ use Rattle.plain_steps.proofs.entries.run_task.Goals as goal
 
 pub returns-then-n-ne1 : goal.returns-then-n-ne1
 returns-then-n-ne1 c =
-    let alone : run_alone c.args.n c.args.caller.now ≡ None =
-    alone_short c.args.n c.args.caller.now c.run.new.space c.run.new.registers c.in_ok-ran.ran.count
+    let alone : run_alone c.args.n c.args.caller ≡ None =
+    alone_short c.args.n c.args.caller c.run.new.space c.run.new.registers c.in_ok-ran.ran.count
     c.in_ok-ran.ran.next c.in_ok-ran.ensures.steps c.in_ok-ran.ensures.stopped c.if-ran-n.false in (
-      row_none c.args.n c.args.caller.now alone (parts c.args.kernel.now) (ne_eqb c.args.n 1 c.if-n-ne1.true),
+      row_none c.args.n c.args.caller alone (parts c.args.kernel.now) (ne_eqb c.args.n 1 c.if-n-ne1.true),
       refl,
     )
 
 pub step_task-requires-clause-alone : goal.step_task-requires-clause-alone
 step_task-requires-clause-alone c =
-    let alone : run_alone c.args.n c.args.caller.now ≡ None =
-    alone_short c.args.n c.args.caller.now c.run.new.space c.run.new.registers c.in_ok-ran.ran.count
+    let alone : run_alone c.args.n c.args.caller ≡ None =
+    alone_short c.args.n c.args.caller c.run.new.space c.run.new.registers c.in_ok-ran.ran.count
     c.in_ok-ran.ran.next c.in_ok-ran.ensures.steps c.in_ok-ran.ensures.stopped c.if-ran-n.false in
-    let same : going_in c.args.caller.now.task c.run.new.space c.run.new.registers
-    ≡ going_in c.args.caller.now.task c.args.caller.now.space c.args.caller.now.registers =
+    let same : going_in c.args.caller.task c.run.new.space c.run.new.registers
+    ≡ going_in c.args.caller.task c.args.caller.space c.args.caller.registers =
     nothing_ran c.in_ok-ran.ran.count _ _ c.in_ok-ran.ensures.steps
     (none_ran c.in_ok-ran.ran.count c.args.n c.in_ok-ran.ensures.within c.if-ran-n.false c.if-n-ne1.false) in
-    ap (run_alone 1) (same_caller c.args.caller.now c.run.new.registers c.run.new.space same)
-    ∙ ap (λ n. run_alone n c.args.caller.now) (sym c.if-n-ne1.false) ∙ alone
+    ap (run_alone 1) (same_caller c.args.caller c.run.new.registers c.run.new.space same)
+    ∙ ap (λ n. run_alone n c.args.caller) (sym c.if-n-ne1.false) ∙ alone
 
 pub returns : goal.returns
 returns c =
-    let alone : run_alone c.args.n c.args.caller.now ≡ None =
-    alone_short c.args.n c.args.caller.now c.run.new.space c.run.new.registers c.in_ok-ran.ran.count
+    let alone : run_alone c.args.n c.args.caller ≡ None =
+    alone_short c.args.n c.args.caller c.run.new.space c.run.new.registers c.in_ok-ran.ran.count
     c.in_ok-ran.ran.next c.in_ok-ran.ensures.steps c.in_ok-ran.ensures.stopped c.if-ran-n.false in
-    let same : going_in c.args.caller.now.task c.run.new.space c.run.new.registers
-    ≡ going_in c.args.caller.now.task c.args.caller.now.space c.args.caller.now.registers =
+    let same : going_in c.args.caller.task c.run.new.space c.run.new.registers
+    ≡ going_in c.args.caller.task c.args.caller.space c.args.caller.registers =
     nothing_ran c.in_ok-ran.ran.count _ _ c.in_ok-ran.ensures.steps
     (none_ran c.in_ok-ran.ran.count c.args.n c.in_ok-ran.ensures.within c.if-ran-n.false c.if-n-ne1.false) in
     subst (λ o. Does o c.args.kernel.now c.step_task.new.kernel c.step_task.result)
     (ap (λ (x : Caller). outcome_in (parts c.args.kernel.now) (step_row x))
-    (same_caller c.args.caller.now c.run.new.registers c.run.new.space same)
-    ∙ sym (row_by_step c.args.n c.args.caller.now alone (parts c.args.kernel.now) c.if-n-ne1.false)) c.step_task.ensures
+    (same_caller c.args.caller c.run.new.registers c.run.new.space same)
+    ∙ sym (row_by_step c.args.n c.args.caller alone (parts c.args.kernel.now) c.if-n-ne1.false)) c.step_task.ensures

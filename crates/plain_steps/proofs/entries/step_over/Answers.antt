@@ -7,17 +7,17 @@ use Rattle.plain_steps.proofs.entries.step_over.Goals as goal
 
 pub returns-in-Goes : goal.returns-in-Goes
 returns-in-Goes c =
-    step_done c.args.caller.now c.args.kernel.now c.put_memory.new.kernel c.step.new.registers c.step.new.space
+    step_done c.args.draft.now.caller c.args.kernel.now c.put_memory.new.kernel c.step.new.registers c.step.new.space
     c.step.new.areas c.replace.new.self
     (c.replace.ensures ∙ ap (λ n. map.insert c.args.kernel.now.registers n c.step.new.registers) c.from.ensures)
     c.put_memory.ensures
-    (c.in_ok-step.ensures.goes c.in-Goes.is c.args.caller.now c.args.kernel.now
+    (c.in_ok-step.ensures.goes c.in-Goes.is c.args.draft.now.caller c.args.kernel.now
     (record { task = refl; registers = refl; space = refl; areas = c.requires.areas }))
 
 pub returns-in-Calls : goal.returns-in-Calls
 returns-in-Calls c = (
-  no_step c.args.caller.now c.args.kernel.now c.in_ok-step.field-0
-      (c.in_ok-step.ensures.next c.args.caller.now c.args.kernel.now
+  no_step c.args.draft.now.caller c.args.kernel.now c.in_ok-step.field-0
+      (c.in_ok-step.ensures.next c.args.draft.now.caller c.args.kernel.now
       (record { task = refl; registers = refl; space = refl; areas = c.requires.areas }))
       (ap goes_on c.in-Calls.is) c.requires.alone,
   refl,
@@ -25,8 +25,8 @@ returns-in-Calls c = (
 
 pub returns-in-Traps : goal.returns-in-Traps
 returns-in-Traps c = (
-  no_step c.args.caller.now c.args.kernel.now c.in_ok-step.field-0
-      (c.in_ok-step.ensures.next c.args.caller.now c.args.kernel.now
+  no_step c.args.draft.now.caller c.args.kernel.now c.in_ok-step.field-0
+      (c.in_ok-step.ensures.next c.args.draft.now.caller c.args.kernel.now
       (record { task = refl; registers = refl; space = refl; areas = c.requires.areas }))
       (ap goes_on c.in-Traps.is) c.requires.alone,
   refl,

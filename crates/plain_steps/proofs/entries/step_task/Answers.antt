@@ -8,5 +8,5 @@ use Rattle.plain_steps.proofs.entries.step_task.Goals as goal
 pub returns : goal.returns
 returns c =
     does_over c.args.kernel.now c.copied_areas.new.kernel c.step_over.new.kernel
-    (λ (m : Kernel). outcome_in (parts m) (step_row c.args.caller.now)) c.step_over.result
+    (λ (m : Kernel). outcome_in (parts m) (step_row c.args.caller)) c.step_over.result
     c.copied_areas.ensures.kept c.step_over.ensures

@@ -10,7 +10,7 @@ use Rattle.plain_steps.proofs.moving.open_pipe.Goals as goal
 
 pub returns-then-not-is_zero : goal.returns-then-not-is_zero
 returns-then-not-is_zero c = λ row makes. (
-  pipe_refused c.args.caller.now c.args.kernel.now c.args.new c.args.reply row makes
+  pipe_refused c.args.draft.now.caller c.args.kernel.now c.args.new c.args.reply row makes
       (ap (λ z. int_eq z (pos 0)) (sym (to_z-of_z c.ranges.reply)) ∙ sym c.is_zero.ensures ∙ c.if-not-is_zero.true),
   refl,
 )
@@ -18,11 +18,11 @@ returns-then-not-is_zero c = λ row makes. (
 pub returns : goal.returns
 returns c =
     let k : Kernel = c.args.kernel.now in
-    let made : Kernel = with_memory c.args.caller.now c.make_pipe.new.space c.make_pipe.new.areas
+    let made : Kernel = with_memory c.args.draft.now.caller c.make_pipe.new.space c.make_pipe.new.areas
     (record k { files = c.make_pipe.new.files }) in
-    pipe_opened c.args.caller.now k c.args.new c.into_inner.result c.args.reply made c.put_memory.new.kernel
+    pipe_opened c.args.draft.now.caller k c.args.new c.into_inner.result c.args.reply made c.put_memory.new.kernel
     c.go_on.new.kernel c.into_inner.ensures
-    (λ row makes. c.in_ok-make_pipe.ensures.ok row c.args.caller.now k _ (context_of k) makes
+    (λ row makes. c.in_ok-make_pipe.ensures.ok row c.args.draft.now.caller k _ (context_of k) makes
     (sym c.context-context.ensures.place)
     (record {
       task = sym c.context-context.ensures.task;

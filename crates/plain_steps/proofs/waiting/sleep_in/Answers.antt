@@ -11,19 +11,20 @@ pub returns-in_ok-sleep-in-Some : goal.returns-in_ok-sleep-in-Some
 returns-in_ok-sleep-in-Some c =
     let k : Kernel = c.args.kernel.now in
     ap (λ o. changed_by o k)
-    (sleeps_at c.args.caller.now k c.call_of-no.result c.args_of-args.result c.in_ok-prepare.field-0
-    c.prepare.new.caller.space c.prepare.new.areas c.call_of-no.ensures c.args_of-args.ensures
+    (sleeps_at c.args.draft.now.caller k c.call_of-no.result c.args_of-args.result c.in_ok-prepare.field-0
+    c.prepare.new.draft.caller.space c.prepare.new.draft.areas c.call_of-no.ensures c.args_of-args.ensures
     c.in_ok-prepare.ensures.row
-    ∙ ap (λ key. slept_on key c.args.caller.now k) (sym c.key_slept_on-key.ensures ∙ c.in-Some.is))
+    ∙ ap (λ key. slept_on key c.args.draft.now.caller k) (sym c.key_slept_on-key.ensures ∙ c.in-Some.is))
     ∙ ap (λ list. Some (record k { sleepers = list }))
     (ap (λ (x : Caller). after_sleep k.sleepers x.task c.in-Some.key) (sym c.in_ok-prepare.ensures.kept)
     ∙ sym c.in_ok-sleep-in-Some.ensures.ok)
 
 pub returns-in-None : goal.returns-in-None
 returns-in-None c = (
-  sleeps_at c.args.caller.now c.args.kernel.now c.call_of-no.result c.args_of-args.result c.in_ok-prepare.field-0
-      c.prepare.new.caller.space c.prepare.new.areas c.call_of-no.ensures c.args_of-args.ensures
+  sleeps_at c.args.draft.now.caller c.args.kernel.now c.call_of-no.result c.args_of-args.result c.in_ok-prepare.field-0
+      c.prepare.new.draft.caller.space c.prepare.new.draft.areas c.call_of-no.ensures c.args_of-args.ensures
       c.in_ok-prepare.ensures.row
-      ∙ ap (λ key. slept_on key c.args.caller.now c.args.kernel.now) (sym c.key_slept_on-key.ensures ∙ c.in-None.is),
+      ∙ ap (λ key. slept_on key c.args.draft.now.caller c.args.kernel.now) (sym c.key_slept_on-key.ensures ∙
+      c.in-None.is),
   refl,
 )

@@ -7,19 +7,19 @@ use Rattle.plain_steps.proofs.waiting.sleep_over.Goals as goal
 
 pub returns-in-Calls : goal.returns-in-Calls
 returns-in-Calls c =
-    sleep_does c.args.kernel.now c.sleep_in.new.kernel c.args.caller.now
-    (record c.args.caller.now { registers = c.step.new.registers; space = c.step.new.space }) c.sleep_in.result
-    (c.in_ok-step.ensures.next c.args.caller.now c.args.kernel.now
+    sleep_does c.args.kernel.now c.sleep_in.new.kernel c.args.draft.now.caller
+    (record c.args.draft.now.caller { registers = c.step.new.registers; space = c.step.new.space }) c.sleep_in.result
+    (c.in_ok-step.ensures.next c.args.draft.now.caller c.args.kernel.now
     (record { task = refl; registers = refl; space = refl; areas = c.requires.areas })
     ∙ c.in-Calls.is)
-    (same_task c.args.caller.now c.step.new.registers c.step.new.space
+    (same_task c.args.draft.now.caller c.step.new.registers c.step.new.space
     (c.in_ok-step.ensures.kept (ap goes_on c.in-Calls.is)).0
     (c.in_ok-step.ensures.kept (ap goes_on c.in-Calls.is)).1) c.sleep_in.ensures
 
 pub returns-in-Goes : goal.returns-in-Goes
 returns-in-Goes c = (
-  sleep_is c.args.caller.now c.args.kernel.now _
-      (c.in_ok-step.ensures.next c.args.caller.now c.args.kernel.now
+  sleep_is c.args.draft.now.caller c.args.kernel.now _
+      (c.in_ok-step.ensures.next c.args.draft.now.caller c.args.kernel.now
       (record { task = refl; registers = refl; space = refl; areas = c.requires.areas })
       ∙ c.in-Goes.is),
   refl,
@@ -27,8 +27,8 @@ returns-in-Goes c = (
 
 pub returns-in-Traps : goal.returns-in-Traps
 returns-in-Traps c = (
-  sleep_is c.args.caller.now c.args.kernel.now _
-      (c.in_ok-step.ensures.next c.args.caller.now c.args.kernel.now
+  sleep_is c.args.draft.now.caller c.args.kernel.now _
+      (c.in_ok-step.ensures.next c.args.draft.now.caller c.args.kernel.now
       (record { task = refl; registers = refl; space = refl; areas = c.requires.areas })
       ∙ c.in-Traps.is),
   refl,

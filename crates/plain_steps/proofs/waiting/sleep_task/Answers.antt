@@ -9,5 +9,5 @@ use Rattle.plain_steps.proofs.waiting.sleep_task.Goals as goal
 pub returns : goal.returns
 returns c =
     does_over c.args.kernel.now c.copied_areas.new.kernel c.sleep_over.new.kernel
-    (λ (m : Kernel). outcome_in (parts m) (sleep_row (context_of m) c.args.caller.now)) c.sleep_over.result
+    (λ (m : Kernel). outcome_in (parts m) (sleep_row (context_of m) c.args.caller)) c.sleep_over.result
     c.copied_areas.ensures.kept c.sleep_over.ensures

@@ -1,5 +1,6 @@
 -- A task whose call waits is parked, and behind an entry all is settled.
-use Rattle.std.proofs.Common.{subst}
+use Rattle.std.proofs.Common.{◌≡◌, subst, sym}
+use Rattle.kernel_model.specs.entries.Steps.{task_of}
 use Rattle.proc_cells.specs.Cells.{AreKept}
 use Rattle.call_table.specs.Entries.{if_enters, if_waits}
 use Rattle.call_table.specs.Moves.{LeavesRest}
@@ -22,8 +23,10 @@ returns-in-Waits-clause-parked c =
 pub returns-clause-parked : goal.returns-clause-parked
 returns-clause-parked c =
     let before = c.args.self.now.cells in
-    c.in_ok-settle.ensures before c.last-last.ensures
-    (subst (if_enters (λ made. LeavesRest c.args.task c.args.standing.memory made before c.advance.new.cells))
-    c.in-Enters.is c.in_ok-made.ensures.moves)
+    c.in_ok-settle.ensures.parked c.args.task before
+    (sym (subst (if_enters (λ made. task_of made.entry ≡ c.args.task)) c.in-Enters.is c.in_ok-made.ensures.task))
+    c.last-last.ensures
+    (subst (if_enters (λ made. LeavesRest c.args.task c.standing-standing.result.memory made before
+    c.advance.new.cells)) c.in-Enters.is c.in_ok-made.ensures.moves)
     (parked_but before c.args.self.now.parking c.args.self.now.parking c.requires.parked c.args.task
     c.requires.looked_at)
