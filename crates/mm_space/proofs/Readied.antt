@@ -16,8 +16,7 @@ use Rattle.mm_areas.specs.Contents.{with_bytes_changed, bytes_changed_at, change
 use Rattle.mm_areas.specs.Mappings.{Mapping, mapping, with_pages}
 use Rattle.mm_areas.specs.Own.{owns}
 use Rattle.mm_areas.specs.Pages.{Held, Bytes, PageOf, Mapped, Pages}
-use Rattle.mm_space.specs.declared.decoded.Decoded.{Decoded}
-use Rattle.mm_space.specs.declared.hints.Hints.{Hints}
+use Rattle.mm_space.specs.declared.caches.Caches.{Caches}
 use Rattle.mm_space.specs.declared.handed.Handed.{Handed}
 use Rattle.mm_space.specs.declared.space.Space.{Space}
 use Rattle.mm_space.specs.Accesses.{page_number, page_offset}
@@ -76,13 +75,13 @@ lacking_all (Err e) space other handed others at (suc n) some still unready =
     by false un = refl
 
 -- pages of which one has other bytes are private where they were
-module _ (old new : Areas) (handed : Handed) (reservations others : List Reservation) (words : Decoded)
-    (guesses : Hints) (alike : (page : ℕ) → owns new page ≡ owns old page) where
+module _ (old new : Areas) (handed : Handed) (reservations others : List Reservation)
+    (kept : Caches) (alike : (page : ℕ) → owns new page ≡ owns old page) where
   abbrev space : Space
-  space = record { areas = old; reservations = reservations; decoded = words; hints = guesses }
+  space = record { areas = old; reservations = reservations; caches = kept }
 
   abbrev other : Space
-  other = record { areas = new; reservations = others; decoded = words; hints = guesses }
+  other = record { areas = new; reservations = others; caches = kept }
 
   held_alike : (page : ℕ) (change : List ℕ → List ℕ) (held : Held)
       → is_ready_held other handed page (changed_held change held) ≡ is_ready_held space handed page held

@@ -32,7 +32,7 @@ impl Decoded {
     }
 
     /// Keeps a page, and answers another that has to go for it.
-    fn keep(&mut self, page: u64) -> Option<u64> {
+    pub(crate) fn keep(&mut self, page: u64) -> Option<u64> {
         let slot = (page % 64) as usize;
         let before = self.pages[slot];
         self.pages[slot] = Some(page);
@@ -51,8 +51,11 @@ impl Space {
         ensures row { OnTrue result (has_row_at self.new.areas page ≡ true) }
         ensures same { space_of self.new ≡ space_of self.old }
     {
-        let hint = self.areas.hint_from(self.hints.of(page), page);
-        self.hints.keep(page, hint);
+        if !self.caches.make_room(alloc) {
+            return false;
+        }
+        let hint = self.areas.hint_from(self.caches.hint(page), page);
+        self.caches.keep_hint(page, hint);
         if !self.areas.decode(alloc, hint, page, Rights::EXECUTE) {
             return false;
         }
@@ -65,7 +68,7 @@ impl Space {
         ensures row { has_row_at self.new.areas page ≡ has_row_at self.old.areas page }
         ensures same { space_of self.new ≡ space_of self.old }
     {
-        if let Some(other) = self.decoded.keep(page) {
+        if let Some(other) = self.caches.keep_decoded(page) {
             if other != page {
                 self.areas.drop_row(other);
             }
@@ -87,7 +90,7 @@ impl Space {
         ensures words { IfSome result (λ row. row_at (space_of self.old).mapping.pages page ≡ Some (words_of row)) }
         ensures same { space_of self.new ≡ space_of self.old }
     {
-        let hint = self.hints.of(page);
+        let hint = self.caches.hint(page);
         self.areas.take_row(hint, page)
     }
 
@@ -98,7 +101,7 @@ impl Space {
         ensures same { space_of self.new ≡ space_of self.old }
     {
         self.make_room(page);
-        let hint = self.hints.of(page);
+        let hint = self.caches.hint(page);
         self.areas.put_row(hint, page, row);
     }
 }

@@ -31,6 +31,7 @@
 mod access;
 mod area_bytes;
 mod area_runs;
+mod caches;
 mod changes;
 mod conditionals;
 mod decoded;

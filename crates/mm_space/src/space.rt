@@ -3,20 +3,18 @@
 ghost use Rattle.std.specs.Prelude.{◌≡◌, IfOk};
 ghost use Rattle.mm_areas.specs.Mappings.{mapping};
 
-use crate::Hints;
-use crate::decoded::Decoded;
+use crate::caches::Caches;
 use mm_areas::Areas;
 use rv_atomic::Reservations;
 use sn_base::Memory;
 use std::alloc::Global;
 
-/// What is mapped in an address space, its break, and what its tasks have reserved; which pages have their words
-/// decoded, and guesses at where pages lie.
+/// What is mapped in an address space, its break, and what its tasks have reserved; and what is kept of its pages, to
+/// be faster.
 pub struct Space {
     pub(crate) areas: Areas,
     pub(crate) reservations: Reservations,
-    pub(crate) decoded: Decoded,
-    pub(crate) hints: Hints,
+    pub(crate) caches: Caches,
 }
 
 /// Lets all of it go. Who owns an address space lets go of it by this one call, at each exit.
@@ -25,8 +23,7 @@ impl Drop for Space {
         let Space {
             areas: _,
             reservations: _,
-            decoded: _,
-            hints: _,
+            caches: _,
         } = self;
     }
 }
@@ -41,8 +38,7 @@ impl Space {
         Space {
             areas,
             reservations: Reservations::new(alloc),
-            decoded: Decoded::none(),
-            hints: Hints::new(),
+            caches: Caches::none(),
         }
     }
 
@@ -76,8 +72,7 @@ impl Space {
         Ok(Space {
             areas,
             reservations,
-            decoded: Decoded::none(),
-            hints: Hints::new(),
+            caches: Caches::none(),
         })
     }
 }

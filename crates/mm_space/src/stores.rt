@@ -95,7 +95,7 @@ impl Space {
         ensures err { OnErr result (reach self.new handed.new ≡ reach self.old handed.old) }
     {
         let hint = self.guess(at / 4096);
-        self.hints.keep(at / 4096, hint);
+        self.caches.keep_hint(at / 4096, hint);
         if self.store_by(hint, task, at, width, value) {
             return Ok(());
         }
@@ -111,14 +111,14 @@ impl Space {
 
     /// A guess at the region of a page: right where one has it.
     fn guess(&self, page: u64) -> usize {
-        self.areas.hint_from(self.hints.of(page), page)
+        self.areas.hint_from(self.caches.hint(page), page)
     }
 
     /// The page of a shared area that a page is.
     pub(crate) fn shared_page(&self, page: u64) -> Option<SharedPage>
         ensures { result ≡ shared_at (map_of.get (mapping self.now.areas).pages page) }
     {
-        let guess = self.hints.of(page);
+        let guess = self.caches.hint(page);
         match &self.areas.page_from(guess, page)?.content {
             Content::Private(_) => None,
             Content::Shared(page) => Some(*page),

@@ -14,6 +14,6 @@ returns-in-None-clause-put c =
 pub returns-in-None-clause-ready : goal.returns-in-None-clause-ready
 returns-in-None-clause-ready c =
     ready_alike c.args.self.now.areas c.put_number.new.self c.args.handed.now c.args.self.now.reservations
-    c.args.self.now.reservations c.args.self.now.decoded c.args.self.now.hints c.put_number.ensures.owned
+    c.args.self.now.reservations c.args.self.now.caches c.put_number.ensures.owned
     c.put_number.result _ (λ bytes. with_number bytes (c.args.address % 4096) 1 c.from.result)
     c.put_number.ensures.bytes c.put_number.ensures.unchanged

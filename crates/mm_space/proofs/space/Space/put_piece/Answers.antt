@@ -16,7 +16,7 @@ returns-then-put_bytes-clause-put c =
 pub returns-then-put_bytes-clause-ready : goal.returns-then-put_bytes-clause-ready
 returns-then-put_bytes-clause-ready c =
     ready_alike c.args.self.now.areas c.put_bytes.new.self c.args.handed.now c.args.self.now.reservations
-    c.args.self.now.reservations c.args.self.now.decoded c.args.self.now.hints c.put_bytes.ensures.owned
+    c.args.self.now.reservations c.args.self.now.caches c.put_bytes.ensures.owned
     c.put_bytes.result _ (λ bytes. with_run bytes (c.args.at % 4096) c.args.piece.now) c.put_bytes.ensures.bytes
     c.put_bytes.ensures.unchanged
 
