@@ -28,7 +28,7 @@ use kernel_model::{Entry, Given};
 use parked_tasks::touched_by;
 use proc_cells::Cells;
 use rv_table::Regs;
-use sn_base::{Boxed, List, Memory};
+use sn_base::{Boxed, List, Map, Memory};
 use std::alloc::Global;
 
 /// The entry of a call that drew nothing and met nothing.
@@ -48,10 +48,21 @@ pub(crate) fn call_entry(alloc: Global, task: u32, registers: &Regs, value: i64)
     }
 }
 
+/// Puts a task's registers in the place of those that it has.
+pub(crate) fn put_registers(all: &mut Map<Regs>, task: u32, registers: &Regs)
+    requires { IsTrue (map.contains_key all.old task) }
+    ensures { all.new ≡ map.insert all.old task registers.now }
+{
+    match all.get_mut(u64::from(task)) {
+        Some(place) => *place = *registers,
+        None => unreachable!(),
+    }
+}
+
 /// A task goes on behind its call, with a reply.
-pub(crate) fn go_on(cells: &mut Cells, task: u32, registers: Regs, value: i64)
+pub(crate) fn go_on(cells: &mut Cells, task: u32, registers: &Regs, value: i64)
     requires { IsTrue (map.contains_key cells.old.registers task) }
-    ensures registers { cells.new.registers ≡ map.insert cells.old.registers task (replied registers value) }
+    ensures registers { cells.new.registers ≡ map.insert cells.old.registers task (replied registers.now value) }
     ensures tasks { cells.new.tasks ≡ cells.old.tasks }
     ensures spaces { cells.new.spaces ≡ cells.old.spaces }
     ensures areas { cells.new.areas ≡ cells.old.areas }
@@ -59,9 +70,9 @@ pub(crate) fn go_on(cells: &mut Cells, task: u32, registers: Regs, value: i64)
     ensures sleepers { cells.new.sleepers ≡ cells.old.sleepers }
     ensures console { cells.new.console ≡ cells.old.console }
 {
-    let mut after = registers;
+    let mut after = *registers;
     reply(&mut after, value);
-    cells.registers.replace(u64::from(task), after);
+    put_registers(&mut cells.registers, task, &after);
 }
 
 /// Does what a call comes to that replies, and lets its task go on. It tells too that the call may have stored into a
@@ -70,7 +81,7 @@ pub(crate) fn finish(
     alloc: Global,
     cells: &mut Cells,
     context: &Context<'_>,
-    registers: Regs,
+    registers: &Regs,
     prepared: Prepared,
 ) -> Entered
     requires awake { IsAwake cells.old context.now.task }
@@ -85,12 +96,12 @@ pub(crate) fn finish(
           sleepers = cells.new.sleepers;
           files = cells.new.files;
         } }
-    ensures entry { result.entry ≡ ACall context.now.task (call_of registers) (args_of registers)
+    ensures entry { result.entry ≡ ACall context.now.task (call_of registers.now) (args_of registers.now)
         (record { fresh = []; rises = [] }) prepared.reply }
     ensures moves { LeavesRest context.now.task context.now.memory result cells.old cells.new }
     ensures told { result.areas ≡ true }
     ensures registers { cells.new.registers
-        ≡ map.insert cells.old.registers context.now.task (replied registers prepared.reply) }
+        ≡ map.insert cells.old.registers context.now.task (replied registers.now prepared.reply) }
     ensures spaces { cells.new.spaces ≡ cells.old.spaces }
     ensures areas { cells.new.areas ≡ cells.old.areas }
     ensures console { cells.new.console ≡ cells.old.console }
@@ -109,7 +120,7 @@ pub(crate) fn finish(
         &mut cells.files,
     );
     go_on(cells, context.task, registers, value);
-    let entry = call_entry(alloc, context.task, &registers, value);
+    let entry = call_entry(alloc, context.task, registers, value);
     Entered {
         entry,
         tasks,
@@ -139,7 +150,7 @@ pub(crate) fn make_child(
     alloc: Global,
     cells: &mut Cells,
     context: &Context<'_>,
-    registers: Regs,
+    registers: &Regs,
     child: Boxed<ClonedTask>,
 ) -> Result<Entered, Memory>
     requires awake { IsAwake cells.old context.now.task }
@@ -149,7 +160,7 @@ pub(crate) fn make_child(
     requires registered { IsTrue (map.contains_key cells.old.registers context.now.task) }
     ensures does { IfOk result (λ _. (between : map.FinMap nat_cmp ARegs)
         × (cells.new.registers
-        ≡ map.insert between context.now.task (replied registers (pos (cells.old.tasks.last + 1))))
+        ≡ map.insert between context.now.task (replied registers.now (pos (cells.old.tasks.last + 1))))
         × ((c : ACaller) (k : AKernel) → c.task ≡ context.now.task → c.memory ≡ context.now.memory →
         c.table ≡ context.now.table → k.tasks ≡ cells.old.tasks → k.registers ≡ cells.old.registers →
         k.spaces ≡ cells.old.spaces → k.areas ≡ cells.old.areas → k.files ≡ cells.old.files →
@@ -160,8 +171,8 @@ pub(crate) fn make_child(
           areas = cells.new.areas;
           files = cells.new.files;
         })) }
-    ensures entry { IfOk result (λ made. made.entry ≡ ACall context.now.task (call_of registers) (args_of registers)
-        (record { fresh = []; rises = [] }) (pos (cells.old.tasks.last + 1))) }
+    ensures entry { IfOk result (λ made. made.entry ≡ ACall context.now.task (call_of registers.now)
+        (args_of registers.now) (record { fresh = []; rises = [] }) (pos (cells.old.tasks.last + 1))) }
     ensures moves { IfOk result (λ made.
         LeavesRest context.now.task context.now.memory made cells.old cells.new) }
     ensures sleepers { cells.new.sleepers ≡ cells.old.sleepers }
@@ -180,7 +191,7 @@ pub(crate) fn make_child(
         &mut cells.files,
     )?;
     go_on(cells, context.task, registers, value);
-    let entry = call_entry(alloc, context.task, &registers, value);
+    let entry = call_entry(alloc, context.task, registers, value);
     Ok(Entered {
         entry,
         tasks: true,

@@ -19,7 +19,7 @@ ghost use Rattle.call_table.specs.Entries.{IsWholeTo, NextIn, ReadyIs, RunsIn, S
 ghost use Rattle.call_table.specs.Moves.{LeavesRest};
 ghost use Rattle.call_table.specs.Parks.{Parks};
 
-use crate::answers::{call_entry, finish, go_on, make_child, put_to_sleep};
+use crate::answers::{call_entry, finish, go_on, make_child, put_registers, put_to_sleep};
 use crate::entered::{Entered, Turn};
 use crate::moving::{Moved, move_bytes, open_pipe};
 use call_fs::{CallEnd, call};
@@ -66,14 +66,14 @@ pub(crate) fn advance(
     alloc: Global,
     cells: &mut Cells,
     context: &Context<'_>,
-    standing: Standing,
+    standing: &Standing,
 ) -> Result<Turn, Memory>
-    requires stands { StandsAs cells.old context.now.task standing }
-    requires known { IsOf context.now standing }
+    requires stands { StandsAs cells.old context.now.task standing.now }
+    requires known { IsOf context.now standing.now }
     requires alive { IsTrue (is_live cells.old.tasks.tasks context.now.task) }
     requires awake { IsAwake cells.old context.now.task }
-    requires there { IsTrue (map.contains_key cells.old.tasks.groups standing.group) }
-    requires lives { IsFalse (has_ended cells.old.tasks.groups standing.group) }
+    requires there { IsTrue (map.contains_key cells.old.tasks.groups standing.now.group) }
+    requires lives { IsFalse (has_ended cells.old.tasks.groups standing.now.group) }
     requires registers { IsTrue (map.contains_key cells.old.registers context.now.task) }
     requires later { 0 < context.now.place }
     ensures step { IfEnters result (λ made.
@@ -82,7 +82,7 @@ pub(crate) fn advance(
     ensures task { IfEnters result (λ made. task_of made.entry ≡ context.now.task) }
     ensures numbers { IfEnters result (λ made. numbers_in made.entry ≡ []) }
     ensures ready { IfEnters result (λ made. ReadyIs cells.old context.now.task true) }
-    ensures moves { IfEnters result (λ made. LeavesRest context.now.task standing.memory made cells.old cells.new) }
+    ensures moves { IfEnters result (λ made. LeavesRest context.now.task standing.now.memory made cells.old cells.new) }
     ensures waits { IfTurnWaits result (λ _. ReadyIs cells.old context.now.task false) }
     ensures parks { IfTurnWaits result (Parks cells.old context.now.task) }
     ensures kept { IfTurnWaits result (λ _. AreKept cells.old cells.new) }
@@ -112,9 +112,9 @@ pub(crate) fn go_on_woken(
     alloc: Global,
     cells: &mut Cells,
     task: u32,
-    standing: Standing,
+    standing: &Standing,
 ) -> Entered
-    requires stands { StandsAs cells.old task standing }
+    requires stands { StandsAs cells.old task standing.now }
     requires woken { wait_of cells.old.sleepers task ≡ Woken }
     requires registers { IsTrue (map.contains_key cells.old.registers task) }
     ensures step { (beside : Beside) (n : ℕ) →
@@ -122,10 +122,10 @@ pub(crate) fn go_on_woken(
     ensures whole { (before after : AKernel) → is_whole result.entry before after ≡ true }
     ensures task { task_of result.entry ≡ task }
     ensures numbers { numbers_in result.entry ≡ [] }
-    ensures moves { LeavesRest task standing.memory result cells.old cells.new }
+    ensures moves { LeavesRest task standing.now.memory result cells.old cells.new }
 {
     cells.sleepers.leave(task);
-    go_on(cells, task, standing.registers, 0);
+    go_on(cells, task, &standing.registers, 0);
     Entered {
         entry: call_entry(alloc, task, &standing.registers, 0),
         tasks: false,
@@ -139,9 +139,9 @@ fn run_standing(
     alloc: Global,
     cells: &mut Cells,
     task: u32,
-    standing: Standing,
+    standing: &Standing,
 ) -> Result<InstructionRun, Memory>
-    requires stands { StandsAs cells.old task standing }
+    requires stands { StandsAs cells.old task standing.now }
     requires lives { IsTrue (is_live cells.old.tasks.tasks task) }
     requires awake { IsAwake cells.old task }
     ensures ready { IfOk result (λ r. 0 < r.count → ReadyIs cells.old task true) }
@@ -149,7 +149,7 @@ fn run_standing(
         step (kernel_of cells.old beside n) (Entry.Run task r.count) ≡ Some (kernel_of cells.new beside (n + 1))) }
     ensures whole { IfOk result (λ r. (beside : Beside) (n m : ℕ) →
         is_whole (Entry.Run task r.count) (kernel_of cells.old beside n) (kernel_of cells.new beside m) ≡ true) }
-    ensures moves { IfOk result (λ r. LeavesRest task standing.memory
+    ensures moves { IfOk result (λ r. LeavesRest task standing.now.memory
         (record { entry = Entry.Run task r.count; tasks = false; areas = false; touched = None }) cells.old cells.new) }
     ensures none { IfOk result (λ r. r.count ≡ 0 → AreKept cells.old cells.new) }
     ensures next { IfOk result (λ r. r.count ≡ 0 → touches_area r.next ≡ false → NextIn cells.old task r.next) }
@@ -165,7 +165,7 @@ fn run_standing(
         &mut cells.spaces,
         standing.memory,
     );
-    cells.registers.replace(u64::from(task), registers);
+    put_registers(&mut cells.registers, task, &registers);
     ran
 }
 
@@ -175,16 +175,16 @@ fn touch(
     alloc: Global,
     cells: &mut Cells,
     context: &Context<'_>,
-    standing: Standing,
+    standing: &Standing,
 ) -> Result<Turn, Memory>
-    requires stands { StandsAs cells.old context.now.task standing }
-    requires known { IsOf context.now standing }
+    requires stands { StandsAs cells.old context.now.task standing.now }
+    requires known { IsOf context.now standing.now }
     requires place { 0 < context.now.place }
     requires alive { IsTrue (is_live cells.old.tasks.tasks context.now.task) }
     requires awake { IsAwake cells.old context.now.task }
     requires touches { IsTrue (is_touching cells.old context.now.task) }
-    requires there { IsTrue (map.contains_key cells.old.tasks.groups standing.group) }
-    requires lives { IsFalse (has_ended cells.old.tasks.groups standing.group) }
+    requires there { IsTrue (map.contains_key cells.old.tasks.groups standing.now.group) }
+    requires lives { IsFalse (has_ended cells.old.tasks.groups standing.now.group) }
     requires registers { IsTrue (map.contains_key cells.old.registers context.now.task) }
     ensures step { IfEnters result (λ made.
         StepsTo cells.old cells.new context.now.seed.now context.now.place made.entry) }
@@ -193,7 +193,7 @@ fn touch(
     ensures numbers { IfEnters result (λ made. numbers_in made.entry ≡ []) }
     ensures ready { IfEnters result (λ made. ReadyIs cells.old context.now.task true) }
     ensures moves { IfEnters result (λ made.
-        LeavesRest context.now.task standing.memory made cells.old cells.new) }
+        LeavesRest context.now.task standing.now.memory made cells.old cells.new) }
     ensures waits { IfTurnWaits result (λ _. ReadyIs cells.old context.now.task false) }
     ensures parks { IfTurnWaits result (Parks cells.old context.now.task) }
     ensures kept { IfTurnWaits result (λ _. AreKept cells.old cells.new) }
@@ -219,16 +219,16 @@ fn step_standing(
     alloc: Global,
     cells: &mut Cells,
     task: u32,
-    standing: Standing,
+    standing: &Standing,
 ) -> Result<Next, Memory>
-    requires stands { StandsAs cells.old task standing }
+    requires stands { StandsAs cells.old task standing.now }
     requires awake { IsAwake cells.old task }
     requires touches { IsTrue (is_touching cells.old task) }
     requires registers { IsTrue (map.contains_key cells.old.registers task) }
     ensures ready { IfOk result (λ next. next ≡ Next.Goes → ReadyIs cells.old task true) }
     ensures step { IfOk result (λ next. next ≡ Next.Goes → (beside : Beside) (n : ℕ) →
         step (kernel_of cells.old beside n) (Entry.Run task 1) ≡ Some (kernel_of cells.new beside (n + 1))) }
-    ensures moves { IfOk result (λ next. LeavesRest task standing.memory
+    ensures moves { IfOk result (λ next. LeavesRest task standing.now.memory
         (record { entry = Entry.Run task 1; tasks = false; areas = true; touched = None }) cells.old cells.new) }
     ensures next { IfOk result (λ next. NextIn cells.old task next) }
     ensures told { IfOk result (λ next. touches_area next ≡ false) }
@@ -243,7 +243,7 @@ fn step_standing(
         unreachable!()
     };
     let next = step(alloc, task, &mut registers, space, &mut cells.areas)?;
-    cells.registers.replace(u64::from(task), registers);
+    put_registers(&mut cells.registers, task, &registers);
     Ok(next)
 }
 
@@ -253,18 +253,18 @@ fn answer(
     alloc: Global,
     cells: &mut Cells,
     context: &Context<'_>,
-    standing: Standing,
+    standing: &Standing,
     in_area: bool,
 ) -> Result<Turn, Memory>
-    requires stands { StandsAs cells.old context.now.task standing }
-    requires known { IsOf context.now standing }
+    requires stands { StandsAs cells.old context.now.task standing.now }
+    requires known { IsOf context.now standing.now }
     requires told { in_area ≡ is_touching cells.old context.now.task }
     requires place { 0 < context.now.place }
     requires alive { IsTrue (is_live cells.old.tasks.tasks context.now.task) }
     requires awake { IsAwake cells.old context.now.task }
     requires calls { NextIn cells.old context.now.task Next.Calls }
-    requires there { IsTrue (map.contains_key cells.old.tasks.groups standing.group) }
-    requires lives { IsFalse (has_ended cells.old.tasks.groups standing.group) }
+    requires there { IsTrue (map.contains_key cells.old.tasks.groups standing.now.group) }
+    requires lives { IsFalse (has_ended cells.old.tasks.groups standing.now.group) }
     requires registers { IsTrue (map.contains_key cells.old.registers context.now.task) }
     ensures step { IfEnters result (λ made.
         StepsTo cells.old cells.new context.now.seed.now context.now.place made.entry) }
@@ -273,13 +273,13 @@ fn answer(
     ensures numbers { IfEnters result (λ made. numbers_in made.entry ≡ []) }
     ensures ready { IfEnters result (λ made. ReadyIs cells.old context.now.task true) }
     ensures moves { IfEnters result (λ made.
-        LeavesRest context.now.task standing.memory made cells.old cells.new) }
+        LeavesRest context.now.task standing.now.memory made cells.old cells.new) }
     ensures waits { IfTurnWaits result (λ _. ReadyIs cells.old context.now.task false) }
     ensures parks { IfTurnWaits result (Parks cells.old context.now.task) }
     ensures kept { IfTurnWaits result (λ _. AreKept cells.old cells.new) }
     ensures memory { OnErr result (HasRunPart context.now.task cells.old cells.new) }
 {
-    let registers = standing.registers;
+    let registers = &standing.registers;
     let memory = standing.memory;
     let console = cells.console.len();
     let Some(space) = cells.spaces.get_mut(memory.place, memory.index) else {
@@ -288,9 +288,9 @@ fn answer(
     let called = call(
         alloc,
         context,
-        call_of(&registers),
-        &registers,
-        &args_of(&registers),
+        call_of(registers),
+        registers,
+        &args_of(registers),
         space,
         &mut cells.areas,
         &cells.tasks,
@@ -328,10 +328,10 @@ fn answer(
 }
 
 /// What a task used whose call waits, by how it stands.
-fn spot_of(standing: Standing, in_area: bool, awaited: Awaited) -> Spot
+fn spot_of(standing: &Standing, in_area: bool, awaited: Awaited) -> Spot
     ensures { result ≡ record {
-      memory = standing.memory;
-      table = standing.table;
+      memory = standing.now.memory;
+      table = standing.now.table;
       in_area = in_area;
       awaited = awaited;
     } }
@@ -350,15 +350,15 @@ fn end(
     alloc: Global,
     cells: &mut Cells,
     context: &Context<'_>,
-    standing: Standing,
+    standing: &Standing,
     signal: u8,
 ) -> Result<Entered, Memory>
-    requires stands { StandsAs cells.old context.now.task standing }
-    requires known { IsOf context.now standing }
+    requires stands { StandsAs cells.old context.now.task standing.now }
+    requires known { IsOf context.now standing.now }
     requires awake { IsAwake cells.old context.now.task }
     requires traps { NextIn cells.old context.now.task (Next.Traps signal) }
-    requires there { IsTrue (map.contains_key cells.old.tasks.groups standing.group) }
-    requires lives { IsFalse (has_ended cells.old.tasks.groups standing.group) }
+    requires there { IsTrue (map.contains_key cells.old.tasks.groups standing.now.group) }
+    requires lives { IsFalse (has_ended cells.old.tasks.groups standing.now.group) }
     ensures step { IfOk result (λ made.
         StepsTo cells.old cells.new context.now.seed.now context.now.place made.entry) }
     ensures whole { IfOk result (λ made. IsWholeTo cells.old cells.new made.entry) }
@@ -366,7 +366,7 @@ fn end(
     ensures numbers { IfOk result (λ made. numbers_in made.entry ≡ []) }
     ensures ready { IfOk result (λ made. ReadyIs cells.old context.now.task true) }
     ensures moves { IfOk result (λ made.
-        LeavesRest context.now.task standing.memory made cells.old cells.new) }
+        LeavesRest context.now.task standing.now.memory made cells.old cells.new) }
     ensures memory { OnErr result (HasRunPart context.now.task cells.old cells.new) }
 {
     let Some(space) = cells

@@ -42,7 +42,7 @@ pub(crate) fn move_bytes(
     alloc: Global,
     cells: &mut Cells,
     context: &Context<'_>,
-    registers: Regs,
+    registers: &Regs,
     moved: Moved,
 ) -> Result<Entered, Memory>
     requires awake { IsAwake cells.old context.now.task }
@@ -53,13 +53,13 @@ pub(crate) fn move_bytes(
         get_named cells.old.spaces context.now.memory.place context.now.memory.index ≡ Some space →
         k.areas ≡ cells.old.areas → k.files ≡ cells.old.files → k.console ≡ cells.old.console →
         after_transfer moved.transfer space k ≡ record k { files = cells.new.files; console = cells.new.console }) }
-    ensures entry { IfOk result (λ made. made.entry ≡ ACall context.now.task (call_of registers) (args_of registers)
-        (record { fresh = []; rises = [] }) moved.value) }
+    ensures entry { IfOk result (λ made. made.entry ≡ ACall context.now.task (call_of registers.now)
+        (args_of registers.now) (record { fresh = []; rises = [] }) moved.value) }
     ensures moves { IfOk result (λ made.
         LeavesRest context.now.task context.now.memory made cells.old cells.new) }
     ensures told { IfOk result (λ made. made.areas ≡ may_have_read moved.transfer) }
     ensures registers { IfOk result (λ _. cells.new.registers
-        ≡ map.insert cells.old.registers context.now.task (replied registers moved.value)) }
+        ≡ map.insert cells.old.registers context.now.task (replied registers.now moved.value)) }
     ensures tasks { cells.new.tasks ≡ cells.old.tasks }
     ensures spaces { cells.new.spaces ≡ cells.old.spaces }
     ensures areas { cells.new.areas ≡ cells.old.areas }
@@ -83,7 +83,7 @@ pub(crate) fn move_bytes(
     )?;
     go_on(cells, context.task, registers, value);
     Ok(Entered {
-        entry: call_entry(alloc, context.task, &registers, value),
+        entry: call_entry(alloc, context.task, registers, value),
         tasks: false,
         areas,
         touched,
@@ -95,7 +95,7 @@ pub(crate) fn open_pipe(
     alloc: Global,
     cells: &mut Cells,
     context: &Context<'_>,
-    registers: Regs,
+    registers: &Regs,
     new: Boxed<NewPipe>,
 ) -> Result<Entered, Memory>
     requires awake { IsAwake cells.old context.now.task }
@@ -106,13 +106,13 @@ pub(crate) fn open_pipe(
         changed (pipe_made of_row c new.ends.buffer new.ends.flags makes.hand makes.table
         (new.ends.first, new.ends.second)).changes k
         ≡ record k { spaces = cells.new.spaces; areas = cells.new.areas; files = cells.new.files }) }
-    ensures entry { IfOk result (λ made. made.entry ≡ ACall context.now.task (call_of registers) (args_of registers)
-        (record { fresh = []; rises = [] }) (pos 0)) }
+    ensures entry { IfOk result (λ made. made.entry ≡ ACall context.now.task (call_of registers.now)
+        (args_of registers.now) (record { fresh = []; rises = [] }) (pos 0)) }
     ensures moves { IfOk result (λ made. (row : Prog Answer) (of_row : RowContext) (c : ACaller) (k : AKernel) →
         MakesPipe row new of_row c k → IsMaking context.now cells.old of_row c k →
         LeavesRest context.now.task context.now.memory made cells.old cells.new) }
     ensures registers { IfOk result (λ _. cells.new.registers
-        ≡ map.insert cells.old.registers context.now.task (replied registers (pos 0))) }
+        ≡ map.insert cells.old.registers context.now.task (replied registers.now (pos 0))) }
     ensures tasks { cells.new.tasks ≡ cells.old.tasks }
     ensures sleepers { cells.new.sleepers ≡ cells.old.sleepers }
     ensures console { cells.new.console ≡ cells.old.console }
@@ -134,7 +134,7 @@ pub(crate) fn open_pipe(
     )?;
     go_on(cells, context.task, registers, 0);
     Ok(Entered {
-        entry: call_entry(alloc, context.task, &registers, 0),
+        entry: call_entry(alloc, context.task, registers, 0),
         tasks: false,
         areas: true,
         touched: Some(touched_by_pipe(context.table, context.place)),

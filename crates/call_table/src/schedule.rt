@@ -116,7 +116,7 @@ impl Schedule {
     {
         let standing = self.cells.standing(task);
         let last = self.cells.tasks.last();
-        let made = go_on_woken(alloc, &mut self.cells, task, standing);
+        let made = go_on_woken(alloc, &mut self.cells, task, &standing);
         self.parking.wake(task)?;
         self.settle(alloc, standing.memory, last, &made)?;
         Ok(made.entry)
@@ -153,7 +153,7 @@ impl Schedule {
             place,
             seed,
         };
-        let made = match advance(alloc, &mut self.cells, &context, standing)? {
+        let made = match advance(alloc, &mut self.cells, &context, &standing)? {
             Turn::Enters(made) => made,
             Turn::Waits(spot) => {
                 self.parking.park(alloc, task, spot)?;

@@ -85,14 +85,14 @@ impl Cells {
         };
         let memory = group.memory;
         let table = group.table;
-        let Some(registers) = self.registers.get(u64::from(task)).copied() else {
+        let Some(registers) = self.registers.get(u64::from(task)) else {
             unreachable!()
         };
         Standing {
             group: number,
             memory,
             table,
-            registers,
+            registers: *registers,
         }
     }
 

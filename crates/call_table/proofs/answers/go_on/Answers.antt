@@ -1,6 +1,4 @@
 -- A task that goes on stays at home.
-use Rattle.std.proofs.Common.{ap, ◌∙◌}
-use Rattle.std.specs.FinMap as map
 use Rattle.proc_cells.proofs.Homes.{home_replied}
 use Rattle.call_table.proofs.answers.go_on.Goals as goal
 
@@ -9,5 +7,5 @@ invariant_of-cells c = record {
   at_home =
       home_replied c.args.cells.now.tasks c.args.cells.now.registers _ c.args.cells.now.spaces c.args.task
       c.reply.new.registers c.args.cells.now.at_home
-      (c.replace.ensures ∙ ap (λ k. map.insert c.args.cells.now.registers k c.reply.new.registers) c.from.ensures);
+      c.put_registers.ensures;
 }

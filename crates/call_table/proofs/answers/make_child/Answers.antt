@@ -71,7 +71,7 @@ returns-clause-does c =
     let fits : SFits w64 c.from-value.result = search rules in (
       c.make.new.registers,
       c.go_on.ensures.registers
-          ∙ ap (λ v. map.insert c.make.new.registers c.args.context.now.task (replied c.args.registers v))
+          ∙ ap (λ v. map.insert c.make.new.registers c.args.context.now.task (replied c.args.registers.now v))
           (to_z-of_z fits ∙ c.from-value.ensures ∙ ap (λ n. pos (n + 1)) c.last.ensures),
       λ x k task memory table tasks registers spaces areas files.
           ap (λ child. with_new_child child c.args.context.now.place x k) (sym c.into_inner.ensures)

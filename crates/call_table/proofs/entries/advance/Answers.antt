@@ -14,19 +14,19 @@ use Rattle.call_table.proofs.entries.advance.Goals as goal
 pub answer-requires-clause-stands : goal.answer-requires-clause-stands
 answer-requires-clause-stands c =
     let none : c.in_ok-ran.ran.count ≡ 0 = omega arith in
-    stands_kept c.args.cells.now c.run_standing.new.cells c.args.context.now.task c.args.standing
+    stands_kept c.args.cells.now c.run_standing.new.cells c.args.context.now.task c.args.standing.now
     (c.in_ok-ran.ensures.none none) c.requires.stands
 
 pub end-requires-clause-stands : goal.end-requires-clause-stands
 end-requires-clause-stands c =
     let none : c.in_ok-ran.ran.count ≡ 0 = omega arith in
-    stands_kept c.args.cells.now c.run_standing.new.cells c.args.context.now.task c.args.standing
+    stands_kept c.args.cells.now c.run_standing.new.cells c.args.context.now.task c.args.standing.now
     (c.in_ok-ran.ensures.none none) c.requires.stands
 
 pub touch-requires-clause-stands : goal.touch-requires-clause-stands
 touch-requires-clause-stands c =
     let none : c.in_ok-ran.ran.count ≡ 0 = omega arith in
-    stands_kept c.args.cells.now c.run_standing.new.cells c.args.context.now.task c.args.standing
+    stands_kept c.args.cells.now c.run_standing.new.cells c.args.context.now.task c.args.standing.now
     (c.in_ok-ran.ensures.none none) c.requires.stands
 
 pub answer-requires-clause-told : goal.answer-requires-clause-told
@@ -138,7 +138,7 @@ returns-in-Calls-clause-moves c =
     let b = c.run_standing.new.cells in
     let q = c.answer.new.cells in
     let task = c.args.context.now.task in
-    let memory = c.args.standing.memory in
+    let memory = c.args.standing.now.memory in
     let none : c.in_ok-ran.ran.count ≡ 0 = omega arith in
     enters_behind c.answer.result (λ made. LeavesRest task memory made b q) (λ made. LeavesRest task memory made p q)
     (λ made. moves_kept task memory made p b q (c.in_ok-ran.ensures.none none)) c.answer.ensures.moves
@@ -149,7 +149,7 @@ returns-in-Touches-clause-moves c =
     let b = c.run_standing.new.cells in
     let q = c.touch.new.cells in
     let task = c.args.context.now.task in
-    let memory = c.args.standing.memory in
+    let memory = c.args.standing.now.memory in
     let none : c.in_ok-ran.ran.count ≡ 0 = omega arith in
     enters_behind c.touch.result (λ made. LeavesRest task memory made b q) (λ made. LeavesRest task memory made p q)
     (λ made. moves_kept task memory made p b q (c.in_ok-ran.ensures.none none)) c.touch.ensures.moves

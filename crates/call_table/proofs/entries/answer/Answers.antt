@@ -38,16 +38,16 @@ pub invariant_of-cells : goal.invariant_of-cells
 invariant_of-cells c = record {
   at_home =
       home_reached c.args.cells.now.tasks c.args.cells.now.registers c.args.cells.now.spaces
-      c.args.standing.memory.place c.args.standing.memory.index c.call.new.space c.args.cells.now.at_home;
+      c.args.standing.now.memory.place c.args.standing.now.memory.index c.call.new.space c.args.cells.now.at_home;
 }
 
 -- ---- want of memory
 
 pub returns-in_err-called-clause-memory : goal.returns-in_err-called-clause-memory
 returns-in_err-called-clause-memory c =
-    err_by c.from_residual.result (part_none c.args.cells.now _ c.args.context.now.task c.args.standing
+    err_by c.from_residual.result (part_none c.args.cells.now _ c.args.context.now.task c.args.standing.now
     c.requires.stands refl refl
-    (own_same c.args.cells.now c.args.context.now.task c.args.standing c.requires.stands c.in-Some.space.now
+    (own_same c.args.cells.now c.args.context.now.task c.args.standing.now c.requires.stands c.in-Some.space.now
     c.call.new.space c.in-Some.ensures.value c.in_err-called.ensures.err) c.in_err-called.ensures.err_areas refl
     refl refl)
 
@@ -57,9 +57,9 @@ returns-in_err-make_child-in-Of-Makes-clause-memory c =
     let kept = c.in_err-make_child-in-Of-Makes.ensures.err in
     let apart = c.in_ok-called.ensures.apart (subst IsApartIn (sym is) tt) in
     err_by c.from_residual-in_err-make_child-in-Of-Makes.result (part_none c.args.cells.now c.make_child.new.cells
-    c.args.context.now.task c.args.standing c.requires.stands kept.tasks kept.registers
+    c.args.context.now.task c.args.standing.now c.requires.stands kept.tasks kept.registers
     (kept.spaces
-    ∙ own_same c.args.cells.now c.args.context.now.task c.args.standing c.requires.stands c.in-Some.space.now
+    ∙ own_same c.args.cells.now c.args.context.now.task c.args.standing.now c.requires.stands c.in-Some.space.now
     c.call.new.space c.in-Some.ensures.value apart.0)
     (λ place index. ap (λ (x : NamedMap AreaState). get_named x place index) (kept.areas ∙ apart.1)) kept.files
     kept.sleepers kept.console)
@@ -70,9 +70,9 @@ returns-in_err-put_to_sleep-in-Of-Sleeps-clause-memory c =
     let kept = c.in_err-put_to_sleep-in-Of-Sleeps.ensures.err in
     let apart = c.in_ok-called.ensures.apart (subst IsApartIn (sym is) tt) in
     err_by c.from_residual-in_err-put_to_sleep-in-Of-Sleeps.result (part_none c.args.cells.now c.put_to_sleep.new.cells
-    c.args.context.now.task c.args.standing c.requires.stands kept.tasks kept.registers
+    c.args.context.now.task c.args.standing.now c.requires.stands kept.tasks kept.registers
     (kept.spaces
-    ∙ own_same c.args.cells.now c.args.context.now.task c.args.standing c.requires.stands c.in-Some.space.now
+    ∙ own_same c.args.cells.now c.args.context.now.task c.args.standing.now c.requires.stands c.in-Some.space.now
     c.call.new.space c.in-Some.ensures.value apart.0)
     (λ place index. ap (λ (x : NamedMap AreaState). get_named x place index) (kept.areas ∙ apart.1)) kept.files
     kept.sleepers kept.console)
@@ -83,9 +83,9 @@ returns-in_err-move_bytes-in-Moves-clause-memory c =
     let apart = c.in_ok-called.ensures.apart (subst IsApartIn (sym c.in-Moves.is)
     c.in_err-move_bytes-in-Moves.ensures.lacking) in
     err_by c.from_residual-in_err-move_bytes-in-Moves.result (part_none c.args.cells.now c.move_bytes.new.cells
-    c.args.context.now.task c.args.standing c.requires.stands kept.tasks kept.registers
+    c.args.context.now.task c.args.standing.now c.requires.stands kept.tasks kept.registers
     (kept.spaces
-    ∙ own_same c.args.cells.now c.args.context.now.task c.args.standing c.requires.stands c.in-Some.space.now
+    ∙ own_same c.args.cells.now c.args.context.now.task c.args.standing.now c.requires.stands c.in-Some.space.now
     c.call.new.space c.in-Some.ensures.value apart.0)
     (λ place index. ap (λ (x : NamedMap AreaState). get_named x place index) (kept.areas ∙ apart.1)) kept.files
     kept.sleepers kept.console)
@@ -95,9 +95,9 @@ returns-in_err-open_pipe-in-MakesPipe-clause-memory c =
     let kept = c.in_err-open_pipe-in-MakesPipe.ensures.err in
     let apart = c.in_ok-called.ensures.apart (subst IsApartIn (sym c.in-MakesPipe.is) tt) in
     err_by c.from_residual-in_err-open_pipe-in-MakesPipe.result (part_none c.args.cells.now c.open_pipe.new.cells
-    c.args.context.now.task c.args.standing c.requires.stands kept.tasks kept.registers
+    c.args.context.now.task c.args.standing.now c.requires.stands kept.tasks kept.registers
     (kept.spaces
-    ∙ own_same c.args.cells.now c.args.context.now.task c.args.standing c.requires.stands c.in-Some.space.now
+    ∙ own_same c.args.cells.now c.args.context.now.task c.args.standing.now c.requires.stands c.in-Some.space.now
     c.call.new.space c.in-Some.ensures.value apart.0)
     (λ place index. ap (λ (x : NamedMap AreaState). get_named x place index) (kept.areas ∙ apart.1)) kept.files
     kept.sleepers kept.console)
@@ -108,14 +108,14 @@ pub returns-in-Of-Replies-clause-step : goal.returns-in-Of-Replies-clause-step
 returns-in-Of-Replies-clause-step c = λ beside n seed place.
     let is = c.in-Of-Replies.is ∙ ap Of c.in-Of-Replies.field-0-is in
     let p = c.args.cells.now in
-    let r = c.args.standing.registers in
+    let r = c.args.standing.now.registers in
     let k : Kernel = kernel_of p beside n in
     let m : Kernel = record k {
-      spaces = with_named p.spaces c.args.standing.memory.place c.args.standing.memory.index c.call.new.space;
+      spaces = with_named p.spaces c.args.standing.now.memory.place c.args.standing.now.memory.index c.call.new.space;
       areas = c.call.new.areas;
     } in
     let answers =
-    comes_here p c.args.context.now.task c.args.standing c.requires.stands c.args.context.now c.in-Some.space.now
+    comes_here p c.args.context.now.task c.args.standing.now c.requires.stands c.args.context.now c.in-Some.space.now
     c.len-console.result c.in_ok-called.called _ c.call.new.space c.call.new.areas c.call_of.result c.args_of.result
     refl c.requires.known (sym c.in-Some.ensures.value) c.len-console.ensures c.call_of.ensures c.args_of.ensures
     c.in_ok-called.ensures.row is beside n seed place in
@@ -128,7 +128,7 @@ returns-in-Of-Replies-clause-step c = λ beside n seed place.
       sleepers = c.finish.new.cells.sleepers;
     } in
     ap (λ (e : Entry). step k e) c.finish.ensures.entry
-    ∙ step_call p c.args.context.now.task c.args.standing c.requires.stands (call_of r) (args_of r)
+    ∙ step_call p c.args.context.now.task c.args.standing.now c.requires.stands (call_of r) (args_of r)
     (record { fresh = []; rises = [] }) c.in-Of-Replies.prepared.reply answers.changes h p.registers
     c.finish.new.cells.registers beside n c.requires.awake c.requires.calls refl refl refl answers.row_is
     (answers.done_is
@@ -146,12 +146,12 @@ pub returns-in_ok-make_child-in-Of-Makes-clause-step : goal.returns-in_ok-make_c
 returns-in_ok-make_child-in-Of-Makes-clause-step c = λ beside n seed place.
     let is = c.in-Of-Makes.is ∙ ap Of c.in-Of-Makes.field-0-is in
     let p = c.args.cells.now in
-    let r = c.args.standing.registers in
-    let x = caller_with c.args.context.now.task c.args.standing c.requires.stands.space in
+    let r = c.args.standing.now.registers in
+    let x = caller_with c.args.context.now.task c.args.standing.now c.requires.stands.space in
     let k : Kernel = kernel_of p beside n in
     let apart = c.in_ok-called.ensures.apart (subst IsApartIn (sym is) tt) in
     let makes =
-    comes_here p c.args.context.now.task c.args.standing c.requires.stands c.args.context.now c.in-Some.space.now
+    comes_here p c.args.context.now.task c.args.standing.now c.requires.stands c.args.context.now c.in-Some.space.now
     c.len-console.result c.in_ok-called.called _ c.call.new.space c.call.new.areas c.call_of.result c.args_of.result
     refl c.requires.known (sym c.in-Some.ensures.value) c.len-console.ensures c.call_of.ensures c.args_of.ensures
     c.in_ok-called.ensures.row is beside n seed place in
@@ -163,13 +163,13 @@ returns-in_ok-make_child-in-Of-Makes-clause-step c = λ beside n seed place.
       files = c.make_child.new.cells.files;
     } in
     ap (λ (e : Entry). step k e) c.in_ok-make_child-in-Of-Makes.ensures.entry
-    ∙ step_call p c.args.context.now.task c.args.standing c.requires.stands (call_of r) (args_of r)
+    ∙ step_call p c.args.context.now.task c.args.standing.now c.requires.stands (call_of r) (args_of r)
     (record { fresh = []; rises = [] }) (pos (p.tasks.last + 1)) makes.changes h does.0
     c.make_child.new.cells.registers beside n c.requires.awake c.requires.calls refl refl refl makes.row_is
     (makes.done_is
     ∙ ap (λ pl. with_new_child c.in-Of-Makes.child pl x k) place
     ∙ does.2 x k refl (sym c.requires.known.memory) (sym c.requires.known.table) refl refl
-    (sym (own_same p c.args.context.now.task c.args.standing c.requires.stands c.in-Some.space.now c.call.new.space
+    (sym (own_same p c.args.context.now.task c.args.standing.now c.requires.stands c.in-Some.space.now c.call.new.space
     c.in-Some.ensures.value apart.0))
     (sym apart.1) refl)
     does.1
@@ -184,17 +184,17 @@ pub returns-in_ok-put_to_sleep-in-Of-Sleeps-clause-step : goal.returns-in_ok-put
 returns-in_ok-put_to_sleep-in-Of-Sleeps-clause-step c = λ beside n seed place.
     let is = c.in-Of-Sleeps.is ∙ ap Of c.in-Of-Sleeps.field-0-is in
     let p = c.args.cells.now in
-    let r = c.args.standing.registers in
+    let r = c.args.standing.now.registers in
     let k : Kernel = kernel_of p beside n in
     let apart = c.in_ok-called.ensures.apart (subst IsApartIn (sym is) tt) in
     let sleeps =
-    comes_here p c.args.context.now.task c.args.standing c.requires.stands c.args.context.now c.in-Some.space.now
+    comes_here p c.args.context.now.task c.args.standing.now c.requires.stands c.args.context.now c.in-Some.space.now
     c.len-console.result c.in_ok-called.called _ c.call.new.space c.call.new.areas c.call_of.result c.args_of.result
     refl c.requires.known (sym c.in-Some.ensures.value) c.len-console.ensures c.call_of.ensures c.args_of.ensures
     c.in_ok-called.ensures.row is beside n seed place in
     let q = c.put_to_sleep.new.cells in
     ap (λ (e : Entry). step k e) c.in_ok-put_to_sleep-in-Of-Sleeps.ensures.entry
-    ∙ step_sleep p c.args.context.now.task c.args.standing c.requires.stands q.sleepers c.in-Of-Sleeps.key beside n
+    ∙ step_sleep p c.args.context.now.task c.args.standing.now c.requires.stands q.sleepers c.in-Of-Sleeps.key beside n
     c.requires.awake c.requires.calls sleeps c.in_ok-put_to_sleep-in-Of-Sleeps.ensures.sleeps
     ∙ ap (λ (y : HeldParts). Some (kernel_with y beside (n + 1))) (
     ap (λ t. record (held_by p) { sleepers = q.sleepers; tasks = t }) (sym c.put_to_sleep.ensures.tasks)
@@ -202,7 +202,7 @@ returns-in_ok-put_to_sleep-in-Of-Sleeps-clause-step c = λ beside n seed place.
     (sym c.put_to_sleep.ensures.registers)
     ∙ ap (λ s. record (held_by q) { spaces = s; areas = p.areas; files = p.files; console = p.console })
     (sym (c.put_to_sleep.ensures.spaces
-    ∙ own_same p c.args.context.now.task c.args.standing c.requires.stands c.in-Some.space.now c.call.new.space
+    ∙ own_same p c.args.context.now.task c.args.standing.now c.requires.stands c.in-Some.space.now c.call.new.space
     c.in-Some.ensures.value apart.0))
     ∙ ap (λ a. record (held_by q) { areas = a; files = p.files; console = p.console })
     (sym (c.put_to_sleep.ensures.areas ∙ apart.1))
@@ -214,15 +214,15 @@ returns-in_ok-put_to_sleep-in-Of-Sleeps-clause-step c = λ beside n seed place.
 pub returns-in_ok-move_bytes-in-Moves-clause-step : goal.returns-in_ok-move_bytes-in-Moves-clause-step
 returns-in_ok-move_bytes-in-Moves-clause-step c = λ beside n seed place.
     let p = c.args.cells.now in
-    let r = c.args.standing.registers in
-    let memory = c.args.standing.memory in
+    let r = c.args.standing.now.registers in
+    let memory = c.args.standing.now.memory in
     let k : Kernel = kernel_of p beside n in
     let m : Kernel = record k {
       spaces = with_named p.spaces memory.place memory.index c.call.new.space;
       areas = c.call.new.areas;
     } in
     let answers =
-    comes_here p c.args.context.now.task c.args.standing c.requires.stands c.args.context.now c.in-Some.space.now
+    comes_here p c.args.context.now.task c.args.standing.now c.requires.stands c.args.context.now c.in-Some.space.now
     c.len-console.result c.in_ok-called.called _ c.call.new.space c.call.new.areas c.call_of.result c.args_of.result
     refl c.requires.known (sym c.in-Some.ensures.value) c.len-console.ensures c.call_of.ensures c.args_of.ensures
     c.in_ok-called.ensures.row c.in-Moves.is beside n seed place in
@@ -236,7 +236,7 @@ returns-in_ok-move_bytes-in-Moves-clause-step c = λ beside n seed place.
       console = q.console;
     } in
     ap (λ (e : Entry). step k e) c.in_ok-move_bytes-in-Moves.ensures.entry
-    ∙ step_call p c.args.context.now.task c.args.standing c.requires.stands (call_of r) (args_of r)
+    ∙ step_call p c.args.context.now.task c.args.standing.now c.requires.stands (call_of r) (args_of r)
     (record { fresh = []; rises = [] }) (to_z w64 (of_z w64 c.in-Moves.reply)) answers.changes h p.registers
     q.registers beside n
     c.requires.awake c.requires.calls refl refl refl
@@ -257,12 +257,12 @@ returns-in_ok-move_bytes-in-Moves-clause-step c = λ beside n seed place.
 pub returns-in_ok-open_pipe-in-MakesPipe-clause-step : goal.returns-in_ok-open_pipe-in-MakesPipe-clause-step
 returns-in_ok-open_pipe-in-MakesPipe-clause-step c = λ beside n seed place.
     let p = c.args.cells.now in
-    let r = c.args.standing.registers in
-    let x = caller_with c.args.context.now.task c.args.standing c.requires.stands.space in
+    let r = c.args.standing.now.registers in
+    let x = caller_with c.args.context.now.task c.args.standing.now c.requires.stands.space in
     let k : Kernel = kernel_of p beside n in
     let apart = c.in_ok-called.ensures.apart (subst IsApartIn (sym c.in-MakesPipe.is) tt) in
     let makes =
-    comes_here p c.args.context.now.task c.args.standing c.requires.stands c.args.context.now c.in-Some.space.now
+    comes_here p c.args.context.now.task c.args.standing.now c.requires.stands c.args.context.now c.in-Some.space.now
     c.len-console.result c.in_ok-called.called _ c.call.new.space c.call.new.areas c.call_of.result c.args_of.result
     refl c.requires.known (sym c.in-Some.ensures.value) c.len-console.ensures c.call_of.ensures c.args_of.ensures
     c.in_ok-called.ensures.row c.in-MakesPipe.is beside n seed place in
@@ -270,7 +270,7 @@ returns-in_ok-open_pipe-in-MakesPipe-clause-step c = λ beside n seed place.
     let q = c.open_pipe.new.cells in
     let h : HeldParts = record (held_by p) { spaces = q.spaces; areas = q.areas; files = q.files } in
     ap (λ (e : Entry). step k e) c.in_ok-open_pipe-in-MakesPipe.ensures.entry
-    ∙ step_call p c.args.context.now.task c.args.standing c.requires.stands (call_of r) (args_of r)
+    ∙ step_call p c.args.context.now.task c.args.standing.now c.requires.stands (call_of r) (args_of r)
     (record { fresh = []; rises = [] }) (pos 0)
     (pipe_made (context_of k) x ends.buffer ends.flags makes.hand makes.table (ends.first, ends.second)).changes h
     p.registers q.registers beside n c.requires.awake c.requires.calls refl refl refl makes.row_is
@@ -282,7 +282,7 @@ returns-in_ok-open_pipe-in-MakesPipe-clause-step c = λ beside n seed place.
       memory = sym c.requires.known.memory;
       there = c.requires.stands.in_memory;
       spaces =
-          sym (own_same p c.args.context.now.task c.args.standing c.requires.stands c.in-Some.space.now
+          sym (own_same p c.args.context.now.task c.args.standing.now c.requires.stands c.in-Some.space.now
           c.call.new.space c.in-Some.ensures.value apart.0);
       areas = sym apart.1;
       files = refl;
@@ -298,10 +298,10 @@ returns-in_ok-open_pipe-in-MakesPipe-clause-step c = λ beside n seed place.
 pub returns-in-Of-Replies-clause-ready : goal.returns-in-Of-Replies-clause-ready
 returns-in-Of-Replies-clause-ready c =
     let is = c.in-Of-Replies.is ∙ ap Of c.in-Of-Replies.field-0-is in
-    ready_called c.args.cells.now c.args.context.now.task c.args.standing c.requires.stands c.args.context.now
+    ready_called c.args.cells.now c.args.context.now.task c.args.standing.now c.requires.stands c.args.context.now
     (Of (Replies c.in-Of-Replies.prepared)) c.call.new.space c.call.new.areas c.requires.place c.requires.awake
     c.requires.calls
-    (comes_here c.args.cells.now c.args.context.now.task c.args.standing c.requires.stands c.args.context.now
+    (comes_here c.args.cells.now c.args.context.now.task c.args.standing.now c.requires.stands c.args.context.now
     c.in-Some.space.now c.len-console.result c.in_ok-called.called _ c.call.new.space c.call.new.areas c.call_of.result
     c.args_of.result refl c.requires.known (sym c.in-Some.ensures.value) c.len-console.ensures c.call_of.ensures
     c.args_of.ensures c.in_ok-called.ensures.row is)
@@ -309,10 +309,10 @@ returns-in-Of-Replies-clause-ready c =
 pub returns-in_ok-make_child-in-Of-Makes-clause-ready : goal.returns-in_ok-make_child-in-Of-Makes-clause-ready
 returns-in_ok-make_child-in-Of-Makes-clause-ready c =
     let is = c.in-Of-Makes.is ∙ ap Of c.in-Of-Makes.field-0-is in
-    ready_called c.args.cells.now c.args.context.now.task c.args.standing c.requires.stands c.args.context.now
+    ready_called c.args.cells.now c.args.context.now.task c.args.standing.now c.requires.stands c.args.context.now
     (Of (Makes c.in-Of-Makes.child)) c.call.new.space c.call.new.areas c.requires.place c.requires.awake
     c.requires.calls
-    (comes_here c.args.cells.now c.args.context.now.task c.args.standing c.requires.stands c.args.context.now
+    (comes_here c.args.cells.now c.args.context.now.task c.args.standing.now c.requires.stands c.args.context.now
     c.in-Some.space.now c.len-console.result c.in_ok-called.called _ c.call.new.space c.call.new.areas c.call_of.result
     c.args_of.result refl c.requires.known (sym c.in-Some.ensures.value) c.len-console.ensures c.call_of.ensures
     c.args_of.ensures c.in_ok-called.ensures.row is)
@@ -320,29 +320,29 @@ returns-in_ok-make_child-in-Of-Makes-clause-ready c =
 pub returns-in_ok-put_to_sleep-in-Of-Sleeps-clause-ready : goal.returns-in_ok-put_to_sleep-in-Of-Sleeps-clause-ready
 returns-in_ok-put_to_sleep-in-Of-Sleeps-clause-ready c =
     let is = c.in-Of-Sleeps.is ∙ ap Of c.in-Of-Sleeps.field-0-is in
-    ready_called c.args.cells.now c.args.context.now.task c.args.standing c.requires.stands c.args.context.now
+    ready_called c.args.cells.now c.args.context.now.task c.args.standing.now c.requires.stands c.args.context.now
     (Of (Sleeps c.in-Of-Sleeps.key)) c.call.new.space c.call.new.areas c.requires.place c.requires.awake
     c.requires.calls
-    (comes_here c.args.cells.now c.args.context.now.task c.args.standing c.requires.stands c.args.context.now
+    (comes_here c.args.cells.now c.args.context.now.task c.args.standing.now c.requires.stands c.args.context.now
     c.in-Some.space.now c.len-console.result c.in_ok-called.called _ c.call.new.space c.call.new.areas c.call_of.result
     c.args_of.result refl c.requires.known (sym c.in-Some.ensures.value) c.len-console.ensures c.call_of.ensures
     c.args_of.ensures c.in_ok-called.ensures.row is)
 
 pub returns-in_ok-move_bytes-in-Moves-clause-ready : goal.returns-in_ok-move_bytes-in-Moves-clause-ready
 returns-in_ok-move_bytes-in-Moves-clause-ready c =
-    ready_called c.args.cells.now c.args.context.now.task c.args.standing c.requires.stands c.args.context.now
+    ready_called c.args.cells.now c.args.context.now.task c.args.standing.now c.requires.stands c.args.context.now
     (Moves c.in-Moves.reply c.in-Moves.transfer) c.call.new.space c.call.new.areas c.requires.place c.requires.awake
     c.requires.calls
-    (comes_here c.args.cells.now c.args.context.now.task c.args.standing c.requires.stands c.args.context.now
+    (comes_here c.args.cells.now c.args.context.now.task c.args.standing.now c.requires.stands c.args.context.now
     c.in-Some.space.now c.len-console.result c.in_ok-called.called _ c.call.new.space c.call.new.areas c.call_of.result
     c.args_of.result refl c.requires.known (sym c.in-Some.ensures.value) c.len-console.ensures c.call_of.ensures
     c.args_of.ensures c.in_ok-called.ensures.row c.in-Moves.is)
 
 pub returns-in_ok-open_pipe-in-MakesPipe-clause-ready : goal.returns-in_ok-open_pipe-in-MakesPipe-clause-ready
 returns-in_ok-open_pipe-in-MakesPipe-clause-ready c =
-    ready_called c.args.cells.now c.args.context.now.task c.args.standing c.requires.stands c.args.context.now
+    ready_called c.args.cells.now c.args.context.now.task c.args.standing.now c.requires.stands c.args.context.now
     (MakesPipe c.in-MakesPipe.pipe) c.call.new.space c.call.new.areas c.requires.place c.requires.awake c.requires.calls
-    (comes_here c.args.cells.now c.args.context.now.task c.args.standing c.requires.stands c.args.context.now
+    (comes_here c.args.cells.now c.args.context.now.task c.args.standing.now c.requires.stands c.args.context.now
     c.in-Some.space.now c.len-console.result c.in_ok-called.called _ c.call.new.space c.call.new.areas c.call_of.result
     c.args_of.result refl c.requires.known (sym c.in-Some.ensures.value) c.len-console.ensures c.call_of.ensures
     c.args_of.ensures c.in_ok-called.ensures.row c.in-MakesPipe.is)
@@ -350,10 +350,10 @@ returns-in_ok-open_pipe-in-MakesPipe-clause-ready c =
 pub returns-in-Of-Waits-clause-waits : goal.returns-in-Of-Waits-clause-waits
 returns-in-Of-Waits-clause-waits c =
     let is = c.in-Of-Waits.is ∙ ap Of c.in-Of-Waits.field-0-is in
-    ready_called c.args.cells.now c.args.context.now.task c.args.standing c.requires.stands c.args.context.now
+    ready_called c.args.cells.now c.args.context.now.task c.args.standing.now c.requires.stands c.args.context.now
     (Of (Waits c.in-Of-Waits.awaited)) c.call.new.space c.call.new.areas c.requires.place c.requires.awake
     c.requires.calls
-    (comes_here c.args.cells.now c.args.context.now.task c.args.standing c.requires.stands c.args.context.now
+    (comes_here c.args.cells.now c.args.context.now.task c.args.standing.now c.requires.stands c.args.context.now
     c.in-Some.space.now c.len-console.result c.in_ok-called.called _ c.call.new.space c.call.new.areas c.call_of.result
     c.args_of.result refl c.requires.known (sym c.in-Some.ensures.value) c.len-console.ensures c.call_of.ensures
     c.args_of.ensures c.in_ok-called.ensures.row is)
@@ -366,7 +366,7 @@ returns-in-Of-Waits-clause-kept c =
       tasks = refl;
       registers = refl;
       spaces =
-          own_same c.args.cells.now c.args.context.now.task c.args.standing c.requires.stands c.in-Some.space.now
+          own_same c.args.cells.now c.args.context.now.task c.args.standing.now c.requires.stands c.in-Some.space.now
           c.call.new.space c.in-Some.ensures.value apart.0;
       areas = apart.1;
       files = refl;
@@ -378,63 +378,63 @@ returns-in-Of-Waits-clause-kept c =
 
 pub returns-in-Of-Replies-clause-moves : goal.returns-in-Of-Replies-clause-moves
 returns-in-Of-Replies-clause-moves c =
-    moves_behind c.args.context.now.task c.args.standing.memory c.args.context.now.memory _ c.args.cells.now _ _
+    moves_behind c.args.context.now.task c.args.standing.now.memory c.args.context.now.memory _ c.args.cells.now _ _
     c.finish.ensures.moves c.requires.known.memory refl refl (λ e. absurd (cc (c.finish.ensures.told, e))) refl
     (record {
       registers = λ other apart. refl;
       spaces = λ name apart.
-          others_stay c.args.cells.now.spaces _ c.args.standing.memory name c.call.new.space refl apart;
+          others_stay c.args.cells.now.spaces _ c.args.standing.now.memory name c.call.new.space refl apart;
     })
 
 pub returns-in_ok-make_child-in-Of-Makes-clause-moves : goal.returns-in_ok-make_child-in-Of-Makes-clause-moves
 returns-in_ok-make_child-in-Of-Makes-clause-moves c =
     let is = c.in-Of-Makes.is ∙ ap Of c.in-Of-Makes.field-0-is in
-    moves_behind c.args.context.now.task c.args.standing.memory c.args.context.now.memory _ c.args.cells.now _ _
+    moves_behind c.args.context.now.task c.args.standing.now.memory c.args.context.now.memory _ c.args.cells.now _ _
     c.in_ok-make_child-in-Of-Makes.ensures.moves c.requires.known.memory refl refl
     (λ e. (c.in_ok-called.ensures.apart (subst IsApartIn (sym is) tt)).1) refl (record {
       registers = λ other apart. refl;
       spaces = λ name apart.
-          others_stay c.args.cells.now.spaces _ c.args.standing.memory name c.call.new.space refl apart;
+          others_stay c.args.cells.now.spaces _ c.args.standing.now.memory name c.call.new.space refl apart;
     })
 
 pub returns-in_ok-put_to_sleep-in-Of-Sleeps-clause-moves : goal.returns-in_ok-put_to_sleep-in-Of-Sleeps-clause-moves
 returns-in_ok-put_to_sleep-in-Of-Sleeps-clause-moves c =
     let is = c.in-Of-Sleeps.is ∙ ap Of c.in-Of-Sleeps.field-0-is in
-    moves_behind c.args.context.now.task c.args.standing.memory c.args.standing.memory _ c.args.cells.now _ _
-    (c.in_ok-put_to_sleep-in-Of-Sleeps.ensures.moves c.args.standing.memory) refl refl refl
+    moves_behind c.args.context.now.task c.args.standing.now.memory c.args.standing.now.memory _ c.args.cells.now _ _
+    (c.in_ok-put_to_sleep-in-Of-Sleeps.ensures.moves c.args.standing.now.memory) refl refl refl
     (λ e. (c.in_ok-called.ensures.apart (subst IsApartIn (sym is) tt)).1) refl (record {
       registers = λ other apart. refl;
       spaces = λ name apart.
-          others_stay c.args.cells.now.spaces _ c.args.standing.memory name c.call.new.space refl apart;
+          others_stay c.args.cells.now.spaces _ c.args.standing.now.memory name c.call.new.space refl apart;
     })
 
 pub returns-in_ok-move_bytes-in-Moves-clause-moves : goal.returns-in_ok-move_bytes-in-Moves-clause-moves
 returns-in_ok-move_bytes-in-Moves-clause-moves c =
-    moves_behind c.args.context.now.task c.args.standing.memory c.args.context.now.memory _ c.args.cells.now _ _
+    moves_behind c.args.context.now.task c.args.standing.now.memory c.args.context.now.memory _ c.args.cells.now _ _
     c.in_ok-move_bytes-in-Moves.ensures.moves c.requires.known.memory refl refl
     (λ e. (c.in_ok-called.ensures.apart (subst IsApartIn (sym c.in-Moves.is) (only_read c.in-Moves.transfer
     (sym c.in_ok-move_bytes-in-Moves.ensures.told ∙ e)))).1) refl (record {
       registers = λ other apart. refl;
       spaces = λ name apart.
-          others_stay c.args.cells.now.spaces _ c.args.standing.memory name c.call.new.space refl apart;
+          others_stay c.args.cells.now.spaces _ c.args.standing.now.memory name c.call.new.space refl apart;
     })
 
 pub returns-in_ok-open_pipe-in-MakesPipe-clause-moves : goal.returns-in_ok-open_pipe-in-MakesPipe-clause-moves
 returns-in_ok-open_pipe-in-MakesPipe-clause-moves c =
     let p = c.args.cells.now in
-    let r = c.args.standing.registers in
-    let x = caller_with c.args.context.now.task c.args.standing c.requires.stands.space in
+    let r = c.args.standing.now.registers in
+    let x = caller_with c.args.context.now.task c.args.standing.now c.requires.stands.space in
     let beside : Beside = record nothing_beside { seed = c.args.context.now.seed.now } in
     let n = c.args.context.now.place - 1 in
     let k : Kernel = kernel_of p beside n in
     let place : n + 1 ≡ c.args.context.now.place = omega (arith, c.requires.place) in
     let apart = c.in_ok-called.ensures.apart (subst IsApartIn (sym c.in-MakesPipe.is) tt) in
     let makes =
-    comes_here p c.args.context.now.task c.args.standing c.requires.stands c.args.context.now c.in-Some.space.now
+    comes_here p c.args.context.now.task c.args.standing.now c.requires.stands c.args.context.now c.in-Some.space.now
     c.len-console.result c.in_ok-called.called _ c.call.new.space c.call.new.areas c.call_of.result c.args_of.result
     refl c.requires.known (sym c.in-Some.ensures.value) c.len-console.ensures c.call_of.ensures c.args_of.ensures
     c.in_ok-called.ensures.row c.in-MakesPipe.is beside n refl place in
-    moves_behind c.args.context.now.task c.args.standing.memory c.args.context.now.memory _ p _ _
+    moves_behind c.args.context.now.task c.args.standing.now.memory c.args.context.now.memory _ p _ _
     (c.in_ok-open_pipe-in-MakesPipe.ensures.moves
     (call_row (context_of k) x (call_of r) (args_of r)) (context_of k) x k makes (record {
       place = place;
@@ -443,14 +443,14 @@ returns-in_ok-open_pipe-in-MakesPipe-clause-moves c =
       memory = sym c.requires.known.memory;
       there = c.requires.stands.in_memory;
       spaces =
-          sym (own_same p c.args.context.now.task c.args.standing c.requires.stands c.in-Some.space.now
+          sym (own_same p c.args.context.now.task c.args.standing.now c.requires.stands c.in-Some.space.now
           c.call.new.space c.in-Some.ensures.value apart.0);
       areas = sym apart.1;
       files = refl;
     })) c.requires.known.memory refl refl (λ e. apart.1) refl (record {
       registers = λ other apart. refl;
       spaces = λ name apart.
-          others_stay p.spaces _ c.args.standing.memory name c.call.new.space refl apart;
+          others_stay p.spaces _ c.args.standing.now.memory name c.call.new.space refl apart;
     })
 
 -- ---- why it waits
@@ -459,7 +459,7 @@ pub returns-in-Of-Waits-clause-parks : goal.returns-in-Of-Waits-clause-parks
 returns-in-Of-Waits-clause-parks c =
     let is = c.in-Of-Waits.is ∙ ap Of c.in-Of-Waits.field-0-is in
     subst (λ (s : Spot). Parks c.args.cells.now c.args.context.now.task s) (sym c.spot_of.ensures) (
-    parks_of c.args.cells.now c.args.context.now.task c.args.standing c.call_of.result c.args_of.result
+    parks_of c.args.cells.now c.args.context.now.task c.args.standing.now c.call_of.result c.args_of.result
     c.args.context.now c.in-Some.space.now c.len-console.result c.in_ok-called.called c.in-Of-Waits.awaited
     c.args.in_area
     c.requires.stands c.requires.awake c.requires.calls c.requires.told refl c.requires.known c.requires.place

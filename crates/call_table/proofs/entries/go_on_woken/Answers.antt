@@ -15,9 +15,9 @@ use Rattle.std.specs.Prelude.{Some}
 pub returns-clause-step : goal.returns-clause-step
 returns-clause-step c = λ beside n.
     let p = c.args.cells.now in
-    let r = c.args.standing.registers in
+    let r = c.args.standing.now.registers in
     ap (λ (e : Entry). step (kernel_of p beside n) e) c.call_entry.ensures
-    ∙ step_woken p c.args.task c.args.standing c.requires.stands (call_of r) (args_of r)
+    ∙ step_woken p c.args.task c.args.standing.now c.requires.stands (call_of r) (args_of r)
     (record { fresh = []; rises = [] }) c.leave.new.self c.go_on.new.cells.registers beside n c.requires.woken refl refl
     refl c.leave.ensures c.go_on.ensures.registers
     ∙ ap (λ (h : HeldParts). Some (kernel_with h beside (n + 1))) (
@@ -48,11 +48,11 @@ pub returns-clause-moves : goal.returns-clause-moves
 returns-clause-moves c =
     let p = c.args.cells.now in
     let q = c.go_on.new.cells in
-    moves_woken c.args.task c.args.standing.memory _ p q c.go_on.ensures.tasks
+    moves_woken c.args.task c.args.standing.now.memory _ p q c.go_on.ensures.tasks
     (c.go_on.ensures.sleepers ∙ c.leave.ensures) (ap puts_to_sleep c.call_entry.ensures)
     c.go_on.ensures.areas c.go_on.ensures.files (record {
       registers = λ other apart.
-          others_go_on p.registers q.registers c.args.task other (replied c.args.standing.registers (pos 0))
+          others_go_on p.registers q.registers c.args.task other (replied c.args.standing.now.registers (pos 0))
           c.go_on.ensures.registers apart;
       spaces = λ name apart. ap (λ m. get_named m name.place name.index) c.go_on.ensures.spaces;
     })

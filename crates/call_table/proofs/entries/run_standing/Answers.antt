@@ -1,7 +1,6 @@
 -- A run of a task's instructions is a step of the kernel, or nothing.
 use Rattle.std.proofs.Common.{◌≡◌, ℕ, ◌<◌, false, refl, ap, ◌∙◌, arith}
 use Rattle.std.specs.Prelude.{Result, Ok, Err, IfOk, OnErr, None}
-use Rattle.std.specs.FinMap as map
 use Rattle.rv_table.specs.declared.registers.Regs.{Regs}
 use Rattle.mm_space.specs.Spaces.{AddressSpace}
 use Rattle.sn_base.specs.declared.made.Made.{Made}
@@ -27,61 +26,61 @@ put_by task memory before after spaces spaces' (Err e) runs part = (part.2.left,
 
 pub invariant_of-cells : goal.invariant_of-cells
 invariant_of-cells c =
-    let put = put_by c.args.task c.args.standing.memory c.args.standing.registers c.run_in-ran.new.registers
+    let put = put_by c.args.task c.args.standing.now.memory c.args.standing.now.registers c.run_in-ran.new.registers
     c.args.cells.now.spaces c.run_in-ran.new.spaces c.run_in-ran.result c.run_in-ran.ensures.runs
     c.run_in-ran.ensures.memory in
     record {
       at_home =
           home_run c.args.cells.now.tasks c.args.cells.now.registers _ c.args.cells.now.spaces _ c.args.task
-          c.run_in-ran.new.registers c.args.standing.memory.place c.args.standing.memory.index put.0
+          c.run_in-ran.new.registers c.args.standing.now.memory.place c.args.standing.now.memory.index put.0
           c.args.cells.now.at_home
-          (c.replace.ensures
-          ∙ ap (λ k. map.insert c.args.cells.now.registers k c.run_in-ran.new.registers) c.from.ensures) put.1;
+          c.put_registers.ensures put.1;
     }
 
 pub returns-clause-step : goal.returns-clause-step
 returns-clause-step c =
     with_ok _ _ _ c.run_in-ran.result (λ r runs within more beside n.
-    step_run c.args.cells.now c.args.task c.args.standing c.requires.stands r.count c.run_in-ran.new.registers
+    step_run c.args.cells.now c.args.task c.args.standing.now c.requires.stands r.count c.run_in-ran.new.registers
     c.run_in-ran.new.spaces runs
-    (record (held_by c.args.cells.now) { registers = c.replace.new.self; spaces = c.run_in-ran.new.spaces }) beside n
+    (record (held_by c.args.cells.now) { registers = c.put_registers.new.all; spaces = c.run_in-ran.new.spaces })
+    beside n
     c.requires.awake (omega arith) within
     (ap (λ x. record (held_by c.args.cells.now) { registers = x; spaces = c.run_in-ran.new.spaces })
-    (c.replace.ensures ∙ ap (λ k. map.insert c.args.cells.now.registers k c.run_in-ran.new.registers) c.from.ensures)))
+    c.put_registers.ensures))
     c.run_in-ran.ensures.runs c.run_in-ran.ensures.within
 
 pub returns-clause-ready : goal.returns-clause-ready
 returns-clause-ready c =
     with_ok _ _ _ c.run_in-ran.result (λ r runs within more.
-    ready_run c.args.cells.now c.args.task c.args.standing c.requires.stands r.count c.run_in-ran.new.registers
+    ready_run c.args.cells.now c.args.task c.args.standing.now c.requires.stands r.count c.run_in-ran.new.registers
     c.run_in-ran.new.spaces runs c.requires.awake (omega arith) within)
     c.run_in-ran.ensures.runs c.run_in-ran.ensures.within
 
 pub returns-clause-whole : goal.returns-clause-whole
 returns-clause-whole c =
     with_ok _ _ _ c.run_in-ran.result (λ r runs stops beside n m.
-    whole_run c.args.cells.now c.args.task c.args.standing c.requires.stands r.count c.run_in-ran.new.registers
+    whole_run c.args.cells.now c.args.task c.args.standing.now c.requires.stands r.count c.run_in-ran.new.registers
     c.run_in-ran.new.spaces runs
-    (record (held_by c.args.cells.now) { registers = c.replace.new.self; spaces = c.run_in-ran.new.spaces }) beside m
+    (record (held_by c.args.cells.now) { registers = c.put_registers.new.all; spaces = c.run_in-ran.new.spaces })
+    beside m
     (kernel_of c.args.cells.now beside n) r.next
     (ap (λ x. record (held_by c.args.cells.now) { registers = x; spaces = c.run_in-ran.new.spaces })
-    (c.replace.ensures ∙ ap (λ k. map.insert c.args.cells.now.registers k c.run_in-ran.new.registers) c.from.ensures))
+    c.put_registers.ensures)
     (stops runs.left
-    (left_there c.args.cells.now c.args.task c.args.standing c.requires.stands r.count c.run_in-ran.new.registers
+    (left_there c.args.cells.now c.args.task c.args.standing.now c.requires.stands r.count c.run_in-ran.new.registers
     c.run_in-ran.new.spaces runs))) c.run_in-ran.ensures.runs c.run_in-ran.ensures.stopped
 
 pub returns-clause-moves : goal.returns-clause-moves
 returns-clause-moves c =
     with_ok _ _ _ c.run_in-ran.result (λ r runs within.
-    moves_alone c.args.task c.args.standing.memory
+    moves_alone c.args.task c.args.standing.now.memory
     (record { entry = Run c.args.task r.count; tasks = false; areas = false; touched = None })
     c.args.cells.now _ refl refl c.requires.awake refl (λ e. refl) refl (record {
       registers = λ other apart.
-          others_go_on c.args.cells.now.registers c.replace.new.self c.args.task other c.run_in-ran.new.registers
-          (c.replace.ensures
-          ∙ ap (λ k. map.insert c.args.cells.now.registers k c.run_in-ran.new.registers) c.from.ensures) apart;
+          others_go_on c.args.cells.now.registers c.put_registers.new.all c.args.task other c.run_in-ran.new.registers
+          c.put_registers.ensures apart;
       spaces = λ name apart.
-          others_stay c.args.cells.now.spaces c.run_in-ran.new.spaces c.args.standing.memory name runs.left runs.put
+          others_stay c.args.cells.now.spaces c.run_in-ran.new.spaces c.args.standing.now.memory name runs.left runs.put
           apart;
     })) c.run_in-ran.ensures.runs c.run_in-ran.ensures.within
 
@@ -90,12 +89,11 @@ returns-clause-none c =
     with_ok _ _ _ c.run_in-ran.result (λ r runs within none. record {
       tasks = refl;
       registers =
-          c.replace.ensures
-          ∙ ap (λ k. map.insert c.args.cells.now.registers k c.run_in-ran.new.registers) c.from.ensures
-          ∙ registers_left c.args.cells.now c.args.task c.args.standing c.requires.stands r.count
+          c.put_registers.ensures
+          ∙ registers_left c.args.cells.now c.args.task c.args.standing.now c.requires.stands r.count
           c.run_in-ran.new.registers c.run_in-ran.new.spaces runs none;
       spaces =
-          spaces_left c.args.cells.now c.args.task c.args.standing c.requires.stands r.count
+          spaces_left c.args.cells.now c.args.task c.args.standing.now c.requires.stands r.count
           c.run_in-ran.new.registers c.run_in-ran.new.spaces runs none;
       areas = refl;
       files = refl;
@@ -106,40 +104,39 @@ returns-clause-none c =
 pub returns-clause-next : goal.returns-clause-next
 returns-clause-next c =
     with_ok _ _ _ c.run_in-ran.result (λ r runs stops none apart.
-    next_left c.args.cells.now c.args.task c.args.standing c.requires.stands r.count c.run_in-ran.new.registers
+    next_left c.args.cells.now c.args.task c.args.standing.now c.requires.stands r.count c.run_in-ran.new.registers
     c.run_in-ran.new.spaces runs r.next none
     (stops runs.left
-    (left_there c.args.cells.now c.args.task c.args.standing c.requires.stands r.count c.run_in-ran.new.registers
+    (left_there c.args.cells.now c.args.task c.args.standing.now c.requires.stands r.count c.run_in-ran.new.registers
     c.run_in-ran.new.spaces runs)) apart) c.run_in-ran.ensures.runs c.run_in-ran.ensures.stopped
 
 pub returns-clause-touching : goal.returns-clause-touching
 returns-clause-touching c =
     with_ok _ _ _ c.run_in-ran.result (λ r runs stops none.
-    touching_left c.args.cells.now c.args.task c.args.standing c.requires.stands r.count c.run_in-ran.new.registers
+    touching_left c.args.cells.now c.args.task c.args.standing.now c.requires.stands r.count c.run_in-ran.new.registers
     c.run_in-ran.new.spaces runs r.next none
     (stops runs.left
-    (left_there c.args.cells.now c.args.task c.args.standing c.requires.stands r.count c.run_in-ran.new.registers
+    (left_there c.args.cells.now c.args.task c.args.standing.now c.requires.stands r.count c.run_in-ran.new.registers
     c.run_in-ran.new.spaces runs))) c.run_in-ran.ensures.runs c.run_in-ran.ensures.stopped
 
 pub returns-clause-stops : goal.returns-clause-stops
 returns-clause-stops c =
     with_ok _ _ _ c.run_in-ran.result (λ r runs stops none.
     stop_not_on r.count r.next _ (stops runs.left
-    (left_there c.args.cells.now c.args.task c.args.standing c.requires.stands r.count c.run_in-ran.new.registers
+    (left_there c.args.cells.now c.args.task c.args.standing.now c.requires.stands r.count c.run_in-ran.new.registers
     c.run_in-ran.new.spaces runs)) none) c.run_in-ran.ensures.runs c.run_in-ran.ensures.stopped
 
 pub returns-clause-memory : goal.returns-clause-memory
 returns-clause-memory c =
     on_err c.run_in-ran.result (λ part. record {
-      caller = caller_with c.args.task c.args.standing c.requires.stands.space;
+      caller = caller_with c.args.task c.args.standing.now c.requires.stands.space;
       found = c.requires.stands.found;
       count = part.0;
       few = part.1;
       registers = c.run_in-ran.new.registers;
       runs = part.2;
       kept_registers =
-          c.replace.ensures
-          ∙ ap (λ k. map.insert c.args.cells.now.registers k c.run_in-ran.new.registers) c.from.ensures;
+          c.put_registers.ensures;
       kept_tasks = refl;
       kept_areas = λ place index. refl;
       kept_files = refl;

@@ -17,77 +17,79 @@ pub invariant_of-cells : goal.invariant_of-cells
 invariant_of-cells c = record {
   at_home =
       home_reached c.args.cells.now.tasks c.args.cells.now.registers c.args.cells.now.spaces
-      c.args.standing.memory.place c.args.standing.memory.index c.step.new.space c.args.cells.now.at_home;
+      c.args.standing.now.memory.place c.args.standing.now.memory.index c.step.new.space c.args.cells.now.at_home;
 }
 
 pub invariant_of-cells-2 : goal.invariant_of-cells-2
 invariant_of-cells-2 c = record {
   at_home =
       home_run c.args.cells.now.tasks c.args.cells.now.registers _ c.args.cells.now.spaces _ c.args.task
-      c.step.new.registers c.args.standing.memory.place c.args.standing.memory.index c.step.new.space
+      c.step.new.registers c.args.standing.now.memory.place c.args.standing.now.memory.index c.step.new.space
       c.args.cells.now.at_home
-      (c.replace.ensures ∙ ap (λ x. map.insert c.args.cells.now.registers x c.step.new.registers) c.from.ensures) refl;
+      c.put_registers.ensures refl;
 }
 
 pub returns-clause-step : goal.returns-clause-step
 returns-clause-step c = λ goes beside n.
-    step_touching c.args.cells.now c.args.task c.args.standing c.requires.stands c.requires.touches c.step.new.registers
-    c.step.new.space c.step.new.areas (left c.replace.new.self) beside n c.requires.awake
-    (c.in_ok-next.ensures.goes goes (caller_with c.args.task c.args.standing c.requires.stands.space)
+    step_touching c.args.cells.now c.args.task c.args.standing.now c.requires.stands c.requires.touches
+    c.step.new.registers c.step.new.space c.step.new.areas (left c.put_registers.new.all) beside n c.requires.awake
+    (c.in_ok-next.ensures.goes goes (caller_with c.args.task c.args.standing.now c.requires.stands.space)
     (kernel_of c.args.cells.now beside n) (record {
       task = refl;
       registers = refl;
       space =
-          own_space c.args.cells.now c.args.task c.args.standing c.requires.stands c.in-Some.space.now
+          own_space c.args.cells.now c.args.task c.args.standing.now c.requires.stands c.in-Some.space.now
           (sym c.in-Some.ensures.value);
       areas = refl;
     }))
     (ap left
-    (c.replace.ensures ∙ ap (λ x. map.insert c.args.cells.now.registers x c.step.new.registers) c.from.ensures))
+    c.put_registers.ensures)
   where
     left : map.FinMap nat_cmp Regs → HeldParts
     left registers = record (held_by c.args.cells.now) {
       registers = registers;
       spaces =
-          with_named c.args.cells.now.spaces c.args.standing.memory.place c.args.standing.memory.index c.step.new.space;
+          with_named c.args.cells.now.spaces c.args.standing.now.memory.place c.args.standing.now.memory.index
+          c.step.new.space;
       areas = c.step.new.areas;
     }
 
 pub returns-clause-next : goal.returns-clause-next
 returns-clause-next c =
-    next_told c.args.cells.now c.args.task c.args.standing c.requires.stands c.in_ok-next.next
-    (λ k areas. c.in_ok-next.ensures.next (caller_with c.args.task c.args.standing c.requires.stands.space) k (record {
+    next_told c.args.cells.now c.args.task c.args.standing.now c.requires.stands c.in_ok-next.next
+    (λ k areas. c.in_ok-next.ensures.next (caller_with c.args.task c.args.standing.now c.requires.stands.space) k
+    (record {
       task = refl;
       registers = refl;
       space =
-          own_space c.args.cells.now c.args.task c.args.standing c.requires.stands c.in-Some.space.now
+          own_space c.args.cells.now c.args.task c.args.standing.now c.requires.stands c.in-Some.space.now
           (sym c.in-Some.ensures.value);
       areas = areas;
     }))
 
 pub returns-clause-ready : goal.returns-clause-ready
 returns-clause-ready c = λ goes beside n.
-    ready_next c.args.cells.now c.args.task c.args.standing c.requires.stands Goes c.requires.awake
-    (next_told c.args.cells.now c.args.task c.args.standing c.requires.stands Goes
-    (λ k areas. c.in_ok-next.ensures.next (caller_with c.args.task c.args.standing c.requires.stands.space) k (record {
+    ready_next c.args.cells.now c.args.task c.args.standing.now c.requires.stands Goes c.requires.awake
+    (next_told c.args.cells.now c.args.task c.args.standing.now c.requires.stands Goes
+    (λ k areas. c.in_ok-next.ensures.next (caller_with c.args.task c.args.standing.now c.requires.stands.space) k
+    (record {
       task = refl;
       registers = refl;
       space =
-          own_space c.args.cells.now c.args.task c.args.standing c.requires.stands c.in-Some.space.now
+          own_space c.args.cells.now c.args.task c.args.standing.now c.requires.stands c.in-Some.space.now
           (sym c.in-Some.ensures.value);
       areas = areas;
     }) ∙ goes)) beside n
 
 pub returns-clause-moves : goal.returns-clause-moves
 returns-clause-moves c =
-    moves_alone c.args.task c.args.standing.memory _ c.args.cells.now _ refl refl c.requires.awake refl
+    moves_alone c.args.task c.args.standing.now.memory _ c.args.cells.now _ refl refl c.requires.awake refl
     (λ e. absurd (cc e)) refl (record {
       registers = λ other apart.
-          others_go_on c.args.cells.now.registers c.replace.new.self c.args.task other c.step.new.registers
-          (c.replace.ensures
-          ∙ ap (λ x. map.insert c.args.cells.now.registers x c.step.new.registers) c.from.ensures) apart;
+          others_go_on c.args.cells.now.registers c.put_registers.new.all c.args.task other c.step.new.registers
+          c.put_registers.ensures apart;
       spaces = λ name apart.
-          others_stay c.args.cells.now.spaces _ c.args.standing.memory name c.step.new.space refl apart;
+          others_stay c.args.cells.now.spaces _ c.args.standing.now.memory name c.step.new.space refl apart;
     })
 
 pub returns-clause-kept : goal.returns-clause-kept
@@ -96,12 +98,12 @@ returns-clause-kept c = λ off.
     record {
       tasks = refl;
       registers =
-          c.replace.ensures
-          ∙ ap (λ x. map.insert c.args.cells.now.registers x c.step.new.registers) c.from.ensures
-          ∙ registers_same c.args.cells.now c.args.task c.args.standing c.requires.stands c.step.new.registers kept.0;
+          c.put_registers.ensures
+          ∙ registers_same c.args.cells.now c.args.task c.args.standing.now c.requires.stands c.step.new.registers
+          kept.0;
       spaces =
-          own_same c.args.cells.now c.args.task c.args.standing c.requires.stands c.in-Some.space.now c.step.new.space
-          c.in-Some.ensures.value kept.1;
+          own_same c.args.cells.now c.args.task c.args.standing.now c.requires.stands c.in-Some.space.now
+          c.step.new.space c.in-Some.ensures.value kept.1;
       areas = kept.2;
       files = refl;
       sleepers = refl;
@@ -114,8 +116,8 @@ returns-in_err-next-clause-err c =
       tasks = refl;
       registers = refl;
       spaces =
-          own_same c.args.cells.now c.args.task c.args.standing c.requires.stands c.in-Some.space.now c.step.new.space
-          c.in-Some.ensures.value c.in_err-next.ensures.err.1;
+          own_same c.args.cells.now c.args.task c.args.standing.now c.requires.stands c.in-Some.space.now
+          c.step.new.space c.in-Some.ensures.value c.in_err-next.ensures.err.1;
       areas = c.in_err-next.ensures.err.2;
       files = refl;
       sleepers = refl;

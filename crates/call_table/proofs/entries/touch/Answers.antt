@@ -13,7 +13,7 @@ use Rattle.call_table.proofs.entries.touch.Goals as goal
 
 pub answer-requires-clause-stands : goal.answer-requires-clause-stands
 answer-requires-clause-stands c =
-    stands_kept c.args.cells.now c.step_standing.new.cells c.args.context.now.task c.args.standing
+    stands_kept c.args.cells.now c.step_standing.new.cells c.args.context.now.task c.args.standing.now
     (c.in_ok-step_standing.ensures.kept (ap goes_on c.in-Calls.is)) c.requires.stands
 
 pub answer-requires-clause-told : goal.answer-requires-clause-told
@@ -23,13 +23,13 @@ answer-requires-clause-told c =
 
 pub end-requires-clause-stands : goal.end-requires-clause-stands
 end-requires-clause-stands c =
-    stands_kept c.args.cells.now c.step_standing.new.cells c.args.context.now.task c.args.standing
+    stands_kept c.args.cells.now c.step_standing.new.cells c.args.context.now.task c.args.standing.now
     (c.in_ok-step_standing.ensures.kept (ap goes_on c.in-Traps.is)) c.requires.stands
 
 pub returns-in_err-step_standing-clause-memory : goal.returns-in_err-step_standing-clause-memory
 returns-in_err-step_standing-clause-memory c =
     err_by c.from_residual.result (part_kept c.args.cells.now c.step_standing.new.cells c.args.context.now.task
-    c.args.standing c.in_err-step_standing.ensures.err c.requires.stands)
+    c.args.standing.now c.in_err-step_standing.ensures.err c.requires.stands)
 
 pub returns-in-Calls-clause-memory : goal.returns-in-Calls-clause-memory
 returns-in-Calls-clause-memory c =
@@ -74,7 +74,7 @@ returns-in-Calls-clause-moves c =
     let b = c.step_standing.new.cells in
     let q = c.answer.new.cells in
     let task = c.args.context.now.task in
-    let memory = c.args.standing.memory in
+    let memory = c.args.standing.now.memory in
     enters_behind c.answer.result (λ made. LeavesRest task memory made b q) (λ made. LeavesRest task memory made p q)
     (λ made. moves_kept task memory made p b q (c.in_ok-step_standing.ensures.kept (ap goes_on c.in-Calls.is)))
     c.answer.ensures.moves

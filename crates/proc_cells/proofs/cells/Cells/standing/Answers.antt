@@ -28,13 +28,13 @@ returns-clause-stands c =
     ap (λ (x : Caller). x.memory) home.1.is ∙ ap (λ (g : Group). g.memory) same_group in
     let in_memory : get_named p.spaces c.in-Some-group.group.now.memory.place c.in-Some-group.group.now.memory.index
     ≡ Some home.0.space = ap (λ (m : Made). get_named p.spaces m.place m.index) (sym memory) ∙ home.1.remembered in
-    let registered : map.get p.registers task ≡ Some c.in-Some-copied.registers =
-    ap (map.get p.registers) (sym c.from.ensures) ∙ sym c.get.ensures ∙ sym c.copied.ensures ∙ c.in-Some-copied.is in
+    let registered : map.get p.registers task ≡ Some c.in-Some-get.registers.now =
+    ap (map.get p.registers) (sym c.from.ensures) ∙ sym c.in-Some-get.ensures in
     record {
       space = home.0.space;
       in_memory = in_memory;
       found =
-          found_by p.tasks p.registers p.spaces task c.in-Some-group.group.now c.in-Some-copied.registers home.0.space
+          found_by p.tasks p.registers p.spaces task c.in-Some-group.group.now c.in-Some-get.registers.now home.0.space
           c.requires group registered in_memory
-          ∙ ap (λ n. Some (member_of task n c.in-Some-group.group.now c.in-Some-copied.registers home.0.space)) number;
+          ∙ ap (λ n. Some (member_of task n c.in-Some-group.group.now c.in-Some-get.registers.now home.0.space)) number;
     }
