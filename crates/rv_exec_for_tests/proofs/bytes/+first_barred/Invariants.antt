@@ -1,4 +1,0 @@
-use Rattle.rv_exec_for_tests.proofs.bytes.+first_barred.Given as goal
-
-abbrev pub decreases-first_barred : goal.decreases-first_barred
-decreases-first_barred g l = l.count

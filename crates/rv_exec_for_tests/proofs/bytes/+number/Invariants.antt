@@ -1,4 +1,0 @@
-use Rattle.rv_exec_for_tests.proofs.bytes.+number.Given as goal
-
-abbrev pub decreases-number : goal.decreases-number
-decreases-number g l = l.count
