@@ -15,12 +15,15 @@ use rv_table::{Area, MemErr};
 pub trait Bytes {
     ghost byte_at: { Self → ℕ → Byte };
 
+    /// Whether the byte at an address may not be accessed.
     fn is_barred(&self, at: u64) -> bool
         ensures { (rest : Option ℕ) → or_barred (byte_at self.now at) at rest ≡ (if result then Some at else rest) };
 
+    /// The shared area in which it lies, if it does.
     fn area(&self, at: u64) -> Option<Area>
         ensures { (rest : Option Area) → or_area (byte_at self.now at) rest ≡ option_or result rest };
 
+    /// What it holds, and 0 where it holds nothing that may be read.
     fn value(&self, at: u64) -> u8
         ensures { result ≡ value_in (byte_at self.now at) };
 }
@@ -159,6 +162,7 @@ fn put_byte(byte: u8, address: u64, at: u64, width: u8, value: u64) -> u8
     }
 }
 
+/// The first of so many bytes from an address on that may not be accessed.
 #[tactic(auto, using(crate::proofs::Accesses::first_barred_step), unfolding(rv_table::specs::Bytes::first_barred))]
 fn first_barred<B: Bytes>(bytes: &B, at: u64, count: u8) -> Option<u64>
     ensures { result ≡ first_barred (B.byte_at bytes.now) at count }
@@ -173,6 +177,7 @@ fn first_barred<B: Bytes>(bytes: &B, at: u64, count: u8) -> Option<u64>
     }
 }
 
+/// The area of the first of so many bytes that lies in one.
 #[tactic(auto, using(crate::proofs::Accesses::first_area_step), unfolding(rv_table::specs::Bytes::first_area))]
 fn first_area<B: Bytes>(bytes: &B, at: u64, count: u8) -> Option<Area>
     ensures { result ≡ first_area (B.byte_at bytes.now) at count }
@@ -186,6 +191,7 @@ fn first_area<B: Bytes>(bytes: &B, at: u64, count: u8) -> Option<Area>
     }
 }
 
+/// The number that so many bytes are, the lowest first.
 #[tactic(auto, using(crate::proofs::Accesses::number_from_step), unfolding(rv_table::specs::Bytes::number_from))]
 fn number<B: Bytes>(bytes: &B, at: u64, count: u8) -> u64
     requires { count ≤ 8 }

@@ -9,7 +9,8 @@ use Rattle.machine_cases.proofs.memory.SmallMem.store_near.Goals as goal
 
 abbrev code_of : Small → ℕ → Byte
 code_of memory =
-    reached memory.code.right (in_stretch memory.code.stretch.from 4096 memory.code.stretch.area memory.code.stretch.bytes)
+    reached memory.code.right
+    (in_stretch memory.code.stretch.from 4096 memory.code.stretch.area memory.code.stretch.bytes)
 
 pub returns-in-Ok-clause-rows : goal.returns-in-Ok-clause-rows
 returns-in-Ok-clause-rows c = λ page apart.
