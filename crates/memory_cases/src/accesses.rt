@@ -72,7 +72,7 @@ fn ask_each(
 ) -> Result<(), Bad>
     requires { IsWidth width }
 {
-    while let Some(word) = words.word() {
+    for word in words.left.split(' ') {
         match ask(space, hands, verb, width, word) {
             Some(answer) => tell(came, answer)?,
             None => tell(came, Answer::Word("unread"))?,
@@ -83,7 +83,7 @@ fn ask_each(
 
 /// Asks which byte of an area lies at each address that is left.
 fn area_bytes(space: &Space, words: &mut Words<'_>, came: &mut String) -> Result<(), Bad> {
-    while let Some(word) = words.word() {
+    for word in words.left.split(' ') {
         match number(word) {
             Some(at) => area_byte(space, at, came)?,
             None => tell(came, Answer::Word("unread"))?,

@@ -256,7 +256,7 @@ pub fn write_code(
         return Ok(None);
     };
     run.clear();
-    while let Some(word) = words.word() {
+    for word in words.left.split(' ') {
         let Ok(code) = u32::from_str_radix(word, 16) else {
             return Ok(None);
         };

@@ -8,7 +8,7 @@ use crate::parts::tell_some;
 use crate::runs::{do_read, do_run, write_code, write_pattern};
 use crate::spaces::do_space;
 use crate::tasks::do_task;
-use crate::words::{Place, Words, read_run};
+use crate::words::{Place, Words, place_of, read_run};
 use mm_space::{Handed, Space};
 use read_cases::Bad;
 use rv_table::MemErr;
@@ -102,7 +102,8 @@ struct Trial {
 
 impl Block {
     /// Whether a reservation is there once a store was made.
-    fn outlives(&mut self, trial: Trial, by: Place) -> Option<Answer> {
+    fn outlives_store(&mut self, trial: Trial, word: &str) -> Option<Answer> {
+        let by = place_of(word)?;
         let Trial {
             number,
             reserved,
@@ -145,8 +146,8 @@ impl Block {
             other,
             width,
         };
-        while let Some(by) = words.place() {
-            match self.outlives(trial, by) {
+        for word in words.left.split(' ') {
+            match self.outlives_store(trial, word) {
                 Some(answer) => tell(came, answer)?,
                 None => return Ok(false),
             }

@@ -40,7 +40,7 @@ fn set(regs: &mut Regs, word: &str) -> Option<()> {
 
 /// Puts values into registers: `NAME=VALUE` each.
 fn set_each(regs: &mut Regs, words: &mut Words<'_>) -> Option<Answer> {
-    while let Some(word) = words.word() {
+    for word in words.left.split(' ') {
         set(regs, word)?;
     }
     Some(Answer::Silent)
@@ -57,7 +57,7 @@ fn held(regs: &Regs, name: &str) -> Option<Answer> {
 }
 
 fn tell_each(regs: &Regs, words: &mut Words<'_>, came: &mut String) -> Result<(), Bad> {
-    while let Some(word) = words.word() {
+    for word in words.left.split(' ') {
         match held(regs, word) {
             Some(answer) => tell(came, answer)?,
             None => tell(came, Answer::Word("unread"))?,

@@ -148,8 +148,10 @@ fn add_times(bytes: &mut Vec<u8>, pair: &str, times: &str) -> Result<bool, Bad> 
 /// word is so.
 pub fn read_run(bytes: &mut Vec<u8>, text: &str) -> Result<bool, Bad> {
     bytes.clear();
-    let mut words = Words::of(text);
-    while let Some(word) = words.word() {
+    if text.is_empty() {
+        return Ok(true);
+    }
+    for word in text.split(' ') {
         let is_read = match word.split_once('*') {
             Some((pair, times)) => add_times(bytes, pair, times)?,
             None => add_bytes(bytes, word)?,
