@@ -1,7 +1,0 @@
--- The node is a file.
-use Rattle.std.proofs.Common.{◌≡◌}
-use Rattle.host_node.specs.Tree.{file, file_bytes, faults_of}
-use Rattle.host_memory_tests.proofs.planned.opens_fail.Given as goal
-
-abbrev pub invariant-loop-call : goal.invariant-loop-call
-invariant-loop-call l = l.node.tree ≡ file (file_bytes l.node.tree) 420 (faults_of l.node.tree)
