@@ -1,6 +1,8 @@
 //! What the system is asked for at each call: which paths, how they are looked at, and how a file is opened.
 
-use host_folder_for_tests::{Ask, Call, Line, Row, expect_back, expect_grant, expect_script};
+use crate::held::{Ask, Row};
+use crate::scripted::{Call, Line};
+use crate::scripts::{expect_back, expect_grant, expect_script};
 use host_node::{Attr, HostErr, Kind};
 use std::test::Fail;
 

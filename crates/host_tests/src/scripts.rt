@@ -1,7 +1,7 @@
 //! What is done over a system that knows which calls it is to be asked for: it must be asked for just these.
 
 use crate::held::{Held, Row, expect_by, granted_for, is_granted};
-use crate::made::{folder, folder_from};
+use crate::routes::{folder, folder_from};
 use crate::scripted::{Line, Scripted, are_met};
 use host_folder::Folders;
 use host_node::{HostErr, HostWorld};

@@ -1,6 +1,6 @@
 //! Nodes that a test holds, and what is asked of them, with what is expected of each: tests are tables of these.
 
-use crate::made::{folder, name};
+use crate::routes::{folder, name};
 use host_folder::{FolderNode, Folders};
 use host_node::{Attr, HostErr, HostNode, HostWorld, Kind, Listed, Listing};
 use sn_text::{Folder, Name, Route, name_of};

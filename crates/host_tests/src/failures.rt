@@ -1,8 +1,8 @@
 //! Calls of the system that fail, and how they are answered and counted.
 
-use host_folder_for_tests::{
-    Ask, Call, Line, Row, Trial, expect_not_granted, expect_script, expect_trials,
-};
+use crate::held::{Ask, Row};
+use crate::scripted::{Call, Line};
+use crate::scripts::{Trial, expect_not_granted, expect_script, expect_trials};
 use host_node::HostErr;
 use std::io::ErrorKind;
 use std::test::Fail;
