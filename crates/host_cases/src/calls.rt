@@ -67,7 +67,7 @@ fn lend<N: Asked>(spot: Spot<'_>, node: &mut N, name: &Name, came: &mut String) 
     ensures told { is_some (N.told node.new) ≡ is_some (N.told node.old) }
     ensures opened { N.opened node.new ≡ N.opened node.old }
 {
-    if !node.may_list() {
+    if !node.may_lend(name) {
         came.push_str("barred")?;
         return Ok(());
     }

@@ -27,7 +27,7 @@ fn visit<N: Asked>(
     let Some((name, rest)) = names.split_first() else {
         return do_calls(spot, node, calls, came);
     };
-    if !node.may_list() {
+    if !node.may_lend(name) {
         return Ok(came.push_str("barred")?);
     }
     let below = route_below(spot.rt.alloc(), spot.route, name)?;
