@@ -1,13 +1,13 @@
 -- What may be asked of a node or a host of which nothing stands with a borrower, and that it stays so.
-use Rattle.std.proofs.Common.{◌≡◌, ◌≢◌, ℕ, List, Bool, true, false, Option, Some, None, option_map, is_some, refl, ap, sym, ◌∙◌}
+use Rattle.std.proofs.Common.{◌≡◌, ◌≢◌, ℕ, List, Bool, true, false, Option, Some, None, option_map, is_some, refl, ap, ◌∙◌}
 use Rattle.host_node.specs.declared.kind.Kind.{Kind}
-use Rattle.host_node.specs.declared.kind.Kind.TheVariants.{Dir, File, Link}
+use Rattle.host_node.specs.declared.kind.Kind.TheVariants.{Dir, File}
 use Rattle.host_node.specs.Told.{kept, ComesFrom, CanList, CanLend, TellsLent, CanOpen, CanRead, Opened, Closed}
-use Rattle.host_node.specs.Told.{CanTakeBack, TakesBack, CanGrant, TellsGranted, CanSettle, Settles}
-use Rattle.host_node.specs.Tree.{Shape, directory, file, link, lent, kind_of, with_faults, is_directory, is_lent, child_of}
+use Rattle.host_node.specs.Told.{TakesBack, CanGrant, TellsGranted, Settles}
+use Rattle.host_node.specs.Tree.{Shape, directory, file, link, lent, kind_of, child_of}
 use Rattle.host_node.specs.Tree.{with_child, lend_child, none_lent}
-use Rattle.host_node.specs.Routes.{subtree, put_subtree, directory_at, is_way_free}
-use Rattle.host_node.proofs.TreeLemmas.{none_lent-with_faults, none_lent-child_of, none_lent-with_child, is_lent-none_lent}
+use Rattle.host_node.specs.Routes.{put_subtree, directory_at}
+use Rattle.host_node.proofs.TreeLemmas.{none_lent-with_faults, none_lent-child_of, none_lent-with_child}
 use Rattle.host_node.proofs.RouteLemmas.{none_lent-subtree, none_lent-put_subtree, is_free-none_lent, subtree-directory_at}
 use Rattle.host_node.proofs.ToldLemmas.{takes_back_other, settles_other}
 use Rattle.host_memory.proofs.Worlds.{can_lend}

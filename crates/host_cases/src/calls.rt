@@ -210,11 +210,13 @@ pub fn do_calls<N: Asked>(
     ensures told { is_some (N.told node.new) ≡ is_some (N.told node.old) }
 {
     let mut is_open = false;
-    let mut sign = "";
+    let mut is_first = true;
     for call in calls.split("; ") {
-        came.push_str(sign)?;
+        if !is_first {
+            came.push_str("; ")?;
+        }
+        is_first = false;
         do_call(spot, node, &mut is_open, call, came)?;
-        sign = "; ";
     }
     Ok(())
 }

@@ -20,7 +20,7 @@ fn visit<N: Asked>(
     calls: &str,
     came: &mut String,
 ) -> Result<(), Bad>
-    requires { IsWhole (N.told node.old) }
+    requires whole { IsWhole (N.told node.old) }
     ensures whole { IsWhole (N.told node.new) }
     ensures told { is_some (N.told node.new) ≡ is_some (N.told node.old) }
 {

@@ -7,6 +7,6 @@ use Rattle.host_cases.proofs.calls.do_calls.Given as goal
 abbrev pub invariant-loop-call : goal.invariant-loop-call
 invariant-loop-call g l = record {
   whole : IsWhole (g.N.HostNode.told l.node);
-  told : is_some (g.N.HostNode.told l.node) ≡ is_some (g.N.HostNode.told l.fn.node.now);
+  told : is_some (g.N.HostNode.told l.node) ≡ is_some (g.N.HostNode.told l.fn.node);
   opened : l.is_open ≡ true → g.N.HostNode.opened l.node ≢ Closed;
 }
