@@ -1,6 +1,0 @@
--- So many tasks are open.
-use Rattle.kernel_model.proofs.OpenedTasks.{AreOpened}
-use Rattle.call_table_tests.proofs.guests.opened.Given as goal
-
-abbrev pub invariant-loop-index : goal.invariant-loop-index
-invariant-loop-index l = AreOpened l.index l.processes.cells.tasks
