@@ -4,10 +4,12 @@
 //! another; it answers whether each of them fits. Its state is a `Kernel` of `kernel_model`, for everybody to see. What
 //! an entry does is done by `plain_steps`, and nodes get their numbers by `node_numbers`. Nothing of the program's run
 //! stands on these three crates: they show that the definitions can be obeyed, and tests run traces on this one. No
-//! entry of a task that sleeps on a futex word fits, and of one that was woken only the call that it slept in.
+//! entry of a task that sleeps on a futex word fits, and of one that was woken only the call that it slept in. What a
+//! task has ahead of it can be asked before (`Plain::ahead`): the reply of its call, without which no entry fits.
 //!
 //! Proved: `Plain::opening` and `Plain::step` are the definitions (`ok`, `refused`, `fits`), and a refused step or one
-//! out of memory changes nothing (`ok`, `err`).
+//! out of memory changes nothing (`ok`, `err`). `Plain::ahead` is what the row of the call comes to by the definitions
+//! (`told`), and changes nothing (`kept`).
 //!
 //! Not said: time, which task comes next, or what a host is.
 //!
@@ -20,3 +22,4 @@ mod records;
 mod walking;
 
 pub use plain::{OpeningErr, Plain};
+pub use plain_steps::Ahead;

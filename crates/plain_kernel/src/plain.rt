@@ -3,7 +3,10 @@
 ghost use Rattle.std.specs.Prelude.{◌≡◌, ◌<◌, ◌≤◌, length, is_some, unwrap_or, IfOk, IfErr, OnOk, OnErr};
 ghost use Rattle.kernel_model.specs.opening.Opening.{opening_of, Opens};
 ghost use Rattle.plain_kernel.specs.OpeningTasks.{IsRefusedBy};
+ghost use Rattle.kernel_model.specs.calls.Callers.{context_of};
+ghost use Rattle.kernel_model.specs.entries.Parts.{outcome_in, parts};
 ghost use Rattle.kernel_model.specs.entries.Steps.{step};
+ghost use Rattle.plain_steps.specs.Ahead.{ahead_row};
 
 use crate::opening_tasks::{bare, begin_tasks};
 use crate::records::is_of;
@@ -11,7 +14,7 @@ use host_node::Tree;
 use kernel_model::{Entry, Kernel, Opening};
 use mount_file::{MOST_ENTRIES, MOST_TASKS, Mounts};
 use node_numbers::may_enter;
-use plain_steps::change;
+use plain_steps::{Ahead, change, look_ahead};
 use sn_base::{List, Memory};
 use sn_errno::Errno;
 use std::alloc::Global;
@@ -84,5 +87,16 @@ impl Plain {
             self.kernel.entries += 1;
         }
         Ok(fits)
+    }
+
+    /// What a task has ahead of it: that it runs, that a signal ends its group, or what the call comes to that it is at:
+    /// the reply with which an entry of it fits, or that it sleeps, or waits. The kernel stays as it is.
+    pub fn ahead(&mut self, alloc: Global, task: u32) -> Result<Ahead, Memory>
+        requires { self.old.kernel.entries < MOST_ENTRIES }
+        ensures told { IfOk result (λ a.
+            a ≡ outcome_in (parts self.old.kernel) (ahead_row (context_of self.old.kernel) task)) }
+        ensures kept { self.new.kernel ≡ self.old.kernel }
+    {
+        look_ahead(alloc, &mut self.kernel, task)
     }
 }

@@ -1,4 +1,5 @@
 -- Lemmas of entries that are done in place, by subject.
+pub mod AheadLemmas
 pub mod CallLemmas
 pub mod PipeLemmas
 pub mod RowLemmas

@@ -288,7 +288,7 @@ fn make_child(
 }
 
 /// The number of the task that is made next.
-fn next_number(tasks: &Tasks) -> i64
+pub(crate) fn next_number(tasks: &Tasks) -> i64
     ensures { result ≡ pos (tasks.now.last + 1) }
 {
     i64::from(tasks.last()) + 1

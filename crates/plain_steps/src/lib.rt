@@ -15,6 +15,7 @@
 //! Standards: RISC-V Unprivileged ISA 20191213, Linux man-pages sections 2, 3 and 7.
 #![tactic(auto)]
 
+mod ahead;
 mod callers;
 mod calls;
 mod drafts;
@@ -24,4 +25,5 @@ mod moving;
 mod step;
 mod waiting;
 
+pub use ahead::{Ahead, look_ahead};
 pub use step::change;
