@@ -79,9 +79,16 @@ fn act(
     }
 }
 
-/// Whether what an instruction gives is not told: behind `do`, and of one that gives nothing.
-fn is_untold(case: &str) -> bool {
-    case.starts_with("do ") || read_instruction(case, 0).is_some_and(|one| is_silent(&one))
+/// Whether what came is told: a value or a reply is not behind `do`, and nothing of a store or a jump that went on.
+fn is_told(case: &str, came: Came) -> bool {
+    match came {
+        Came::Gives(_) => {
+            !case.starts_with("do ")
+                && !read_instruction(case, 0).is_some_and(|one| is_silent(&one))
+        }
+        Came::Replies(_) => !case.starts_with("do "),
+        _ => true,
+    }
 }
 
 /// How many pages a task's memory has.
@@ -107,10 +114,8 @@ fn tell_act(
         text.push_str("unread")?;
         return Ok(());
     };
-    if let Came::Gives(_) = came {
-        if is_untold(case) {
-            return Ok(());
-        }
+    if !is_told(case, came) {
+        return Ok(());
     }
     tell_came(text, came)?;
     if let Came::Replies(reply) = came {

@@ -7,7 +7,7 @@
 //! - `mmap(0, 4096, PROT_READ, MAP_PRIVATE|MAP_ANONYMOUS, -1, 0)` is a call: what it replies, or `waits`, or `sleeps`.
 //!   Arguments that it has not are ones. One that is refused and maps or unmaps a page says so;
 //! - `ld(ADDRESS)`, `sc.d(ADDRESS, VALUE)` are instructions of the common guest: what a2 has, or `traps SIGNAL`, of
-//!   which nothing is done; a store and a jump come to nothing, and each behind `do `;
+//!   which nothing is done; a store and a jump come to nothing, and so do each and a call behind `do `;
 //! - `run COUNT`, `end SIGNAL`, `sleep`, `try CALL REPLY` are entries: whether they fit (`entries.rt`);
 //! - other words put something into the state (`puts.rt`), or ask what it has (`state.rt`).
 //!

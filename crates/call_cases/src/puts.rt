@@ -7,10 +7,12 @@
 //! - `stand ADDRESS A0 A1`: the task stands there, with these in a0 and a1;
 //! - `area PLACE ADDRESS LENGTH`: the area that the entry of a place made is mapped once more;
 //! - `opens console` and `opens node`: the lowest free number is of the console, or of a node, to read and to write;
-//! - `closes table`: the task's descriptor table is not there.
+//! - `closes table`: the task's descriptor table is not there;
+//! - `ends GROUP exited CODE` and `ends GROUP killed SIGNAL`: a thread group ends so, with its tasks.
 
-ghost use Rattle.std.specs.Prelude.{◌-◌, ◌<◌, ◌^◌, IsTrue};
-ghost use Rattle.task_table.specs.Table.{is_live};
+ghost use Rattle.std.specs.Prelude.{◌-◌, ◌<◌, ◌^◌, IsTrue, IsFalse};
+ghost use Rattle.std.specs.FinMap as map;
+ghost use Rattle.task_table.specs.Table.{has_ended, is_live};
 
 use crate::instructions::{Instruction, stand};
 use crate::numbers::{small, value};
@@ -21,7 +23,7 @@ use read_cases::{Bad, add_bytes};
 use rv_table::Area;
 use sn_base::{List, Made};
 use std::alloc::Global;
-use task_table::{Group, Tasks};
+use task_table::{Group, Status, Tasks};
 
 /// The thread group of a task.
 pub fn group_of(kernel: &Kernel, task: u32) -> Option<Group> {
@@ -201,6 +203,41 @@ fn put_no_table(kernel: &mut Kernel, task: u32) -> bool {
     }
 }
 
+/// Whether a thread group is there and lives.
+fn group_lives(tasks: &Tasks, number: u32) -> bool
+    ensures there { IsTrue result → IsTrue (map.contains_key tasks.now.groups number) }
+    ensures lives { IsTrue result → IsFalse (has_ended tasks.now.groups number) }
+{
+    match tasks.group(number) {
+        Some(group) => group.ended.is_none(),
+        None => false,
+    }
+}
+
+/// A thread group and how it ends.
+fn end_of(text: &str) -> Option<(u32, Status)> {
+    let (group, rest) = text.split_once(' ')?;
+    let (how, number) = rest.split_once(' ')?;
+    let number = u8::try_from(small(number)?).ok()?;
+    match how {
+        "exited" => Some((small(group)?, Status::Exited(number))),
+        "killed" => Some((small(group)?, Status::Killed(number))),
+        _ => None,
+    }
+}
+
+/// A thread group ends.
+fn put_end(kernel: &mut Kernel, text: &str) -> bool {
+    let Some((group, status)) = end_of(text) else {
+        return false;
+    };
+    if !group_lives(&kernel.tasks, group) {
+        return false;
+    }
+    kernel.tasks.close(group, status);
+    true
+}
+
 /// Puts something into the state; whether a line says what.
 pub fn put(
     alloc: Global,
@@ -221,6 +258,7 @@ pub fn put(
         "opens" if rest == "console" => put_open(alloc, kernel, task, Object::Console),
         "opens" if rest == "node" => put_open(alloc, kernel, task, Object::Node(1)),
         "closes" => Ok(put_no_table(kernel, task)),
+        "ends" => Ok(put_end(kernel, rest)),
         _ => Ok(false),
     }
 }

@@ -151,9 +151,10 @@ impl Setup {
 
     /// Adds a task with so many strings.
     fn add_many(&mut self, alloc: Global, text: &str) -> Result<bool, Bad> {
-        let Some([count, length, others, long]) = four(text) else {
+        let Some(numbers) = four(text) else {
             return Ok(false);
         };
+        let [count, length, others, long] = numbers;
         let args = letters(alloc, count, length)?;
         let words = letters(alloc, count, length)?;
         self.add_task(alloc, args, words, letters(alloc, others, long)?)?;

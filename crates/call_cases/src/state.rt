@@ -2,6 +2,7 @@
 //!
 //! - of all: `entries`; `live`, `asleep` and `woken` tasks; `failed`, how many calls of the root; `last`, the greatest
 //!   number of a task; `group NUMBER`, `exited CODE`, `killed SIGNAL` or `lives`; `clear TASK`, its clear word;
+//!   `waiting TASK`, `asleep`, `woken` or `awake`;
 //! - of what is open: `table NAME`, its numbers; `open NAME`, how many it has; `description NAME`, how many descriptors
 //!   it has; `pipe NAME`, how many ends to read and to write; and of the task's own table `fd NUMBER`, what it stands
 //!   for, and `counted NUMBER`, how many descriptors that has;
@@ -268,6 +269,17 @@ fn clear_of(kernel: &Kernel, text: &str) -> Option<u64> {
     Some(kernel.tasks.task(small(text)?)?.clear)
 }
 
+/// How a task stands to the futex list.
+fn standing(kernel: &Kernel, task: u32) -> &'static str {
+    if kernel.sleepers.is_asleep(task) {
+        return "asleep";
+    }
+    if kernel.sleepers.is_woken(task) {
+        return "woken";
+    }
+    "awake"
+}
+
 /// The answers that are about no one task.
 fn tell_whole(came: &mut String, kernel: &Kernel, verb: &str, rest: &str) -> Result<(), Bad> {
     match verb {
@@ -276,6 +288,10 @@ fn tell_whole(came: &mut String, kernel: &Kernel, verb: &str, rest: &str) -> Res
         "failed" => tell_found(came, kernel.failed.get(1).copied()),
         "group" => tell_group(came, kernel, small(rest).unwrap_or(0)),
         "clear" => tell_found(came, clear_of(kernel, rest)),
+        "waiting" => {
+            came.push_str(standing(kernel, small(rest).unwrap_or(0)))?;
+            Ok(())
+        }
         "sleepers" => {
             let count = key_of(rest).map(|key| kernel.sleepers.count_on(key));
             tell_found(came, count)

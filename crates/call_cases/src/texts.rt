@@ -50,26 +50,33 @@ pub fn tell_reply(came: &mut String, reply: i64) -> Result<(), Bad> {
     }
 }
 
-/// How many of the first bytes are the same.
-fn alike(bytes: &[u8], first: u8) -> usize {
-    bytes.iter().take_while(|byte| **byte == first).count()
+/// So many bytes that are the same, behind a space where something is before them.
+fn tell_alike(came: &mut String, byte: u8, count: u64) -> Result<(), Bad> {
+    if count >= 8 {
+        let space = if came.is_empty() { "" } else { " " };
+        write!(came, "{space}{byte:02x}*{count}")?;
+        return Ok(());
+    }
+    for _ in 0..count {
+        let space = if came.is_empty() { "" } else { " " };
+        write!(came, "{space}{byte:02x}")?;
+    }
+    Ok(())
 }
 
 /// Bytes in hexadecimal, with spaces between them; `HH*N` stands for eight and more of the same.
 pub fn tell_bytes(came: &mut String, bytes: &[u8]) -> Result<(), Bad> {
-    let mut rest = bytes;
-    while let Some(first) = rest.first() {
-        if rest.len() < bytes.len() {
-            came.push_str(" ")?;
+    let mut last = 0;
+    let mut count = 0_u64;
+    for byte in bytes {
+        if *byte != last {
+            tell_alike(came, last, count)?;
+            last = *byte;
+            count = 0;
         }
-        let count = alike(rest, *first);
-        let taken = if count < 8 { 1 } else { count };
-        write!(came, "{first:02x}")?;
-        if taken > 1 {
-            write!(came, "*{taken}")?;
-        }
-        rest = rest.get(taken..).unwrap_or(&[]);
+        count = count.wrapping_add(1);
     }
+    tell_alike(came, last, count)?;
     if bytes.is_empty() {
         came.push_str("none")?;
     }
