@@ -1,5 +1,11 @@
 //! A guest, of whose tasks the cases of a block are: its setup, its kernel once it was opened, whose case it is, where
-//! its calls stand, and what the console had.
+//! its calls stand, and what the console had. Beside what other files say a case may be:
+//!
+//! - `open`: what the opening came to, `ok`, `misfit TASK` or `ERROR of TASK`;
+//! - `as TASK` and `calls ADDRESS`: the cases behind are that task's, and calls are made by the ECALL there;
+//! - `goes`: what is ahead of the task is done; of one that was woken that is the end of its call;
+//! - `prints ADDRESS COUNT`: what a write of these bytes prints; `printed`: what the console has since it was set up;
+//! - `each COUNT FIRST STEP CALL`: the call so many times, with `@` for the number of each: how many reply that number.
 
 use crate::calls::{Asked, Came, call, go_on, read_call};
 use crate::entries::try_entry;

@@ -1,7 +1,7 @@
 //! Entries, and whether they fit.
 //!
-//! `run COUNT`, `end SIGNAL` and `sleep` of a task; and `try CALL REPLY` and `try CALL REPLY rise COUNT`, the entry of a
-//! call in which so many calls of the root failed.
+//! `run COUNT`, `end SIGNAL` and `sleep` of a task; and `try CALL REPLY` and `try CALL REPLY rise COUNT`, the entry of
+//! a call in which so many calls of the root failed.
 
 use crate::calls::{args_of, quiet, read_call, step};
 use crate::numbers::{small, value};

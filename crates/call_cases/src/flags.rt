@@ -1,6 +1,6 @@
 //! The names of flags and of places in the common guest's memory, by the manual pages.
 
-/// Places: the break's start, the first address behind the stack and behind the range that mappings find, and the image.
+/// Places: the break's start, the first addresses behind the stack and behind the range that mappings find, the image.
 fn place_of(text: &str) -> Option<u64> {
     match text {
         "HEAP" => Some(69_632),

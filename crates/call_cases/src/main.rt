@@ -1,8 +1,9 @@
 //! The program `call_cases`: guests that call, over the plain kernel, as the files say that its words name.
 //!
 //! A block of a file begins with the opening of a guest (`setup.rt`): of the common guest, whose words are instructions
-//! that take an address in a0 and a value in a1 and give one in a2 and an ECALL behind them, where no line says another.
-//! Then each line is a case of the task that is said last by `as TASK`, or of the one that stands before it as `TASK: `:
+//! that take an address in a0 and a value in a1 and give one in a2, with an ECALL behind them, where no line says
+//! another. Then each line is a case of the task that is said last by `as TASK`, or of the one that stands before it,
+//! as `TASK: `:
 //!
 //! - `mmap(0, 4096, PROT_READ, MAP_PRIVATE|MAP_ANONYMOUS, -1, 0)` is a call: what it replies, or `waits`, or `sleeps`.
 //!   Arguments that it has not are ones. One that is refused and maps or unmaps a page says so;

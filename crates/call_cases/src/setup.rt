@@ -6,8 +6,8 @@
 //! - `mounts NAME ..` are the mounts in their order, `/` among them, which has the guest; `roots COUNT` of the record;
 //! - `seed HEX ..` is the seed;
 //! - `task ARGUMENT` is the next task, and `strings N LENGTH N LENGTH` one with so many arguments and strings of its
-//!   environment; `env LENGTH` is a string of the last one's environment; `draws DIRECTORY NAME NUMBER` and `rise COUNT`
-//!   are what its opening drew and met. Where no line says a task, it is `/init`, which draws the number 2.
+//!   environment; `env LENGTH` is a string of the last one's environment; `draws DIRECTORY NAME NUMBER` and `rise
+//!   COUNT` are what its opening drew and met. Where no line says a task, it is `/init`, which draws the number 2.
 
 use crate::numbers::value;
 use kernel_model::{Fresh, Given, OpenedTask, Rise};

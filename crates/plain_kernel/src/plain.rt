@@ -89,8 +89,8 @@ impl Plain {
         Ok(fits)
     }
 
-    /// What a task has ahead of it: that it runs, that a signal ends its group, or what the call comes to that it is at:
-    /// the reply with which an entry of it fits, or that it sleeps, or waits. The kernel stays as it is.
+    /// What a task has ahead of it: that it runs, that a signal ends its group, or what the call comes to that it is
+    /// at: the reply with which an entry of it fits, or that it sleeps, or waits. The kernel stays as it is.
     pub fn ahead(&mut self, alloc: Global, task: u32) -> Result<Ahead, Memory>
         requires { self.old.kernel.entries < MOST_ENTRIES }
         ensures told { IfOk result (λ a.
