@@ -1,0 +1,5 @@
+//! The tests, by what they are of.
+
+mod containers;
+mod edges;
+mod named;
