@@ -16,8 +16,6 @@
 #![tactic(auto)]
 
 mod read;
-#[cfg(test)]
-mod tests;
 mod write;
 
 pub use read::{u8_at, u16_at, u32_at, u64_at};

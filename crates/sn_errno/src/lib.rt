@@ -21,8 +21,6 @@
 mod calls;
 mod errno;
 mod reply;
-#[cfg(test)]
-mod tests;
 
 pub use calls::CallNo;
 pub use errno::Errno;

@@ -23,8 +23,6 @@ mod name;
 mod path;
 mod pieces;
 mod route;
-#[cfg(test)]
-mod tests;
 mod text;
 
 pub use fault::{NAME_MAX, NameFault, name_fault};

@@ -22,8 +22,6 @@
 mod image;
 pub mod images;
 pub mod programs;
-#[cfg(test)]
-mod tests;
 pub mod words;
 
 pub use image::image_of;
