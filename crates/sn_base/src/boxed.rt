@@ -40,16 +40,3 @@ impl<T: Drop> Boxed<T> {
         Ok(Boxed { inner })
     }
 }
-
-#[cfg(test)]
-mod tests {
-    use super::*;
-    use std::test::Fail;
-
-    #[test]
-    fn a_boxed_value_is_the_value(rt: HostRuntime) -> Result<(), Fail> {
-        let boxed = Boxed::new(rt.alloc(), [7_u8, 9])?;
-        assert_eq!(rt; boxed.into_inner(), [7, 9]);
-        Ok(())
-    }
-}

@@ -155,38 +155,3 @@ impl<T: Copy> List<T> {
         Ok(())
     }
 }
-
-#[cfg(test)]
-mod tests {
-    use super::*;
-    use std::test::Fail;
-
-    #[test]
-    fn a_list_keeps_its_items_in_order(rt: HostRuntime) -> Result<(), Fail> {
-        let mut list = List::from_slice(rt.alloc(), &[1, 2])?;
-        let first = add_three_and_set_first(&mut list)?;
-        assert!(rt; first == 9 && list.as_slice() == [9, 2, 3, 4, 5].as_slice());
-        assert_eq!(rt; list.pop(), Some(5));
-        list.truncate(2);
-        let left = (list.len(), list.get(1).copied(), list.get(2).copied());
-        assert_eq!(rt; left, (2, Some(2), None));
-        Ok(())
-    }
-
-    fn add_three_and_set_first(list: &mut List<i32>) -> Result<i32, Memory> {
-        list.push(3)?;
-        list.extend_from_slice(&[4, 5])?;
-        list.set(0, 9);
-        Ok(*list.at(0))
-    }
-
-    #[test]
-    fn a_list_is_made_of_a_vector_and_gives_it_back(rt: HostRuntime) -> Result<(), Fail> {
-        let mut list = List::with_capacity(rt.alloc(), 2)?;
-        assert!(rt; list.is_empty());
-        list.push(vec![in rt.alloc(); 7]?)?;
-        let back = List::from_vec(list.into_vec());
-        assert_eq!(rt; back.len(), 1);
-        Ok(())
-    }
-}

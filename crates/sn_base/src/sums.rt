@@ -9,14 +9,3 @@ pub fn capped_add(a: u64, b: u64) -> u64
 {
     a.saturating_add(b)
 }
-
-#[cfg(test)]
-mod tests {
-    use super::*;
-
-    #[test]
-    fn a_sum_stops_at_the_greatest_count(rt: HostRuntime) {
-        assert_eq!(rt; capped_add(2, 3), 5);
-        assert_eq!(rt; capped_add(u64::MAX, 3), u64::MAX);
-    }
-}
