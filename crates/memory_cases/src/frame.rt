@@ -69,7 +69,7 @@ fn look(frame: &Frame, verb: &str, words: &mut Words<'_>) -> Option<Answer> {
         "byte" => Some(of_byte(frame.byte(words.count()?))),
         "number" => number(frame, words),
         "word" => Some(of_number(frame.word(words.count()?).map(u64::from))),
-        "row" => Some(of_count(frame.row().map(|row| row.len()))),
+        "row_len" => Some(of_count(frame.row().map(|row| row.len()))),
         "decoded" => decoded(frame, words),
         _ => None,
     }

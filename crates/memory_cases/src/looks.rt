@@ -1,6 +1,8 @@
 //! What is seen of areas, and of the areas of an address space.
 
-use crate::answers::{Answer, of_byte, of_count, of_number, of_rights, of_shared, of_word};
+use crate::answers::{
+    Answer, of_byte, of_count, of_mapping, of_number, of_rights, of_shared, of_word,
+};
 use crate::words::Words;
 use mm_areas::{Areas, Content, Rights, SharedPage};
 
@@ -28,7 +30,7 @@ fn content(areas: &Areas, page: u64) -> Option<SharedPage> {
 fn place_of(areas: &Areas, words: &mut Words<'_>) -> Option<Answer> {
     let at = words.asked()?;
     let length = words.number()?;
-    Some(crate::answers::of_mapping(areas.place_of(at, length)))
+    Some(of_mapping(areas.place_of(at, length)))
 }
 
 fn byte(areas: &Areas, words: &mut Words<'_>) -> Option<Answer> {
@@ -91,7 +93,7 @@ fn look_into(areas: &Areas, verb: &str, words: &mut Words<'_>) -> Option<Answer>
         "has_room_near" => has_room_near(areas, words),
         "hint" => Some(Answer::Count(areas.hint(words.number()?) as u64)),
         "hint_from" => hint_from(areas, words),
-        "row" => Some(of_count(areas.row(words.number()?).map(|row| row.len()))),
+        "row_len" => Some(of_count(areas.row(words.number()?).map(|row| row.len()))),
         "decoded" => decoded(areas, words),
         _ => None,
     }

@@ -1,6 +1,6 @@
 //! Lines that speak to frames, to the pages of shared areas, and to areas.
 
-use crate::answers::{Answer, tell};
+use crate::answers::{Answer, tell, tell_bytes};
 use crate::areas::{do_areas, do_areas_run};
 use crate::block::Block;
 use crate::frame::{do_frame, do_frame_run};
@@ -114,7 +114,7 @@ fn tell_slice(bytes: Option<&[u8]>, words: &mut Words<'_>, came: &mut String) ->
         return tell_some(came, Some(Answer::Word("none")));
     };
     match bytes.get(from..) {
-        Some(tail) => crate::answers::tell_bytes(came, tail)?,
+        Some(tail) => tell_bytes(came, tail)?,
         None => came.push_str("none")?,
     }
     Ok(true)
