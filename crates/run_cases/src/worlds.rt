@@ -124,20 +124,14 @@ pub fn world_of(alloc: Global, setup: &Setup) -> Result<PlacedWorld<World>, Bad>
     Ok(PlacedWorld { alloc, inner })
 }
 
-fn put_below(alloc: Global, root: &mut Tree, nodes: &[Node]) -> Result<(), Bad> {
-    for node in nodes {
-        let tree = tree_of(alloc, node)?;
-        root.put(name(alloc, node.name.as_str())?, tree)?;
-    }
-    Ok(())
-}
-
 /// The folders that a run is granted.
 pub fn trees_of(alloc: Global, root: &Root) -> Result<List<Tree>, Bad> {
-    let mut tree = Tree::directory(alloc, 0o755);
-    put_below(alloc, &mut tree, root.nodes.as_slice())?;
+    let host = host_of(alloc, root)?;
+    let place = place_of(alloc, "root")?;
     let mut trees = List::new(alloc);
-    trees.push(tree)?;
+    if let Some(tree) = host.look(&place) {
+        trees.push(tree.copy(alloc)?)?;
+    }
     Ok(trees)
 }
 
