@@ -1,6 +1,6 @@
 //! Parts of a run's record, as text: its entries, and what its opening drew and met.
 
-use crate::prints::print_bytes;
+use crate::prints::{print_bytes, separate};
 use kernel_model::{Entry, Fresh, OpenedTask, Opening};
 use std::alloc::AllocError;
 
@@ -33,7 +33,8 @@ pub fn print_entries(text: &mut String, entries: &[Entry]) -> Result<(), AllocEr
 /// The tasks of entries.
 pub fn print_turns(text: &mut String, trace: &[Entry]) -> Result<(), AllocError> {
     for entry in trace {
-        write!(text, " {}", entry.task())?;
+        separate(text)?;
+        write!(text, "{}", entry.task())?;
     }
     Ok(())
 }
@@ -41,18 +42,21 @@ pub fn print_turns(text: &mut String, trace: &[Entry]) -> Result<(), AllocError>
 /// The inode numbers that an opening gave: of the roots, and those that its tasks drew.
 pub fn print_numbers(text: &mut String, opening: &Opening) -> Result<(), AllocError> {
     for root in opening.roots.as_slice() {
-        write!(text, " {root}")?;
+        separate(text)?;
+        write!(text, "{root}")?;
     }
     for opened in opening.tasks.as_slice() {
         for fresh in opened.given.fresh.as_slice() {
-            write!(text, " {}", fresh.ino)?;
+            separate(text)?;
+            write!(text, "{}", fresh.ino)?;
         }
     }
     Ok(())
 }
 
 fn print_fresh(text: &mut String, fresh: &Fresh) -> Result<(), AllocError> {
-    write!(text, " {}:", fresh.dir)?;
+    separate(text)?;
+    write!(text, "{}:", fresh.dir)?;
     print_bytes(text, fresh.name.as_bytes())?;
     write!(text, "={}", fresh.ino)
 }
@@ -79,7 +83,8 @@ pub fn print_rises(text: &mut String, opened: &OpenedTask) -> Result<(), AllocEr
         return text.push_str("nothing");
     }
     for rise in opened.given.rises.as_slice() {
-        write!(text, " {}:{}", rise.ino, rise.count)?;
+        separate(text)?;
+        write!(text, "{}:{}", rise.ino, rise.count)?;
     }
     Ok(())
 }

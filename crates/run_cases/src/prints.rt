@@ -2,6 +2,14 @@
 
 use std::alloc::AllocError;
 
+/// A space behind what stands there, if anything does.
+pub fn separate(text: &mut String) -> Result<(), AllocError> {
+    if text.is_empty() {
+        return Ok(());
+    }
+    text.push(' ')
+}
+
 /// Bytes: those that print as they are, but for the backslash, a newline as `\n`, and the others as `\xNN`.
 pub fn print_bytes(text: &mut String, bytes: &[u8]) -> Result<(), AllocError> {
     for byte in bytes {

@@ -4,6 +4,7 @@ ghost use Rattle.std.specs.Prelude.{◌≡◌, false, IfOk};
 ghost use Rattle.host_node.specs.Tree.{is_lent};
 
 use crate::placed::PlacedNode;
+use crate::prints::separate;
 use crate::worlds::name;
 use host_memory::{MemoryNode, Plan};
 use host_node::{HostErr, HostNode, Listing, Tree};
@@ -35,10 +36,11 @@ fn node_at(alloc: Global, tree: Tree, place: &Route) -> Result<PlacedNode<Memory
 }
 
 fn add_answer(text: &mut String, answer: Result<(), HostErr>) -> Result<(), Bad> {
+    separate(text)?;
     match answer {
-        Ok(()) => text.push_str(" ok")?,
-        Err(HostErr::Memory) => text.push_str(" memory")?,
-        Err(HostErr::Failed) => text.push_str(" failed")?,
+        Ok(()) => text.push_str("ok")?,
+        Err(HostErr::Memory) => text.push_str("memory")?,
+        Err(HostErr::Failed) => text.push_str("failed")?,
     }
     Ok(())
 }
