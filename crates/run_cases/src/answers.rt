@@ -134,8 +134,8 @@ fn print_left(text: &mut String, told: &Told) -> Result<(), Bad> {
 /// - `entries`, `turns`, `trace FROM TO`: how many entries there are, their tasks, and some of them. `left`: what has
 ///   none.
 /// - `replay`: whether a plain kernel comes to the same.
-/// - `source faults`, `host faults`, `faults`, `faults NAME`: how many calls failed of the source, of the host, of all nodes
-///   and of one. `folder is as it was`: but for these.
+/// - `source faults`, `host faults`, `faults`, `faults NAME`: how many calls failed of the source, of the host, of all
+///   nodes and of one. `folder is as it was`: but for these.
 pub fn answer(
     rt: &HostRuntime,
     told: &Told,

@@ -6,14 +6,13 @@
 //! `setup.rt` (words, and what is to fail), `mounts.rt` (the mount file) and `folder.rt` (what stands in the folder). A
 //! guest is a file of `guests/`, a line an instruction: eight digits, and what an assembler calls it.
 //!
-//! The other lines ask what the run came to (`answers.rt`): it is done at the first of them. A line that begins with `|`
-//! is the next line of its text, with a backslash behind one that no newline ends; `end` is whether that was the last.
-//!
-//! `again` begins another run over the same folder.
+//! The other lines ask what the run came to (`answers.rt`): it is done at the first of them. A line that begins with
+//! `|` is the next line of its text, with a backslash behind one that no newline ends; `end` is whether that was the
+//! last. `again` begins another run over the same folder.
 //!
 //! Each call that a run makes of its host has to name the place of its node, and to open nothing for writing: else the
-//! host has no memory (`placed.rt`). Lines that ask of such a node, of the words of a command, of a cause or of a state's
-//! text go without a run (`reach.rt`, `causes.rt`, `states.rt`).
+//! host has no memory (`placed.rt`). Lines that ask of such a node, of the words of a command, of a cause or of a
+//! state's text go without a run (`reach.rt`, `causes.rt`, `states.rt`).
 //!
 //! Proved: that `run_sentry` and what stands around it are called as they require, and that no function stops. What a
 //! run comes to is proved of `run_sentry`.

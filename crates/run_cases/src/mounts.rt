@@ -60,8 +60,8 @@ impl MountFile {
     /// Does a line; whether it is one of the mount file:
     ///
     /// - `entries N`, `seed DIGITS`;
-    /// - `task /PATH`: one more task; `tasks N`: so many of `/init`; `strings N`: the last has so many strings `a` in its
-    ///   environment;
+    /// - `task /PATH`: one more task; `tasks N`: so many of `/init`; `strings N`: the last has so many strings `a` in
+    ///   its environment;
     /// - `mounts LINE`, `mounts_bytes BYTE ..`, `mounts_spaces N`: the file is these lines, bytes, spaces alone.
     pub fn set(&mut self, verb: &str, rest: &str) -> Result<bool, Bad> {
         match verb {

@@ -73,8 +73,8 @@ fn add_open(
     add_answer(text, node.open(route, write))
 }
 
-/// What a node at a place answers by a route, `PLACE ROUTE`: an empty directory to `stat`, `list` and `lend`, and a file
-/// to an open for reading and to one for writing.
+/// What a node at a place answers by a route, `PLACE ROUTE`: an empty directory to `stat`, `list` and `lend`, and a
+/// file to an open for reading and to one for writing.
 pub fn print_reach(alloc: Global, text: &mut String, line: &str) -> Result<(), Bad> {
     let (place, route) = parted(line);
     let place = route_of(alloc, place)?;

@@ -3,8 +3,8 @@
 //! A caller sees nothing: this crate has tests alone, of calls that `call_table`, `proc_cells` and `image_walk` give
 //! others. What a run tells of its turns and its openings stands in `run_cases`.
 //!
-//! Tried: the kernel that is left of no tasks, and their turns; how an opening task stands in the cells; the descriptors
-//! of a process, of a thread, and of a group that ends; what is on its way in a pipe of two processes, and who has its
+//! Tried: the kernel that is left of no tasks, and their turns; how an opening task stands in the cells; the
+//! descriptors of a process, of a thread, and of a group that ends; what is on its way in a pipe of two processes, and who has its
 //! ends; what was stored in a shared area, by the area's name; and opening execves over a folder whose root has another
 //! number than 1, with strings of the greatest length, and of one that is longer.
 //!

@@ -9,8 +9,8 @@ use std::alloc::Global;
 use std::process::Abort;
 use std::test::Fail;
 
-/// Has processes make at most so many entries. What comes out says nothing of how it came to be, so that no test's proof
-/// has the contract of turns before it.
+/// Has processes make at most so many entries. What comes out says nothing of how it came to be, so that no test's
+/// proof has the contract of turns before it.
 pub fn run(alloc: Global, processes: Processes, entries: u64) -> EndedTurns {
     run_turns(alloc, processes, &SEED, entries)
 }
