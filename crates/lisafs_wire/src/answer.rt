@@ -1,0 +1,97 @@
+//! What a server answers.
+
+ghost use Rattle.std.specs.Prelude.{◌≡◌};
+ghost use Rattle.lisafs_wire.specs.Messages.{end_number};
+
+use crate::attr::{FileAttr, FileKind};
+use crate::fd::Fd;
+use sn_base::List;
+use sn_text::Name;
+
+/// How a walk ended: all names were found, a name is missing, or a symbolic link was met, which is the last node.
+#[derive(Clone, Copy, Debug, PartialEq, Eq)]
+pub enum WalkEnd {
+    All,
+    Missing,
+    Link,
+}
+
+impl WalkEnd {
+    /// The number that stands for it.
+    pub fn number(&self) -> u8
+        ensures { result ≡ end_number self.now }
+    {
+        match self {
+            WalkEnd::All => 0,
+            WalkEnd::Missing => 1,
+            WalkEnd::Link => 2,
+        }
+    }
+}
+
+/// A node that a walk found: its control FD, and what is known of it.
+#[derive(Clone, Copy, Debug, PartialEq, Eq)]
+pub struct WalkedNode {
+    pub fd: Fd,
+    pub attr: FileAttr,
+}
+
+/// A name of a directory, and the kind of what it names.
+#[derive(Drop)]
+pub struct ListedName {
+    pub kind: FileKind,
+    pub name: Name,
+}
+
+/// An answer of a server: an error, by its errno, or that to the request of the same name.
+#[derive(Drop)]
+pub enum Answer<'a> {
+    Error {
+        errno: u32,
+    },
+    Mount {
+        version: u32,
+        fd: Fd,
+        attr: FileAttr,
+    },
+    FStat {
+        attr: FileAttr,
+    },
+    SetStat,
+    Walk {
+        end: WalkEnd,
+        nodes: List<WalkedNode>,
+    },
+    OpenAt {
+        fd: Fd,
+    },
+    OpenCreateAt {
+        fd: Fd,
+        opened: Fd,
+        attr: FileAttr,
+    },
+    Close,
+    PRead {
+        bytes: &'a [u8],
+    },
+    PWrite {
+        count: u32,
+    },
+    MkdirAt {
+        fd: Fd,
+        attr: FileAttr,
+    },
+    SymlinkAt {
+        fd: Fd,
+        attr: FileAttr,
+    },
+    ReadLinkAt {
+        text: &'a [u8],
+    },
+    UnlinkAt,
+    RenameAt,
+    Getdents64 {
+        is_last: bool,
+        names: List<ListedName>,
+    },
+}
