@@ -6,7 +6,7 @@ use Rattle.std.proofs.lemmas.List.{length-append}
 use Rattle.std.proofs.Math.Nat.{suc-mul}
 use Rattle.sn_bytes.specs.Fields.{little_bytes}
 use Rattle.lisafs_wire.specs.Fields.{Field, Number, Name, Data, Value, Num, Bytes, IsValueOf, spelled}
-use Rattle.lisafs_wire.specs.Grammar.{Groups, Without, Counted, Layout, layout_of, requests, answers}
+use Rattle.lisafs_wire.specs.Grammar.{Groups, Without, Counted, Layout, layout_of, request_table, answer_table}
 use Rattle.lisafs_wire.specs.Spelling.{Message, AreValuesOf, AreGroupsOf, FitBehind, IsLaidOut, IsMessageOf, spelled_all, spelled_groups, spelled_behind, body_of}
 use Rattle.lisafs_wire.proofs.Numbers.{length-little_bytes}
 use Rattle.lisafs_wire.proofs.Values.{name_size}
@@ -114,8 +114,8 @@ is_sound table fits = record {
   size = λ message h. (laid_out_size (layout_of table message.number) message (λ layout. row_of table message.number layout fits) h).1;
 }
 
-pub requests_sound : IsSound requests
-requests_sound = is_sound requests refl
+pub requests_sound : IsSound request_table
+requests_sound = is_sound request_table refl
 
-pub answers_sound : IsSound answers
-answers_sound = is_sound answers refl
+pub answers_sound : IsSound answer_table
+answers_sound = is_sound answer_table refl

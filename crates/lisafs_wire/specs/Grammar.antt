@@ -1,6 +1,7 @@
 -- The grammar: for each number the fields of the request, and of the answer to it.
 use Rattle.std.specs.Prelude.{ℕ, ◌==◌, ◌||◌, ◌&&◌, nat_le, Bool, true, List, [], ◌∷◌, Option, Some, None}
 use Rattle.std.specs.Prelude.{if◌then◌else◌}
+use Rattle.lisafs_wire.specs.declared.limits.TheConstants.{ALL_MODE_BITS, MOST_DATA, MOST_NAMES}
 use Rattle.lisafs_wire.specs.Fields.{Field, Number, Name, Data}
 
 -- what may stand behind the fields of a message: nothing, or a count in two bytes, which has to pass a test, and so
@@ -47,12 +48,12 @@ access = up_to 4 2
 -- permission bits
 -- chmod(2): 0777 is 511
 abbrev pub mode : Field
-mode = up_to 4 511
+mode = up_to 4 ALL_MODE_BITS
 
 -- how many bytes are read at once
 -- read(2); at most 65,536: profile
 abbrev pub byte_count : Field
-byte_count = up_to 4 65536
+byte_count = up_to 4 MOST_DATA
 
 -- what may be removed: no directory, or a directory alone
 -- unlinkat(2): AT_REMOVEDIR is 512
@@ -67,7 +68,7 @@ kind = Number 1 (λ n. n == 4 || (n == 8) || (n == 10))
 -- data of at most 65,536 bytes
 -- profile
 abbrev pub bulk : Field
-bulk = Data 65536
+bulk = Data MOST_DATA
 
 -- what is known of a node: its kind, its permission bits and its size
 -- gVisor package lisafs, Inode; stat(2)
@@ -84,12 +85,12 @@ counted fields is_allowed group = record { fields = fields; groups = Counted is_
 
 -- the requests, by their numbers
 -- gVisor package lisafs; numbers, widths and limits: profile
-abbrev pub requests : List (ℕ × Layout)
-requests =
+abbrev pub request_table : List (ℕ × Layout)
+request_table =
     (1, only (word ∷ []))
     ∷ (2, only (fd ∷ []))
     ∷ (3, only (fd ∷ double_word ∷ []))
-    ∷ (4, counted (fd ∷ []) (λ n. nat_le 1 n && nat_le n 8) (Name ∷ []))
+    ∷ (4, counted (fd ∷ []) (λ n. nat_le 1 n && nat_le n MOST_NAMES) (Name ∷ []))
     ∷ (5, only (fd ∷ access ∷ []))
     ∷ (6, only (fd ∷ mode ∷ access ∷ Name ∷ []))
     ∷ (7, only (fd ∷ []))
@@ -105,8 +106,8 @@ requests =
 
 -- the answers, by their numbers: that of its request and 32,768, and 32,768 alone for an error
 -- gVisor package lisafs; numbers, widths and limits: profile
-abbrev pub answers : List (ℕ × Layout)
-answers =
+abbrev pub answer_table : List (ℕ × Layout)
+answer_table =
     (32768, only (word ∷ []))
     ∷ (32769, only (word ∷ fd ∷ attr))
     ∷ (32770, only attr)

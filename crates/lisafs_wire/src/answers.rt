@@ -2,7 +2,7 @@
 
 ghost use Rattle.std.specs.Prelude.{◌≡◌, map, [], ◌∷◌};
 ghost use Rattle.lisafs_wire.specs.Fields.{Name as NameField};
-ghost use Rattle.lisafs_wire.specs.Grammar.{answers, attr, fd, kind};
+ghost use Rattle.lisafs_wire.specs.Grammar.{answer_table, attr, fd, kind};
 ghost use Rattle.lisafs_wire.specs.Messages.{answered, listed_group, node_group};
 ghost use Rattle.lisafs_wire.specs.Reading.{Gives, groups_at, numbered_at, values_at};
 
@@ -15,14 +15,14 @@ use sn_base::List;
 use std::alloc::Global;
 
 fn error(bytes: &[u8]) -> Result<(Answer<'_>, &[u8]), WireFault>
-    ensures { Gives (λ x. (answered x.0, x.1.now)) result (numbered_at answers 32768 bytes.now) }
+    ensures { Gives (λ x. (answered x.0, x.1.now)) result (numbered_at answer_table 32768 bytes.now) }
 {
     let (errno, rest) = word_at(bytes)?;
     Ok((Answer::Error { errno }, rest))
 }
 
 fn mount(bytes: &[u8]) -> Result<(Answer<'_>, &[u8]), WireFault>
-    ensures { Gives (λ x. (answered x.0, x.1.now)) result (numbered_at answers 32769 bytes.now) }
+    ensures { Gives (λ x. (answered x.0, x.1.now)) result (numbered_at answer_table 32769 bytes.now) }
 {
     let (version, rest) = word_at(bytes)?;
     let (fd, rest) = fd_at(rest)?;
@@ -31,21 +31,21 @@ fn mount(bytes: &[u8]) -> Result<(Answer<'_>, &[u8]), WireFault>
 }
 
 fn f_stat(bytes: &[u8]) -> Result<(Answer<'_>, &[u8]), WireFault>
-    ensures { Gives (λ x. (answered x.0, x.1.now)) result (numbered_at answers 32770 bytes.now) }
+    ensures { Gives (λ x. (answered x.0, x.1.now)) result (numbered_at answer_table 32770 bytes.now) }
 {
     let (attr, rest) = attr_at(bytes)?;
     Ok((Answer::FStat { attr }, rest))
 }
 
 fn open_at(bytes: &[u8]) -> Result<(Answer<'_>, &[u8]), WireFault>
-    ensures { Gives (λ x. (answered x.0, x.1.now)) result (numbered_at answers 32773 bytes.now) }
+    ensures { Gives (λ x. (answered x.0, x.1.now)) result (numbered_at answer_table 32773 bytes.now) }
 {
     let (fd, rest) = fd_at(bytes)?;
     Ok((Answer::OpenAt { fd }, rest))
 }
 
 fn open_create_at(bytes: &[u8]) -> Result<(Answer<'_>, &[u8]), WireFault>
-    ensures { Gives (λ x. (answered x.0, x.1.now)) result (numbered_at answers 32774 bytes.now) }
+    ensures { Gives (λ x. (answered x.0, x.1.now)) result (numbered_at answer_table 32774 bytes.now) }
 {
     let (fd, rest) = fd_at(bytes)?;
     let (opened, rest) = fd_at(rest)?;
@@ -54,21 +54,21 @@ fn open_create_at(bytes: &[u8]) -> Result<(Answer<'_>, &[u8]), WireFault>
 }
 
 fn p_read(bytes: &[u8]) -> Result<(Answer<'_>, &[u8]), WireFault>
-    ensures { Gives (λ x. (answered x.0, x.1.now)) result (numbered_at answers 32777 bytes.now) }
+    ensures { Gives (λ x. (answered x.0, x.1.now)) result (numbered_at answer_table 32777 bytes.now) }
 {
     let (read, rest) = data_at(bytes)?;
     Ok((Answer::PRead { bytes: read }, rest))
 }
 
 fn p_write(bytes: &[u8]) -> Result<(Answer<'_>, &[u8]), WireFault>
-    ensures { Gives (λ x. (answered x.0, x.1.now)) result (numbered_at answers 32778 bytes.now) }
+    ensures { Gives (λ x. (answered x.0, x.1.now)) result (numbered_at answer_table 32778 bytes.now) }
 {
     let (count, rest) = word_at(bytes)?;
     Ok((Answer::PWrite { count }, rest))
 }
 
 fn mkdir_at(bytes: &[u8]) -> Result<(Answer<'_>, &[u8]), WireFault>
-    ensures { Gives (λ x. (answered x.0, x.1.now)) result (numbered_at answers 32779 bytes.now) }
+    ensures { Gives (λ x. (answered x.0, x.1.now)) result (numbered_at answer_table 32779 bytes.now) }
 {
     let (fd, rest) = fd_at(bytes)?;
     let (attr, rest) = attr_at(rest)?;
@@ -76,7 +76,7 @@ fn mkdir_at(bytes: &[u8]) -> Result<(Answer<'_>, &[u8]), WireFault>
 }
 
 fn symlink_at(bytes: &[u8]) -> Result<(Answer<'_>, &[u8]), WireFault>
-    ensures { Gives (λ x. (answered x.0, x.1.now)) result (numbered_at answers 32780 bytes.now) }
+    ensures { Gives (λ x. (answered x.0, x.1.now)) result (numbered_at answer_table 32780 bytes.now) }
 {
     let (fd, rest) = fd_at(bytes)?;
     let (attr, rest) = attr_at(rest)?;
@@ -84,7 +84,7 @@ fn symlink_at(bytes: &[u8]) -> Result<(Answer<'_>, &[u8]), WireFault>
 }
 
 fn read_link_at(bytes: &[u8]) -> Result<(Answer<'_>, &[u8]), WireFault>
-    ensures { Gives (λ x. (answered x.0, x.1.now)) result (numbered_at answers 32781 bytes.now) }
+    ensures { Gives (λ x. (answered x.0, x.1.now)) result (numbered_at answer_table 32781 bytes.now) }
 {
     let (text, rest) = data_at(bytes)?;
     Ok((Answer::ReadLinkAt { text }, rest))
@@ -113,7 +113,7 @@ fn nodes_of(alloc: Global, count: u16, bytes: &[u8]) -> Result<(List<WalkedNode>
 }
 
 fn walk(alloc: Global, bytes: &[u8]) -> Result<(Answer<'_>, &[u8]), WireFault>
-    ensures { Gives (λ x. (answered x.0, x.1.now)) result (numbered_at answers 32772 bytes.now) }
+    ensures { Gives (λ x. (answered x.0, x.1.now)) result (numbered_at answer_table 32772 bytes.now) }
 {
     let (end, rest) = end_at(bytes)?;
     let (count, rest) = number_2(rest)?;
@@ -148,7 +148,7 @@ fn listed_of(
 }
 
 fn getdents64(alloc: Global, bytes: &[u8]) -> Result<(Answer<'_>, &[u8]), WireFault>
-    ensures { Gives (λ x. (answered x.0, x.1.now)) result (numbered_at answers 32784 bytes.now) }
+    ensures { Gives (λ x. (answered x.0, x.1.now)) result (numbered_at answer_table 32784 bytes.now) }
 {
     let (is_last, rest) = last_at(bytes)?;
     let (count, rest) = number_2(rest)?;
@@ -162,7 +162,7 @@ pub(crate) fn answer_at(
     number: u16,
     bytes: &[u8],
 ) -> Result<(Answer<'_>, &[u8]), WireFault>
-    ensures { Gives (λ x. (answered x.0, x.1.now)) result (numbered_at answers number bytes.now) }
+    ensures { Gives (λ x. (answered x.0, x.1.now)) result (numbered_at answer_table number bytes.now) }
 {
     match number {
         32768 => error(bytes),

@@ -1,7 +1,7 @@
 //! Messages read from all of some bytes.
 
 ghost use Rattle.std.specs.Prelude.{◌≡◌, ℕ, [], ◌++◌, IfOk, List, Ok};
-ghost use Rattle.lisafs_wire.specs.Grammar.{answers, requests};
+ghost use Rattle.lisafs_wire.specs.Grammar.{answer_table, request_table};
 ghost use Rattle.lisafs_wire.specs.Messages.{answered, asked};
 ghost use Rattle.lisafs_wire.specs.Reading.{Gives, message_at};
 ghost use Rattle.lisafs_wire.specs.Spelling.{IsMessageOf, Message, spelling};
@@ -16,7 +16,7 @@ use std::alloc::Global;
 
 #[tactic(auto, unfolding(crate::specs::Reading::message_at))]
 fn request_of(alloc: Global, bytes: &[u8]) -> Result<Request<'_>, WireFault>
-    ensures { Gives asked result (message_at requests bytes.now) }
+    ensures { Gives asked result (message_at request_table bytes.now) }
 {
     let header = request_header(bytes)?;
     let (request, rest) = request_at(alloc, header.number, header.body)?;
@@ -28,7 +28,7 @@ fn request_of(alloc: Global, bytes: &[u8]) -> Result<Request<'_>, WireFault>
 
 #[tactic(auto, unfolding(crate::specs::Reading::message_at))]
 fn answer_of(alloc: Global, bytes: &[u8]) -> Result<Answer<'_>, WireFault>
-    ensures { Gives answered result (message_at answers bytes.now) }
+    ensures { Gives answered result (message_at answer_table bytes.now) }
 {
     let header = answer_header(bytes)?;
     let (answer, rest) = answer_at(alloc, header.number, header.body)?;
@@ -42,12 +42,12 @@ fn answer_of(alloc: Global, bytes: &[u8]) -> Result<Answer<'_>, WireFault>
 pub fn decode(alloc: Global, bytes: &[u8]) -> Result<Request<'_>, WireFault>
     // What is read is spelled so.
     ensures found { IfOk result (λ r.
-        IsMessageOf requests (asked r) × (bytes.now ≡ spelling requests (asked r))) }
+        IsMessageOf request_table (asked r) × (bytes.now ≡ spelling request_table (asked r))) }
     // What is spelled so is read, unless memory runs out.
-    ensures only { (m : Message) → IsMessageOf requests m → bytes.now ≡ spelling requests m
+    ensures only { (m : Message) → IsMessageOf request_table m → bytes.now ≡ spelling request_table m
         → Gives asked result (Ok m) }
     // Which fault it is.
-    ensures fault { Gives asked result (message_at requests bytes.now) }
+    ensures fault { Gives asked result (message_at request_table bytes.now) }
 {
     request_of(alloc, bytes)
 }
@@ -56,20 +56,20 @@ pub fn decode(alloc: Global, bytes: &[u8]) -> Result<Request<'_>, WireFault>
 pub fn decode_answer(alloc: Global, bytes: &[u8]) -> Result<Answer<'_>, WireFault>
     // What is read is spelled so.
     ensures found { IfOk result (λ r.
-        IsMessageOf answers (answered r) × (bytes.now ≡ spelling answers (answered r))) }
+        IsMessageOf answer_table (answered r) × (bytes.now ≡ spelling answer_table (answered r))) }
     // What is spelled so is read, unless memory runs out.
-    ensures only { (m : Message) → IsMessageOf answers m → bytes.now ≡ spelling answers m
+    ensures only { (m : Message) → IsMessageOf answer_table m → bytes.now ≡ spelling answer_table m
         → Gives answered result (Ok m) }
     // Which fault it is.
-    ensures fault { Gives answered result (message_at answers bytes.now) }
+    ensures fault { Gives answered result (message_at answer_table bytes.now) }
 {
     answer_of(alloc, bytes)
 }
 
 /// No spelling of a message begins that of another, and no two messages have one spelling.
 pub fn one_spelling()
-    ensures of_requests { (a b : Message) (more : List ℕ) → IsMessageOf requests a → IsMessageOf requests b
-        → spelling requests a ++ more ≡ spelling requests b → (a ≡ b) × (more ≡ []) }
-    ensures of_answers { (a b : Message) (more : List ℕ) → IsMessageOf answers a → IsMessageOf answers b
-        → spelling answers a ++ more ≡ spelling answers b → (a ≡ b) × (more ≡ []) }
+    ensures of_requests { (a b : Message) (more : List ℕ) → IsMessageOf request_table a → IsMessageOf request_table b
+        → spelling request_table a ++ more ≡ spelling request_table b → (a ≡ b) × (more ≡ []) }
+    ensures of_answers { (a b : Message) (more : List ℕ) → IsMessageOf answer_table a → IsMessageOf answer_table b
+        → spelling answer_table a ++ more ≡ spelling answer_table b → (a ≡ b) × (more ≡ []) }
 {}

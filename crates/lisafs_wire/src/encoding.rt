@@ -3,7 +3,7 @@
 ghost use Rattle.std.specs.Prelude.{◌≡◌, ◌<◌, ◌≤◌, ◌+◌, ◌-◌, ◌^◌, ◌∷◌, [], ◌++◌, length, map, take, drop, OnOk, OnErr};
 ghost use Rattle.sn_bytes.specs.Fields.{little_bytes};
 ghost use Rattle.lisafs_wire.specs.Fields.{Name as NameField};
-ghost use Rattle.lisafs_wire.specs.Grammar.{answers, attr, fd, kind, requests};
+ghost use Rattle.lisafs_wire.specs.Grammar.{answer_table, attr, fd, kind, request_table};
 ghost use Rattle.lisafs_wire.specs.Messages.{answered, asked, listed_group, name_group, node_group};
 ghost use Rattle.lisafs_wire.specs.Pieces.{DoAllFit, Grows, pieces_bytes, unsized};
 ghost use Rattle.lisafs_wire.specs.Spelling.{IsMessageOf, spelled_groups, spelling};
@@ -57,8 +57,8 @@ fn put_names(out: &mut List<u8>, names: &[Name]) -> Result<(), Memory>
 /// Puts a request whose length isn't there yet.
 #[tactic(auto, using(crate::proofs::Growth::grown, crate::proofs::Growth::grown_behind))]
 fn put_request(out: &mut List<u8>, request: &Request<'_>) -> Result<(), Memory>
-    requires { IsMessageOf requests (asked request.now) }
-    ensures ok { OnOk result (out.new ≡ out.old ++ unsized requests (asked request.now)) }
+    requires { IsMessageOf request_table (asked request.now) }
+    ensures ok { OnOk result (out.new ≡ out.old ++ unsized request_table (asked request.now)) }
     ensures err { OnErr result (Grows out.old out.new) }
 {
     match request {
@@ -217,8 +217,8 @@ fn put_listed(out: &mut List<u8>, names: &[ListedName]) -> Result<(), Memory>
 /// Puts an answer whose length isn't there yet.
 #[tactic(auto, using(crate::proofs::Growth::grown, crate::proofs::Growth::grown_behind))]
 fn put_answer(out: &mut List<u8>, answer: &Answer<'_>) -> Result<(), Memory>
-    requires { IsMessageOf answers (answered answer.now) }
-    ensures ok { OnOk result (out.new ≡ out.old ++ unsized answers (answered answer.now)) }
+    requires { IsMessageOf answer_table (answered answer.now) }
+    ensures ok { OnOk result (out.new ≡ out.old ++ unsized answer_table (answered answer.now)) }
     ensures err { OnErr result (Grows out.old out.new) }
 {
     match answer {
@@ -307,8 +307,8 @@ fn size(out: &mut List<u8>, before: usize)
 
 /// Adds the one spelling of a request at the end of bytes. An `Err` leaves them as they were.
 pub fn encode(out: &mut List<u8>, request: &Request<'_>) -> Result<(), Memory>
-    requires { IsMessageOf requests (asked request.now) }
-    ensures ok { OnOk result (out.new ≡ out.old ++ spelling requests (asked request.now)) }
+    requires { IsMessageOf request_table (asked request.now) }
+    ensures ok { OnOk result (out.new ≡ out.old ++ spelling request_table (asked request.now)) }
     ensures err { OnErr result (out.new ≡ out.old) }
 {
     let before = out.len();
@@ -322,8 +322,8 @@ pub fn encode(out: &mut List<u8>, request: &Request<'_>) -> Result<(), Memory>
 
 /// Adds the one spelling of an answer at the end of bytes. An `Err` leaves them as they were.
 pub fn encode_answer(out: &mut List<u8>, answer: &Answer<'_>) -> Result<(), Memory>
-    requires { IsMessageOf answers (answered answer.now) }
-    ensures ok { OnOk result (out.new ≡ out.old ++ spelling answers (answered answer.now)) }
+    requires { IsMessageOf answer_table (answered answer.now) }
+    ensures ok { OnOk result (out.new ≡ out.old ++ spelling answer_table (answered answer.now)) }
     ensures err { OnErr result (out.new ≡ out.old) }
 {
     let before = out.len();

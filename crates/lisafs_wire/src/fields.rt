@@ -12,6 +12,7 @@ use crate::answer::WalkEnd;
 use crate::attr::{FileAttr, FileKind};
 use crate::fault::WireFault;
 use crate::fd::Fd;
+use crate::limits::{ALL_MODE_BITS, MOST_DATA};
 use crate::request::{Access, Removal};
 use sn_bytes::{u8_at, u16_at, u32_at, u64_at};
 use sn_text::{Name, NameFault, name_of};
@@ -106,7 +107,7 @@ pub(crate) fn data_at(bytes: &[u8]) -> Result<(&[u8], &[u8]), WireFault>
     ensures { Gives (λ x. (Bytes x.0.now, x.1.now)) result (value_at bulk bytes.now) }
 {
     let (size, rest) = number_4(bytes)?;
-    if size > 65_536 {
+    if size > MOST_DATA {
         return Err(WireFault::Field);
     }
     bytes_of(size as usize, rest)
@@ -144,14 +145,14 @@ fn word_to(most: u32, bytes: &[u8]) -> Result<(u32, &[u8]), WireFault>
 pub(crate) fn mode_at(bytes: &[u8]) -> Result<(u32, &[u8]), WireFault>
     ensures { Gives (λ x. (Num x.0, x.1.now)) result (value_at mode bytes.now) }
 {
-    word_to(0o777, bytes)
+    word_to(ALL_MODE_BITS, bytes)
 }
 
 /// A count of bytes to read.
 pub(crate) fn count_at(bytes: &[u8]) -> Result<(u32, &[u8]), WireFault>
     ensures { Gives (λ x. (Num x.0, x.1.now)) result (value_at byte_count bytes.now) }
 {
-    word_to(65_536, bytes)
+    word_to(MOST_DATA, bytes)
 }
 
 /// What may be removed.

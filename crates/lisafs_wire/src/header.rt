@@ -2,7 +2,7 @@
 
 ghost use Rattle.std.specs.Prelude.{◌≡◌, is_some};
 ghost use Rattle.lisafs_wire.specs.Fronts.{front_of};
-ghost use Rattle.lisafs_wire.specs.Grammar.{answers, layout_of, requests};
+ghost use Rattle.lisafs_wire.specs.Grammar.{answer_table, layout_of, request_table};
 ghost use Rattle.lisafs_wire.specs.Reading.{Gives, checked_front, front_at, header_at, is_all};
 
 use crate::fault::WireFault;
@@ -46,14 +46,14 @@ fn front(bytes: &[u8]) -> Result<Header<'_>, WireFault>
 
 /// Whether a request has that number.
 fn is_request(number: u16) -> bool
-    ensures { result ≡ is_some (layout_of requests number) }
+    ensures { result ≡ is_some (layout_of request_table number) }
 {
     matches!(number, 1..=7 | 9..=16)
 }
 
 /// Whether an answer has that number.
 fn is_answer(number: u16) -> bool
-    ensures { result ≡ is_some (layout_of answers number) }
+    ensures { result ≡ is_some (layout_of answer_table number) }
 {
     matches!(number, 0x8000..=0x8007 | 0x8009..=0x8010)
 }
@@ -73,7 +73,7 @@ fn checked(header: Header<'_>, is_known: bool) -> Result<Header<'_>, WireFault>
 
 /// The header of a request.
 pub(crate) fn request_header(bytes: &[u8]) -> Result<Header<'_>, WireFault>
-    ensures { Gives front_of result (header_at requests bytes.now) }
+    ensures { Gives front_of result (header_at request_table bytes.now) }
 {
     let header = front(bytes)?;
     checked(header, is_request(header.number))
@@ -81,7 +81,7 @@ pub(crate) fn request_header(bytes: &[u8]) -> Result<Header<'_>, WireFault>
 
 /// The header of an answer.
 pub(crate) fn answer_header(bytes: &[u8]) -> Result<Header<'_>, WireFault>
-    ensures { Gives front_of result (header_at answers bytes.now) }
+    ensures { Gives front_of result (header_at answer_table bytes.now) }
 {
     let header = front(bytes)?;
     checked(header, is_answer(header.number))

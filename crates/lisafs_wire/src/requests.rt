@@ -2,7 +2,7 @@
 
 ghost use Rattle.std.specs.Prelude.{◌≡◌, map, [], ◌∷◌};
 ghost use Rattle.lisafs_wire.specs.Fields.{Name as NameField};
-ghost use Rattle.lisafs_wire.specs.Grammar.{requests};
+ghost use Rattle.lisafs_wire.specs.Grammar.{request_table};
 ghost use Rattle.lisafs_wire.specs.Messages.{asked, name_group};
 ghost use Rattle.lisafs_wire.specs.Reading.{Gives, groups_at, numbered_at};
 
@@ -11,27 +11,28 @@ use crate::fields::{
     access_at, count_at, data_at, double_word_at, fd_at, mode_at, name_at, number_2, removal_at,
     word_at,
 };
+use crate::limits::MOST_NAMES;
 use crate::request::Request;
 use sn_base::List;
 use sn_text::Name;
 use std::alloc::Global;
 
 fn mount(bytes: &[u8]) -> Result<(Request<'_>, &[u8]), WireFault>
-    ensures { Gives (λ x. (asked x.0, x.1.now)) result (numbered_at requests 1 bytes.now) }
+    ensures { Gives (λ x. (asked x.0, x.1.now)) result (numbered_at request_table 1 bytes.now) }
 {
     let (version, rest) = word_at(bytes)?;
     Ok((Request::Mount { version }, rest))
 }
 
 fn f_stat(bytes: &[u8]) -> Result<(Request<'_>, &[u8]), WireFault>
-    ensures { Gives (λ x. (asked x.0, x.1.now)) result (numbered_at requests 2 bytes.now) }
+    ensures { Gives (λ x. (asked x.0, x.1.now)) result (numbered_at request_table 2 bytes.now) }
 {
     let (fd, rest) = fd_at(bytes)?;
     Ok((Request::FStat { fd }, rest))
 }
 
 fn set_stat(bytes: &[u8]) -> Result<(Request<'_>, &[u8]), WireFault>
-    ensures { Gives (λ x. (asked x.0, x.1.now)) result (numbered_at requests 3 bytes.now) }
+    ensures { Gives (λ x. (asked x.0, x.1.now)) result (numbered_at request_table 3 bytes.now) }
 {
     let (fd, rest) = fd_at(bytes)?;
     let (size, rest) = double_word_at(rest)?;
@@ -39,7 +40,7 @@ fn set_stat(bytes: &[u8]) -> Result<(Request<'_>, &[u8]), WireFault>
 }
 
 fn open_at(bytes: &[u8]) -> Result<(Request<'_>, &[u8]), WireFault>
-    ensures { Gives (λ x. (asked x.0, x.1.now)) result (numbered_at requests 5 bytes.now) }
+    ensures { Gives (λ x. (asked x.0, x.1.now)) result (numbered_at request_table 5 bytes.now) }
 {
     let (fd, rest) = fd_at(bytes)?;
     let (access, rest) = access_at(rest)?;
@@ -47,7 +48,7 @@ fn open_at(bytes: &[u8]) -> Result<(Request<'_>, &[u8]), WireFault>
 }
 
 fn open_create_at(alloc: Global, bytes: &[u8]) -> Result<(Request<'_>, &[u8]), WireFault>
-    ensures { Gives (λ x. (asked x.0, x.1.now)) result (numbered_at requests 6 bytes.now) }
+    ensures { Gives (λ x. (asked x.0, x.1.now)) result (numbered_at request_table 6 bytes.now) }
 {
     let (fd, rest) = fd_at(bytes)?;
     let (mode, rest) = mode_at(rest)?;
@@ -65,14 +66,14 @@ fn open_create_at(alloc: Global, bytes: &[u8]) -> Result<(Request<'_>, &[u8]), W
 }
 
 fn close(bytes: &[u8]) -> Result<(Request<'_>, &[u8]), WireFault>
-    ensures { Gives (λ x. (asked x.0, x.1.now)) result (numbered_at requests 7 bytes.now) }
+    ensures { Gives (λ x. (asked x.0, x.1.now)) result (numbered_at request_table 7 bytes.now) }
 {
     let (fd, rest) = fd_at(bytes)?;
     Ok((Request::Close { fd }, rest))
 }
 
 fn p_read(bytes: &[u8]) -> Result<(Request<'_>, &[u8]), WireFault>
-    ensures { Gives (λ x. (asked x.0, x.1.now)) result (numbered_at requests 9 bytes.now) }
+    ensures { Gives (λ x. (asked x.0, x.1.now)) result (numbered_at request_table 9 bytes.now) }
 {
     let (fd, rest) = fd_at(bytes)?;
     let (offset, rest) = double_word_at(rest)?;
@@ -81,7 +82,7 @@ fn p_read(bytes: &[u8]) -> Result<(Request<'_>, &[u8]), WireFault>
 }
 
 fn p_write(bytes: &[u8]) -> Result<(Request<'_>, &[u8]), WireFault>
-    ensures { Gives (λ x. (asked x.0, x.1.now)) result (numbered_at requests 10 bytes.now) }
+    ensures { Gives (λ x. (asked x.0, x.1.now)) result (numbered_at request_table 10 bytes.now) }
 {
     let (fd, rest) = fd_at(bytes)?;
     let (offset, rest) = double_word_at(rest)?;
@@ -90,7 +91,7 @@ fn p_write(bytes: &[u8]) -> Result<(Request<'_>, &[u8]), WireFault>
 }
 
 fn mkdir_at(alloc: Global, bytes: &[u8]) -> Result<(Request<'_>, &[u8]), WireFault>
-    ensures { Gives (λ x. (asked x.0, x.1.now)) result (numbered_at requests 11 bytes.now) }
+    ensures { Gives (λ x. (asked x.0, x.1.now)) result (numbered_at request_table 11 bytes.now) }
 {
     let (fd, rest) = fd_at(bytes)?;
     let (mode, rest) = mode_at(rest)?;
@@ -99,7 +100,7 @@ fn mkdir_at(alloc: Global, bytes: &[u8]) -> Result<(Request<'_>, &[u8]), WireFau
 }
 
 fn symlink_at(alloc: Global, bytes: &[u8]) -> Result<(Request<'_>, &[u8]), WireFault>
-    ensures { Gives (λ x. (asked x.0, x.1.now)) result (numbered_at requests 12 bytes.now) }
+    ensures { Gives (λ x. (asked x.0, x.1.now)) result (numbered_at request_table 12 bytes.now) }
 {
     let (fd, rest) = fd_at(bytes)?;
     let (name, rest) = name_at(alloc, rest)?;
@@ -108,14 +109,14 @@ fn symlink_at(alloc: Global, bytes: &[u8]) -> Result<(Request<'_>, &[u8]), WireF
 }
 
 fn read_link_at(bytes: &[u8]) -> Result<(Request<'_>, &[u8]), WireFault>
-    ensures { Gives (λ x. (asked x.0, x.1.now)) result (numbered_at requests 13 bytes.now) }
+    ensures { Gives (λ x. (asked x.0, x.1.now)) result (numbered_at request_table 13 bytes.now) }
 {
     let (fd, rest) = fd_at(bytes)?;
     Ok((Request::ReadLinkAt { fd }, rest))
 }
 
 fn unlink_at(alloc: Global, bytes: &[u8]) -> Result<(Request<'_>, &[u8]), WireFault>
-    ensures { Gives (λ x. (asked x.0, x.1.now)) result (numbered_at requests 14 bytes.now) }
+    ensures { Gives (λ x. (asked x.0, x.1.now)) result (numbered_at request_table 14 bytes.now) }
 {
     let (fd, rest) = fd_at(bytes)?;
     let (victim, rest) = fd_at(rest)?;
@@ -133,7 +134,7 @@ fn unlink_at(alloc: Global, bytes: &[u8]) -> Result<(Request<'_>, &[u8]), WireFa
 }
 
 fn rename_at(alloc: Global, bytes: &[u8]) -> Result<(Request<'_>, &[u8]), WireFault>
-    ensures { Gives (λ x. (asked x.0, x.1.now)) result (numbered_at requests 15 bytes.now) }
+    ensures { Gives (λ x. (asked x.0, x.1.now)) result (numbered_at request_table 15 bytes.now) }
 {
     let (fd, rest) = fd_at(bytes)?;
     let (directory, rest) = fd_at(rest)?;
@@ -153,7 +154,7 @@ fn rename_at(alloc: Global, bytes: &[u8]) -> Result<(Request<'_>, &[u8]), WireFa
 }
 
 fn getdents64(bytes: &[u8]) -> Result<(Request<'_>, &[u8]), WireFault>
-    ensures { Gives (λ x. (asked x.0, x.1.now)) result (numbered_at requests 16 bytes.now) }
+    ensures { Gives (λ x. (asked x.0, x.1.now)) result (numbered_at request_table 16 bytes.now) }
 {
     let (fd, rest) = fd_at(bytes)?;
     let (start, rest) = word_at(rest)?;
@@ -175,11 +176,11 @@ fn names_of(alloc: Global, count: u16, bytes: &[u8]) -> Result<(List<Name>, &[u8
 }
 
 fn walk(alloc: Global, bytes: &[u8]) -> Result<(Request<'_>, &[u8]), WireFault>
-    ensures { Gives (λ x. (asked x.0, x.1.now)) result (numbered_at requests 4 bytes.now) }
+    ensures { Gives (λ x. (asked x.0, x.1.now)) result (numbered_at request_table 4 bytes.now) }
 {
     let (fd, rest) = fd_at(bytes)?;
     let (count, rest) = number_2(rest)?;
-    if count < 1 || count > 8 {
+    if count < 1 || count > MOST_NAMES {
         return Err(WireFault::Field);
     }
     let (names, rest) = names_of(alloc, count, rest)?;
@@ -192,7 +193,7 @@ pub(crate) fn request_at(
     number: u16,
     bytes: &[u8],
 ) -> Result<(Request<'_>, &[u8]), WireFault>
-    ensures { Gives (λ x. (asked x.0, x.1.now)) result (numbered_at requests number bytes.now) }
+    ensures { Gives (λ x. (asked x.0, x.1.now)) result (numbered_at request_table number bytes.now) }
 {
     match number {
         1 => mount(bytes),

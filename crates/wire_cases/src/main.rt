@@ -3,9 +3,9 @@
 //! Its files have cases as `read_cases` reads them. Bytes are words between single spaces, each of pairs of hexadecimal
 //! digits; `61*300` is a byte so many times.
 //!
-//! - `request BYTES` and `answer BYTES`: what the request or answer says whose spelling the bytes are (`told.rt`), or
+//! - `ask BYTES` and `answer BYTES`: what the request or answer says whose spelling the bytes are (`told.rt`), or
 //!   their first fault. What was read is spelled again, and ` differs` is told where that gives other bytes.
-//! - `cut_request BYTES` and `cut_answer BYTES`: the faults of all shorter beginnings of the bytes, as runs of as many
+//! - `cut_ask BYTES` and `cut_answer BYTES`: the faults of all shorter beginnings of the bytes, as runs of as many
 //!   bytes as have one fault: `0..7 Short, 8..15 Length`.
 //!
 //! Bytes of data are told by how many there are and by the first sixteen; names by their letters, each other byte as

@@ -89,9 +89,9 @@ impl Cases for Messages {
             return Ok(came.push_str("unread")?);
         }
         match verb {
-            "request" => tell_request(alloc, bytes.as_slice(), came),
+            "ask" => tell_request(alloc, bytes.as_slice(), came),
             "answer" => tell_answer(alloc, bytes.as_slice(), came),
-            "cut_request" => tell_cuts(alloc, false, bytes.as_slice(), came),
+            "cut_ask" => tell_cuts(alloc, false, bytes.as_slice(), came),
             "cut_answer" => tell_cuts(alloc, true, bytes.as_slice(), came),
             _ => Ok(came.push_str("unread")?),
         }

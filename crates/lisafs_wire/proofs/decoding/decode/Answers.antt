@@ -1,12 +1,12 @@
 use Rattle.std.proofs.Common.{arith}
-use Rattle.lisafs_wire.specs.Grammar.{requests}
+use Rattle.lisafs_wire.specs.Grammar.{request_table}
 use Rattle.lisafs_wire.specs.Messages.{asked}
 use Rattle.lisafs_wire.proofs.Messages.{found, is_read}
 use Rattle.lisafs_wire.proofs.Sizes.{requests_sound}
 use Rattle.lisafs_wire.proofs.decoding.decode.Goals as goal
 
 pub returns-clause-found : goal.returns-clause-found
-returns-clause-found c = found requests asked c.request_of.result c.args.bytes.now (λ i. omega (arith, c.type_inv.bytes i)) c.request_of.ensures
+returns-clause-found c = found request_table asked c.request_of.result c.args.bytes.now (λ i. omega (arith, c.type_inv.bytes i)) c.request_of.ensures
 
 pub returns-clause-only : goal.returns-clause-only
-returns-clause-only c = λ m is e. is_read requests asked c.request_of.result c.args.bytes.now m requests_sound is e c.request_of.ensures
+returns-clause-only c = λ m is e. is_read request_table asked c.request_of.result c.args.bytes.now m requests_sound is e c.request_of.ensures
