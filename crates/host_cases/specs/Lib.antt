@@ -1,1 +1,2 @@
+-- What contracts of this crate say, by subject.
 pub mod Whole

@@ -10,9 +10,9 @@
 //! - `at FOLDER: CALLS` grants the folder, makes the calls of its node and settles it; `at FOLDER ROUTE: CALLS` lends
 //!   what is on the route, makes the calls of the node there, and takes all back. It answers each call, or `none` where
 //!   nothing is granted or lent. Calls and answers stand between semicolons: `kind`, `faults`, `stat`, `list`,
-//!   `lend NAME`, `open read`, `open write`, `read AT COUNT` into so many dots, `gone` (all is removed beside the host).
+//!   `lend NAME`, `open read`, `open write`, `read AT COUNT` into so many dots, `gone` (all is removed by others).
 //! - `bury FOLDER: CALLS` makes calls of a folder's node, buries it, and tells how many calls of the host failed.
-//! - `faults`: how many calls of the host failed. `met PATH`: how many of the node there. `see PATH`: what stands there.
+//! - `faults`: how many calls of the host failed. `met PATH`: how many at the node there. `see PATH`: what is there.
 //!
 //! A call that the host's contract doesn't allow is `barred`, one that fails is `failed`.
 //!

@@ -4,7 +4,7 @@
 //! refuses any other call, each call of a node of the machine's folders looks at its own path, follows no link, and
 //! opens a file as it is; devices are hidden, and names that aren't UTF-8, names that come twice and entries that can't
 //! be looked at fail a listing; calls of the system that fail are answered and counted, and want of memory is not
-//! counted. Of trees in memory, what a lent place tells and what a copy lists are tried, and of listings, what is pushed.
+//! counted. Of trees in memory, what a lent place tells and what a copy lists is tried; of listings, what is pushed.
 //!
 //! `scripted` and the files that it stands on have the system, `held` and `scripts` what is asked of nodes over it:
 //! `Call` is a call of the system with its answer, of which a script is a list with paths, and `Ask` what is asked of a
