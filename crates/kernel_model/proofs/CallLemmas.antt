@@ -33,7 +33,7 @@ module _ (s : Parts) (context : Context) (c : Caller) (call : ℕ) (args : Args)
       (call_row context c call args >>= by_answer c reply given)) (done None))) o
 
   -- and another is answered
-  call_answered : has_any given.rises ≡ false → is_in_order given ≡ true
+  pub call_answered : has_any given.rises ≡ false → is_in_order given ≡ true
       → outcome_in s (by_given context c call args reply given)
       ≡ outcome_in s (by_answer c reply given (outcome_in s (call_row context c call args)))
   call_answered h o =

@@ -8,10 +8,12 @@ pub mod FileChanges
 pub mod LeftNodes
 pub mod LocalityLaws
 pub mod MovedRows
+pub mod NamedChildren
 pub mod NamedMaps
 pub mod OpenedTasks
 pub mod OpenRows
 pub mod PartChanges
+pub mod ReadySteps
 pub mod Trees
 pub mod Turns
 pub mod WriteLaws

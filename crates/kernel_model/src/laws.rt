@@ -11,7 +11,7 @@ ghost use Rattle.kernel_model.specs.declared.kernel.Part.{Part as APart};
 ghost use Rattle.kernel_model.specs.declared.opening.Given.{Given as AGiven};
 ghost use Rattle.kernel_model.specs.calls.Callers.{context_of};
 ghost use Rattle.kernel_model.specs.entries.Parts.{IsIn, AgreeOn, parts, outcome_in, uses};
-ghost use Rattle.kernel_model.specs.entries.Ready.{ready_row, is_ready};
+ghost use Rattle.kernel_model.specs.entries.Ready.{HasStep, ready_row, is_ready};
 ghost use Rattle.kernel_model.specs.entries.Steps.{step, entry_row, may_enter, used, touches};
 ghost use Rattle.kernel_model.specs.laws.Children.{HasUnnumbered, numbers_child};
 ghost use Rattle.kernel_model.specs.laws.Writes.{IsWrite};
@@ -25,6 +25,8 @@ ghost use Rattle.kernel_model.specs.laws.Writes.{IsWrite};
 /// - `fits`: whether an entry fits depends on nothing but the parts that it reads, in kernels in which its fresh
 ///   numbers are unused and each node whose count rose has a number, or gets one of them.
 /// - `ready`: whether a task's next step is ready depends on the parts that it reads, and on nothing else.
+/// - `steps`: a task whose next step is ready has an entry without a rise that fits.
+/// - `stepless`: a task whose next step is not ready has none.
 /// - `write`: for a write (`write`, `writev`, `pwrite64`) `same` holds also of kernels with other mounts, keys and
 ///   numbers of entries.
 /// - `unnumbered`: a child without an inode number stays as it is through each entry that gives it none.
@@ -43,6 +45,8 @@ pub fn locality()
     ensures ready { (a b : AKernel) (task : ℕ) →
         AgreeOn (uses (parts a) (ready_row (context_of a) task)) (parts a) (parts b) →
         is_ready b task ≡ is_ready a task }
+    ensures steps { (k : AKernel) (task : ℕ) → is_ready k task ≡ true → HasStep k task }
+    ensures stepless { (k : AKernel) (task : ℕ) → is_ready k task ≡ false → ¬ HasStep k task }
     ensures write { (a b : AKernel) (task number : ℕ) (args : AnArgs) (given : AGiven) (reply : ℤ) →
         IsWrite number →
         let e : AnEntry = ACall task number args given reply in

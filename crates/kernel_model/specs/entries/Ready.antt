@@ -1,7 +1,9 @@
 -- When a task's next step is ready.
-use Rattle.std.specs.Prelude.{ℕ, Bool, true, false, List, filter, Option, Some, None}
+use Rattle.std.specs.Prelude.{◌≡◌, ℕ, Bool, true, false, List, filter, Option, Some, None, is_some}
 use Rattle.task_table.specs.Table.{live_numbers}
 use Rattle.kernel_model.specs.declared.caller.Caller.{Caller}
+use Rattle.kernel_model.specs.declared.entry.Entry.{Entry}
+use Rattle.kernel_model.specs.declared.entry.Entry.TheVariants.{Run, Call, Sleep, End}
 use Rattle.kernel_model.specs.declared.kernel.Kernel.{Kernel}
 use Rattle.kernel_model.specs.declared.kernel.Part.TheVariants.{OfSleepers}
 use Rattle.kernel_model.specs.declared.traps.Next.{Next}
@@ -11,7 +13,9 @@ use Rattle.kernel_model.specs.calls.Answers.{makes_entry}
 use Rattle.kernel_model.specs.calls.Callers.{Context, context_of, caller_of}
 use Rattle.kernel_model.specs.calls.Table.{call_row}
 use Rattle.kernel_model.specs.entries.Areas.{Stands, next_row}
+use Rattle.kernel_model.specs.entries.Given.{has_any}
 use Rattle.kernel_model.specs.entries.Parts.{parts, Prog, done, look, outcome_in, ◌>>=◌}
+use Rattle.kernel_model.specs.entries.Steps.{step, task_of}
 use Rattle.kernel_model.specs.entries.Waiting.{Wait, Awake, Asleep, Woken, wait_of}
 
 -- a live task's next step is ready: it is no call, or a call whose row replies or puts the task to sleep
@@ -46,3 +50,18 @@ is_ready k task = outcome_in (parts k) (ready_row (context_of k) task)
 -- profile
 abbrev pub ready_numbers : Kernel → List ℕ
 ready_numbers k = filter (is_ready k) (live_numbers k.tasks.tasks)
+
+-- ---- entries that fit
+
+-- an entry has a rise: its call met a fault of a host
+-- profile
+abbrev pub has_rises : Entry → Bool
+has_rises (Run task n) = false
+has_rises (Call task call args given reply) = has_any given.rises
+has_rises (Sleep task) = false
+has_rises (End task signal) = false
+
+-- a task has an entry without a rise that fits
+-- profile
+abbrev pub HasStep : Kernel → (task : ℕ) → Type 0
+HasStep k task = (e : Entry) × (task_of e ≡ task) × (has_rises e ≡ false) × (is_some (step k e) ≡ true)
