@@ -2,7 +2,6 @@
 use Rattle.std.proofs.Common.{◌≡◌, ℕ, ℤ, pos, min, length, List, [], ◌∷◌, Option, Some, None, Result, Ok}
 use Rattle.std.proofs.Common.{Err, refl, ap, sym, ◌∙◌}
 use Rattle.std.specs.Prelude.{IfSome}
-use Rattle.mm_areas.specs.declared.fault.AreaErr.{AreaErr}
 use Rattle.sn_errno.specs.declared.errno.Errno.{Errno}
 use Rattle.sn_errno.specs.declared.errno.Errno.TheVariants.{ENOSYS}
 use Rattle.sn_errno.specs.Errors.{reply_of}
@@ -131,10 +130,10 @@ answers_told row p c k own has value is reply none =
 -- ---- rows of what may be refused by the address space
 
 -- nothing is refused where the code was not
-pub no_fault : (fault : Option AreaErr) (r : Result (Unit {0}) AreaErr) (u : Unit {0}) → r ≡ Ok u
-    → IfSome fault (λ f. r ≡ Err f) → fault ≡ None
-no_fault None r u is faulty = refl
-no_fault (Some f) r u is faulty = absurd (cc (is, faulty))
+pub no_fault : {F E : Type 0} (err : F → E) (fault : Option F) (r : Result (Unit {0}) E) (u : Unit {0}) → r ≡ Ok u
+    → IfSome fault (λ f. r ≡ Err (err f)) → fault ≡ None
+no_fault err None r u is faulty = refl
+no_fault err (Some f) r u is faulty = absurd (cc (is, faulty))
 
 module _ (refusal : AddressSpace → Option Errno) (p : Prepared) (c : Caller) (k : Kernel) (old space : AddressSpace)
     (areas : NamedMap AreaState) (has : HasSpace c k old) (none : p.effect ≡ Nothing) where

@@ -22,7 +22,7 @@ use crate::memory::{area_errno, is_no_protection, replied, rights_in};
 use crate::prepared::Prepared;
 use fd_table::FdTable;
 use kernel_model::{Args, GuestArea, GuestSpace, Named};
-use mm_areas::{AreaErr, Backing, Rights};
+use mm_areas::{AreaErr, AreaFault, Backing, Rights};
 use rv_table::Area;
 use sn_base::Memory;
 use sn_errno::Errno;
@@ -126,7 +126,7 @@ fn refusal(space: &GuestSpace, args: &Args, file: Option<Errno>) -> Option<Errno
     if is_no_protection(protection)
         || !is_of_one_kind(flags)
         || offset % 4096 != 0
-        || place == Err(AreaErr::Invalid)
+        || place == Err(AreaFault::Invalid)
     {
         return Some(Errno::EINVAL);
     }
@@ -158,7 +158,7 @@ fn map_over(
     {
         Ok(address) => Ok(address),
         Err(AreaErr::Memory) => Err(Memory),
-        Err(_) => unreachable!(),
+        Err(AreaErr::Fault(_)) => unreachable!(),
     }
 }
 

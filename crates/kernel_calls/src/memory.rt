@@ -11,7 +11,7 @@ ghost use Rattle.kernel_calls.specs.declared.prepared.Effect.TheVariants.{Nothin
 use crate::calls::refused;
 use crate::prepared::{Effect, Prepared};
 use kernel_model::GuestSpace;
-use mm_areas::{AreaErr, Rights};
+use mm_areas::{AreaErr, AreaFault, Rights};
 use sn_base::Memory;
 use sn_errno::Errno;
 use std::alloc::Global;
@@ -39,7 +39,7 @@ pub(crate) fn munmap(address: u64, length: u64, space: &mut GuestSpace) -> Resul
     match space.space.unmap(address, length) {
         Ok(()) => Ok(replied(0)),
         Err(AreaErr::Memory) => Err(Memory),
-        Err(fault) => Ok(refused(area_errno(fault))),
+        Err(AreaErr::Fault(fault)) => Ok(refused(area_errno(fault))),
     }
 }
 
@@ -86,15 +86,14 @@ pub(crate) fn rights_in(protection: u64) -> Rights
 }
 
 /// The error of a change of what is mapped that is refused.
-pub(crate) fn area_errno(fault: AreaErr) -> Errno
+pub(crate) fn area_errno(fault: AreaFault) -> Errno
     ensures { result ≡ area_errno fault }
 {
     match fault {
-        AreaErr::Invalid => Errno::EINVAL,
-        AreaErr::Hole => Errno::ENOMEM,
-        AreaErr::Limit => Errno::ENOMEM,
-        AreaErr::NoRange => Errno::ENOMEM,
-        AreaErr::Memory => Errno::ENOMEM,
+        AreaFault::Invalid => Errno::EINVAL,
+        AreaFault::Hole => Errno::ENOMEM,
+        AreaFault::Limit => Errno::ENOMEM,
+        AreaFault::NoRange => Errno::ENOMEM,
     }
 }
 

@@ -503,9 +503,9 @@ module _ (k : Kernel) (task : ℕ) where
         own,
         none,
         step_fits k e (may k)
-        (ap is_some (ap (λ t. outcome_in (parts k) (caller_of t >>= if_live (context_of k) e)) own
-        ∙ outcome-bind (parts k) (caller_of task) (if_live (context_of k) e)
-        ∙ ap (λ o. outcome_in (parts k) (if_live (context_of k) e o)) is) ∙ fits),
+            (ap is_some (ap (λ t. outcome_in (parts k) (caller_of t >>= if_live (context_of k) e)) own
+            ∙ outcome-bind (parts k) (caller_of task) (if_live (context_of k) e)
+            ∙ ap (λ o. outcome_in (parts k) (if_live (context_of k) e o)) is) ∙ fits),
       )
 
   step_live : (e : Entry) → has_rises e ≡ false → (c : Option Caller)

@@ -1,6 +1,6 @@
 //! What a case comes to, as text.
 
-use mm_areas::{AreaErr, Rights, SharedPage};
+use mm_areas::{AreaErr, AreaFault, Rights, SharedPage};
 use rv_table::{Area, Instr, MemErr};
 use sn_base::Memory;
 use std::alloc::AllocError;
@@ -102,17 +102,30 @@ pub fn of_load(number: Result<u64, MemErr>) -> Answer {
     }
 }
 
-fn of_fault(fault: AreaErr) -> Answer {
+fn of_fault(fault: AreaFault) -> Answer {
     match fault {
-        AreaErr::Invalid => Answer::Word("invalid"),
-        AreaErr::Hole => Answer::Word("hole"),
-        AreaErr::Limit => Answer::Word("limit"),
-        AreaErr::NoRange => Answer::Word("no_range"),
+        AreaFault::Invalid => Answer::Word("invalid"),
+        AreaFault::Hole => Answer::Word("hole"),
+        AreaFault::Limit => Answer::Word("limit"),
+        AreaFault::NoRange => Answer::Word("no_range"),
+    }
+}
+
+fn of_error(error: AreaErr) -> Answer {
+    match error {
+        AreaErr::Fault(fault) => of_fault(fault),
         AreaErr::Memory => MEMORY,
     }
 }
 
-pub fn of_change(done: Result<(), AreaErr>) -> Answer {
+pub fn of_unmapping(done: Result<(), AreaErr>) -> Answer {
+    match done {
+        Ok(()) => OK,
+        Err(error) => of_error(error),
+    }
+}
+
+pub fn of_protection(done: Result<(), AreaFault>) -> Answer {
     match done {
         Ok(()) => OK,
         Err(fault) => of_fault(fault),
@@ -122,7 +135,7 @@ pub fn of_change(done: Result<(), AreaErr>) -> Answer {
 pub fn of_mapping(address: Result<u64, AreaErr>) -> Answer {
     match address {
         Ok(address) => Answer::Number(address),
-        Err(fault) => of_fault(fault),
+        Err(error) => of_error(error),
     }
 }
 

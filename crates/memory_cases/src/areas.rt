@@ -1,6 +1,8 @@
 //! The verbs of areas.
 
-use crate::answers::{Answer, of_break, of_change, of_mapping, of_memory, of_word};
+use crate::answers::{
+    Answer, of_break, of_mapping, of_memory, of_protection, of_unmapping, of_word,
+};
 use crate::looks::look;
 use crate::words::Words;
 use mm_areas::{Areas, Backing, Content, Page, Rights};
@@ -35,13 +37,13 @@ fn protect(areas: &mut Areas, words: &mut Words<'_>) -> Option<Answer> {
     let at = words.number()?;
     let length = words.number()?;
     let rights = words.rights()?;
-    Some(of_change(areas.protect(at, length, rights)))
+    Some(of_protection(areas.protect(at, length, rights)))
 }
 
 fn unmap(areas: &mut Areas, words: &mut Words<'_>) -> Option<Answer> {
     let at = words.number()?;
     let length = words.number()?;
-    Some(of_change(areas.unmap(at, length)))
+    Some(of_unmapping(areas.unmap(at, length)))
 }
 
 fn put_number(areas: &mut Areas, words: &mut Words<'_>) -> Option<Answer> {

@@ -1,6 +1,8 @@
 //! The verbs of what is mapped in an address space, and of the words of its pages.
 
-use crate::answers::{Answer, of_break, of_change, of_count, of_mapping, of_word};
+use crate::answers::{
+    Answer, of_break, of_count, of_mapping, of_protection, of_unmapping, of_word,
+};
 use crate::looks::look;
 use crate::words::Words;
 use mm_space::Space;
@@ -19,14 +21,14 @@ fn map(alloc: Global, space: &mut Space, words: &mut Words<'_>) -> Option<Answer
 fn unmap(space: &mut Space, words: &mut Words<'_>) -> Option<Answer> {
     let at = words.number()?;
     let length = words.number()?;
-    Some(of_change(space.unmap(at, length)))
+    Some(of_unmapping(space.unmap(at, length)))
 }
 
 fn protect(space: &mut Space, words: &mut Words<'_>) -> Option<Answer> {
     let at = words.number()?;
     let length = words.number()?;
     let rights = words.rights()?;
-    Some(of_change(space.protect(at, length, rights)))
+    Some(of_protection(space.protect(at, length, rights)))
 }
 
 fn instr_at(space: &Space, page: u64, index: usize) -> Option<Instr> {

@@ -2,8 +2,8 @@
 use Rattle.std.specs.Prelude.{ℕ, zero, suc, ◌+◌, ◌-◌, ◌*◌, ◌/◌, ◌%◌, ◌^◌, ◌==◌, nat_le, nat_lt, Bool, ◌&&◌, ◌||◌, not}
 use Rattle.std.specs.Prelude.{List, map as map_each, Option, option_map, Some, None, if◌then◌else◌}
 use Rattle.std.specs.FinMap as map
-use Rattle.mm_areas.specs.declared.fault.AreaErr.{AreaErr}
-use Rattle.mm_areas.specs.declared.fault.AreaErr.TheVariants.{Invalid, Hole, Limit, NoRange}
+use Rattle.mm_areas.specs.declared.fault.AreaFault.{AreaFault}
+use Rattle.mm_areas.specs.declared.fault.AreaFault.TheVariants.{Invalid, Hole, Limit, NoRange}
 use Rattle.mm_areas.specs.declared.rights.Rights.{Rights}
 use Rattle.mm_areas.specs.declared.page.Backing.{Backing}
 use Rattle.mm_areas.specs.declared.page.Backing.TheVariants.{Zeros}
@@ -101,13 +101,13 @@ address_of page = option_map (λ p. 4096 * p) page
 
 -- the fault where no free range is long enough
 -- mmap(2), ENOMEM
-abbrev pub or_no_range : Option ℕ → Option AreaErr
+abbrev pub or_no_range : Option ℕ → Option AreaFault
 or_no_range None = Some NoRange
 or_no_range (Some page) = None
 
 -- why a mapping is refused, the first that fits
 -- mmap(2), ERRORS; their order: profile
-abbrev pub map_fault : Mapping → Option ℕ → (length : ℕ) → Option AreaErr
+abbrev pub map_fault : Mapping → Option ℕ → (length : ℕ) → Option AreaFault
 map_fault m at length =
     if is_no_place at length then Some Invalid
     else if nat_lt MOST_PAGES (pages_after m.pages at (pages_in length)) then Some Limit
@@ -122,7 +122,7 @@ mapped_at m page length rights backing = with_pages m (laid page (new_pages back
 
 -- why nothing is unmapped
 -- munmap(2), ERRORS
-abbrev pub unmap_fault : (address length : ℕ) → Option AreaErr
+abbrev pub unmap_fault : (address length : ℕ) → Option AreaFault
 unmap_fault address length = if (length == 0) || is_no_range address length then Some Invalid else None
 
 -- a mapping without the pages of so many bytes from an address on
@@ -132,7 +132,7 @@ unmapped_at m address length = with_pages m (unmapped (address / 4096) (pages_in
 
 -- why no page gets other rights
 -- mprotect(2), ERRORS
-abbrev pub protect_fault : Mapping → (address length : ℕ) → Option AreaErr
+abbrev pub protect_fault : Mapping → (address length : ℕ) → Option AreaFault
 protect_fault m address length =
     if is_no_range address length then Some Invalid
     else if is_covered m.pages (address / 4096) (pages_in length) then None

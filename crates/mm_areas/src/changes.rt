@@ -1,7 +1,8 @@
 //! What maps, unmaps and moves the break.
 
-ghost use Rattle.std.specs.Prelude.{◌≡◌, ◌≢◌, ℕ, ◌/◌, true, false, Some, IfOk, IfErr, OnOk, OnErr, IfSome};
+ghost use Rattle.std.specs.Prelude.{◌≡◌, ℕ, ◌/◌, true, false, Some, Err, IfOk, OnOk, OnErr, IfSome};
 ghost use Rattle.std.specs.FinMap as map_of;
+ghost use Rattle.mm_areas.specs.declared.fault.AreaFault.{AreaFault as AFault};
 ghost use Rattle.mm_areas.specs.Pages.{is_within};
 ghost use Rattle.mm_areas.specs.Own.{page_of, owns};
 ghost use Rattle.mm_areas.specs.DecodedWords.{has_row_at};
@@ -11,7 +12,7 @@ ghost use Rattle.mm_areas.specs.Mappings.{unmapped_at, is_break, broken_at, afte
 use crate::lengths::{PAGE_SIZE, is_no_range, pages_in};
 use crate::new_pages::new_pages;
 use crate::places::{is_break, place};
-use crate::{AreaErr, Areas, Backing, Rights};
+use crate::{AreaErr, AreaFault, Areas, Backing, Rights};
 use sn_base::Memory;
 use std::alloc::Global;
 
@@ -32,8 +33,10 @@ impl Areas {
             address_of (first_page_for (mapping self.old).pages at (pages_in length)) ≡ Some address) }
         ensures ok { IfOk result (λ address.
             mapping self.new ≡ mapped_at (mapping self.old) (address / 4096) length rights backing) }
-        ensures fault { IfErr result (λ e. e ≢ AreaErr.Memory → map_fault (mapping self.old) at length ≡ Some e) }
-        ensures faulty { IfSome (map_fault (mapping self.old) at length) (λ fault. result ≡ Err fault) }
+        ensures fault { (fault : AFault) → result ≡ Err (AreaErr.Fault fault) →
+            map_fault (mapping self.old) at length ≡ Some fault }
+        ensures faulty { IfSome (map_fault (mapping self.old) at length) (λ fault.
+            result ≡ Err (AreaErr.Fault fault)) }
         ensures err { OnErr result (mapping self.new ≡ mapping self.old) }
         ensures owned { IfOk result (λ address.
             (page : ℕ) → is_within (address / 4096) (pages_in length) page ≡ false →
@@ -60,8 +63,9 @@ impl Areas {
     /// their bytes as their own, if they were, and their decoded words.
     pub fn unmap(&mut self, address: u64, length: u64) -> Result<(), AreaErr>
         ensures ok { OnOk result (mapping self.new ≡ unmapped_at (mapping self.old) address length) }
-        ensures fault { IfErr result (λ e. e ≢ AreaErr.Memory → unmap_fault address length ≡ Some e) }
-        ensures faulty { IfSome (unmap_fault address length) (λ fault. result ≡ Err fault) }
+        ensures fault { (fault : AFault) → result ≡ Err (AreaErr.Fault fault) →
+            unmap_fault address length ≡ Some fault }
+        ensures faulty { IfSome (unmap_fault address length) (λ fault. result ≡ Err (AreaErr.Fault fault)) }
         ensures err { OnErr result (mapping self.new ≡ mapping self.old) }
         ensures owned { (page : ℕ) → is_within (address / 4096) (pages_in length) page ≡ false →
             owns self.new page ≡ owns self.old page }
@@ -71,7 +75,7 @@ impl Areas {
         ensures rows_kept { OnErr result ((page : ℕ) → has_row_at self.new page ≡ has_row_at self.old page) }
     {
         if length == 0 || is_no_range(address, length) {
-            return Err(AreaErr::Invalid);
+            return Err(AreaFault::Invalid.into());
         }
         self.take(address / PAGE_SIZE, pages_in(length))?;
         Ok(())

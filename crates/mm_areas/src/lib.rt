@@ -42,7 +42,7 @@ mod rights;
 mod runs;
 
 pub use areas::Areas;
-pub use fault::AreaErr;
+pub use fault::{AreaErr, AreaFault};
 pub use lengths::PAGE_SIZE;
 pub use page::{Backing, Content, Page, SharedPage};
 pub use places::MOST_PAGES;

@@ -7,7 +7,7 @@ ghost use Rattle.mm_areas.specs.Mappings.{is_break};
 
 use crate::free::{highest_free, is_free, mapped_within};
 use crate::lengths::{PAGE_SIZE, is_no_length, is_no_range, pages_in};
-use crate::{AreaErr, Areas};
+use crate::{AreaFault, Areas};
 
 /// The most pages that are mapped at once: getrlimit(2), `RLIMIT_AS`.
 pub const MOST_PAGES: u64 = 16_384;
@@ -42,7 +42,7 @@ fn pages_after(areas: &Areas, at: Option<u64>, count: u64) -> u64
 #[rattlefmt::skip]
 #[tactic(auto, using(crate::proofs::RegionLaws::order_from_test, crate::proofs::PlaceLaws::highest_ends,
     crate::proofs::PlaceLaws::highest_takes))]
-pub(crate) fn place(areas: &Areas, at: Option<u64>, length: u64) -> Result<u64, AreaErr>
+pub(crate) fn place(areas: &Areas, at: Option<u64>, length: u64) -> Result<u64, AreaFault>
     ensures fits { IfOk result (λ page. first_page_for (mapping areas.now).pages at (pages_in length) ≡ Some page) }
     ensures ok { OnOk result (map_fault (mapping areas.now) at length ≡ None) }
     ensures some { OnOk result (0 < length) }
@@ -52,14 +52,14 @@ pub(crate) fn place(areas: &Areas, at: Option<u64>, length: u64) -> Result<u64, 
     ensures fault { IfErr result (λ e. map_fault (mapping areas.now) at length ≡ Some e) }
 {
     if is_no_place(at, length) {
-        return Err(AreaErr::Invalid);
+        return Err(AreaFault::Invalid);
     }
     let count = pages_in(length);
     if pages_after(areas, at, count) > MOST_PAGES {
-        return Err(AreaErr::Limit);
+        return Err(AreaFault::Limit);
     }
     match at {
-        None => highest_free(areas.regions.as_slice(), count).ok_or(AreaErr::NoRange),
+        None => highest_free(areas.regions.as_slice(), count).ok_or(AreaFault::NoRange),
         Some(address) => Ok(address / PAGE_SIZE),
     }
 }
@@ -68,7 +68,7 @@ impl Areas {
     /// The page that a mapping of that length would begin at, or why there would be none. Nothing changes.
     ///
     /// mmap(2), ERRORS.
-    pub fn place_of(&self, at: Option<u64>, length: u64) -> Result<u64, AreaErr>
+    pub fn place_of(&self, at: Option<u64>, length: u64) -> Result<u64, AreaFault>
         ensures place { IfOk result (λ page. first_page_for (mapping self.now).pages at (pages_in length) ≡ Some page) }
         ensures ok { OnOk result (map_fault (mapping self.now) at length ≡ None) }
         ensures end { IfOk result (λ page. page + pages_in length ≤ 2 ^ 26) }

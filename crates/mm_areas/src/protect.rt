@@ -13,7 +13,7 @@ use crate::areas::Region;
 use crate::free::is_covered;
 use crate::lengths::{PAGE_SIZE, is_no_range, pages_in};
 use crate::regions::first_behind;
-use crate::{AreaErr, Areas, Page, Rights};
+use crate::{AreaFault, Areas, Page, Rights};
 
 /// Gives the pages from one index up to another other rights.
 fn protect_between(pages: &mut [Page], low: usize, high: usize, rights: Rights)
@@ -66,7 +66,7 @@ impl Areas {
     #[rattlefmt::skip]
     #[tactic(auto, using(crate::proofs::RegionLaws::order_from_test, crate::proofs::RegionLaws::test_from_order,
         crate::proofs::ProtectLaws::as_many_protected))]
-    pub fn protect(&mut self, address: u64, length: u64, rights: Rights) -> Result<(), AreaErr>
+    pub fn protect(&mut self, address: u64, length: u64, rights: Rights) -> Result<(), AreaFault>
         ensures ok { OnOk result (mapping self.new ≡ protected_in (mapping self.old) address length rights) }
         ensures fault { IfErr result (λ e. protect_fault (mapping self.old) address length ≡ Some e) }
         ensures faulty { IfSome (protect_fault (mapping self.old) address length) (λ fault. result ≡ Err fault) }
@@ -75,12 +75,12 @@ impl Areas {
         ensures rows { (page : ℕ) → has_row_at self.new page ≡ has_row_at self.old page }
     {
         if is_no_range(address, length) {
-            return Err(AreaErr::Invalid);
+            return Err(AreaFault::Invalid);
         }
         let first = address / PAGE_SIZE;
         let count = pages_in(length);
         if !is_covered(self.regions.as_slice(), first, count) {
-            return Err(AreaErr::Hole);
+            return Err(AreaFault::Hole);
         }
         protect_pages(self.regions.as_mut_slice(), first, first + count, rights);
         Ok(())

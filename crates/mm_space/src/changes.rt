@@ -1,14 +1,15 @@
 //! Changes of what is mapped, which end the reservations over the range.
 
-ghost use Rattle.std.specs.Prelude.{◌≡◌, ◌≢◌, ◌*◌, ◌<◌, ◌^◌, false, Some, Ok, Err, IfOk, IfErr, IfSome, OnOk, OnErr};
+ghost use Rattle.std.specs.Prelude.{◌≡◌, ◌*◌, ◌<◌, ◌^◌, false, Some, Ok, Err, IfOk, IfErr, IfSome, OnOk, OnErr};
 ghost use Rattle.mm_areas.specs.declared.fault.AreaErr.TheVariants as AreaErr;
+ghost use Rattle.mm_areas.specs.declared.fault.AreaFault.{AreaFault as AFault};
 ghost use Rattle.mm_areas.specs.Mappings.{address_of, is_break, map_fault, pages_in, first_page_for, protect_fault};
 ghost use Rattle.mm_areas.specs.Mappings.{unmap_fault};
 ghost use Rattle.mm_space.specs.Changes.{broken_in, mapped_in, righted_in, unmapped_in};
 ghost use Rattle.mm_space.specs.Spaces.{space_of};
 
 use crate::Space;
-use mm_areas::{AreaErr, Backing, Rights};
+use mm_areas::{AreaErr, AreaFault, Backing, Rights};
 use sn_base::Memory;
 use std::alloc::Global;
 
@@ -29,9 +30,10 @@ impl Space {
             address_of (first_page_for (space_of self.old).mapping.pages at (pages_in length)) ≡ Some address) }
         ensures ok { IfOk result (λ address.
             space_of self.new ≡ mapped_in (space_of self.old) address length rights backing) }
-        ensures fault { IfErr result (λ e.
-            e ≢ AreaErr.Memory → map_fault (space_of self.old).mapping at length ≡ Some e) }
-        ensures faulty { IfSome (map_fault (space_of self.old).mapping at length) (λ fault. result ≡ Err fault) }
+        ensures fault { (fault : AFault) → result ≡ Err (AreaErr.Fault fault) →
+            map_fault (space_of self.old).mapping at length ≡ Some fault }
+        ensures faulty { IfSome (map_fault (space_of self.old).mapping at length) (λ fault.
+            result ≡ Err (AreaErr.Fault fault)) }
         ensures err { OnErr result (space_of self.new ≡ space_of self.old) }
     {
         let address = self.areas.map(alloc, at, length, rights, backing)?;
@@ -44,8 +46,9 @@ impl Space {
     /// munmap(2).
     pub fn unmap(&mut self, address: u64, length: u64) -> Result<(), AreaErr>
         ensures ok { OnOk result (space_of self.new ≡ unmapped_in (space_of self.old) address length) }
-        ensures fault { IfErr result (λ e. e ≢ AreaErr.Memory → unmap_fault address length ≡ Some e) }
-        ensures faulty { IfSome (unmap_fault address length) (λ fault. result ≡ Err fault) }
+        ensures fault { (fault : AFault) → result ≡ Err (AreaErr.Fault fault) →
+            unmap_fault address length ≡ Some fault }
+        ensures faulty { IfSome (unmap_fault address length) (λ fault. result ≡ Err (AreaErr.Fault fault)) }
         ensures err { OnErr result (space_of self.new ≡ space_of self.old) }
     {
         self.areas.unmap(address, length)?;
@@ -56,7 +59,7 @@ impl Space {
     /// Gives the pages of a range other rights. It takes no memory, and an error changes nothing.
     ///
     /// mprotect(2).
-    pub fn protect(&mut self, address: u64, length: u64, rights: Rights) -> Result<(), AreaErr>
+    pub fn protect(&mut self, address: u64, length: u64, rights: Rights) -> Result<(), AreaFault>
         ensures ok { OnOk result (space_of self.new ≡ righted_in (space_of self.old) address length rights) }
         ensures fault { IfErr result (λ e. protect_fault (space_of self.old).mapping address length ≡ Some e) }
         ensures faulty { IfSome (protect_fault (space_of self.old).mapping address length) (λ fault.

@@ -6,8 +6,8 @@ use Rattle.sn_errno.specs.declared.errno.Errno.{Errno}
 use Rattle.sn_errno.specs.declared.errno.Errno.TheVariants.{EINVAL, ENOMEM, ENODEV, EBADF}
 use Rattle.fd_table.specs.Tables.{Table}
 use Rattle.rv_table.specs.declared.error.Area.{Area}
-use Rattle.mm_areas.specs.declared.fault.AreaErr.{AreaErr}
-use Rattle.mm_areas.specs.declared.fault.AreaErr.TheVariants.{Invalid, Hole, Limit, NoRange, Memory}
+use Rattle.mm_areas.specs.declared.fault.AreaFault.{AreaFault}
+use Rattle.mm_areas.specs.declared.fault.AreaFault.TheVariants.{Invalid, Hole, Limit, NoRange}
 use Rattle.mm_areas.specs.declared.page.Backing.{Backing}
 use Rattle.mm_areas.specs.declared.page.Backing.TheVariants.{Zeros, Of}
 use Rattle.mm_areas.specs.declared.rights.Rights.{Rights}
@@ -29,14 +29,13 @@ remaps c space value changes = replies value ((OfSpace c.memory, Some space) ∷
 
 -- the error of a change of what is mapped that is refused
 -- mmap(2), munmap(2), mprotect(2), ERRORS
-abbrev pub area_errno : AreaErr → Errno
+abbrev pub area_errno : AreaFault → Errno
 area_errno Invalid = EINVAL
 area_errno Hole = ENOMEM
 area_errno Limit = ENOMEM
 area_errno NoRange = ENOMEM
-area_errno Memory = ENOMEM
 
-abbrev pub fault_errno : Option AreaErr → Option Errno
+abbrev pub fault_errno : Option AreaFault → Option Errno
 fault_errno fault = option_map area_errno fault
 
 -- what a call comes to, unless it is refused with an error

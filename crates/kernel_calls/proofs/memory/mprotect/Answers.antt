@@ -32,7 +32,7 @@ returns-clause-row c caller k has =
           c.match-protect.result caller k a.space.now _ k.areas has
           (ap (λ p. p.effect) w.result-is ∙ w.replied.ensures.effect)
           (λ space. righted_in space a.address a.length (rights_in a.protection)) (pos 0)
-          (within ∙ ap fault_errno (sym view ∙ no_fault _ c.protect.result w.in-Ok.field-0 w.in-Ok.is
+          (within ∙ ap fault_errno (sym view ∙ no_fault (λ f. f) _ c.protect.result w.in-Ok.field-0 w.in-Ok.is
           c.protect.ensures.faulty))
           (ap (λ p. p.reply) w.result-is ∙ w.replied.ensures.reply)
           (w.in-Ok.ensures.ok ∙ ap (λ s. righted_in s a.address a.length c.rights_in.result) c.space.view_is
