@@ -1,0 +1,3 @@
+-- The definitions of the crate, by topic.
+pub mod Names
+pub mod Drawn

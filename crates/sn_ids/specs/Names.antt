@@ -1,0 +1,8 @@
+-- The name that stands for no table.
+use Rattle.atomic_table.specs.Seated.{TableId}
+use Rattle.std.specs.Prelude.{[]}
+
+-- what a name is before a table is made under it
+-- profile
+abbrev pub no_table : TableId
+no_table = record { words = 0; slots = 0; views_name = 0; atom = 0; block = 0; offset = 0; slot_names = [] }
