@@ -1,6 +1,6 @@
 -- The clauses of a run, each from the way that it went.
 use Rattle.std.proofs.Common.{◌≡◌, ◌≢◌, ℕ, ◌≤◌, List, [], length, refl, ap, sym, ◌∙◌, subst}
-use Rattle.std.specs.Prelude.{Option, Some, None, IfSome}
+use Rattle.std.specs.Prelude.{Option, Some, None, IfSome, IsSomeAnd}
 use Rattle.std.proofs.lemmas.Option.{same_Some}
 use Rattle.std.proofs.Common.{arith}
 use Rattle.host_node.specs.Tree.{Shape}
@@ -23,6 +23,7 @@ use Rattle.sentry_run.specs.Outcome.{ReadsMounts, HasMountFault, first_lacking, 
 use Rattle.sentry_run.specs.Outcome.{world_after, WhereRead}
 use Rattle.sentry_run.specs.Outcome.{WhereState, RefusesOpening, refused_kernel}
 use Rattle.sentry_run.specs.Sides.{Side, Sides}
+use Rattle.sentry_run.specs.Uncounted.{AreAlikeUncounted}
 use Rattle.sentry_run.proofs.Courses.{Session, Began, state_left, state_of}
 use Rattle.sentry_run.proofs.Folders.{lacking_none}
 use Rattle.sentry_run.proofs.RunFacts.{AnyFacts, ToldFacts}
@@ -256,3 +257,9 @@ image_world s r way task errno h =
     (λ m o w told. let t = told_as s m r (faults.Image task errno) o h w told in
     subst (λ b. IfSome (refused_kernel b) (λ k. s.after.host.told ≡ Some (world_after m r.opening r.left k w)))
     (sym t.refuses) (t.settles ∙ ap (λ l. Some (world_after m r.opening l t.left w)) (sym o.left)))
+
+pub image_alike : (s : Call) (r : Outcome) → Way s r → (task : ℕ) (errno : Errno) → r.fault ≡ faults.Image task errno
+    → WhereRead r.mounts s.before.host.told (λ m w. IsSomeAnd s.after.host.told (λ after. AreAlikeUncounted after w))
+image_alike s r way task errno h =
+    where_read s r (λ m w. IsSomeAnd s.after.host.told (λ after. AreAlikeUncounted after w)) way
+    (λ m o w told. (told_as s m r (faults.Image task errno) o h w told).alike)

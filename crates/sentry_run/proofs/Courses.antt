@@ -1,7 +1,7 @@
 -- How a run over granted folders goes, in the words of the clauses of a run.
 use Rattle.std.proofs.Common.{◌≡◌, ◌⊎◌, inl, inr, ℕ, ◌+◌, Bool, true, false, List, [], ◌∷◌, ◌++◌, length, refl, ap, sym}
 use Rattle.std.proofs.Common.{◌∙◌, subst, arith}
-use Rattle.std.specs.Prelude.{Option, Some, if◌then◌else◌, nat_eq, option_and_then}
+use Rattle.std.specs.Prelude.{Option, Some, IsSomeAnd, if◌then◌else◌, nat_eq, option_and_then}
 use Rattle.std.proofs.lemmas.Bool.{eqb-true, and_parts}
 use Rattle.std.specs.FinMap as map
 use Rattle.host_node.specs.Tree.{Shape}
@@ -35,7 +35,9 @@ use Rattle.sentry_run.specs.Ran.{played_by}
 use Rattle.sentry_run.specs.Sides.{Side}
 use Rattle.sentry_run.specs.Outcome.{begun, begun_over, first_lacking, granted, started_kernel, state_after}
 use Rattle.sentry_run.specs.Outcome.{world_after}
+use Rattle.sentry_run.specs.Uncounted.{AreAlikeUncounted}
 use Rattle.sentry_run.proofs.Folders.{root_found, settled_root}
+use Rattle.sentry_run.proofs.Uncounting.{world_alike}
 
 -- ---- the roots' numbers
 
@@ -114,6 +116,7 @@ pub record Refused (x : Session) (task : ℕ) (errno : Errno) : Type 0 where
   pub left : Kernel
   pub refuses : begun x.mounts x.world x.outcome.opening ≡ Refuses left task errno
   pub settles : x.after ≡ Some (world_left x left)
+  pub alike : IsSomeAnd x.after (λ after. AreAlikeUncounted after x.world)
 
 -- all that was granted, and run over
 abbrev pub WentOver : Session → End → Type 0
@@ -169,6 +172,9 @@ module _ (x : Session) (end : End) (form : HasForm x.mounts) (q : WentOver x end
         settles_as failed.left
         (refuses_fits x.mounts (trees_with q.others q.tree) x.outcome.opening failed.left task errno failed.refuses)
         failed.settles;
+    alike =
+        subst (λ (o : Option Shape). IsSomeAnd o (λ after. AreAlikeUncounted after x.world)) (sym q.put)
+        (world_alike (root_names x.mounts.mounts) q.tree q.tree_then x.world there failed.alike);
   }
 
   pub as_before : q.tree_then ≡ q.tree → x.after ≡ Some x.world

@@ -36,6 +36,7 @@ use Rattle.run_opening.proofs.Telling.{Tells, tells}
 use Rattle.sentry_run.specs.declared.play.End.{End}
 use Rattle.sentry_run.specs.declared.play.End.TheVariants as ends
 use Rattle.sentry_run.specs.Played.{RunEnded, EndsTold, RanFrom, ReplaysTo, Runs, SameText, end_of_opening, over_nodes, over_told}
+use Rattle.sentry_run.proofs.Uncounting.{back_alike}
 use Rattle.sentry_run.proofs.Records.{opened_by, record_with}
 
 -- ---- what is given back
@@ -91,6 +92,7 @@ ended_stopped m others t (openings.Image task errno) tasks root children opening
             stops.others_keep after
             (gives_same root children _ (tree_now stops.left no_left (root_of m.mounts)) after
             stands.stands.root_tells stops.settles gives);
+        alike = back_alike (numbering_of m.mounts) t root children stands after gives;
       },
       none,
     )

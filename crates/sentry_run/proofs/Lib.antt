@@ -4,6 +4,7 @@ pub mod Closed
 pub mod Groups
 pub mod Lines
 pub mod RunsOfTurns
+pub mod Uncounting
 pub mod Endings
 pub mod GivenBack
 pub mod Folders

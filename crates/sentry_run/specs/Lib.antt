@@ -1,6 +1,7 @@
 -- What contracts of this crate say, by subject.
 pub mod Command
 pub mod Untold
+pub mod Uncounted
 pub mod Played
 pub mod Stopped
 pub mod Granted

@@ -23,6 +23,7 @@ use Rattle.run_opening.specs.Trees.{HaveTrees, Others, trees_with}
 use Rattle.sentry_run.specs.declared.play.End.{End}
 use Rattle.sentry_run.specs.declared.play.End.TheVariants as ends
 use Rattle.sentry_run.specs.declared.play.Played.{Played}
+use Rattle.sentry_run.specs.Uncounted.{AreAlikeUncounted}
 
 -- the record of an opening that did not come to be
 -- profile
@@ -58,13 +59,14 @@ pub record IsStuck (mounts : Mounts) (trace : List Entry) (state : Kernel) : Typ
   pub short : length trace < mounts.entries
   pub still : has_any (ready_numbers state) ≡ false
 
--- an execve that failed, and the trees of the roots then
+-- an execve that failed, and the trees of the roots then: but for counts of failed calls they are as they were
 -- profile
 pub record Failed (mounts : Mounts) (others : Others) (tree after : Shape) (opening : Opening) (task : ℕ)
     (errno : Errno) : Type 0 where
   pub left : Kernel
   pub refuses : opening_of mounts (trees_with others tree) opening ≡ Refuses left task errno
   pub settles : HaveTrees left 1 (trees_with others after)
+  pub alike : AreAlikeUncounted after tree
 
 -- how a run over the tree of the mount at `/`, beside others, ended, and what it left of that tree
 -- profile

@@ -13,7 +13,8 @@
 //! with each Run whole (`history`, `bound`, `empty`), inode numbers run up without a gap (`gapless`, `below`), what no
 //! entry has is of few tasks (`left_tasks`), the text is that of the state which the trace leaves (`text`,
 //! `text_front`, `text_none`), and the world is the one before with that state's trees in place of the granted folders
-//! (`world`, `image_world`, `world_same`, `outside`, `inside`). What names a tree holds where the host tells its tree.
+//! (`world`, `image_world`, `image_alike`, `world_same`, `outside`, `inside`). What names a tree holds where the host
+//! tells its tree.
 //!
 //! Not said: what the system's files hold, when memory runs out, and that the line on standard error comes out.
 //!

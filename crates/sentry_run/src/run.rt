@@ -1,7 +1,7 @@
 //! A run of the Sentry, from its words to the text of its state.
 
 ghost use Rattle.std.specs.Prelude.{◌≡◌, ◌≢◌, ◌⊎◌, ◌<◌, ◌≤◌, ℕ, true, false, [], length, map, string_bytes, Some, None};
-ghost use Rattle.std.specs.Prelude.{IfSome, IfOk, IfErr};
+ghost use Rattle.std.specs.Prelude.{IfSome, IfOk, IfErr, IsSomeAnd};
 ghost use Rattle.sn_base.specs.Faults.{Rose, HasCause};
 ghost use Rattle.sn_edge.specs.Reading.{ReadsWithin};
 ghost use Rattle.sn_edge.specs.Taken.{with_taken};
@@ -26,6 +26,7 @@ ghost use Rattle.sentry_run.specs.Played.{IsStuck};
 ghost use Rattle.image_walk.specs.Standing.{no_left};
 ghost use Rattle.sentry_run.specs.Ran.{IsRefused, ReadsAs, FailsToRead, RanBy, RanWords};
 ghost use Rattle.sentry_run.specs.Sides.{side, sides};
+ghost use Rattle.sentry_run.specs.Uncounted.{AreAlikeUncounted};
 
 use crate::conclude::{conclude, outcome};
 use crate::grants::play;
@@ -232,6 +233,10 @@ pub fn run_sentry<S: Source, W: HostWorld, K: Sink>(
         WhereRead result.mounts (W.told host.old) (λ m w.
         IfSome (refused_kernel (begun m w result.opening)) (λ k.
         W.told host.new ≡ Some (world_after m result.opening result.left k w))) }
+    // But for the counts of failed calls the world is then as it was.
+    ensures image_alike { (task : ℕ) (errno : Errno) → result.fault ≡ Fault.Image task errno →
+        WhereRead result.mounts (W.told host.old) (λ m w.
+        IsSomeAnd (W.told host.new) (λ after. AreAlikeUncounted after w)) }
     ensures world_same { HasNotBegun result.fault → W.told host.new ≡ W.told host.old }
     ensures unread_world { result.mounts ≡ None → W.told host.new ≡ W.told host.old }
     ensures outside { result.fault ≡ Fault.Memory →

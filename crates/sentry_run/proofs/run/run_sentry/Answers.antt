@@ -61,6 +61,7 @@ returns g c =
       unread_text = clauses.unread_text s r way;
       world = traces.world s r way;
       image_world = clauses.image_world s r way;
+      image_alike = clauses.image_alike s r way;
       world_same = traces.world_same s r way;
       unread_world = clauses.unread_world s r way;
       outside = traces.outside s r way;
