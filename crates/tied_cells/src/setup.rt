@@ -1,0 +1,119 @@
+//! How a book begins: with its pages and its seats.
+
+ghost use Rattle.std.specs.Prelude.{◌≡◌, ◌+◌, ◌<◌, ◌≤◌, ◌^◌, [], ℕ, Some, None, IfOk, IfSome, slice_index_or};
+ghost use Rattle.std.specs.Vec.{vec_len};
+ghost use Rattle.sn_ties.specs.Tied.{value_at};
+ghost use Rattle.tied_cells.specs.Machines.{own_key};
+
+use crate::log::{Log, Seat, Wires};
+use crate::machine::Machine;
+use crate::page::{Cell, Page};
+use crate::round::Book;
+use hist_count::{OfHistory, Pen};
+use sn_ties::{Knot, OfTies};
+use std::alloc::{AllocError, Global};
+use std::sync::Mutex;
+
+/// A book before its first entry.
+#[derive(Drop)]
+pub struct Setup<M: Machine, J: OfHistory + OfTies> {
+    pub wires: Wires<M, J>,
+    pub pen: Pen<M::Entry, J>,
+    pub knot: Knot<u64, J>,
+    pub versions: Vec<u64>,
+    pub tasks: u64,
+    ghost none: { pen ≡ [] },
+    ghost few: { vec_len versions ≤ 2 ^ 62 },
+    ghost few_tasks: { tasks ≤ 2 ^ 32 },
+    ghost noughts: { (k x : ℕ) → value_at k knot ≡ Some x → x ≡ 0 },
+    ghost zeros: { (k x : ℕ) → k < vec_len versions → x ≡ slice_index_or versions.items k x → x ≡ 0 },
+    ghost fresh: { (k : ℕ) → vec_len versions ≤ k → k < 2 ^ 63 → value_at k knot ≡ None },
+    ghost fresh_own: { (t : ℕ) → tasks ≤ t → value_at (own_key t) knot ≡ None },
+}
+
+impl<M: Machine, J: OfHistory + OfTies> Setup<M, J> {
+    /// No page, no seat.
+    pub fn new(
+        alloc: Global,
+        history: hist_count::Opened<M::Entry>,
+        ties: sn_ties::Opened<u64>,
+    ) -> Setup<M, J>
+        requires history { history.table.shared.table_id ≡ J.history }
+        requires ties { ties.table.shared.table_id ≡ J.ties }
+        ensures { vec_len result.versions ≡ 0 }
+    {
+        let (history, pen) = history.named::<J>();
+        let (ties, knot) = ties.named::<J>();
+        Setup {
+            wires: Wires { history, ties },
+            pen,
+            knot,
+            versions: Vec::new(alloc),
+            tasks: 0,
+        }
+    }
+
+    /// The next page.
+    pub fn page(&mut self, content: M::Part) -> Result<Page<M, J>, AllocError>
+        requires { content ≡ M.rules.opening (vec_len self.old.versions) }
+        ensures page { IfOk result (λ page. page.key ≡ vec_len self.old.versions) }
+        ensures next { IfOk result (λ _. vec_len self.new.versions ≡ vec_len self.old.versions + 1) }
+    {
+        if self.versions.len() >= 1 << 62 {
+            return Err(AllocError);
+        }
+        self.versions.reserve(1)?;
+        let key = self.versions.len() as u64;
+        let share = self.wires.ties.add(&mut self.knot, key, 0);
+        self.versions.push_reserved(0);
+        let front = self.wires.history.front(&mut self.pen);
+        let cell = Cell {
+            share,
+            front,
+            content: Some(content),
+        };
+        Ok(Page {
+            key,
+            cell: Mutex::new(cell),
+        })
+    }
+
+    /// The next task's seat.
+    pub fn seat(&mut self) -> Option<Seat<M, J>>
+        ensures seat { IfSome result (λ seat. seat.front ≡ []) }
+        ensures same { vec_len self.new.versions ≡ vec_len self.old.versions }
+    {
+        if self.tasks >= 1 << 32 {
+            return None;
+        }
+        let task = self.tasks;
+        let share = self.wires.ties.add(&mut self.knot, (1 << 63) + task, 0);
+        self.tasks = task + 1;
+        let front = self.wires.history.front(&mut self.pen);
+        Some(Seat { task, front, share })
+    }
+
+    /// The book.
+    pub fn book(self, alloc: Global, limit: u64) -> Book<M, J>
+        requires { limit + 1 < 2 ^ 62 }
+    {
+        let Setup {
+            wires,
+            pen,
+            knot,
+            versions,
+            ..
+        } = self;
+        let log = Log {
+            entries: Vec::new(alloc),
+            versions,
+            pen,
+            knot,
+        };
+        Book {
+            wires,
+            limit,
+            log: Mutex::new(log),
+        }
+    }
+}
