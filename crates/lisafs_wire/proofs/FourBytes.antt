@@ -1,5 +1,6 @@
 -- Four bytes that are put over four others.
-use Rattle.std.proofs.Common.{◌≡◌, ℕ, zero, suc, ◌+◌, ◌≤◌, ◌<◌, List, [], ◌∷◌, ◌++◌, length, take, drop, refl, ap, arith, slice_set}
+use Rattle.std.proofs.Common.{◌≡◌, ℕ, zero, suc, ◌+◌, ◌≤◌, ◌<◌, List, [], ◌∷◌, ◌++◌, length, take, drop, refl, ap}
+use Rattle.std.proofs.Common.{arith, slice_set}
 
 -- four sets in a row, at places that follow one another
 behind : (at : ℕ) (old : List ℕ) (a b c d : ℕ) → suc (suc (suc at)) < length old

@@ -6,3 +6,4 @@ pub mod Messages
 pub mod Growth
 pub mod FourBytes
 pub mod Sized
+pub mod Plain

@@ -1,8 +1,10 @@
 -- Reading groups one after another, as a loop does.
-use Rattle.std.proofs.Common.{◌≡◌, ℕ, suc, ◌-◌, ◌+◌, ◌≤◌, ◌<◌, List, [], ◌∷◌, ◌++◌, Ok, Err, refl, sym, ap, ◌∙◌, append_assoc, arith}
+use Rattle.std.proofs.Common.{◌≡◌, ℕ, suc, ◌-◌, ◌+◌, ◌≤◌, ◌<◌, List, [], ◌∷◌, ◌++◌, Ok, Err, refl, sym, ap, ◌∙◌}
+use Rattle.std.proofs.Common.{append_assoc, arith}
 use Rattle.std.proofs.lemmas.List.{append-nil}
 use Rattle.lisafs_wire.specs.declared.fault.WireFault.{WireFault}
-use Rattle.lisafs_wire.specs.declared.fault.WireFault.TheVariants as faults
+use Rattle.lisafs_wire.specs.declared.fault.DecodeError.{DecodeError}
+use Rattle.lisafs_wire.specs.declared.fault.DecodeError.TheVariants as errors
 use Rattle.lisafs_wire.specs.Fields.{Field, Value}
 use Rattle.lisafs_wire.specs.Reading.{Read, ◌>>=◌, Fails, value_at, values_at, groups_at}
 
@@ -27,7 +29,7 @@ goes_on fields front count i bytes group after total lt h so_far =
     = rw (k, h) (regroup front group (groups_at fields (count - (i + 1)) after)) in
     sym one ∙ so_far
 
-ends_by : (fault : WireFault) (fields : List Field) (front : List (List Value)) (count i : ℕ) (bytes : List ℕ)
+pub ends_by : (fault : WireFault) (fields : List Field) (front : List (List Value)) (count i : ℕ) (bytes : List ℕ)
     (total : Read (List (List Value))) → i < count → values_at fields bytes ≡ Err fault
     → with_front front (groups_at fields (count - i) bytes) ≡ total → total ≡ Err fault
 unfolding groups_at
@@ -36,16 +38,12 @@ ends_by fault fields front count i bytes total lt h so_far =
     let one : with_front front (groups_at fields (count - i) bytes) ≡ Err fault = rw (k, h) refl in
     sym so_far ∙ one
 
-pub ends : (fault : WireFault) (fields : List Field) (front : List (List Value)) (count i : ℕ) (bytes : List ℕ)
-    (total : Read (List (List Value))) → i < count → Fails fault (values_at fields bytes)
-    → with_front front (groups_at fields (count - i) bytes) ≡ total → Fails fault total
-unfolding groups_at
-ends faults.Memory fields front count i bytes total lt h so_far = tt
-ends faults.Short fields front count i bytes total lt h so_far = ends_by faults.Short fields front count i bytes total lt h so_far
-ends faults.Length fields front count i bytes total lt h so_far = ends_by faults.Length fields front count i bytes total lt h so_far
-ends faults.Unknown fields front count i bytes total lt h so_far = ends_by faults.Unknown fields front count i bytes total lt h so_far
-ends faults.Field fields front count i bytes total lt h so_far = ends_by faults.Field fields front count i bytes total lt h so_far
-ends faults.Trailing fields front count i bytes total lt h so_far = ends_by faults.Trailing fields front count i bytes total lt h so_far
+pub ends : (e : DecodeError) (fields : List Field) (front : List (List Value)) (count i : ℕ) (bytes : List ℕ)
+    (total : Read (List (List Value))) → i < count → Fails e (values_at fields bytes)
+    → with_front front (groups_at fields (count - i) bytes) ≡ total → Fails e total
+ends errors.Memory fields front count i bytes total lt h so_far = tt
+ends (errors.Fault fault) fields front count i bytes total lt h so_far =
+    ends_by fault fields front count i bytes total lt h so_far
 
 pub is_done : (fields : List Field) (front : List (List Value)) (count i : ℕ) (bytes : List ℕ)
     (total : Read (List (List Value))) → count ≤ i → with_front front (groups_at fields (count - i) bytes) ≡ total
@@ -58,7 +56,8 @@ is_done fields front count i bytes total le so_far =
     sym so_far ∙ one
 
 -- a group of one field
-pub one_value : (field : Field) (bytes : List ℕ) (value : Value) (after : List ℕ) → value_at field bytes ≡ Ok (value, after)
+pub one_value : (field : Field) (bytes : List ℕ) (value : Value) (after : List ℕ)
+    → value_at field bytes ≡ Ok (value, after)
     → values_at (field ∷ []) bytes ≡ Ok (value ∷ [], after)
 one_value field bytes value after h = rw h refl
 
@@ -66,11 +65,7 @@ one_ends_by : (fault : WireFault) (field : Field) (bytes : List ℕ) → value_a
     → values_at (field ∷ []) bytes ≡ Err fault
 one_ends_by fault field bytes h = rw h refl
 
-pub one_ends : (fault : WireFault) (field : Field) (bytes : List ℕ) → Fails fault (value_at field bytes)
-    → Fails fault (values_at (field ∷ []) bytes)
-one_ends faults.Memory field bytes h = tt
-one_ends faults.Short field bytes h = one_ends_by faults.Short field bytes h
-one_ends faults.Length field bytes h = one_ends_by faults.Length field bytes h
-one_ends faults.Unknown field bytes h = one_ends_by faults.Unknown field bytes h
-one_ends faults.Field field bytes h = one_ends_by faults.Field field bytes h
-one_ends faults.Trailing field bytes h = one_ends_by faults.Trailing field bytes h
+pub one_ends : (e : DecodeError) (field : Field) (bytes : List ℕ) → Fails e (value_at field bytes)
+    → Fails e (values_at (field ∷ []) bytes)
+one_ends errors.Memory field bytes h = tt
+one_ends (errors.Fault fault) field bytes h = one_ends_by fault field bytes h

@@ -1,7 +1,10 @@
 -- Numbers in bytes: what is read is what was written, and what was written is read.
-use Rattle.std.proofs.Common.{◌≡◌, ℕ, zero, suc, ◌+◌, ◌-◌, ◌*◌, ◌/◌, ◌%◌, ◌^◌, ◌<◌, ◌≤◌, Bool, true, false, cond, leb, ltb, List, [], ◌∷◌, ◌++◌, length, get_or, take, drop, Some, None, Result, Ok, Err, refl, sym, ap, subst, ◌∙◌, append_assoc, arith, inl, inr}
+use Rattle.std.proofs.Common.{◌≡◌, ℕ, zero, suc, ◌+◌, ◌-◌, ◌*◌, ◌/◌, ◌%◌, ◌^◌, ◌<◌, ◌≤◌, Bool, true, false, cond, leb}
+use Rattle.std.proofs.Common.{ltb, List, [], ◌∷◌, ◌++◌, length, get_or, take, drop, Some, None, Result, Ok, Err, refl}
+use Rattle.std.proofs.Common.{sym, ap, subst, ◌∙◌, append_assoc, arith, inl, inr}
 use Rattle.std.proofs.lemmas.Bool.{cases_lt, ltb-false, le-ltb, leb-true, le-leb}
-use Rattle.std.proofs.lemmas.List.{take_at, drop_at, take-append-drop, length-append, length-take, length-take-le, get_or-drop, get_or-take, get_or_past}
+use Rattle.std.proofs.lemmas.List.{take_at, drop_at, take-append-drop, length-append, length-take, length-take-le}
+use Rattle.std.proofs.lemmas.List.{get_or-drop, get_or-take, get_or_past}
 use Rattle.std.proofs.Math.Nat.{pow-suc}
 use Rattle.sn_bytes.specs.Fields.{little, field, little_bytes}
 use Rattle.lisafs_wire.specs.declared.fault.WireFault.{WireFault}
@@ -23,7 +26,8 @@ IsBytes-take n bytes h i =
     ]
 
 -- the value of a step that did not fail
-pub bind_ok : {A B : Type 0} (r : Result A WireFault) (f : A → Result B WireFault) (y : B) → (r >>= f) ≡ Ok y → (x : A) × (r ≡ Ok x) × (f x ≡ Ok y)
+pub bind_ok : {A B : Type 0} (r : Result A WireFault) (f : A → Result B WireFault) (y : B) → (r >>= f) ≡ Ok y
+    → (x : A) × (r ≡ Ok x) × (f x ≡ Ok y)
 bind_ok (Ok x) f y e = (x, refl, e)
 bind_ok (Err d) f y e = absurd cc
 
@@ -34,11 +38,13 @@ pub ok_is : {A : Type 0} (x y : A) → done x ≡ done y → x ≡ y
 ok_is x y e = cc
 
 -- a test that did not fail
-pub guard_ok : {A : Type 0} (b : Bool) (d : WireFault) (r : Result A WireFault) (y : A) → cond b (Err d) r ≡ Ok y → (b ≡ false) × (r ≡ Ok y)
+pub guard_ok : {A : Type 0} (b : Bool) (d : WireFault) (r : Result A WireFault) (y : A) → cond b (Err d) r ≡ Ok y
+    → (b ≡ false) × (r ≡ Ok y)
 guard_ok true d r y e = absurd cc
 guard_ok false d r y e = (refl, e)
 
-pub allow_ok : {A : Type 0} (b : Bool) (d : WireFault) (r : Result A WireFault) (y : A) → cond b r (Err d) ≡ Ok y → (b ≡ true) × (r ≡ Ok y)
+pub allow_ok : {A : Type 0} (b : Bool) (d : WireFault) (r : Result A WireFault) (y : A) → cond b r (Err d) ≡ Ok y
+    → (b ≡ true) × (r ≡ Ok y)
 allow_ok true d r y e = (refl, e)
 allow_ok false d r y e = absurd cc
 
@@ -86,7 +92,8 @@ little-below (b ∷ bs) h =
     let rest : little bs < 256 ^ length bs = little-below bs (λ i. h (suc i)) in
     omega (arith, first, rest, pow-suc 256 (length bs))
 
-known_if : (b : Bool) (m width : ℕ) (bytes : List ℕ) (x : ℕ × List ℕ) → known (cond b (Some m) None) width bytes ≡ Ok x → (b ≡ true) × ((m, drop width bytes) ≡ x)
+known_if : (b : Bool) (m width : ℕ) (bytes : List ℕ) (x : ℕ × List ℕ)
+    → known (cond b (Some m) None) width bytes ≡ Ok x → (b ≡ true) × ((m, drop width bytes) ≡ x)
 known_if true m width bytes x e = (refl, ok_is (m, drop width bytes) x e)
 known_if false m width bytes x e = absurd cc
 
@@ -96,7 +103,8 @@ field_front width bytes =
     let size : 0 + width - 0 ≡ width = omega arith in
     ap (λ (w : ℕ). little (take w bytes)) size
 
-pub number_takes : (width : ℕ) (bytes : List ℕ) (x : ℕ × List ℕ) → IsBytes bytes → number_at width bytes ≡ Ok x → Takes bytes (little_bytes width x.0) x.1 × (x.0 < 256 ^ width)
+pub number_takes : (width : ℕ) (bytes : List ℕ) (x : ℕ × List ℕ) → IsBytes bytes → number_at width bytes ≡ Ok x
+    → Takes bytes (little_bytes width x.0) x.1 × (x.0 < 256 ^ width)
 number_takes width bytes x fits e =
     let number = field_front width bytes in
     let k = known_if (leb (0 + width) (length bytes)) (field width 0 bytes) width bytes x e in
@@ -104,27 +112,48 @@ number_takes width bytes x fits e =
     let size : length (take width bytes) ≡ width = length-take-le width bytes long in
     let front : IsBytes (take width bytes) = IsBytes-take width bytes fits in
     let text : little_bytes width (little (take width bytes)) ≡ take width bytes
-    = subst (λ (w : ℕ). little_bytes w (little (take width bytes)) ≡ take width bytes) size (little_bytes-little (take width bytes) front) in
+    = subst (λ (w : ℕ). little_bytes w (little (take width bytes)) ≡ take width bytes) size
+    (little_bytes-little (take width bytes) front) in
     let below : little (take width bytes) < 256 ^ width
     = subst (λ (w : ℕ). little (take width bytes) < 256 ^ w) size (little-below (take width bytes) front) in
     let taken : Takes bytes (little_bytes width (little (take width bytes))) (drop width bytes)
-    = record { parts = sym (take-append-drop width bytes) ∙ ap (λ (t : List ℕ). t ++ drop width bytes) (sym text); rest_fits = IsBytes-drop width bytes fits } in
-    subst (λ (y : ℕ × List ℕ). Takes bytes (little_bytes width y.0) y.1 × (y.0 < 256 ^ width)) k.1 (subst (λ (n : ℕ). Takes bytes (little_bytes width n) (drop width bytes)) (sym number) taken, subst (λ (n : ℕ). n < 256 ^ width) (sym number) below)
+    = record {
+      parts = sym (take-append-drop width bytes)
+          ∙ ap (λ (t : List ℕ). t ++ drop width bytes) (sym text);
+      rest_fits = IsBytes-drop width bytes fits;
+    } in
+    subst (λ (y : ℕ × List ℕ). Takes bytes (little_bytes width y.0) y.1 × (y.0 < 256 ^ width)) k.1 (
+      subst (λ (n : ℕ). Takes bytes (little_bytes width n) (drop width bytes)) (sym number) taken,
+      subst (λ (n : ℕ). n < 256 ^ width) (sym number) below,
+    )
 
-pub number_again : (width n : ℕ) (rest : List ℕ) → n < 256 ^ width → number_at width (little_bytes width n ++ rest) ≡ Ok (n, rest)
+pub number_again : (width n : ℕ) (rest : List ℕ) → n < 256 ^ width
+    → number_at width (little_bytes width n ++ rest) ≡ Ok (n, rest)
 number_again width n rest fits =
     let size = length-little_bytes width n in
-    let long : leb (0 + width) (length (little_bytes width n ++ rest)) ≡ true = le-leb _ _ (omega (arith, size, length-append (little_bytes width n) rest)) in
-    rw (field_front width (little_bytes width n ++ rest), long, take_at (little_bytes width n) rest width size, drop_at (little_bytes width n) rest width size, little-little_bytes width n fits) refl
+    let long : leb (0 + width) (length (little_bytes width n ++ rest)) ≡ true
+    = le-leb _ _ (omega (arith, size, length-append (little_bytes width n) rest)) in
+    rw (
+      field_front width (little_bytes width n ++ rest),
+      long,
+      take_at (little_bytes width n) rest width size,
+      drop_at (little_bytes width n) rest width size,
+      little-little_bytes width n fits,
+    ) refl
 
-pub bytes_take : (count : ℕ) (bytes : List ℕ) (x : List ℕ × List ℕ) → IsBytes bytes → bytes_at count bytes ≡ Ok x → Takes bytes x.0 x.1 × (length x.0 ≡ count)
+pub bytes_take : (count : ℕ) (bytes : List ℕ) (x : List ℕ × List ℕ) → IsBytes bytes → bytes_at count bytes ≡ Ok x
+    → Takes bytes x.0 x.1 × (length x.0 ≡ count)
 bytes_take count bytes x fits e =
     let g = guard_ok (ltb (length bytes) count) faults.Length (Ok (take count bytes, drop count bytes)) x e in
     let long : count ≤ length bytes = ltb-false _ _ g.0 in
     let is : (take count bytes, drop count bytes) ≡ x = ok_is (take count bytes, drop count bytes) x g.1 in
-    subst (λ (y : List ℕ × List ℕ). Takes bytes y.0 y.1 × (length y.0 ≡ count)) is (record { parts = sym (take-append-drop count bytes); rest_fits = IsBytes-drop count bytes fits }, length-take-le count bytes long)
+    subst (λ (y : List ℕ × List ℕ). Takes bytes y.0 y.1 × (length y.0 ≡ count)) is (
+      record { parts = sym (take-append-drop count bytes); rest_fits = IsBytes-drop count bytes fits },
+      length-take-le count bytes long,
+    )
 
 pub bytes_again : (text rest : List ℕ) → bytes_at (length text) (text ++ rest) ≡ Ok (text, rest)
 bytes_again text rest =
-    let long : ltb (length (text ++ rest)) (length text) ≡ false = le-ltb _ _ (omega (arith, length-append text rest)) in
+    let long : ltb (length (text ++ rest)) (length text) ≡ false
+    = le-ltb _ _ (omega (arith, length-append text rest)) in
     rw (long, take_at text rest (length text) refl, drop_at text rest (length text) refl) refl

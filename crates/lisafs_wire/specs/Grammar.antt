@@ -1,6 +1,6 @@
 -- The grammar: for each number the fields of the request, and of the answer to it.
-use Rattle.std.specs.Prelude.{ℕ, ◌==◌, ◌||◌, ◌&&◌, nat_le, Bool, true, List, [], ◌∷◌, Option, Some, None}
-use Rattle.std.specs.Prelude.{if◌then◌else◌}
+use Rattle.std.specs.Prelude.{ℕ, ◌==◌, ◌||◌, ◌&&◌, nat_le, Bool, true, false, List, [], ◌∷◌, filter, Option, Some, None}
+use Rattle.std.specs.Prelude.{is_some, if◌then◌else◌}
 use Rattle.lisafs_wire.specs.declared.limits.TheConstants.{ALL_MODE_BITS, MOST_DATA, MOST_NAMES}
 use Rattle.lisafs_wire.specs.Fields.{Field, Number, Name, Data}
 
@@ -131,3 +131,19 @@ answer_table =
 abbrev pub layout_of : List (ℕ × Layout) → ℕ → Option Layout
 layout_of [] number = None
 layout_of (row ∷ rows) number = if row.0 == number then Some row.1 else layout_of rows number
+
+-- nothing stands behind the fields
+-- profile
+abbrev pub is_without : Groups → Bool
+is_without Without = true
+is_without (Counted is_allowed fields) = false
+
+-- the answers without lists
+-- profile
+abbrev pub plain_table : List (ℕ × Layout)
+plain_table = filter (λ row. is_without row.1.groups) answer_table
+
+-- an answer with that number has no list
+-- profile
+abbrev pub is_plain : ℕ → Bool
+is_plain number = is_some (layout_of plain_table number)

@@ -5,6 +5,8 @@ use Rattle.sn_bytes.specs.Fields.{field, field_at}
 use Rattle.sn_text.specs.Names.{name_fault_of}
 use Rattle.lisafs_wire.specs.declared.fault.WireFault.{WireFault}
 use Rattle.lisafs_wire.specs.declared.fault.WireFault.TheVariants as faults
+use Rattle.lisafs_wire.specs.declared.fault.DecodeError.{DecodeError}
+use Rattle.lisafs_wire.specs.declared.fault.DecodeError.TheVariants as errors
 use Rattle.lisafs_wire.specs.Fields.{Field, Number, Name, Data, Value, Num, Bytes}
 use Rattle.lisafs_wire.specs.Grammar.{Groups, Without, Counted, Layout, layout_of}
 use Rattle.lisafs_wire.specs.Spelling.{Message}
@@ -19,15 +21,21 @@ abbrev pub ◌>>=◌ : {A B : Type 0} → Result A WireFault → (A → Result B
 (Ok x) >>= f = f x
 (Err e) >>= f = Err e
 
--- what a function answered, seen by a view, is what reading gives, unless memory ran out
--- malloc(3), ENOMEM
-abbrev pub Fails : {B : Type 0} → WireFault → Result B WireFault → Type 0
-Fails faults.Memory read = ⊤
-Fails fault read = read ≡ Err fault
-
+-- what a function answered, seen by a view, is what reading gives
+-- profile
 abbrev pub Gives : {A B : Type 0} → (A → B) → Result A WireFault → Result B WireFault → Type 0
 Gives view (Ok x) read = read ≡ Ok (view x)
-Gives view (Err e) read = Fails e read
+Gives view (Err fault) read = read ≡ Err fault
+
+-- the same, unless memory ran out
+-- malloc(3), ENOMEM
+abbrev pub Fails : {B : Type 0} → DecodeError → Result B WireFault → Type 0
+Fails (errors.Fault fault) read = read ≡ Err fault
+Fails errors.Memory read = ⊤
+
+abbrev pub GivesIfRoom : {A B : Type 0} → (A → B) → Result A DecodeError → Result B WireFault → Type 0
+GivesIfRoom view (Ok x) read = read ≡ Ok (view x)
+GivesIfRoom view (Err e) read = Fails e read
 
 -- so many bytes of the front, where they are there: else a field passes the message's length
 -- profile

@@ -43,9 +43,9 @@ pub struct ListedName {
     pub name: Name,
 }
 
-/// An answer of a server: an error, by its errno, or that to the request of the same name.
-#[derive(Drop)]
-pub enum Answer<'a> {
+/// An answer of a server without lists: an error, by its errno, or that to the request of the same name.
+#[derive(Clone, Copy)]
+pub enum PlainAnswer<'a> {
     Error {
         errno: u32,
     },
@@ -58,10 +58,6 @@ pub enum Answer<'a> {
         attr: FileAttr,
     },
     SetStat,
-    Walk {
-        end: WalkEnd,
-        nodes: List<WalkedNode>,
-    },
     OpenAt {
         fd: Fd,
     },
@@ -90,6 +86,16 @@ pub enum Answer<'a> {
     },
     UnlinkAt,
     RenameAt,
+}
+
+/// An answer of a server: one without lists, or that to a `Walk` or a `Getdents64`.
+#[derive(Drop)]
+pub enum Answer<'a> {
+    Plain(PlainAnswer<'a>),
+    Walk {
+        end: WalkEnd,
+        nodes: List<WalkedNode>,
+    },
     Getdents64 {
         is_last: bool,
         names: List<ListedName>,

@@ -1,11 +1,11 @@
-//! What is wrong with bytes that are no message.
+//! What is wrong with bytes that are no message, and why a message wasn't read.
 
 ghost use Rattle.std.specs.Prelude.{◌≡◌};
-ghost use Rattle.lisafs_wire.specs.declared.fault.WireFault.TheVariants as faults;
+ghost use Rattle.lisafs_wire.specs.declared.fault.DecodeError.TheVariants as errors;
 
 use sn_base::Memory;
 
-/// Why bytes are no message, or want of memory. Of the faults that bytes have, the first in their order is told.
+/// Why bytes are no message. Of the faults that bytes have, the first in their order is told.
 #[derive(Clone, Copy, Debug, PartialEq, Eq)]
 pub enum WireFault {
     /// The bytes end before the header does, or before the message's length is reached.
@@ -18,14 +18,27 @@ pub enum WireFault {
     Field,
     /// Bytes stand behind the last field.
     Trailing,
-    /// Memory for a name was refused.
+}
+
+/// Why a message wasn't read: the bytes are none, or memory for a name or a list was refused.
+#[derive(Clone, Copy, Debug, PartialEq, Eq)]
+pub enum DecodeError {
+    Fault(WireFault),
     Memory,
 }
 
-impl From<Memory> for WireFault {
-    ghost from_gives = { λ _ e. e ≡ faults.Memory };
+impl From<WireFault> for DecodeError {
+    ghost from_gives = { λ fault e. e ≡ errors.Fault fault };
 
-    fn from(_e: Memory) -> WireFault {
-        WireFault::Memory
+    fn from(fault: WireFault) -> DecodeError {
+        DecodeError::Fault(fault)
+    }
+}
+
+impl From<Memory> for DecodeError {
+    ghost from_gives = { λ _ e. e ≡ errors.Memory };
+
+    fn from(_e: Memory) -> DecodeError {
+        DecodeError::Memory
     }
 }

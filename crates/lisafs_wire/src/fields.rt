@@ -6,11 +6,11 @@ ghost use Rattle.lisafs_wire.specs.Grammar.{access, attr, bulk, byte_count, doub
 ghost use Rattle.lisafs_wire.specs.Grammar.{kind, mode, removal, up_to, word};
 ghost use Rattle.lisafs_wire.specs.Messages.{access_number, attr_values, end_number, fd_value};
 ghost use Rattle.lisafs_wire.specs.Messages.{kind_number, last_number, removal_number};
-ghost use Rattle.lisafs_wire.specs.Reading.{Gives, bytes_at, number_at, value_at, values_at};
+ghost use Rattle.lisafs_wire.specs.Reading.{Gives, GivesIfRoom, bytes_at, number_at, value_at, values_at};
 
 use crate::answer::WalkEnd;
 use crate::attr::{FileAttr, FileKind};
-use crate::fault::WireFault;
+use crate::fault::{DecodeError, WireFault};
 use crate::fd::Fd;
 use crate::limits::{ALL_MODE_BITS, MOST_DATA};
 use crate::request::{Access, Removal};
@@ -89,15 +89,15 @@ pub(crate) fn access_at(bytes: &[u8]) -> Result<(Access, &[u8]), WireFault>
 
 /// A name, in memory of its own.
 #[tactic(auto, unfolding(crate::specs::Reading::value_at))]
-pub(crate) fn name_at(alloc: Global, bytes: &[u8]) -> Result<(Name, &[u8]), WireFault>
-    ensures { Gives (λ x. (Bytes x.0, x.1.now)) result (value_at NameField bytes.now) }
+pub(crate) fn name_at(alloc: Global, bytes: &[u8]) -> Result<(Name, &[u8]), DecodeError>
+    ensures { GivesIfRoom (λ x. (Bytes x.0, x.1.now)) result (value_at NameField bytes.now) }
 {
     let (size, rest) = number_2(bytes)?;
     let (name, rest) = bytes_of(size as usize, rest)?;
     match name_of(alloc, name) {
         Ok(name) => Ok((name, rest)),
-        Err(NameFault::Memory) => Err(WireFault::Memory),
-        Err(_) => Err(WireFault::Field),
+        Err(NameFault::Memory) => Err(DecodeError::Memory),
+        Err(_) => Err(DecodeError::Fault(WireFault::Field)),
     }
 }
 

@@ -2,7 +2,7 @@
 
 ghost use Rattle.std.specs.Prelude.{◌≡◌, is_some};
 ghost use Rattle.lisafs_wire.specs.Fronts.{front_of};
-ghost use Rattle.lisafs_wire.specs.Grammar.{answer_table, layout_of, request_table};
+ghost use Rattle.lisafs_wire.specs.Grammar.{answer_table, is_plain, layout_of, plain_table, request_table};
 ghost use Rattle.lisafs_wire.specs.Reading.{Gives, checked_front, front_at, header_at, is_all};
 
 use crate::fault::WireFault;
@@ -58,6 +58,13 @@ fn is_answer(number: u16) -> bool
     matches!(number, 0x8000..=0x8007 | 0x8009..=0x8010)
 }
 
+/// Whether an answer without lists has that number.
+fn is_plain_answer(number: u16) -> bool
+    ensures { result ≡ is_plain number }
+{
+    matches!(number, 0x8000..=0x8003 | 0x8005..=0x8007 | 0x8009..=0x800f)
+}
+
 /// The header, where its number is one of the table's, and its zero is one.
 fn checked(header: Header<'_>, is_known: bool) -> Result<Header<'_>, WireFault>
     ensures { Gives front_of result (checked_front is_known (front_of header.entry)) }
@@ -85,6 +92,14 @@ pub(crate) fn answer_header(bytes: &[u8]) -> Result<Header<'_>, WireFault>
 {
     let header = front(bytes)?;
     checked(header, is_answer(header.number))
+}
+
+/// The header of an answer without lists.
+pub(crate) fn plain_header(bytes: &[u8]) -> Result<Header<'_>, WireFault>
+    ensures { Gives front_of result (header_at plain_table bytes.now) }
+{
+    let header = front(bytes)?;
+    checked(header, is_plain_answer(header.number))
 }
 
 /// Whether nothing is left of a body, nor stands behind the message.

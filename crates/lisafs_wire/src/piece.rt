@@ -20,7 +20,7 @@ pub(crate) enum Piece<'a> {
 }
 
 /// Puts it at the end. An `Err` leaves what there was at the front.
-#[tactic(auto, using(crate::proofs::Growth::grown, crate::proofs::Growth::grown_behind, crate::proofs::Values::name_size))]
+#[tactic(auto, using(crate::proofs::Growth::grown, crate::proofs::Growth::grown_behind, crate::proofs::Values::name_size,))]
 pub(crate) fn put(out: &mut List<u8>, piece: Piece<'_>) -> Result<(), Memory>
     requires { DoesFit piece }
     ensures ok { OnOk result (out.new ≡ out.old ++ piece_bytes piece.entry) }

@@ -3,10 +3,10 @@
 ghost use Rattle.std.specs.Prelude.{◌≡◌, map, [], ◌∷◌};
 ghost use Rattle.lisafs_wire.specs.Fields.{Name as NameField};
 ghost use Rattle.lisafs_wire.specs.Grammar.{request_table};
-ghost use Rattle.lisafs_wire.specs.Messages.{asked, name_group};
-ghost use Rattle.lisafs_wire.specs.Reading.{Gives, groups_at, numbered_at};
+ghost use Rattle.lisafs_wire.specs.Messages.{decoded, name_group};
+ghost use Rattle.lisafs_wire.specs.Reading.{GivesIfRoom, groups_at, numbered_at};
 
-use crate::fault::WireFault;
+use crate::fault::{DecodeError, WireFault};
 use crate::fields::{
     access_at, count_at, data_at, double_word_at, fd_at, mode_at, name_at, number_2, removal_at,
     word_at,
@@ -17,38 +17,38 @@ use sn_base::List;
 use sn_text::Name;
 use std::alloc::Global;
 
-fn mount(bytes: &[u8]) -> Result<(Request<'_>, &[u8]), WireFault>
-    ensures { Gives (λ x. (asked x.0, x.1.now)) result (numbered_at request_table 1 bytes.now) }
+fn mount(bytes: &[u8]) -> Result<(Request<'_>, &[u8]), DecodeError>
+    ensures { GivesIfRoom (λ x. (decoded x.0, x.1.now)) result (numbered_at request_table 1 bytes.now) }
 {
     let (version, rest) = word_at(bytes)?;
     Ok((Request::Mount { version }, rest))
 }
 
-fn f_stat(bytes: &[u8]) -> Result<(Request<'_>, &[u8]), WireFault>
-    ensures { Gives (λ x. (asked x.0, x.1.now)) result (numbered_at request_table 2 bytes.now) }
+fn f_stat(bytes: &[u8]) -> Result<(Request<'_>, &[u8]), DecodeError>
+    ensures { GivesIfRoom (λ x. (decoded x.0, x.1.now)) result (numbered_at request_table 2 bytes.now) }
 {
     let (fd, rest) = fd_at(bytes)?;
     Ok((Request::FStat { fd }, rest))
 }
 
-fn set_stat(bytes: &[u8]) -> Result<(Request<'_>, &[u8]), WireFault>
-    ensures { Gives (λ x. (asked x.0, x.1.now)) result (numbered_at request_table 3 bytes.now) }
+fn set_stat(bytes: &[u8]) -> Result<(Request<'_>, &[u8]), DecodeError>
+    ensures { GivesIfRoom (λ x. (decoded x.0, x.1.now)) result (numbered_at request_table 3 bytes.now) }
 {
     let (fd, rest) = fd_at(bytes)?;
     let (size, rest) = double_word_at(rest)?;
     Ok((Request::SetStat { fd, size }, rest))
 }
 
-fn open_at(bytes: &[u8]) -> Result<(Request<'_>, &[u8]), WireFault>
-    ensures { Gives (λ x. (asked x.0, x.1.now)) result (numbered_at request_table 5 bytes.now) }
+fn open_at(bytes: &[u8]) -> Result<(Request<'_>, &[u8]), DecodeError>
+    ensures { GivesIfRoom (λ x. (decoded x.0, x.1.now)) result (numbered_at request_table 5 bytes.now) }
 {
     let (fd, rest) = fd_at(bytes)?;
     let (access, rest) = access_at(rest)?;
     Ok((Request::OpenAt { fd, access }, rest))
 }
 
-fn open_create_at(alloc: Global, bytes: &[u8]) -> Result<(Request<'_>, &[u8]), WireFault>
-    ensures { Gives (λ x. (asked x.0, x.1.now)) result (numbered_at request_table 6 bytes.now) }
+fn open_create_at(alloc: Global, bytes: &[u8]) -> Result<(Request<'_>, &[u8]), DecodeError>
+    ensures { GivesIfRoom (λ x. (decoded x.0, x.1.now)) result (numbered_at request_table 6 bytes.now) }
 {
     let (fd, rest) = fd_at(bytes)?;
     let (mode, rest) = mode_at(rest)?;
@@ -65,15 +65,15 @@ fn open_create_at(alloc: Global, bytes: &[u8]) -> Result<(Request<'_>, &[u8]), W
     ))
 }
 
-fn close(bytes: &[u8]) -> Result<(Request<'_>, &[u8]), WireFault>
-    ensures { Gives (λ x. (asked x.0, x.1.now)) result (numbered_at request_table 7 bytes.now) }
+fn close(bytes: &[u8]) -> Result<(Request<'_>, &[u8]), DecodeError>
+    ensures { GivesIfRoom (λ x. (decoded x.0, x.1.now)) result (numbered_at request_table 7 bytes.now) }
 {
     let (fd, rest) = fd_at(bytes)?;
     Ok((Request::Close { fd }, rest))
 }
 
-fn p_read(bytes: &[u8]) -> Result<(Request<'_>, &[u8]), WireFault>
-    ensures { Gives (λ x. (asked x.0, x.1.now)) result (numbered_at request_table 9 bytes.now) }
+fn p_read(bytes: &[u8]) -> Result<(Request<'_>, &[u8]), DecodeError>
+    ensures { GivesIfRoom (λ x. (decoded x.0, x.1.now)) result (numbered_at request_table 9 bytes.now) }
 {
     let (fd, rest) = fd_at(bytes)?;
     let (offset, rest) = double_word_at(rest)?;
@@ -81,8 +81,8 @@ fn p_read(bytes: &[u8]) -> Result<(Request<'_>, &[u8]), WireFault>
     Ok((Request::PRead { fd, offset, count }, rest))
 }
 
-fn p_write(bytes: &[u8]) -> Result<(Request<'_>, &[u8]), WireFault>
-    ensures { Gives (λ x. (asked x.0, x.1.now)) result (numbered_at request_table 10 bytes.now) }
+fn p_write(bytes: &[u8]) -> Result<(Request<'_>, &[u8]), DecodeError>
+    ensures { GivesIfRoom (λ x. (decoded x.0, x.1.now)) result (numbered_at request_table 10 bytes.now) }
 {
     let (fd, rest) = fd_at(bytes)?;
     let (offset, rest) = double_word_at(rest)?;
@@ -90,8 +90,8 @@ fn p_write(bytes: &[u8]) -> Result<(Request<'_>, &[u8]), WireFault>
     Ok((Request::PWrite { fd, offset, bytes }, rest))
 }
 
-fn mkdir_at(alloc: Global, bytes: &[u8]) -> Result<(Request<'_>, &[u8]), WireFault>
-    ensures { Gives (λ x. (asked x.0, x.1.now)) result (numbered_at request_table 11 bytes.now) }
+fn mkdir_at(alloc: Global, bytes: &[u8]) -> Result<(Request<'_>, &[u8]), DecodeError>
+    ensures { GivesIfRoom (λ x. (decoded x.0, x.1.now)) result (numbered_at request_table 11 bytes.now) }
 {
     let (fd, rest) = fd_at(bytes)?;
     let (mode, rest) = mode_at(rest)?;
@@ -99,8 +99,8 @@ fn mkdir_at(alloc: Global, bytes: &[u8]) -> Result<(Request<'_>, &[u8]), WireFau
     Ok((Request::MkdirAt { fd, mode, name }, rest))
 }
 
-fn symlink_at(alloc: Global, bytes: &[u8]) -> Result<(Request<'_>, &[u8]), WireFault>
-    ensures { Gives (λ x. (asked x.0, x.1.now)) result (numbered_at request_table 12 bytes.now) }
+fn symlink_at(alloc: Global, bytes: &[u8]) -> Result<(Request<'_>, &[u8]), DecodeError>
+    ensures { GivesIfRoom (λ x. (decoded x.0, x.1.now)) result (numbered_at request_table 12 bytes.now) }
 {
     let (fd, rest) = fd_at(bytes)?;
     let (name, rest) = name_at(alloc, rest)?;
@@ -108,15 +108,15 @@ fn symlink_at(alloc: Global, bytes: &[u8]) -> Result<(Request<'_>, &[u8]), WireF
     Ok((Request::SymlinkAt { fd, name, text }, rest))
 }
 
-fn read_link_at(bytes: &[u8]) -> Result<(Request<'_>, &[u8]), WireFault>
-    ensures { Gives (λ x. (asked x.0, x.1.now)) result (numbered_at request_table 13 bytes.now) }
+fn read_link_at(bytes: &[u8]) -> Result<(Request<'_>, &[u8]), DecodeError>
+    ensures { GivesIfRoom (λ x. (decoded x.0, x.1.now)) result (numbered_at request_table 13 bytes.now) }
 {
     let (fd, rest) = fd_at(bytes)?;
     Ok((Request::ReadLinkAt { fd }, rest))
 }
 
-fn unlink_at(alloc: Global, bytes: &[u8]) -> Result<(Request<'_>, &[u8]), WireFault>
-    ensures { Gives (λ x. (asked x.0, x.1.now)) result (numbered_at request_table 14 bytes.now) }
+fn unlink_at(alloc: Global, bytes: &[u8]) -> Result<(Request<'_>, &[u8]), DecodeError>
+    ensures { GivesIfRoom (λ x. (decoded x.0, x.1.now)) result (numbered_at request_table 14 bytes.now) }
 {
     let (fd, rest) = fd_at(bytes)?;
     let (victim, rest) = fd_at(rest)?;
@@ -133,8 +133,8 @@ fn unlink_at(alloc: Global, bytes: &[u8]) -> Result<(Request<'_>, &[u8]), WireFa
     ))
 }
 
-fn rename_at(alloc: Global, bytes: &[u8]) -> Result<(Request<'_>, &[u8]), WireFault>
-    ensures { Gives (λ x. (asked x.0, x.1.now)) result (numbered_at request_table 15 bytes.now) }
+fn rename_at(alloc: Global, bytes: &[u8]) -> Result<(Request<'_>, &[u8]), DecodeError>
+    ensures { GivesIfRoom (λ x. (decoded x.0, x.1.now)) result (numbered_at request_table 15 bytes.now) }
 {
     let (fd, rest) = fd_at(bytes)?;
     let (directory, rest) = fd_at(rest)?;
@@ -153,8 +153,8 @@ fn rename_at(alloc: Global, bytes: &[u8]) -> Result<(Request<'_>, &[u8]), WireFa
     ))
 }
 
-fn getdents64(bytes: &[u8]) -> Result<(Request<'_>, &[u8]), WireFault>
-    ensures { Gives (λ x. (asked x.0, x.1.now)) result (numbered_at request_table 16 bytes.now) }
+fn getdents64(bytes: &[u8]) -> Result<(Request<'_>, &[u8]), DecodeError>
+    ensures { GivesIfRoom (λ x. (decoded x.0, x.1.now)) result (numbered_at request_table 16 bytes.now) }
 {
     let (fd, rest) = fd_at(bytes)?;
     let (start, rest) = word_at(rest)?;
@@ -162,8 +162,8 @@ fn getdents64(bytes: &[u8]) -> Result<(Request<'_>, &[u8]), WireFault>
 }
 
 /// So many names.
-fn names_of(alloc: Global, count: u16, bytes: &[u8]) -> Result<(List<Name>, &[u8]), WireFault>
-    ensures { Gives (λ x. (map name_group x.0, x.1.now)) result (groups_at (NameField ∷ []) count bytes.now) }
+fn names_of(alloc: Global, count: u16, bytes: &[u8]) -> Result<(List<Name>, &[u8]), DecodeError>
+    ensures { GivesIfRoom (λ x. (map name_group x.0, x.1.now)) result (groups_at (NameField ∷ []) count bytes.now) }
 {
     let mut names = List::new(alloc);
     let mut rest = bytes;
@@ -175,13 +175,13 @@ fn names_of(alloc: Global, count: u16, bytes: &[u8]) -> Result<(List<Name>, &[u8
     Ok((names, rest))
 }
 
-fn walk(alloc: Global, bytes: &[u8]) -> Result<(Request<'_>, &[u8]), WireFault>
-    ensures { Gives (λ x. (asked x.0, x.1.now)) result (numbered_at request_table 4 bytes.now) }
+fn walk(alloc: Global, bytes: &[u8]) -> Result<(Request<'_>, &[u8]), DecodeError>
+    ensures { GivesIfRoom (λ x. (decoded x.0, x.1.now)) result (numbered_at request_table 4 bytes.now) }
 {
     let (fd, rest) = fd_at(bytes)?;
     let (count, rest) = number_2(rest)?;
     if count < 1 || count > MOST_NAMES {
-        return Err(WireFault::Field);
+        return Err(DecodeError::Fault(WireFault::Field));
     }
     let (names, rest) = names_of(alloc, count, rest)?;
     Ok((Request::Walk { fd, names }, rest))
@@ -192,8 +192,8 @@ pub(crate) fn request_at(
     alloc: Global,
     number: u16,
     bytes: &[u8],
-) -> Result<(Request<'_>, &[u8]), WireFault>
-    ensures { Gives (λ x. (asked x.0, x.1.now)) result (numbered_at request_table number bytes.now) }
+) -> Result<(Request<'_>, &[u8]), DecodeError>
+    ensures { GivesIfRoom (λ x. (decoded x.0, x.1.now)) result (numbered_at request_table number bytes.now) }
 {
     match number {
         1 => mount(bytes),
@@ -211,6 +211,6 @@ pub(crate) fn request_at(
         14 => unlink_at(alloc, bytes),
         15 => rename_at(alloc, bytes),
         16 => getdents64(bytes),
-        _ => Err(WireFault::Unknown),
+        _ => Err(DecodeError::Fault(WireFault::Unknown)),
     }
 }

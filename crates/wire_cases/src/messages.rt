@@ -2,7 +2,7 @@
 
 use crate::bytes::add_all;
 use crate::runs::{Run, put_run};
-use crate::told::{fault, put_answer, put_request};
+use crate::told::{error, put_answer, put_request};
 use lisafs_wire::{decode, decode_answer, encode, encode_answer};
 use read_cases::{Bad, Cases, parted};
 use sn_base::List;
@@ -17,11 +17,11 @@ fn tell_request(alloc: Global, bytes: &[u8], came: &mut String) -> Result<(), Ba
     match decode(alloc, bytes) {
         Ok(request) => {
             let mut again = List::new(alloc);
-            encode(&mut again, &request)?;
+            encode(&mut again, &request.lend())?;
             put_request(came, &request)?;
             tell_same(came, again.as_slice(), bytes)
         }
-        Err(e) => Ok(came.push_str(fault(e))?),
+        Err(e) => Ok(came.push_str(error(e))?),
     }
 }
 
@@ -34,7 +34,7 @@ fn tell_answer(alloc: Global, bytes: &[u8], came: &mut String) -> Result<(), Bad
             put_answer(came, &answer)?;
             tell_same(came, again.as_slice(), bytes)
         }
-        Err(e) => Ok(came.push_str(fault(e))?),
+        Err(e) => Ok(came.push_str(error(e))?),
     }
 }
 
@@ -50,12 +50,12 @@ fn fault_of(alloc: Global, is_answer: bool, bytes: &[u8]) -> &'static str {
     if is_answer {
         match decode_answer(alloc, bytes) {
             Ok(_) => "none",
-            Err(e) => fault(e),
+            Err(e) => error(e),
         }
     } else {
         match decode(alloc, bytes) {
             Ok(_) => "none",
-            Err(e) => fault(e),
+            Err(e) => error(e),
         }
     }
 }

@@ -1,19 +1,28 @@
 //! Messages as lines: the name of each, and what its fields have, in their order.
 
 use crate::words::{access, end, kind, put_attr, put_bytes, put_name, removal};
-use lisafs_wire::{Answer, FileAttr, ListedName, Request, WalkedNode, WireFault};
+use lisafs_wire::{
+    Answer, DecodeError, FileAttr, ListedName, PlainAnswer, Request, WalkedNode, WireFault,
+};
 use read_cases::Bad;
 use sn_text::Name;
 
 /// A fault by its name.
-pub fn fault(fault: WireFault) -> &'static str {
-    match fault {
+pub fn fault(kind: WireFault) -> &'static str {
+    match kind {
         WireFault::Short => "Short",
         WireFault::Length => "Length",
         WireFault::Unknown => "Unknown",
         WireFault::Field => "Field",
         WireFault::Trailing => "Trailing",
-        WireFault::Memory => "Memory",
+    }
+}
+
+/// Why a message wasn't read, by its name.
+pub fn error(error: DecodeError) -> &'static str {
+    match error {
+        DecodeError::Fault(kind) => fault(kind),
+        DecodeError::Memory => "Memory",
     }
 }
 
@@ -150,53 +159,60 @@ fn put_made(text: &mut String, name: &str, fd: u64, attr: &FileAttr) -> Result<(
 }
 
 /// An answer with no field, or with a number alone.
-fn put_short(text: &mut String, answer: &Answer<'_>) -> Result<(), Bad> {
+fn put_short(text: &mut String, answer: &PlainAnswer<'_>) -> Result<(), Bad> {
     match answer {
-        Answer::Error { errno } => write!(text, "Error {errno}")?,
-        Answer::SetStat => write!(text, "SetStat")?,
-        Answer::OpenAt { fd } => write!(text, "OpenAt {}", fd.number)?,
-        Answer::Close => write!(text, "Close")?,
-        Answer::PWrite { count } => write!(text, "PWrite {count}")?,
-        Answer::UnlinkAt => write!(text, "UnlinkAt")?,
-        Answer::RenameAt => write!(text, "RenameAt")?,
+        PlainAnswer::Error { errno } => write!(text, "Error {errno}")?,
+        PlainAnswer::SetStat => write!(text, "SetStat")?,
+        PlainAnswer::OpenAt { fd } => write!(text, "OpenAt {}", fd.number)?,
+        PlainAnswer::Close => write!(text, "Close")?,
+        PlainAnswer::PWrite { count } => write!(text, "PWrite {count}")?,
+        PlainAnswer::UnlinkAt => write!(text, "UnlinkAt")?,
+        PlainAnswer::RenameAt => write!(text, "RenameAt")?,
         _ => (),
     }
     Ok(())
 }
 
-/// An answer.
-pub fn put_answer(text: &mut String, answer: &Answer<'_>) -> Result<(), Bad> {
+/// An answer without lists.
+pub fn put_plain_answer(text: &mut String, answer: &PlainAnswer<'_>) -> Result<(), Bad> {
     match answer {
-        Answer::Mount { version, fd, attr } => {
+        PlainAnswer::Mount { version, fd, attr } => {
             write!(text, "Mount {version} {}", fd.number)?;
             put_attr(text, attr)
         }
-        Answer::FStat { attr } => {
+        PlainAnswer::FStat { attr } => {
             write!(text, "FStat")?;
             put_attr(text, attr)
         }
-        Answer::Walk { end: how, nodes } => {
-            write!(text, "Walk {}", end(*how))?;
-            put_nodes(text, nodes.as_slice())
-        }
-        Answer::OpenCreateAt { fd, opened, attr } => {
+        PlainAnswer::OpenCreateAt { fd, opened, attr } => {
             write!(text, "OpenCreateAt {} {}", fd.number, opened.number)?;
             put_attr(text, attr)
         }
-        Answer::PRead { bytes } => {
+        PlainAnswer::PRead { bytes } => {
             write!(text, "PRead")?;
             with_bytes(text, bytes)
         }
-        Answer::MkdirAt { fd, attr } => put_made(text, "MkdirAt", fd.number, attr),
-        Answer::SymlinkAt { fd, attr } => put_made(text, "SymlinkAt", fd.number, attr),
-        Answer::ReadLinkAt { text: target } => {
+        PlainAnswer::MkdirAt { fd, attr } => put_made(text, "MkdirAt", fd.number, attr),
+        PlainAnswer::SymlinkAt { fd, attr } => put_made(text, "SymlinkAt", fd.number, attr),
+        PlainAnswer::ReadLinkAt { text: target } => {
             write!(text, "ReadLinkAt")?;
             with_bytes(text, target)
+        }
+        others => put_short(text, others),
+    }
+}
+
+/// An answer.
+pub fn put_answer(text: &mut String, answer: &Answer<'_>) -> Result<(), Bad> {
+    match answer {
+        Answer::Plain(answer) => put_plain_answer(text, answer),
+        Answer::Walk { end: how, nodes } => {
+            write!(text, "Walk {}", end(*how))?;
+            put_nodes(text, nodes.as_slice())
         }
         Answer::Getdents64 { is_last, names } => {
             write!(text, "Getdents64 {is_last}")?;
             put_listed(text, names.as_slice())
         }
-        others => put_short(text, others),
     }
 }

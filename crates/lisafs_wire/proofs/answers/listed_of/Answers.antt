@@ -11,12 +11,20 @@ use Rattle.lisafs_wire.proofs.answers.listed_of.Goals as goal
 pub returns-in_err-name : goal.returns-in_err-name
 returns-in_err-name c =
     let p = err_from_is_err_and c.from_residual.result c.from_residual.ensures.1 in
-    rw (p.1, p.2) (ends c.in_err-name.field-0.0 (kind ∷ Name ∷ []) (map listed_group c.loop.names) c.args.count c.loop.counter c.loop.rest.now (groups_at (kind ∷ Name ∷ []) c.args.count c.args.bytes.now) c.loop-test.true c.in_err-name.ensures c.loop.invariant)
+    rw (p.1, p.2) (ends c.in_err-name.field-0.0 (kind ∷ Name ∷ [])
+    (map listed_group c.loop.names) c.args.count c.loop.counter c.loop.rest.now
+    (groups_at (kind ∷ Name ∷ []) c.args.count c.args.bytes.now) c.loop-test.true c.in_err-name.ensures
+    c.loop.invariant)
 
 pub loop-preserved : goal.loop-preserved
 loop-preserved c =
-    let e : map listed_group c.push.new.self ≡ map listed_group c.loop.names ++ listed_group c.in_ok-name.name ∷ [] = rw c.in_ok-push.ensures.ok (map_push listed_group c.loop.names c.in_ok-name.name) in
-    rw e (goes_on (kind ∷ Name ∷ []) (map listed_group c.loop.names) c.args.count c.loop.counter c.loop.rest.now (listed_group c.in_ok-name.name) c.in_ok-name.after.now (groups_at (kind ∷ Name ∷ []) c.args.count c.args.bytes.now) c.loop-test.true c.in_ok-name.ensures c.loop.invariant)
+    let e : map listed_group c.push.new.self ≡ map listed_group c.loop.names ++ listed_group c.in_ok-name.name ∷ []
+    = rw c.in_ok-push.ensures.ok (map_push listed_group c.loop.names c.in_ok-name.name) in
+    rw e (goes_on (kind ∷ Name ∷ []) (map listed_group c.loop.names) c.args.count c.loop.counter c.loop.rest.now
+    (listed_group c.in_ok-name.name) c.in_ok-name.after.now
+    (groups_at (kind ∷ Name ∷ []) c.args.count c.args.bytes.now) c.loop-test.true c.in_ok-name.ensures
+    c.loop.invariant)
 
 pub returns : goal.returns
-returns c = is_done (kind ∷ Name ∷ []) (map listed_group c.loop.names) c.args.count c.loop.counter c.loop.rest.now (groups_at (kind ∷ Name ∷ []) c.args.count c.args.bytes.now) c.loop-test.false c.loop.invariant
+returns c = is_done (kind ∷ Name ∷ []) (map listed_group c.loop.names) c.args.count c.loop.counter c.loop.rest.now
+    (groups_at (kind ∷ Name ∷ []) c.args.count c.args.bytes.now) c.loop-test.false c.loop.invariant

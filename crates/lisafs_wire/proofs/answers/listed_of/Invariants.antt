@@ -8,4 +8,5 @@ use Rattle.lisafs_wire.proofs.answers.listed_of.Given as goal
 
 abbrev pub invariant-loop : goal.invariant-loop
 invariant-loop l =
-    with_front (map listed_group l.names) (groups_at (kind ∷ Name ∷ []) (l.count - l.counter) l.rest) ≡ groups_at (kind ∷ Name ∷ []) l.count l.bytes
+    with_front (map listed_group l.names) (groups_at (kind ∷ Name ∷ []) (l.count - l.counter) l.rest)
+    ≡ groups_at (kind ∷ Name ∷ []) l.count l.bytes

@@ -7,4 +7,5 @@ use Rattle.lisafs_wire.proofs.answers.nodes_of.Given as goal
 
 abbrev pub invariant-loop : goal.invariant-loop
 invariant-loop l =
-    with_front (map node_group l.nodes) (groups_at (fd ∷ attr) (l.count - l.counter) l.rest) ≡ groups_at (fd ∷ attr) l.count l.bytes
+    with_front (map node_group l.nodes) (groups_at (fd ∷ attr) (l.count - l.counter) l.rest)
+    ≡ groups_at (fd ∷ attr) l.count l.bytes

@@ -12,4 +12,5 @@ returns c =
     let third : n / 65536 % 256 ≡ n / 256 / 256 % 256 = omega arith in
     let fourth : n / 16777216 % 256 ≡ n / 256 / 256 / 256 % 256 = omega arith in
     rw (c.set-4.ensures, c.set-3.ensures, c.set-2.ensures, c.set.ensures, c.to_le_bytes-bytes.ensures)
-    (patched at old _ _ _ _ c.requires ∙ (λ i. take at old ++ (n % 256 ∷ n / 256 % 256 ∷ third i ∷ fourth i ∷ drop (at + 4) old)))
+    (patched at old _ _ _ _ c.requires
+    ∙ (λ i. take at old ++ (n % 256 ∷ n / 256 % 256 ∷ third i ∷ fourth i ∷ drop (at + 4) old)))

@@ -7,4 +7,5 @@ use Rattle.lisafs_wire.proofs.requests.names_of.Given as goal
 
 abbrev pub invariant-loop : goal.invariant-loop
 invariant-loop l =
-    with_front (map name_group l.names) (groups_at (Name ∷ []) (l.count - l.counter) l.rest) ≡ groups_at (Name ∷ []) l.count l.bytes
+    with_front (map name_group l.names) (groups_at (Name ∷ []) (l.count - l.counter) l.rest)
+    ≡ groups_at (Name ∷ []) l.count l.bytes
