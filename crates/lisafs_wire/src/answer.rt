@@ -1,7 +1,7 @@
 //! What a server answers.
 
 ghost use Rattle.std.specs.Prelude.{◌≡◌};
-ghost use Rattle.lisafs_wire.specs.Messages.{end_number};
+ghost use Rattle.lisafs_wire.specs.Messages.{end_number, plain_answered};
 
 use crate::attr::{FileAttr, FileKind};
 use crate::fd::Fd;
@@ -86,6 +86,31 @@ pub enum PlainAnswer<'a> {
     },
     UnlinkAt,
     RenameAt,
+}
+
+impl PlainAnswer<'_> {
+    /// The number of its message.
+    #[rattlefmt::skip]
+    pub fn number(&self) -> u16
+        ensures { result ≡ (plain_answered self.now).number }
+    {
+        match self {
+            PlainAnswer::Error { .. } => 0x8000,
+            PlainAnswer::Mount { .. } => 0x8001,
+            PlainAnswer::FStat { .. } => 0x8002,
+            PlainAnswer::SetStat => 0x8003,
+            PlainAnswer::OpenAt { .. } => 0x8005,
+            PlainAnswer::OpenCreateAt { .. } => 0x8006,
+            PlainAnswer::Close => 0x8007,
+            PlainAnswer::PRead { .. } => 0x8009,
+            PlainAnswer::PWrite { .. } => 0x800a,
+            PlainAnswer::MkdirAt { .. } => 0x800b,
+            PlainAnswer::SymlinkAt { .. } => 0x800c,
+            PlainAnswer::ReadLinkAt { .. } => 0x800d,
+            PlainAnswer::UnlinkAt => 0x800e,
+            PlainAnswer::RenameAt => 0x800f,
+        }
+    }
 }
 
 /// An answer of a server: one without lists, or that to a `Walk` or a `Getdents64`.
