@@ -6,9 +6,9 @@ use Rattle.std.specs.Ordering.{nat_cmp}
 use Rattle.std.specs.FinMap.{FinMap, get, insert, empty}
 use Rattle.std.proofs.lemmas.Bool.{eqb-false}
 use Rattle.sn_base.proofs.Maps.{get-insert_same, get-insert_other, insert-insert, same_by_get}
+use Rattle.rv_table.specs.Areas.{is_area}
 use Rattle.rv_table.specs.declared.error.Area.{Area}
 use Rattle.mm_space.specs.Handed.{AreaState, InHand, area_in, zero_area}
-use Rattle.mm_space.specs.Sight.{is_area}
 use Rattle.kernel_model.specs.Names.{NamedMap, get_named, has_named, with_named, without_named}
 use Rattle.kernel_model.proofs.NamedMaps.{same_or_other, one_name_or_two, get-with, get-with_same, get-with_other}
 use Rattle.kernel_model.proofs.NamedMaps.{with_same}

@@ -5,6 +5,7 @@ use Rattle.std.proofs.Common.{add-one, eqb}
 use Rattle.std.specs.Prelude.{option_and_then, nat_le, ◌&&◌, ◌%◌, ◌/◌, is_some}
 use Rattle.std.proofs.lemmas.Bool.{le-leb}
 use Rattle.std.specs.FinMap as map
+use Rattle.rv_table.specs.Areas.{is_area}
 use Rattle.rv_table.specs.declared.error.Area.{Area}
 use Rattle.rv_table.specs.declared.registers.Regs.{Regs}
 use Rattle.rv_table.specs.Bytes.{behind}
@@ -18,7 +19,6 @@ use Rattle.mm_space.specs.Puts.{changed_in_hand, with_area, put_in_area, put_hel
 use Rattle.mm_space.specs.Puts.{put_run}
 use Rattle.mm_space.specs.Reserves.{reserve_in_area, reserve_held, reserve_mapped, leave_in_area, leave_held}
 use Rattle.mm_space.specs.Reserves.{leave_mapped}
-use Rattle.mm_space.specs.Sight.{is_area}
 use Rattle.mm_space.specs.Spaces.{AddressSpace, Reach}
 use Rattle.quantum.specs.Acting.{Acting, acting_on, memory_of, acting_after_write}
 use Rattle.rv_exec.specs.Courses as courses

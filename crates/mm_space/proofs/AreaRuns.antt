@@ -8,6 +8,7 @@ use Rattle.std.proofs.lemmas.Bool.{cases_lt, false≢true}
 use Rattle.std.proofs.lemmas.Option.{slice_get_cases}
 use Rattle.std.proofs.lemmas.Bool.Decides.{nat_tests}
 use Rattle.std.proofs.lemmas.List.{get_or_past, get_or-set_same, set-get_or, set_past, set-set}
+use Rattle.rv_table.specs.Areas.{is_area}
 use Rattle.rv_table.specs.declared.error.Area.{Area}
 use Rattle.rv_atomic.specs.declared.area_reservations.AreaReservation.{AreaReservation}
 use Rattle.rv_atomic.specs.AreaReservations.{after_run_here}
@@ -17,7 +18,6 @@ use Rattle.mm_frames.specs.Numbers.{with_run}
 use Rattle.mm_space.specs.Handed.{AreaState, InHand}
 use Rattle.mm_space.specs.Puts.{changed_in_hand, put_in_area, with_area}
 use Rattle.mm_space.specs.Runs.{put_run_in_area}
-use Rattle.mm_space.specs.Sight.{is_area}
 use Rattle.mm_space.proofs.SetRuns.{set_run, set_run_is}
 
 -- ---- the pages

@@ -1,5 +1,6 @@
 -- Store-conditionals whose bytes lie in one page that has its bytes for itself.
-use Rattle.std.proofs.Common.{◌≡◌, ℕ, ◌/◌, ◌^◌, ◌<◌, Bool, true, false, ◌&&◌, List, Option, refl, ap, sym, ◌∙◌, arith}
+use Rattle.std.proofs.Common.{◌≡◌, ℕ, ◌/◌, ◌^◌, ◌<◌, Bool, true, false, ◌&&◌, List, Option, refl, ap, ap₂}
+use Rattle.std.proofs.Common.{None, sym, ◌∙◌, arith}
 use Rattle.std.specs.Bool.{OnTrue, OnFalse}
 use Rattle.std.proofs.lemmas.Bool.{false≢true}
 use Rattle.std.specs.FinMap as map
@@ -12,6 +13,7 @@ use Rattle.mm_areas.specs.Pages.{Mapped, Pages}
 use Rattle.mm_space.specs.Accesses.{page_number, page_offset}
 use Rattle.mm_space.specs.Conditionals.{ConditionalNear}
 use Rattle.mm_space.specs.Handed.{InHand}
+use Rattle.mm_space.specs.Places.{area_of_page}
 use Rattle.mm_space.specs.Puts.{AllowsNear, StoresNear, after_stored}
 use Rattle.mm_space.specs.Reserves.{after_taken, counts_mapped, is_held_at, leave_mapped}
 use Rattle.mm_space.specs.Spaces.{AddressSpace, Reach}
@@ -41,10 +43,15 @@ module _ (areas : Areas) (was : List Reservation) (task at : ℕ) (small : at < 
       ap (λ n. counts_mapped task (page_offset at) (map.get pages n) hand) number
       ∙ ap (λ (m : Option Mapped). counts_mapped task (page_offset at) m hand) page.there
 
+  -- and it lies in no area
+  in_none : area_of_page (map.get pages (page_number at)) ≡ None
+  in_none = ap (λ n. area_of_page (map.get pages n)) number ∙ ap area_of_page page.there
+
   pub held_there : (width : ℕ) (hand : List InHand)
-      → is_held was task at width ≡ is_held_at task at width (reaching was hand)
+      → is_held was task at width None ≡ is_held_at task at width (reaching was hand)
   held_there width hand =
-      sym (ap (λ b. is_held was task at width && b) (counts hand) ∙ and_true (is_held was task at width))
+      sym (ap₂ (λ area b. is_held was task at width area && b) in_none (counts hand)
+      ∙ and_true (is_held was task at width None))
 
   -- and its end changes nothing in an area
   leaves : (hand : List InHand) → leave_mapped task (map.get pages (page_number at)) hand ≡ hand
@@ -59,7 +66,7 @@ module _ (areas : Areas) (was : List Reservation) (task at : ℕ) (small : at < 
 pub conditional_done : (held : Bool) (areas : Areas) (was taken : List Reservation) (new : AddressSpace)
     (task at width value : ℕ) → at < 2 ^ 64 → owns areas (at / 4096) ≡ true
     → AllowsNear (record { mapping = mapping areas; reservations = was }) at width
-    → held ≡ is_held was task at width → taken ≡ without was task
+    → held ≡ is_held was task at width None → taken ≡ without was task
     → OnTrue held (StoresNear (record { mapping = mapping areas; reservations = taken }) new task at width value)
     → OnFalse held (new ≡ record { mapping = mapping areas; reservations = taken })
     → ConditionalNear (record { mapping = mapping areas; reservations = was }) new task at width value held

@@ -3,12 +3,12 @@ use Rattle.std.proofs.Common.{◌≡◌, ℕ, zero, suc, ◌<◌, Bool, true, fa
 use Rattle.std.proofs.Common.{Option, Some, None, Result, Ok, Err, refl, ap, sym, ◌∙◌, subst, arith}
 use Rattle.std.specs.Prelude.{OnOk, OnErr, if◌then◌else◌, option_map}
 use Rattle.std.proofs.Math.Seq.{map-set_same}
+use Rattle.rv_table.specs.Areas.{is_area}
 use Rattle.rv_table.specs.declared.error.Area.{Area}
 use Rattle.mm_space.specs.declared.handed.HandedArea.{HandedArea}
 use Rattle.mm_space.specs.Handed.{AreaState, InHand, area_in, area_state, in_hand}
 use Rattle.mm_space.specs.Places.{owned_in, page_owned, place_of}
 use Rattle.mm_space.specs.Puts.{changed_in_hand, with_area}
-use Rattle.mm_space.specs.Sight.{is_area}
 
 -- an area that is handed in stands at its place
 pub data StandsAt (name : Area) : List HandedArea → ℕ → Type 0 where

@@ -1,6 +1,8 @@
 -- A reservation that is taken back at once.
 use Rattle.std.proofs.Common.{◌≡◌, ℕ, ◌==◌, ◌||◌, Bool, true, false, List, [], ◌∷◌, ◌++◌, not, cond, refl, ap, ◌∙◌}
+use Rattle.std.proofs.Common.{Option}
 use Rattle.std.proofs.lemmas.Bool.{eq-eqb}
+use Rattle.rv_table.specs.declared.error.Area.{Area}
 use Rattle.rv_atomic.specs.declared.reservations.Reservation.{Reservation}
 use Rattle.rv_atomic.specs.Reservations.{is_reserving, reserved, without}
 
@@ -22,9 +24,10 @@ without_last (x ∷ xs) r task own =
     ap (λ (rest : List Reservation). cond (not (x.task == task)) (x ∷ rest) rest) (without_last xs r task own)
 
 -- so a reservation of a task that had none, taken back, leaves what was
-pub undone : (rs : List Reservation) (task at width : ℕ) → is_reserving rs task ≡ false
-    → without (reserved rs task at width) task ≡ rs
-undone rs task at width is =
-    without_last (without rs task) (record { task = task; address = at; width = width }) task (eq-eqb task task refl)
+pub undone : (rs : List Reservation) (task at width : ℕ) (area : Option Area) → is_reserving rs task ≡ false
+    → without (reserved rs task at width area) task ≡ rs
+undone rs task at width area is =
+    without_last (without rs task) (record { task = task; address = at; width = width; area = area }) task
+    (eq-eqb task task refl)
     ∙ ap (λ (xs : List Reservation). without xs task) (without_none rs task is)
     ∙ without_none rs task is

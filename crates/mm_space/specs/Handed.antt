@@ -1,9 +1,9 @@
 -- Shared areas, and those that are handed in with an access.
 use Rattle.std.specs.Prelude.{ℕ, List, [], ◌∷◌, map, replicate, Option, Some, None, if◌then◌else◌}
+use Rattle.rv_table.specs.Areas.{is_area}
 use Rattle.rv_table.specs.declared.error.Area.{Area}
 use Rattle.rv_atomic.specs.declared.area_reservations.AreaReservation.{AreaReservation}
 use Rattle.mm_frames.specs.Frames.{bytes_of_frames}
-use Rattle.mm_space.specs.Sight.{is_area}
 use Rattle.mm_space.specs.declared.handed.SharedArea.{SharedArea}
 use Rattle.mm_space.specs.declared.handed.HandedArea.{HandedArea}
 use Rattle.mm_space.specs.declared.handed.Handed.{Handed}

@@ -2,6 +2,7 @@
 use Rattle.std.specs.Prelude.{◌≡◌, ℕ, zero, suc, Bool, true, ◌&&◌, List, [], ◌∷◌, Option, Some, None, option_map}
 use Rattle.std.specs.Prelude.{if◌then◌else◌, slice_get, unwrap_or}
 use Rattle.std.specs.FinMap as map
+use Rattle.rv_table.specs.Areas.{is_area}
 use Rattle.rv_table.specs.declared.error.Area.{Area}
 use Rattle.rv_table.specs.Bytes.{behind}
 use Rattle.mm_frames.specs.declared.frames.Frames.{Frames}
@@ -14,7 +15,6 @@ use Rattle.mm_space.specs.declared.handed.HandedArea.{HandedArea}
 use Rattle.mm_space.specs.declared.handed.Handed.{Handed}
 use Rattle.mm_space.specs.declared.space.Space.{Space}
 use Rattle.mm_space.specs.Accesses.{page_number}
-use Rattle.mm_space.specs.Sight.{is_area}
 
 -- the place of the first area of a name
 -- profile
@@ -67,6 +67,11 @@ shared_held (PageOf name number) = Some (record { area = name; number = number }
 abbrev pub shared_at : Option Mapped → Option SharedPage
 shared_at None = None
 shared_at (Some m) = shared_held m.held
+
+-- the shared area that a page lies in
+-- mmap(2), MAP_SHARED
+abbrev pub area_of_page : Option Mapped → Option Area
+area_of_page found = option_map (λ page. page.area) (shared_at found)
 
 -- an address space and areas in hand of which the same pages have bytes for themselves as of others
 -- profile

@@ -2,6 +2,7 @@
 use Rattle.std.specs.Prelude.{◌≡◌, Ok, ℕ, zero, suc, ◌+◌, ◌*◌, ◌/◌, ◌%◌, ◌^◌, List, [], ◌∷◌, Option, Some, None}
 use Rattle.std.specs.Prelude.{if◌then◌else◌, length, slice_set}
 use Rattle.std.specs.FinMap as map
+use Rattle.rv_table.specs.Areas.{is_area}
 use Rattle.rv_table.specs.declared.error.Area.{Area}
 use Rattle.rv_table.specs.Bytes.{AllowsAs, behind, loaded}
 use Rattle.rv_atomic.specs.Reservations.{after_run, after_store}
@@ -12,7 +13,6 @@ use Rattle.mm_areas.specs.Mappings.{with_pages}
 use Rattle.mm_areas.specs.Pages.{Held, Bytes, PageOf, Mapped}
 use Rattle.mm_space.specs.Accesses.{byte_at, page_number, page_offset, writable}
 use Rattle.mm_space.specs.Handed.{AreaState, InHand}
-use Rattle.mm_space.specs.Sight.{is_area}
 use Rattle.mm_space.specs.Spaces.{AddressSpace, Reach}
 
 -- a shared area in which a task has put a byte at an offset of a page

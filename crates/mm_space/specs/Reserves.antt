@@ -7,6 +7,7 @@ use Rattle.rv_atomic.specs.AreaReservations.{is_held_here, reserved_here, withou
 use Rattle.mm_areas.specs.Pages.{Held, Bytes, PageOf, Mapped}
 use Rattle.mm_space.specs.Accesses.{page_number, page_offset}
 use Rattle.mm_space.specs.Handed.{AreaState, InHand, area_in}
+use Rattle.mm_space.specs.Places.{area_of_page}
 use Rattle.mm_space.specs.Puts.{with_area}
 use Rattle.mm_space.specs.Spaces.{Reach}
 
@@ -60,11 +61,15 @@ abbrev pub counts_mapped : (task offset : ℕ) → Option Mapped → List InHand
 counts_mapped task offset None hand = true
 counts_mapped task offset (Some m) hand = counts_held task offset m.held hand
 
--- what is reached after a load-reserved
--- 8.2: LR puts a new reservation in the place of the old one
+-- what is reached after a load-reserved: the reservation notes the area that its page lies in
+-- 8.2: LR puts a new reservation in the place of the old one; that it notes the area: profile
 abbrev pub after_reserved : (task at width : ℕ) → Reach → Reach
 after_reserved task at width r = record {
-  space = record { mapping = r.space.mapping; reservations = reserved r.space.reservations task at width };
+  space = record {
+    mapping = r.space.mapping;
+    reservations =
+        reserved r.space.reservations task at width (area_of_page (map.get r.space.mapping.pages (page_number at)));
+  };
   hand = reserve_mapped task (page_offset at) (map.get r.space.mapping.pages (page_number at)) r.hand;
 }
 
@@ -76,9 +81,11 @@ after_taken task at r = record {
   hand = leave_mapped task (map.get r.space.mapping.pages (page_number at)) r.hand;
 }
 
--- whether a task has the reservation of just that address and width
--- 8.2: SC succeeds only where the reservation is still valid
+-- whether a task has the reservation of just that address and width, made in the area that its page lies in now, or in a
+-- private page where it is private now; and whether it counts
+-- 8.2: SC succeeds only where the reservation is still valid; that one made in an area is not valid once the page is of
+-- no area, as after brk(2): profile
 abbrev pub is_held_at : (task at width : ℕ) → Reach → Bool
 is_held_at task at width r =
-    is_held r.space.reservations task at width
+    is_held r.space.reservations task at width (area_of_page (map.get r.space.mapping.pages (page_number at)))
     && counts_mapped task (page_offset at) (map.get r.space.mapping.pages (page_number at)) r.hand

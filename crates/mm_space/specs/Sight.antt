@@ -1,6 +1,5 @@
--- Bytes as an access sees them, and names of shared areas.
-use Rattle.std.specs.Prelude.{ℕ, ◌==◌, ◌&&◌, Bool, Option, Some, None}
-use Rattle.rv_table.specs.declared.error.Area.{Area}
+-- Bytes as an access sees them.
+use Rattle.std.specs.Prelude.{ℕ, Option, Some, None}
 use Rattle.rv_table.specs.Bytes.{Byte, Holds, Barred, InArea}
 use Rattle.mm_space.specs.declared.seen.Seen.{Seen}
 use Rattle.mm_space.specs.declared.seen.Seen.TheVariants as seen
@@ -17,8 +16,3 @@ seen_byte (seen.InArea area) = InArea area
 abbrev pub as_byte : Option ℕ → Byte
 as_byte None = Barred
 as_byte (Some value) = Holds value
-
--- whether two names are of one area
--- profile
-abbrev pub is_area : Area → Area → Bool
-is_area a b = (a.place == b.place) && (a.index == b.index)

@@ -56,7 +56,7 @@ impl Space {
         {
             return None;
         }
-        let held = self.reservations.take(task, at, width);
+        let held = self.reservations.take(task, at, width, None);
         if held {
             self.store_by(hint, task, at, width, value);
         }

@@ -2,11 +2,12 @@
 
 ghost use Rattle.std.specs.Prelude.{◌≡◌, ℕ, ◌<◌, true, false, None, [], ◌∷◌, ◌++◌, IfOk, IfSome, OnOk, OnErr};
 ghost use Rattle.std.specs.Prelude.{option_map, option_copied};
+ghost use Rattle.rv_table.specs.Areas.{is_area};
 ghost use Rattle.mm_areas.specs.Pages.{held_in};
 ghost use Rattle.mm_space.specs.Handed.{area_in, area_state, hand_of, in_hand, zero_area};
 ghost use Rattle.mm_space.specs.Places.{owns_shared, place_of};
 ghost use Rattle.mm_space.specs.Puts.{put_in_area, with_area};
-ghost use Rattle.mm_space.specs.Sight.{as_byte, is_area, seen_byte};
+ghost use Rattle.mm_space.specs.Sight.{as_byte, seen_byte};
 
 use crate::seen::Seen;
 use mm_areas::{Content, SharedPage};

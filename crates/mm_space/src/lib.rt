@@ -13,8 +13,8 @@
 //! in the area (`ok`), and so does `put_two`, of two runs (`put`). Only `writable`, these and `reserve` may want
 //! memory, and no store after `writable` (`ready`, `lean`); `put_two` wants none, since `own_run` goes before it, which
 //! makes the pages of a run their own and changes nothing that an access sees (`ready`, `still`, `same`). `take`
-//! answers whether the task has the reservation of just that address and width, and in a shared area has it there too
-//! (`held`).
+//! answers whether the task has the reservation of just that address and width, made in the shared area that the page
+//! is of now, which has it too, or in a private page where it is private now (`held`).
 //! What is done by a hint is what the exact call does, or nothing (`near`, `done`, `unchanged`). `area_byte` answers
 //! which byte of a shared area lies at an address: a futex word is known by it. Decoded words are those of the page's
 //! bytes (`words`). `map`, `unmap`, `protect` and `brk` leave the mapping that mm_areas' definitions make of the old

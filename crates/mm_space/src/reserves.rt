@@ -13,7 +13,8 @@ use sn_base::Memory;
 
 impl Space {
     /// Puts a task's reservation of an address and so many bytes in the place of the one that it had. In a page of a
-    /// shared area that is handed in, the area notes it too, by its granule there. An `Err` changes nothing.
+    /// shared area it names the area, and the area notes it too, by its granule there, where it is handed in. An `Err`
+    /// changes nothing.
     pub fn reserve(
         &mut self,
         handed: &mut Handed,
@@ -27,7 +28,7 @@ impl Space {
     {
         match self.shared_page(at / 4096) {
             Some(page) => self.reserve_shared(handed, task, at, width, &page),
-            None => self.reservations.reserve(task, at, width),
+            None => self.reservations.reserve(task, at, width, None),
         }
     }
 
@@ -47,35 +48,39 @@ impl Space {
         ensures err { OnErr result (reach self.new handed.new ≡ reach self.old handed.old) }
     {
         let offset = at % 4096;
+        let area = Some(page.area);
         if self.reservations.is_reserving(task) {
             handed.reserve(task, page, offset)?;
-            return self.reservations.reserve(task, at, width);
+            return self.reservations.reserve(task, at, width, area);
         }
-        self.reservations.reserve(task, at, width)?;
+        self.reservations.reserve(task, at, width, area)?;
         match handed.reserve(task, page, offset) {
             Ok(()) => Ok(()),
             Err(err) => {
-                let _ = self.reservations.take(task, at, width);
+                let _ = self.reservations.take(task, at, width, area);
                 Err(err)
             }
         }
     }
 
     /// Ends a task's reservation, and answers whether it was of just that address and so many bytes, and still counted:
-    /// in a page of a shared area, whether the area has it too, where that is handed in. It takes no memory.
+    /// in a page of a shared area, whether it was made in that area, which has it too, where that is handed in; in a
+    /// private page, whether it was made in a private page. It takes no memory.
+    ///
+    /// Where brk(2) puts a private page in the place of an area's, one that was made in the area doesn't count there.
     pub fn take(&mut self, handed: &mut Handed, task: u32, at: u64, width: u8) -> bool
         ensures held { result ≡ is_held_at task at width (reach self.old handed.old) }
         ensures ended { reach self.new handed.new ≡ after_taken task at (reach self.old handed.old) }
         ensures ready { AreAsReady self.old self.new handed.old handed.new }
     {
-        let held = self.reservations.take(task, at, width);
         match self.shared_page(at / 4096) {
             Some(page) => {
+                let held = self.reservations.take(task, at, width, Some(page.area));
                 let counts = handed.holds(task, &page, at % 4096);
                 handed.leave(task, &page);
                 held && counts
             }
-            None => held,
+            None => self.reservations.take(task, at, width, None),
         }
     }
 }

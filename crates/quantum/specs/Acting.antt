@@ -2,6 +2,7 @@
 use Rattle.std.specs.Prelude.{ℕ, ◌^◌, ◌%◌, ◌==◌, ◌&&◌, nat_lt, Bool, false, List, length, Option, Some, None}
 use Rattle.std.specs.Prelude.{if◌then◌else◌}
 use Rattle.std.specs.FinMap as map
+use Rattle.rv_table.specs.Areas.{is_area}
 use Rattle.rv_table.specs.declared.instr.Instr.{Instr}
 use Rattle.rv_table.specs.Bytes.{SeenMemory}
 use Rattle.rv_exec.specs.Writes.{Write, Stores, Reserves, Releases}
@@ -12,7 +13,6 @@ use Rattle.mm_areas.specs.Pages.{Held, Bytes, PageOf, Mapped, Pages}
 use Rattle.mm_space.specs.Accesses.{byte_at, executable, page_number, page_offset, readable, writable}
 use Rattle.mm_space.specs.Puts.{after_stored}
 use Rattle.mm_space.specs.Reserves.{after_reserved, after_taken, is_held_at}
-use Rattle.mm_space.specs.Sight.{is_area}
 use Rattle.mm_space.specs.Spaces.{Reach}
 
 -- a task, and what its accesses reach

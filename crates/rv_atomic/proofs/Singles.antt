@@ -1,11 +1,12 @@
 -- Changes of reservations leave no task with two.
 use Rattle.std.proofs.Common.{[], false, arith, refl, cond, ◌≤◌, ◌||◌, ◌∷◌, ◌≡◌, ◌≢◌, true, ℕ, ◌<◌, ◌==◌, not, Bool}
-use Rattle.std.proofs.Common.{List, length, filter, get_or}
+use Rattle.std.proofs.Common.{List, length, filter, get_or, Option}
 use Rattle.std.proofs.lemmas.Bool.{not-true, eqb-false}
 use Rattle.std.proofs.lemmas.List.Elements.{All-get_or, filter_passes}
 use Rattle.std.proofs.lemmas.List.Kept.{AllPairs-filter}
 use Rattle.std.proofs.lemmas.List.Quantifiers.{all_pairs_push}
 use Rattle.std.proofs.lemmas.List.Filters.{length-filter_both}
+use Rattle.rv_table.specs.declared.error.Area.{Area}
 use Rattle.rv_atomic.specs.declared.reservations.Reservation.{Reservation}
 use Rattle.rv_atomic.specs.Reservations.{AtMostOneEach, is_reserving, without, reserved, after_store, after_run}
 use Rattle.rv_atomic.specs.Reservations.{outside_range}
@@ -23,9 +24,9 @@ others rs task k d within =
     (not-true _ (All-get_or (λ r. not (r.task == task) ≡ true) (without rs task) k d within
     (filter_passes (λ r. not (r.task == task)) rs)))
 
-pub single_after_load : (rs : List Reservation) (task address width : ℕ) → AtMostOneEach rs
-    → AtMostOneEach (reserved rs task address width)
-single_after_load rs task address width single =
+pub single_after_load : (rs : List Reservation) (task address width : ℕ) (area : Option Area) → AtMostOneEach rs
+    → AtMostOneEach (reserved rs task address width area)
+single_after_load rs task address width area single =
     all_pairs_push (λ a b. a.task ≢ b.task) (without rs task) _ (single_filter (λ r. not (r.task == task)) rs single)
     (others rs task)
 

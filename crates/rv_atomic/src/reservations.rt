@@ -4,18 +4,21 @@ ghost use Rattle.std.specs.Prelude.{◌≡◌, ◌<◌, ◌^◌, ◌↔◌, [], 
 ghost use Rattle.std.specs.Prelude.{vec_capacity};
 ghost use Rattle.rv_table.specs.Words.{IsWidth};
 ghost use Rattle.rv_atomic.specs.Reservations.{AtMostOneEach, after_run, after_store, is_held, is_reserving, lies_over};
-ghost use Rattle.rv_atomic.specs.Reservations.{outside_range, reserved, without};
+ghost use Rattle.rv_atomic.specs.Reservations.{is_same_area, outside_range, reserved, without};
 
+use rv_table::Area;
 use sn_base::{List, Memory};
 use std::alloc::Global;
 use std::marker::Model;
 
-/// What a load-reserved leaves: its task, the address that it loaded from, and how many bytes, 4 or 8.
+/// What a load-reserved leaves: its task, the address that it loaded from, how many bytes, 4 or 8, and the shared area
+/// that the page of the address lay in, if it did in one.
 #[derive(Clone, Copy, Debug, PartialEq, Eq)]
 pub struct Reservation {
     pub task: u32,
     pub address: u64,
     pub width: u8,
+    pub area: Option<Area>,
 }
 
 /// The reservations of the tasks of one address space, at most one a task. Contracts see the list of them.
@@ -74,8 +77,14 @@ impl Reservations {
     /// Puts a task's reservation in the place of the one that it had. An `Err` leaves the reservations as they were,
     /// and comes only where the task had none.
     #[tactic(auto, using(crate::proofs::Singles::single_after_load))]
-    pub fn reserve(&mut self, task: u32, address: u64, width: u8) -> Result<(), Memory>
-        ensures ok { OnOk result (self.new ≡ reserved self.old task address width) }
+    pub fn reserve(
+        &mut self,
+        task: u32,
+        address: u64,
+        width: u8,
+        area: Option<Area>,
+    ) -> Result<(), Memory>
+        ensures ok { OnOk result (self.new ≡ reserved self.old task address width area) }
         ensures err { OnErr result (self.new ≡ self.old) }
         ensures absent { OnErr result (IsFalse (is_reserving self.old task)) }
     {
@@ -83,6 +92,7 @@ impl Reservations {
             task,
             address,
             width,
+            area,
         };
         make_room(&mut self.items, new.task)?;
         drop_own(&mut self.items, new.task);
@@ -122,13 +132,14 @@ impl Reservations {
         drop_over(&mut self.items, at, count);
     }
 
-    /// Ends the task's reservation, and answers whether it was of just that address and width. It takes no memory.
+    /// Ends the task's reservation, and answers whether it was of just that address and width, and made in a page of
+    /// just that area or of none. It takes no memory.
     #[tactic(auto, using(crate::proofs::Singles::single_without))]
-    pub fn take(&mut self, task: u32, address: u64, width: u8) -> bool
-        ensures held { result ≡ is_held self.old task address width }
+    pub fn take(&mut self, task: u32, address: u64, width: u8, area: Option<Area>) -> bool
+        ensures held { result ≡ is_held self.old task address width area }
         ensures ended { self.new ≡ without self.old task }
     {
-        let held = has(&self.items, task, address, width);
+        let held = has(&self.items, task, address, width, area);
         drop_own(&mut self.items, task);
         held
     }
@@ -140,20 +151,35 @@ impl Reservations {
         is_reserving(&self.items, task)
     }
 
-    /// Whether the task's reservation is of just that address and width. Nothing changes.
-    pub fn holds(&self, task: u32, address: u64, width: u8) -> bool
-        ensures held { result ≡ is_held self.now task address width }
+    /// Whether the task's reservation is of just that address and width, and made in a page of just that area or of
+    /// none. Nothing changes.
+    pub fn holds(&self, task: u32, address: u64, width: u8, area: Option<Area>) -> bool
+        ensures held { result ≡ is_held self.now task address width area }
         ensures single { AtMostOneEach self.now }
     {
-        has(&self.items, task, address, width)
+        has(&self.items, task, address, width, area)
     }
 }
 
-/// Whether a task has the reservation of just that address and width.
-fn has(items: &[Reservation], task: u32, address: u64, width: u8) -> bool
-    ensures { result ≡ is_held items.now task address width }
+/// Whether a task has the reservation of just that address and width, made in a page of just that area or of none.
+fn has(items: &[Reservation], task: u32, address: u64, width: u8, area: Option<Area>) -> bool
+    ensures { result ≡ is_held items.now task address width area }
 {
-    items.iter().any(|r| r.task == task && r.address == address && r.width == width)
+    items.iter().any(|r| r.task == task
+        && r.address == address
+        && r.width == width
+        && is_same_area(r.area, area))
+}
+
+/// Whether two pages lie in one area, or both in none.
+fn is_same_area(a: Option<Area>, b: Option<Area>) -> bool
+    ensures { result ≡ is_same_area a b }
+{
+    match (a, b) {
+        (Some(a), Some(b)) => a.place == b.place && a.index == b.index,
+        (None, None) => true,
+        _ => false,
+    }
 }
 
 /// Whether a task has a reservation.

@@ -1,4 +1,5 @@
 -- What contracts of this crate say, by subject.
+pub mod Areas
 pub mod Bytes
 pub mod Fields
 pub mod Table

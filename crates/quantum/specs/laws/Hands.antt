@@ -3,10 +3,11 @@ use Rattle.std.proofs.Common.{◌≡◌, ◌==◌, Bool, true, false, ◌&&◌, 
 use Rattle.std.proofs.Common.{◌∙◌, eq-eqb, eqb-true}
 use Rattle.std.specs.Prelude.{if◌then◌else◌, option_map}
 use Rattle.std.proofs.lemmas.Bool.{and_from, and_parts, both_ways}
+use Rattle.rv_table.specs.Areas.{is_area}
 use Rattle.rv_table.specs.declared.error.Area.{Area}
+use Rattle.rv_atomic.specs.Reservations.{is_same_area}
 use Rattle.mm_space.specs.Handed.{AreaState, InHand, area_in}
 use Rattle.mm_space.specs.Puts.{changed_in_hand, with_area}
-use Rattle.mm_space.specs.Sight.{is_area}
 
 -- names of one area are alike, and alike names are of one area
 parts : (a b : Area) → is_area a b ≡ true → (a.place ≡ b.place) × (a.index ≡ b.index)
@@ -20,6 +21,11 @@ whole a b place index =
 
 pub area_itself : (name : Area) → is_area name name ≡ true
 area_itself name = whole name name refl refl
+
+-- a page lies in the area that it lies in
+pub same_area_itself : (area : Option Area) → is_same_area area area ≡ true
+same_area_itself None = refl
+same_area_itself (Some name) = area_itself name
 
 -- two names of one area are of a third both or neither
 named_alike : (a b c : Area) → is_area a b ≡ true → is_area a c ≡ is_area b c

@@ -1,7 +1,9 @@
 -- A task's reservation in the address space and in the area counts after its own store as it did before.
 use Rattle.std.proofs.Common.{◌≡◌, ℕ, zero, suc, ◌/◌, ◌%◌, ◌^◌, ◌+◌, ◌*◌, Bool, true, false, ◌&&◌, List, Option, Some}
 use Rattle.std.proofs.Common.{None, refl, ap, ap₂, sym, ◌∙◌}
+use Rattle.std.specs.Prelude.{option_map}
 use Rattle.std.specs.FinMap as map
+use Rattle.rv_table.specs.Areas.{is_area}
 use Rattle.rv_table.specs.declared.error.Area.{Area}
 use Rattle.rv_table.specs.Bytes.{behind}
 use Rattle.rv_atomic.specs.declared.reservations.Reservation.{Reservation}
@@ -10,10 +12,9 @@ use Rattle.mm_areas.specs.declared.page.SharedPage.{SharedPage}
 use Rattle.mm_areas.specs.Pages.{Held, Bytes, PageOf, Mapped}
 use Rattle.mm_space.specs.Accesses.{page_number, page_offset}
 use Rattle.mm_space.specs.Handed.{AreaState, InHand, area_in}
-use Rattle.mm_space.specs.Places.{shared_at, shared_held}
+use Rattle.mm_space.specs.Places.{area_of_page, shared_at, shared_held}
 use Rattle.mm_space.specs.Puts.{after_stored, put_byte, put_bytes, put_held, put_in_area, put_mapped}
 use Rattle.mm_space.specs.Reserves.{area_granule, counts_held, counts_mapped, is_held_at, is_held_in_area}
-use Rattle.mm_space.specs.Sight.{is_area}
 use Rattle.mm_space.specs.Spaces.{Reach}
 use Rattle.quantum.specs.laws.Hands.{area_in_changed, changed_if}
 use Rattle.quantum.specs.laws.Pages.{shared_put}
@@ -123,11 +124,24 @@ store_leaves task at (suc n) value r =
     put_leaves task at (value % 256) (put_bytes task (behind at) n (value / 256) r)
     ∙ store_leaves task (behind at) n (value / 256) r
 
+-- and the area that a page lies in is the same
+areas_stay : (task at width value : ℕ) (r : Reach) (number : ℕ)
+    → area_of_page (map.get (put_bytes task at width value r).space.mapping.pages number)
+    ≡ area_of_page (map.get r.space.mapping.pages number)
+unfolding put_bytes
+areas_stay task at zero value r number = refl
+areas_stay task at (suc n) value r number =
+    ap (λ (page : Option SharedPage). option_map (λ p. p.area) page)
+    (shared_put task at (value % 256) (put_bytes task (behind at) n (value / 256) r) number)
+    ∙ areas_stay task (behind at) n (value / 256) r number
+
 -- a store
 pub held_stored : (task at width value : ℕ) (r : Reach) (address size : ℕ)
     → is_held_at task address size (after_stored task at width value r) ≡ is_held_at task address size r
 held_stored task at width value r address size =
     ap₂ (λ held counts. held && counts)
     (store_keeps (put_bytes task at width value r).space.reservations task at width address size
-    ∙ ap (λ (rs : List Reservation). is_held rs task address size) (store_leaves task at width value r))
+    (area_of_page (map.get (put_bytes task at width value r).space.mapping.pages (page_number address)))
+    ∙ ap₂ (λ (rs : List Reservation) (area : Option Area). is_held rs task address size area)
+    (store_leaves task at width value r) (areas_stay task at width value r (page_number address)))
     (counts_stored task at width value r (page_offset address) (page_number address))

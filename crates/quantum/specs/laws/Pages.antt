@@ -5,13 +5,13 @@ use Rattle.std.specs.Prelude.{option_map}
 use Rattle.std.specs.FinMap as map
 use Rattle.std.proofs.lemmas.Bool.{cases_eq}
 use Rattle.sn_base.proofs.Maps.{get-insert_same, get-insert_other}
+use Rattle.rv_table.specs.Areas.{is_area}
 use Rattle.mm_areas.specs.declared.page.SharedPage.{SharedPage}
 use Rattle.mm_areas.specs.Contents.{with_bytes_changed, bytes_changed_at, changed_held, with_change}
 use Rattle.mm_areas.specs.Pages.{Held, Bytes, PageOf, Mapped, Pages}
 use Rattle.mm_space.specs.Accesses.{page_number, page_offset}
 use Rattle.mm_space.specs.Places.{shared_at, shared_held}
 use Rattle.mm_space.specs.Puts.{put_byte, put_held, put_mapped}
-use Rattle.mm_space.specs.Sight.{is_area}
 use Rattle.mm_space.specs.Spaces.{Reach}
 use Rattle.quantum.specs.Acting.{is_same_held, is_same_mapped}
 

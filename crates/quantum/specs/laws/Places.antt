@@ -2,9 +2,9 @@
 use Rattle.std.proofs.Common.{◌≡◌, ℕ, ◌<◌, ◌%◌, ◌^◌, ◌==◌, ◌&&◌, true, Option, Some, None, refl, eq-eqb}
 use Rattle.std.specs.FinMap as map
 use Rattle.std.proofs.lemmas.Bool.{and_from}
+use Rattle.rv_table.specs.Areas.{is_area}
 use Rattle.mm_areas.specs.Pages.{Held, Bytes, PageOf, Mapped}
 use Rattle.mm_space.specs.Accesses.{page_number, page_offset}
-use Rattle.mm_space.specs.Sight.{is_area}
 use Rattle.quantum.specs.Acting.{Acting, is_same, is_same_held, is_same_mapped}
 use Rattle.quantum.specs.laws.Hands.{area_itself}
 

@@ -4,6 +4,7 @@ use Rattle.std.proofs.Common.{inl, inr}
 use Rattle.std.specs.Prelude.{option_map, slice_set}
 use Rattle.std.specs.FinMap as map
 use Rattle.std.proofs.lemmas.Bool.{cases_eq}
+use Rattle.rv_table.specs.Areas.{is_area}
 use Rattle.rv_table.specs.declared.error.Area.{Area}
 use Rattle.rv_table.specs.Bytes.{Byte, Barred, InArea}
 use Rattle.mm_areas.specs.declared.rights.Rights.{Rights}
@@ -14,7 +15,6 @@ use Rattle.mm_space.specs.Accesses.{area_byte, byte_at, mapped_byte, page_number
 use Rattle.mm_space.specs.Handed.{AreaState, InHand, area_in}
 use Rattle.mm_space.specs.Places.{shared_at}
 use Rattle.mm_space.specs.Puts.{put_byte, put_in_area, put_mapped, with_area}
-use Rattle.mm_space.specs.Sight.{is_area}
 use Rattle.mm_space.specs.Spaces.{Reach}
 use Rattle.quantum.specs.Acting.{is_same_held, is_same_mapped}
 use Rattle.quantum.specs.laws.Addresses.{is_at, mapped_as, other_page, private_same, same_page}

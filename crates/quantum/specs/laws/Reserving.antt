@@ -1,25 +1,28 @@
 -- What a task reaches after it has reserved, and after it has given up what it had reserved: the bytes stay.
-use Rattle.std.proofs.Common.{◌≡◌, ℕ, ◌==◌, Bool, true, false, ◌&&◌, List, Option, Some, None, refl, ap, sym, ◌∙◌, ◌⊎◌}
-use Rattle.std.proofs.Common.{inl, inr, ne_eqb}
+use Rattle.std.proofs.Common.{◌≡◌, ℕ, ◌==◌, Bool, true, false, ◌&&◌, List, Option, Some, None, refl, ap, ap₂, sym, ◌∙◌}
+use Rattle.std.proofs.Common.{◌⊎◌, inl, inr, ne_eqb}
 use mathlib.Core.Path.{fun_ext}
 use Rattle.std.specs.Prelude.{if◌then◌else◌}
 use Rattle.std.specs.FinMap as map
 use Rattle.std.proofs.lemmas.Bool.{cases_eq}
+use Rattle.rv_table.specs.Areas.{is_area}
 use Rattle.rv_table.specs.declared.error.Area.{Area}
 use Rattle.rv_table.specs.Bytes.{Byte, Barred, Holds}
+use Rattle.rv_atomic.specs.Reservations.{is_same_area}
 use Rattle.mm_frames.specs.Frames as frames
 use Rattle.mm_areas.specs.declared.rights.Rights.{Rights}
 use Rattle.mm_areas.specs.Pages.{Held, Bytes, PageOf, Mapped}
 use Rattle.mm_areas.specs.Rights.{has}
 use Rattle.mm_space.specs.Accesses.{area_byte, byte_at, held_byte, mapped_byte, page_number, page_offset}
 use Rattle.mm_space.specs.Handed.{AreaState, InHand, area_in}
+use Rattle.mm_space.specs.Places.{area_of_page}
 use Rattle.mm_space.specs.Puts.{with_area}
 use Rattle.mm_space.specs.Reserves.{after_reserved, after_taken, area_granule, counts_held, counts_mapped, is_held_at}
 use Rattle.mm_space.specs.Reserves.{is_held_in_area, leave_held, leave_in_area, leave_mapped, reserve_held}
 use Rattle.mm_space.specs.Reserves.{reserve_in_area, reserve_mapped}
-use Rattle.mm_space.specs.Sight.{as_byte, is_area}
+use Rattle.mm_space.specs.Sight.{as_byte}
 use Rattle.mm_space.specs.Spaces.{Reach}
-use Rattle.quantum.specs.laws.Hands.{area_in_changed, area_itself, changed_if}
+use Rattle.quantum.specs.laws.Hands.{area_in_changed, area_itself, changed_if, same_area_itself}
 use Rattle.quantum.specs.laws.Reservations.{just_reserved, reserved_there, without_ends}
 
 -- ---- the bytes
@@ -119,17 +122,21 @@ mapped_counts task offset value right None hand there = refl
 mapped_counts task offset value right (Some m) hand there =
     held_counts task offset value right m.rights m.held hand there
 
-and_true : (b : Bool) → (b && true) ≡ b
-and_true true = refl
-and_true false = refl
+both_true : (b : Bool) → ((b && true) && true) ≡ b
+both_true true = refl
+both_true false = refl
 
 pub held_reserved : (right : Rights) (task at width value : ℕ) (r : Reach) → byte_at right r at ≡ Holds value
     → (address size : ℕ)
     → is_held_at task address size (after_reserved task at width r) ≡ ((address == at) && (size == width))
 held_reserved right task at width value r there address size =
-    ap (λ held. held && counts address) (just_reserved r.space.reservations task at width address size)
+    ap (λ held. held && counts address)
+    (just_reserved r.space.reservations task at width (area at) address size (area address))
     ∙ by (cases_eq address at)
   where
+    area : ℕ → Option Area
+    area a = area_of_page (map.get r.space.mapping.pages (page_number a))
+
     counts : ℕ → Bool
     counts a =
         counts_mapped task (page_offset a)
@@ -140,12 +147,15 @@ held_reserved right task at width value r there address size =
         mapped_counts task (page_offset at) value right (map.get r.space.mapping.pages (page_number at)) r.hand there
 
     by : (address ≡ at) ⊎ (address ≡ at → ⊥)
-        → (((address == at) && (size == width)) && counts address) ≡ ((address == at) && (size == width))
+        → ((((address == at) && (size == width)) && is_same_area (area at) (area address)) && counts address)
+        ≡ ((address == at) && (size == width))
     by (inl same) =
-        ap (λ c. ((address == at) && (size == width)) && c) (ap counts same ∙ counts_there)
-        ∙ and_true ((address == at) && (size == width))
+        ap₂ (λ made c. (((address == at) && (size == width)) && made) && c)
+        (ap (λ a. is_same_area (area at) (area a)) same ∙ same_area_itself (area at)) (ap counts same ∙ counts_there)
+        ∙ both_true ((address == at) && (size == width))
     by (inr apart) =
-        ap (λ test. (test && (size == width)) && counts address) (ne_eqb address at apart)
+        ap (λ test. ((test && (size == width)) && is_same_area (area at) (area address)) && counts address)
+        (ne_eqb address at apart)
         ∙ sym (ap (λ test. test && (size == width)) (ne_eqb address at apart))
 
 pub none_held : (task at : ℕ) (r : Reach) (address size : ℕ)
@@ -153,4 +163,5 @@ pub none_held : (task at : ℕ) (r : Reach) (address size : ℕ)
 none_held task at r address size =
     ap (λ held. held && counts_mapped task (page_offset address)
     (map.get r.space.mapping.pages (page_number address)) (after_taken task at r).hand)
-    (without_ends r.space.reservations task address size)
+    (without_ends r.space.reservations task address size
+    (area_of_page (map.get r.space.mapping.pages (page_number address))))

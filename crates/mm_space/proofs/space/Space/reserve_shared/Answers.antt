@@ -1,4 +1,4 @@
-use Rattle.std.proofs.Common.{List, ap, sym, ◌∙◌}
+use Rattle.std.proofs.Common.{List, Some, ap, sym, ◌∙◌}
 use Rattle.rv_atomic.specs.declared.reservations.Reservation.{Reservation}
 use Rattle.rv_atomic.specs.Reservations.{without}
 use Rattle.mm_areas.specs.Mappings.{mapping}
@@ -16,7 +16,8 @@ returns-in-Err-clause-err c =
     } in r))
     (c.take.ensures.ended
     ∙ ap (λ (rs : List Reservation). without rs c.args.task) c.in_ok-reserve-2.ensures.ok
-    ∙ undone c.args.self.now.reservations c.args.task c.args.at c.args.width (sym c.is_reserving.ensures
+    ∙ undone c.args.self.now.reservations c.args.task c.args.at c.args.width
+    (Some c.args.page.now.area) (sym c.is_reserving.ensures
     ∙ c.if-is_reserving.false))
     ∙ ap (λ (hand : List InHand).
     (let r : Reach =
