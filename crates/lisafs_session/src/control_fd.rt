@@ -1,13 +1,13 @@
 //! Control FDs: what is asked of a node, and what is read of the answers.
 
-ghost use Rattle.std.specs.Prelude.{◌≡◌, ◌↔◌, ◌≤◌, true, ◌++◌, length, IfOk, OnOk, OnErr};
+ghost use Rattle.std.specs.Prelude.{◌≡◌, ◌↔◌, ◌≤◌, ◌<◌, ◌^◌, true, ◌++◌, length, IfOk, OnOk, OnErr};
 ghost use Rattle.lisafs_wire.specs.declared.answer.PlainAnswer.TheVariants as answers;
 ghost use Rattle.lisafs_wire.specs.declared.request.Request.TheVariants as asks;
 ghost use Rattle.lisafs_wire.specs.Messages.{lent, plain_answered};
 ghost use Rattle.lisafs_session.specs.Operations.{close, create, link_text, make_dir, make_link, mount};
 ghost use Rattle.lisafs_session.specs.Operations.{opening, rename, stat, unlink};
 ghost use Rattle.lisafs_session.specs.Replies.{HasNoReply, TellsErrno, is_mismatch};
-ghost use Rattle.lisafs_session.specs.Spelled.{Spells, request_bytes};
+ghost use Rattle.lisafs_session.specs.Spelled.{Spells, fd_or_none, request_bytes};
 
 use crate::made::{Created, Made, Mounted};
 use crate::names::{know_name, know_names};
@@ -27,6 +27,17 @@ pub struct ControlFd {
     pub fd: Fd,
 }
 
+/// The FD of a node, or that of none.
+fn fd_of(node: Option<ControlFd>) -> Fd
+    ensures known { result ≡ fd_or_none node }
+    ensures fits { result.number < 2 ^ 64 }
+{
+    match node {
+        Some(node) => node.fd,
+        None => Fd { number: 0 },
+    }
+}
+
 impl ControlFd {
     /// Asks for the root of a mount, by the version of the messages that are to be spoken.
     pub fn ask_mount(version: u32, out: &mut List<u8>) -> Result<(), Memory>
@@ -38,7 +49,8 @@ impl ControlFd {
 
     /// The root of the mount.
     pub fn read_mount(bytes: &[u8]) -> Result<Mounted, Refusal>
-        ensures value { IfOk result (λ m. Spells bytes.now (plain_answered (answers.Mount m.version m.root.fd m.attr))) }
+        ensures value { IfOk result (λ m.
+            Spells bytes.now (plain_answered (answers.Mount m.version m.root.fd m.attr))) }
         ensures errno { TellsErrno bytes.now result }
         ensures mismatch { (is_mismatch result ≡ true) ↔ HasNoReply mount bytes.now }
     {
@@ -135,7 +147,8 @@ impl ControlFd {
 
     /// The file that was made and opened.
     pub fn read_create(bytes: &[u8]) -> Result<Created, Refusal>
-        ensures value { IfOk result (λ made. Spells bytes.now (plain_answered (answers.OpenCreateAt made.node.fd made.opened.fd made.attr))) }
+        ensures value { IfOk result (λ made.
+            Spells bytes.now (plain_answered (answers.OpenCreateAt made.node.fd made.opened.fd made.attr))) }
         ensures errno { TellsErrno bytes.now result }
         ensures mismatch { (is_mismatch result ≡ true) ↔ HasNoReply create bytes.now }
     {
@@ -188,7 +201,8 @@ impl ControlFd {
 
     /// The directory that was made.
     pub fn read_make_dir(bytes: &[u8]) -> Result<Made, Refusal>
-        ensures value { IfOk result (λ made. Spells bytes.now (plain_answered (answers.MkdirAt made.node.fd made.attr))) }
+        ensures value { IfOk result (λ made.
+            Spells bytes.now (plain_answered (answers.MkdirAt made.node.fd made.attr))) }
         ensures errno { TellsErrno bytes.now result }
         ensures mismatch { (is_mismatch result ≡ true) ↔ HasNoReply make_dir bytes.now }
     {
@@ -204,7 +218,8 @@ impl ControlFd {
     /// Asks for a symbolic link with that text to be made in this directory.
     pub fn ask_make_link(self, name: &Name, text: &[u8], out: &mut List<u8>) -> Result<(), Memory>
         requires { length text.now ≤ MOST_DATA }
-        ensures ok { OnOk result (out.new ≡ out.old ++ request_bytes (asks.SymlinkAt self.fd name.now (lent text.now))) }
+        ensures ok { OnOk result (out.new ≡
+            out.old ++ request_bytes (asks.SymlinkAt self.fd name.now (lent text.now))) }
         ensures err { OnErr result (out.new ≡ out.old) }
     {
         know_name(name);
@@ -220,7 +235,8 @@ impl ControlFd {
 
     /// The link that was made.
     pub fn read_make_link(bytes: &[u8]) -> Result<Made, Refusal>
-        ensures value { IfOk result (λ made. Spells bytes.now (plain_answered (answers.SymlinkAt made.node.fd made.attr))) }
+        ensures value { IfOk result (λ made.
+            Spells bytes.now (plain_answered (answers.SymlinkAt made.node.fd made.attr))) }
         ensures errno { TellsErrno bytes.now result }
         ensures mismatch { (is_mismatch result ≡ true) ↔ HasNoReply make_link bytes.now }
     {
@@ -253,22 +269,25 @@ impl ControlFd {
         }
     }
 
-    /// Asks for a name of this directory to be removed; the victim is the FD of the node of that name, if one is known.
+    /// Asks for a name of this directory, and the victim, which is the node of that name, to be removed.
     pub fn ask_unlink(
         self,
-        victim: Fd,
+        victim: ControlFd,
         removal: Removal,
         name: &Name,
         out: &mut List<u8>,
     ) -> Result<(), Memory>
-        ensures ok { OnOk result (out.new ≡ out.old ++ request_bytes (asks.UnlinkAt self.fd victim removal name.now)) }
+        ensures ok { OnOk result (out.new ≡
+            out.old ++ request_bytes (asks.UnlinkAt self.fd victim.fd removal name.now)) }
         ensures err { OnErr result (out.new ≡ out.old) }
     {
         know_name(name);
+        let fd = self.fd;
+        let victim = victim.fd;
         encode(
             out,
             &RequestRef::UnlinkAt {
-                fd: self.fd,
+                fd,
                 victim,
                 removal,
                 name,
@@ -288,25 +307,29 @@ impl ControlFd {
         }
     }
 
-    /// Asks for a name of this directory to become one of another; the victim is the FD of the node of that name, if any.
+    /// Asks for a name of this directory to become one of another; the victim is the node that has that name, if any.
     pub fn ask_rename(
         self,
         directory: ControlFd,
-        victim: Fd,
+        victim: Option<ControlFd>,
         old: &Name,
         new: &Name,
         out: &mut List<u8>,
     ) -> Result<(), Memory>
-        ensures ok { OnOk result (out.new ≡ out.old ++ request_bytes (asks.RenameAt self.fd directory.fd victim old.now new.now)) }
+        ensures ok { OnOk result (out.new ≡ out.old ++
+            request_bytes (asks.RenameAt self.fd directory.fd (fd_or_none victim) old.now new.now)) }
         ensures err { OnErr result (out.new ≡ out.old) }
     {
         know_name(old);
         know_name(new);
+        let fd = self.fd;
+        let directory = directory.fd;
+        let victim = fd_of(victim);
         encode(
             out,
             &RequestRef::RenameAt {
-                fd: self.fd,
-                directory: directory.fd,
+                fd,
+                directory,
                 victim,
                 old,
                 new,

@@ -13,8 +13,8 @@ use crate::reply::reply;
 use lisafs_wire::{Fd, MOST_DATA, PlainAnswer, RequestRef, encode};
 use sn_base::{List, Memory};
 
-/// The FD of an opened file or directory. What asks puts the request's bytes at the end of the caller's; an `Err` leaves
-/// these as they were.
+/// The FD of an opened file or directory. What asks puts the request's bytes at the end of the caller's; an `Err`
+/// leaves these as they were.
 #[derive(Clone, Copy, Debug, PartialEq, Eq)]
 pub struct OpenFd {
     pub fd: Fd,
@@ -58,13 +58,20 @@ impl OpenFd {
     }
 
     /// The bytes that were read, where they lie in the answer: no more than were asked for.
+    #[tactic(auto, using(crate::proofs::Sole::no_read))]
     pub fn read_pread(count: u32, bytes: &[u8]) -> Result<&[u8], Refusal>
         ensures value { IfOk result (λ read. Spells bytes.now (plain_answered (answers.PRead read))) }
+        ensures most { IfOk result (λ read. length read.now ≤ count) }
         ensures errno { TellsErrno bytes.now result }
         ensures mismatch { (is_mismatch result ≡ true) ↔ HasNoReply (pread count) bytes.now }
     {
         match reply(9, bytes)? {
-            PlainAnswer::PRead { bytes: read } if read.len() <= count as usize => Ok(read),
+            PlainAnswer::PRead { bytes: read } => {
+                if read.len() > count as usize {
+                    return Err(Refusal::Mismatch);
+                }
+                Ok(read)
+            }
             _ => Err(Refusal::Mismatch),
         }
     }
@@ -86,13 +93,20 @@ impl OpenFd {
     }
 
     /// How many bytes were written: no more than were handed over.
+    #[tactic(auto, using(crate::proofs::Sole::no_write))]
     pub fn read_pwrite(size: u32, bytes: &[u8]) -> Result<u32, Refusal>
         ensures value { IfOk result (λ count. Spells bytes.now (plain_answered (answers.PWrite count))) }
+        ensures most { IfOk result (λ count. count ≤ size) }
         ensures errno { TellsErrno bytes.now result }
         ensures mismatch { (is_mismatch result ≡ true) ↔ HasNoReply (pwrite size) bytes.now }
     {
         match reply(10, bytes)? {
-            PlainAnswer::PWrite { count } if count <= size => Ok(count),
+            PlainAnswer::PWrite { count } => {
+                if count > size {
+                    return Err(Refusal::Mismatch);
+                }
+                Ok(count)
+            }
             _ => Err(Refusal::Mismatch),
         }
     }
