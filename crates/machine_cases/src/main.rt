@@ -15,7 +15,8 @@
 //!   runs it, and `run_on MOST KEY=VALUE ..` goes on where the last run or step ended: how many instructions were done,
 //!   what ended the run, and what it changed, which as many steps have to change too.
 //! - `space VERB ..`, `area VERB ..`: a call of `Reservations` or `AreaReservations`, of a task and what it names, as
-//!   the call takes them. `copy` sets a copy aside, and `change` changes places with what is aside.
+//!   the call takes them; `in PLACE:INDEX` behind names the shared area of the page. `copy` sets a copy aside, and
+//!   `change` changes places with what is aside.
 //!
 //! Proved: the functions here are safe, and end, and the memory of a task keeps the contract of `Mem`. What the cases
 //! are about is proved of the crates below.

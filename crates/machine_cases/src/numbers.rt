@@ -1,6 +1,7 @@
 //! Numbers and bytes in text.
 
 use read_cases::number;
+use rv_table::Area;
 
 /// Puts a number into a place; whether it is one.
 pub fn put(place: &mut u64, text: &str) -> bool {
@@ -17,6 +18,15 @@ pub fn put(place: &mut u64, text: &str) -> bool {
 pub fn two(text: &str) -> Option<(u64, u64)> {
     let (first, second) = text.split_once(' ')?;
     Some((number(first)?, number(second)?))
+}
+
+/// The name of a shared area: two numbers between which a colon stands.
+pub fn area(text: &str) -> Option<Area> {
+    let (place, index) = text.split_once(':')?;
+    Some(Area {
+        place: number(place)?,
+        index: u32::try_from(number(index)?).ok()?,
+    })
 }
 
 /// A task's number.

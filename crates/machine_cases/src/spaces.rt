@@ -1,8 +1,9 @@
 //! The reservations of an address space.
 
-use crate::numbers::{task_number, two};
+use crate::numbers::{area, task_number, two};
 use read_cases::{Bad, parted};
 use rv_atomic::Reservations;
+use rv_table::Area;
 use std::alloc::Global;
 use std::mem;
 
@@ -13,35 +14,59 @@ pub struct Space {
     aside: Reservations,
 }
 
+/// What a case names: a task, so many bytes at an address, and the shared area that their page lies in, if any.
+#[derive(Clone, Copy)]
+struct Bytes {
+    task: u32,
+    at: u64,
+    count: u64,
+    area: Option<Area>,
+}
+
 /// Stores a task's bytes: one, two, four or eight; whether they are so many.
-fn store(held: &mut Reservations, task: u32, at: u64, width: u64) -> bool {
-    match width {
-        1 => held.stored(task, at, 1),
-        2 => held.stored(task, at, 2),
-        4 => held.stored(task, at, 4),
-        8 => held.stored(task, at, 8),
+fn store(held: &mut Reservations, bytes: Bytes) -> bool {
+    match bytes.count {
+        1 => held.stored(bytes.task, bytes.at, 1),
+        2 => held.stored(bytes.task, bytes.at, 2),
+        4 => held.stored(bytes.task, bytes.at, 4),
+        8 => held.stored(bytes.task, bytes.at, 8),
         _ => return false,
     }
     true
 }
 
 /// Has a task reserve so many bytes; whether they are fewer than 256.
-fn reserve(held: &mut Reservations, task: u32, at: u64, width: u64) -> Result<bool, Bad> {
-    match u8::try_from(width) {
-        Ok(width) => held.reserve(task, at, width)?,
+fn reserve(held: &mut Reservations, bytes: Bytes) -> Result<bool, Bad> {
+    match u8::try_from(bytes.count) {
+        Ok(width) => held.reserve(bytes.task, bytes.at, width, bytes.area)?,
         Err(_) => return Ok(false),
     }
     Ok(true)
 }
 
 /// What a task's reservation tells of so many bytes, where they are fewer than 256.
-fn told(held: &mut Reservations, verb: &str, task: u32, at: u64, width: u64) -> Option<bool> {
-    let width = u8::try_from(width).ok()?;
+fn told(held: &mut Reservations, verb: &str, bytes: Bytes) -> Option<bool> {
+    let width = u8::try_from(bytes.count).ok()?;
     match verb {
-        "take" => Some(held.take(task, at, width)),
-        "holds" => Some(held.holds(task, at, width)),
+        "take" => Some(held.take(bytes.task, bytes.at, width, bytes.area)),
+        "holds" => Some(held.holds(bytes.task, bytes.at, width, bytes.area)),
         _ => None,
     }
+}
+
+/// The bytes of a task that a case names, behind which an area may stand.
+fn bytes_of(task: u32, text: &str) -> Option<Bytes> {
+    let (text, area) = match text.split_once(" in ") {
+        Some((text, name)) => (text, Some(area(name)?)),
+        None => (text, None),
+    };
+    let (at, count) = two(text)?;
+    Some(Bytes {
+        task,
+        at,
+        count,
+        area,
+    })
 }
 
 impl Space {
@@ -54,21 +79,15 @@ impl Space {
     }
 
     /// Does what a task does to so many bytes at an address.
-    fn of_bytes(
-        &mut self,
-        verb: &str,
-        task: u32,
-        (at, count): (u64, u64),
-        came: &mut String,
-    ) -> Result<(), Bad> {
+    fn of_bytes(&mut self, verb: &str, bytes: Bytes, came: &mut String) -> Result<(), Bad> {
         let is_read = match verb {
-            "reserve" => reserve(&mut self.held, task, at, count)?,
-            "stored" => store(&mut self.held, task, at, count),
+            "reserve" => reserve(&mut self.held, bytes)?,
+            "stored" => store(&mut self.held, bytes),
             "stored_run" => {
-                self.held.stored_run(task, at, count);
+                self.held.stored_run(bytes.task, bytes.at, bytes.count);
                 true
             }
-            _ => match told(&mut self.held, verb, task, at, count) {
+            _ => match told(&mut self.held, verb, bytes) {
                 Some(is_so) => {
                     write!(came, "{is_so}")?;
                     true
@@ -85,12 +104,15 @@ impl Space {
     /// Does a case that names a task.
     fn of_task(&mut self, verb: &str, rest: &str, came: &mut String) -> Result<(), Bad> {
         let (task, bytes) = parted(rest);
-        match (task_number(task), two(bytes)) {
-            (Some(task), None) if verb == "is_reserving" => {
+        let Some(task) = task_number(task) else {
+            return Ok(came.push_str("unread")?);
+        };
+        match bytes_of(task, bytes) {
+            Some(bytes) => self.of_bytes(verb, bytes, came),
+            None if verb == "is_reserving" => {
                 Ok(write!(came, "{}", self.held.is_reserving(task))?)
             }
-            (Some(task), Some(bytes)) => self.of_bytes(verb, task, bytes, came),
-            _ => Ok(came.push_str("unread")?),
+            None => Ok(came.push_str("unread")?),
         }
     }
 
