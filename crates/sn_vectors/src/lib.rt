@@ -1,9 +1,10 @@
 //! Test data that several crates use: instruction words, programs, and images of programs, all for RV64IMA under
-//! Linux's call numbers.
+//! Linux's call numbers, and LISAFS messages.
 //!
 //! A caller sees data with names. `words` has single instructions as numbers, each with the text that an assembler
 //! takes for it; `programs` has lists of them, with what such a program writes and how it ends, some on a shared page;
-//! `images` has whole ELF-64 files as bytes. `image_of` makes such a file of a list of words.
+//! `images` has whole ELF-64 files as bytes, and `messages` single messages. `image_of` makes such a file of a list of
+//! words.
 //!
 //! Proved: what `image_of` gives, but for want of memory, is exactly `image` of `specs/Images.antt`, field by field of
 //! the standard's headers, and then the words, the lowest byte of each first.
@@ -21,6 +22,7 @@
 
 mod image;
 pub mod images;
+pub mod messages;
 pub mod programs;
 pub mod words;
 

@@ -1,5 +1,6 @@
-//! Bytes in words of hexadecimal digits.
+//! Bytes in words of hexadecimal digits, and by names.
 
+use crate::worked::worked;
 use read_cases::{Bad, number};
 
 /// Adds the bytes of pairs of digits; whether each is one.
@@ -29,12 +30,23 @@ fn add_run(bytes: &mut Vec<u8>, byte: &str, count: &str) -> Result<bool, Bad> {
     Ok(true)
 }
 
+/// Adds the bytes of a word of pairs, or those that have its name; whether it is one.
+fn add_word(bytes: &mut Vec<u8>, word: &str) -> Result<bool, Bad> {
+    match worked(word) {
+        Some(named) => {
+            bytes.extend_from_slice(named)?;
+            Ok(true)
+        }
+        None => add_pairs(bytes, word),
+    }
+}
+
 /// Adds the bytes of words between single spaces; whether each is such a word.
 pub fn add_all(bytes: &mut Vec<u8>, text: &str) -> Result<bool, Bad> {
     for word in text.split(' ') {
         let is_one = match word.split_once('*') {
             Some((byte, count)) => add_run(bytes, byte, count)?,
-            None => add_pairs(bytes, word)?,
+            None => add_word(bytes, word)?,
         };
         if !is_one {
             return Ok(false);

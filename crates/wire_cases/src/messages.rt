@@ -1,6 +1,7 @@
 //! What cases of messages come to.
 
 use crate::bytes::add_all;
+use crate::reads::tell_read;
 use crate::runs::{Run, put_run};
 use crate::told::{error, put_answer, put_request};
 use lisafs_wire::{decode, decode_answer, encode, encode_answer};
@@ -76,6 +77,20 @@ fn tell_cuts(alloc: Global, is_answer: bool, bytes: &[u8], came: &mut String) ->
     put_run(came, run, bytes.len())
 }
 
+/// What is read of an answer: `OPERATION BYTES`, or `OPERATION ASKED BYTES` where what was asked for is counted.
+fn read_answer(alloc: Global, text: &str, came: &mut String) -> Result<(), Bad> {
+    let (operation, rest) = parted(text);
+    let (asked, rest) = match operation {
+        "walk" | "pread" | "pwrite" => parted(rest),
+        _ => ("0", rest),
+    };
+    let mut bytes = Vec::new(alloc);
+    let (true, Ok(asked)) = (add_all(&mut bytes, rest)?, u32::from_str_radix(asked, 10)) else {
+        return Ok(came.push_str("unread")?);
+    };
+    tell_read(alloc, came, operation, asked, bytes.as_slice())
+}
+
 impl Cases for Messages {
     fn begin(&mut self, _rt: &HostRuntime) -> Result<(), Bad> {
         Ok(())
@@ -84,6 +99,9 @@ impl Cases for Messages {
     fn answer(&mut self, rt: &HostRuntime, case: &str, came: &mut String) -> Result<(), Bad> {
         let alloc = rt.alloc();
         let (verb, text) = parted(case);
+        if verb == "read" {
+            return read_answer(alloc, text, came);
+        }
         let mut bytes = Vec::new(alloc);
         if !add_all(&mut bytes, text)? {
             return Ok(came.push_str("unread")?);
