@@ -46,12 +46,13 @@ impl<K: Drop> Places<K> {
     /// was, and both are gone.
     pub fn fork(&mut self, tried: Tried<K>, child: K) -> Result<(), AllocError>
         requires { 0 < self.old.running }
-        ensures ok { OnOk result (self.new.ready.items ≡ self.old.ready.items ++ self.old.parked.items ++ tried ∷ [] ++ born child ∷ []) }
-        ensures err { OnErr result ((self.new.ready.items ≡ self.old.ready.items) × (self.new.running ≡ self.old.running)) }
-        ensures parked { self.new.parked.items ≡ (if is_ok result then [] else self.old.parked.items) }
+        ensures queue { OnOk result (self.new.ready.items ≡ self.old.ready.items ++ self.old.parked.items ++ tried ∷ [] ++ born child ∷ []) }
+        ensures parked { OnOk result (self.new.parked.items ≡ []) }
         ensures running { OnOk result (self.new.running + 1 ≡ self.old.running) }
+        ensures turns { OnOk result (self.new.turns ≡ min (self.old.turns + 1) (2 ^ 64 - 1)) }
+        ensures err { OnErr result ((self.new.ready.items ≡ self.old.ready.items) × (self.new.parked.items ≡ self.old.parked.items)) }
+        ensures err_counts { OnErr result ((self.new.running ≡ self.old.running) × (self.new.turns ≡ self.old.turns)) }
         ensures ended { self.new.ended.items ≡ self.old.ended.items }
-        ensures turns { self.new.turns ≡ (if is_ok result then min (self.old.turns + 1) (2 ^ 64 - 1) else self.old.turns) }
         ensures halt { self.new.halt ≡ self.old.halt }
     {
         let out = self.running + 1;

@@ -1,5 +1,5 @@
 -- Each step keeps the ties.
-use Rattle.std.proofs.Common.{◌≡◌, ◌≢◌, ◌+◌, ℕ, zero, suc, List, [], ◌∷◌, ◌++◌, length, set, true, false, true≢false, refl, sym, ap, ◌∙◌, subst, ⊎_elim, arith}
+use Rattle.std.proofs.Common.{◌≡◌, ◌≢◌, ◌+◌, ◌≤◌, ℕ, zero, suc, List, [], ◌∷◌, ◌++◌, length, set, true, false, true≢false, refl, sym, ap, ◌∙◌, subst, ⊎_elim, arith}
 use Rattle.std.specs.Prelude.{slice_index, sum_by}
 use Rattle.std.proofs.lemmas.List.Sums.{sum_by-append, sum_by-cons}
 use mathlib.Core.Option.{some, none, some-ne-none, some-injective}
@@ -115,20 +115,30 @@ same_notes i r views kept even g =
     let e = kept g in
     omega (arith, d, e)
 
+fewer_notes : (i r : List Note) (views : List View) → ((h : Note → ℕ) → held_by h views + sum_by h r ≡ sum_by h i) → length r ≤ length i
+fewer_notes i r views kept =
+    let a = kept (λ _. 1) in
+    let b = counts i in
+    let c = counts r in
+    omega (arith, a, b, c)
+
 pub settles : (slots id : ℕ) (i r : List Note) → Allows Kept slots id (knotted i r, []) 0 (λ n. n) (Settles (step slots 0 0 0 none) (knotted i r, []))
 settles slots id i r s h homes at small =
     let v = knotted i r in
-    let one = h.2 id v at refl in (
+    let one = h.2 id v at refl in
+    let balance : (g : Note → ℕ) → held_by g s.views + sum_by g r ≡ sum_by g i = λ g.
+        let c = h.3 g in
+        let p = ap (sum_by g) one.1 in
+        let q = ap (sum_by g) one.2 in
+        omega (arith, c, p, q)
+    in (
       v,
       keeps,
       tt,
       subst (λ (l : List View). Kept record { words = set s.words 0 (slice_index s.words 0); homes = s.homes; views = l }) (sym (set_again s.views id v at)) h,
       (
-        (λ even. same_notes i r s.views (λ g.
-            let c = h.3 g in
-            let p = ap (sum_by g) one.1 in
-            let q = ap (sum_by g) one.2 in
-            omega (arith, c, p, q)) even),
+        fewer_notes i r s.views balance,
+        same_notes i r s.views balance,
         refl,
       ),
     )

@@ -1,5 +1,5 @@
 -- What is kept of a knot and its shares, and what each step does.
-use Rattle.std.specs.Prelude.{◌≡◌, ◌+◌, ◌++◌, ℕ, List, [], ◌∷◌, true, false, length, sum_by}
+use Rattle.std.specs.Prelude.{◌≡◌, ◌+◌, ◌≤◌, ◌++◌, ℕ, List, [], ◌∷◌, true, false, length, sum_by}
 use mathlib.Core.Option.{some}
 use lib.ListN.{get_elem?}
 use Rattle.atomic_table.specs.Table.{State, Step, Me}
@@ -44,6 +44,6 @@ Kept s = (issued : List Note) × (returned : List Note)
     × ((id : ℕ) (v : View) → get_elem? s.views id ≡ some v → v.knot ≡ true → (id ≡ 0) × (v.issued ≡ issued) × (v.returned ≡ returned))
     × ((h : Note → ℕ) → held_by h s.views + sum_by h returned ≡ sum_by h issued)
 
--- where as many came back as were issued, they are the same
+-- no more came back than were issued, and where as many did, they are the same
 abbrev pub Settles : Step Unit → Me Unit View → ℕ → Me Unit View → Type 0
-Settles st me n now = (length me.0.issued ≡ length me.0.returned → SameNotes me.0.issued me.0.returned) × (now ≡ me)
+Settles st me n now = (length me.0.returned ≤ length me.0.issued) × (length me.0.issued ≡ length me.0.returned → SameNotes me.0.issued me.0.returned) × (now ≡ me)

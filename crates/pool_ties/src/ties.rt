@@ -1,6 +1,6 @@
 //! The ties, the knot and the shares.
 
-ghost use Rattle.std.specs.Prelude.{◌≡◌, ℕ, ◌∷◌, [], length};
+ghost use Rattle.std.specs.Prelude.{◌≡◌, ℕ, ◌∷◌, ◌<◌, ◌≤◌, [], length};
 ghost use Rattle.pool_ties.specs.Tied.{knotted, sharing, SameNotes};
 
 use crate::rule::{Issue, Law, Noted, OfTies, Redeem, Settle, View};
@@ -105,16 +105,19 @@ impl<J: OfTies> Ties<J> {
         }
     }
 
-    /// Takes a share back.
+    /// Takes a share back, whose note was still out.
     pub fn redeem(&self, knot: &mut Knot<J>, share: Share<J>)
-        ensures { knot.new ≡ (knot.old.0, share ∷ knot.old.1) }
+        ensures knot { knot.new ≡ (knot.old.0, share ∷ knot.old.1) }
+        ensures out { length knot.old.1 < length knot.old.0 }
     {
         let Share { seat, of: _ } = share;
         self.table.shared.join_seat::<Redeem>(&mut knot.seat, seat);
+        self.settle(knot);
     }
 
-    /// Where as many notes came back as were issued, they are the same.
+    /// No more notes came back than were issued, and where as many did, they are the same.
     pub fn settle(&self, knot: &mut Knot<J>)
+        ensures bound { length knot.old.1 ≤ length knot.old.0 }
         ensures same { length knot.old.0 ≡ length knot.old.1 → SameNotes knot.old.0 knot.old.1 }
         ensures knot { knot.new ≡ knot.old }
     {

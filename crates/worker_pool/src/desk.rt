@@ -1,0 +1,111 @@
+//! What lies under the pool's lock: the places, and the knot of what is out.
+
+ghost use Rattle.std.specs.Prelude.{◌≡◌, ◌≢◌, ◌+◌, ◌++◌, ◌∷◌, [], length, ℕ, true, ◌&&◌, ◌==◌, IfSome};
+ghost use Rattle.std.specs.List.{list_all, list_any};
+ghost use Rattle.pool_places.specs.declared.places.Halt.TheVariants.{Runs, Full, Lost};
+ghost use Rattle.worker_pool.specs.Accounts.{Balanced, here, may_go, is_parked, is_over, is_full};
+
+use crate::handed::Handed;
+use pool_places::{Halt, Places, Tried};
+use pool_ties::{Knot, OfTies, Share, Ties};
+use pool_turn::Turn;
+use std::marker::Brand;
+
+/// What lies under the pool's lock.
+#[derive(Drop)]
+pub struct Desk<T: Turn, J: OfTies + Handed> {
+    pub places: Places<T::Task>,
+    pub knot: Knot<J>,
+    ghost counted: { places.running + length knot.1 ≡ length knot.0 },
+    ghost balanced: { places.halt ≢ Lost → Balanced T.number T.forked J.handed J.before (here places.ready.items places.parked.items places.ended.items) knot },
+    ghost going: { list_all (λ t. may_go (T.last t.task)) places.ready.items ≡ true },
+    ghost parked: { list_all (λ t. is_parked (T.last t.task) && (t.began == places.turns)) places.parked.items ≡ true },
+    ghost over: { list_all (λ t. is_over (T.last t)) places.ended.items ≡ true },
+    ghost full: { places.halt ≡ Full → list_any (λ t. is_full (T.last t.task)) places.ready.items ≡ true },
+}
+
+/// A task that is out for a turn, with the share of what was noted of it.
+#[derive(Drop)]
+pub struct Out<T: Turn, J: OfTies + Handed> {
+    pub tried: Tried<T::Task>,
+    pub share: Share<J>,
+    ghost number: { share.number ≡ T.number tried.task },
+    ghost forked: { share.forked ≡ T.forked tried.task },
+    ghost began: { share.began ≡ tried.began },
+    ghost going: { may_go (T.last tried.task) ≡ true },
+}
+
+impl<T: Turn, J: OfTies + Handed> Desk<T, J> {
+    /// The first task that is ready goes out.
+    pub fn take(&mut self, ties: &Ties<J>) -> Option<Out<T, J>>
+        ensures going { IfSome result (λ _. self.old.places.halt ≡ Runs) }
+        ensures began { IfSome result (λ o. o.tried.began ≡ self.old.places.turns) }
+    {
+        let tried = self.places.take()?;
+        let share = ties.issue::<Tried<T::Task>, Brand>(&mut self.knot, &tried);
+        Some(Out { tried, share })
+    }
+
+    // A turn ended, and its task can go on.
+    fn put(&mut self, ties: &Ties<J>, tried: Tried<T::Task>, share: Share<J>)
+        requires number { T.number tried.task ≡ share.number }
+        requires forked { T.forked tried.task ≡ share.forked }
+        requires going { may_go (T.last tried.task) ≡ true }
+    {
+        ties.redeem(&mut self.knot, share);
+        self.places.put(tried);
+    }
+
+    // A turn ended with a child.
+    fn fork(&mut self, ties: &Ties<J>, tried: Tried<T::Task>, child: T::Task, share: Share<J>)
+        requires number { T.number tried.task ≡ share.number }
+        requires forked { T.forked tried.task ≡ share.forked ++ T.number child ∷ [] }
+        requires child { T.forked child ≡ [] }
+        requires going { may_go (T.last tried.task) ≡ true }
+        requires child_going { may_go (T.last child) ≡ true }
+    {
+        ties.redeem(&mut self.knot, share);
+        match self.places.fork(tried, child) {
+            Ok(()) => {}
+            Err(_) => self.places.lose(),
+        }
+    }
+
+    // A turn ended, and its task waits.
+    fn park(&mut self, ties: &Ties<J>, tried: Tried<T::Task>, share: Share<J>)
+        requires number { T.number tried.task ≡ share.number }
+        requires forked { T.forked tried.task ≡ share.forked }
+        requires parked { is_parked (T.last tried.task) ≡ true }
+    {
+        ties.redeem(&mut self.knot, share);
+        self.places.park(tried);
+    }
+
+    // A turn ended, and its task is over.
+    fn end(&mut self, ties: &Ties<J>, task: T::Task, share: Share<J>)
+        requires number { T.number task ≡ share.number }
+        requires forked { T.forked task ≡ share.forked }
+        requires over { is_over (T.last task) ≡ true }
+    {
+        ties.redeem(&mut self.knot, share);
+        self.places.end(task);
+    }
+
+    // A turn answered Full.
+    fn fill(&mut self, ties: &Ties<J>, tried: Tried<T::Task>, share: Share<J>)
+        requires number { T.number tried.task ≡ share.number }
+        requires forked { T.forked tried.task ≡ share.forked }
+        requires full { is_full (T.last tried.task) ≡ true }
+    {
+        ties.redeem(&mut self.knot, share);
+        self.places.fill(tried);
+    }
+
+    // Memory ran out in a turn.
+    fn lose(&mut self, ties: &Ties<J>, share: Share<J>)
+        ensures { self.new.places.halt ≡ Lost }
+    {
+        ties.redeem(&mut self.knot, share);
+        self.places.lose();
+    }
+}

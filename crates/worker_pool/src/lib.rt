@@ -1,0 +1,8 @@
+//! A pool of workers that runs the turns of tasks until all are over, or none can go on.
+#![tactic(auto)]
+
+mod desk;
+mod handed;
+
+pub use handed::Handed;
+pub use pool_places::{PoolEnd, Tried};
