@@ -4,6 +4,7 @@ ghost use Rattle.std.specs.Prelude.{◌≡◌, ◌+◌, ◌<◌, ◌≤◌, ◌^
 ghost use Rattle.std.specs.Vec.{vec_len, vec_capacity};
 ghost use mathlib.Core.List.{IsPrefix};
 ghost use Rattle.tied_cells.specs.Machines.{own_key, replay, times, is_history};
+ghost use Rattle.tied_cells.specs.Counts.{HaveRoom, keys_of};
 ghost use Rattle.tied_cells.specs.Rounds.{Pairs, LentTo, KeptParts, Agrees, behind, changed_in, sights};
 
 use crate::held::HeldPart;
@@ -31,9 +32,13 @@ impl<M: Machine, J: OfHistory + OfTies> Log<M, J> {
         requires seat { seat.old.share.1 ≡ times M.rules (own_key seat.old.task) self.old.pen }
         requires task { M.rules.task entry ≡ seat.old.task }
         requires fits { M.rules.fits (length self.old.pen) (replay M.rules self.old.pen) entry ≡ true }
-        requires touches { (key : ℕ) → M.rules.touches (replay M.rules self.old.pen) entry key ≡ changed_in parts.items key }
-        requires lent { (lent : List _) × Pairs (λ c p. LentTo M.rules self.old.pen c.share c.front p) (behind held.items) lent × KeptParts lent parts.items }
-        requires after { Agrees (M.rules.after (length self.old.pen) (replay M.rules self.old.pen) entry) (sights parts.items) }
+        requires touches { (key : ℕ) → M.rules.touches (replay M.rules self.old.pen) entry key
+            ≡ changed_in parts.items key }
+        requires lent { (lent : List _) × Pairs (λ c p. LentTo M.rules self.old.pen c.share c.front p)
+            (behind held.items) lent × KeptParts lent parts.items }
+        requires rooms { HaveRoom self.old.counts (keys_of parts.items) }
+        requires after { Agrees (M.rules.after (length self.old.pen) (replay M.rules self.old.pen) entry)
+            (sights parts.items) }
         ensures pen { self.new.pen ≡ self.old.pen ++ entry ∷ [] }
         ensures seat { seat.new.front ≡ self.old.pen ++ entry ∷ [] }
         ensures task { seat.new.task ≡ seat.old.task }
@@ -46,7 +51,7 @@ impl<M: Machine, J: OfHistory + OfTies> Log<M, J> {
             wires,
             &mut self.pen,
             &mut self.knot,
-            &mut self.versions,
+            &mut self.counts,
             held,
             parts,
         );

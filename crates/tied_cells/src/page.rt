@@ -30,7 +30,8 @@ pub struct Page<M: Machine, J: OfHistory + OfTies> {
     pub cell: Mutex<Cell<M, J>>,
 }
 
-/// A look at a page: by which entries its part held then what it held. What that was follows from these: nothing of it is kept.
+/// A look at a page: by which entries its part held then what it held. What that was follows from these: nothing of it
+/// is kept.
 #[derive(Drop)]
 pub struct Look<M: Machine, J: OfHistory + OfTies> {
     pub key: u64,

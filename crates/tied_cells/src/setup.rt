@@ -10,8 +10,9 @@ use crate::machine::Machine;
 use crate::page::{Cell, Page};
 use crate::round::Book;
 use hist_count::{OfHistory, Pen};
+use sn_base::Map;
 use sn_ties::{Knot, OfTies};
-use std::alloc::{AllocError, Global};
+use std::alloc::Global;
 use std::sync::Mutex;
 
 /// A book before its first entry.
@@ -20,27 +21,22 @@ pub struct Setup<M: Machine, J: OfHistory + OfTies> {
     pub wires: Wires<M, J>,
     pub pen: Pen<M::Entry, J>,
     pub knot: Knot<u64, J>,
-    pub versions: Vec<u64>,
+    pub pages: u64,
     pub tasks: u64,
     ghost none: { pen ≡ [] },
-    ghost few: { vec_len versions ≤ 2 ^ 62 },
+    ghost few: { pages ≤ 2 ^ 62 },
     ghost few_tasks: { tasks ≤ 2 ^ 32 },
     ghost noughts: { (k x : ℕ) → value_at k knot ≡ Some x → x ≡ 0 },
-    ghost zeros: { (k x : ℕ) → k < vec_len versions → x ≡ slice_index_or versions.items k x → x ≡ 0 },
-    ghost fresh: { (k : ℕ) → vec_len versions ≤ k → k < 2 ^ 63 → value_at k knot ≡ None },
+    ghost fresh: { (k : ℕ) → pages ≤ k → k < 2 ^ 63 → value_at k knot ≡ None },
     ghost fresh_own: { (t : ℕ) → tasks ≤ t → value_at (own_key t) knot ≡ None },
 }
 
 impl<M: Machine, J: OfHistory + OfTies> Setup<M, J> {
     /// No page, no seat.
-    pub fn new(
-        alloc: Global,
-        history: hist_count::Opened<M::Entry>,
-        ties: sn_ties::Opened<u64>,
-    ) -> Setup<M, J>
+    pub fn new(history: hist_count::Opened<M::Entry>, ties: sn_ties::Opened<u64>) -> Setup<M, J>
         requires history { history.table.shared.table_id ≡ J.history }
         requires ties { ties.table.shared.table_id ≡ J.ties }
-        ensures { vec_len result.versions ≡ 0 }
+        ensures { result.pages ≡ 0 }
     {
         let (history, pen) = history.named::<J>();
         let (ties, knot) = ties.named::<J>();
@@ -48,31 +44,30 @@ impl<M: Machine, J: OfHistory + OfTies> Setup<M, J> {
             wires: Wires { history, ties },
             pen,
             knot,
-            versions: Vec::new(alloc),
+            pages: 0,
             tasks: 0,
         }
     }
 
     /// The next page.
-    pub fn page(&mut self, content: M::Part) -> Result<Page<M, J>, AllocError>
-        requires { content ≡ M.rules.opening (vec_len self.old.versions) }
-        ensures page { IfOk result (λ page. page.key ≡ vec_len self.old.versions) }
-        ensures next { IfOk result (λ _. vec_len self.new.versions ≡ vec_len self.old.versions + 1) }
+    pub fn page(&mut self, content: M::Part) -> Option<Page<M, J>>
+        requires { content ≡ M.rules.opening (self.old.pages) }
+        ensures page { IfSome result (λ page. page.key ≡ self.old.pages) }
+        ensures next { IfSome result (λ _. self.new.pages ≡ self.old.pages + 1) }
     {
-        if self.versions.len() >= 1 << 62 {
-            return Err(AllocError);
+        if self.pages >= 1 << 62 {
+            return None;
         }
-        self.versions.reserve(1)?;
-        let key = self.versions.len() as u64;
+        let key = self.pages;
         let share = self.wires.ties.add(&mut self.knot, key, 0);
-        self.versions.push_reserved(0);
+        self.pages = key + 1;
         let front = self.wires.history.front(&mut self.pen);
         let cell = Cell {
             share,
             front,
             content: Some(content),
         };
-        Ok(Page {
+        Some(Page {
             key,
             cell: Mutex::new(cell),
         })
@@ -81,7 +76,7 @@ impl<M: Machine, J: OfHistory + OfTies> Setup<M, J> {
     /// The next task's seat.
     pub fn seat(&mut self) -> Option<Seat<M, J>>
         ensures seat { IfSome result (λ seat. seat.front ≡ []) }
-        ensures same { vec_len self.new.versions ≡ vec_len self.old.versions }
+        ensures same { self.new.pages ≡ self.old.pages }
     {
         if self.tasks >= 1 << 32 {
             return None;
@@ -101,12 +96,11 @@ impl<M: Machine, J: OfHistory + OfTies> Setup<M, J> {
             wires,
             pen,
             knot,
-            versions,
             ..
         } = self;
         let log = Log {
             entries: Vec::new(alloc),
-            versions,
+            counts: Map::new(alloc),
             pen,
             knot,
         };
