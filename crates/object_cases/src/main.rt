@@ -11,6 +11,7 @@
 //! - `tasks`: tasks and thread groups (`tasks.rt`, and what ends them in `endings.rt`);
 //! - `record`: bytes, with records, fields and images (`records.rt`, `layouts.rt`, `fields.rt`, `images.rt`);
 //! - `name`, `path`, `route`, `folder`, `text` (`names.rt`); `errors`: errors, replies and calls (`errors.rt`);
+//! - `mounts`: the mounts of a view of files (`mounts.rt`);
 //! - `source`, `sink`: where files come from in memory, and text goes to (`edges.rt`);
 //! - `map`, `list`, `sum`: containers (`containers.rt`).
 //!
@@ -27,6 +28,7 @@ mod errors;
 mod fields;
 mod images;
 mod layouts;
+mod mounts;
 mod names;
 mod notation;
 mod objects;

@@ -4,6 +4,7 @@ use crate::containers::{Containers, do_sum};
 use crate::descriptions::do_description;
 use crate::edges::Edges;
 use crate::errors::do_error;
+use crate::mounts::MountsOfBlock;
 use crate::names::Names;
 use crate::pipes::Pipes;
 use crate::records::Records;
@@ -21,6 +22,7 @@ pub struct Objects {
     family: Family,
     records: Records,
     names: Names,
+    mounts: MountsOfBlock,
     edges: Edges,
     containers: Containers,
 }
@@ -35,6 +37,7 @@ impl Drop for Objects {
             family: _,
             records: _,
             names: _,
+            mounts: _,
             edges: _,
             containers: _,
         } = self;
@@ -46,6 +49,7 @@ impl Objects {
     pub fn new(alloc: Global) -> Result<Objects, Bad> {
         let tables = Tables::new(alloc)?;
         let pipes = Pipes::new(alloc)?;
+        let mounts = MountsOfBlock::new(alloc)?;
         Ok(Objects {
             tables,
             pipes,
@@ -53,6 +57,7 @@ impl Objects {
             family: Family::new(alloc),
             records: Records::new(alloc),
             names: Names::new(alloc),
+            mounts,
             edges: Edges::new(alloc),
             containers: Containers::new(alloc),
         })
@@ -78,6 +83,7 @@ impl Objects {
             }
             "source" => self.edges.do_source(alloc, case, came),
             "sink" => self.edges.do_sink(case, came),
+            "mounts" => self.mounts.do_case(alloc, case, came),
             "errors" => do_error(case, came),
             _ => self.is_done_elsewhere(alloc, object, case, came),
         }
@@ -109,6 +115,7 @@ impl Cases for Objects {
         self.family = Family::new(alloc);
         self.records = Records::new(alloc);
         self.names = Names::new(alloc);
+        self.mounts = MountsOfBlock::new(alloc)?;
         self.edges = Edges::new(alloc);
         self.containers = Containers::new(alloc);
         Ok(())
