@@ -1,6 +1,6 @@
 //! How a book begins: with its pages and its seats.
 
-ghost use Rattle.std.specs.Prelude.{◌≡◌, ◌+◌, ◌<◌, ◌≤◌, ◌^◌, [], ℕ, Some, None, IfOk, IfSome, slice_index_or};
+ghost use Rattle.std.specs.Prelude.{◌⊎◌, IfNone, ◌≡◌, ◌+◌, ◌<◌, ◌≤◌, ◌^◌, [], ℕ, Some, None, IfOk, IfSome, slice_index_or};
 ghost use Rattle.std.specs.Vec.{vec_len};
 ghost use Rattle.sn_ties.specs.Tied.{value_at};
 ghost use Rattle.tied_cells.specs.Machines.{own_key};
@@ -21,13 +21,13 @@ pub struct Setup<M: Machine, J: OfHistory + OfTies> {
     pub wires: Wires<M, J>,
     pub pen: Pen<M::Entry, J>,
     pub knot: Knot<u64, J>,
-    pub pages: u64,
+    pub free: u64,
     pub tasks: u64,
     ghost none: { pen ≡ [] },
-    ghost few: { pages ≤ 2 ^ 62 },
+    ghost few: { free ≤ 2 ^ 63 },
     ghost few_tasks: { tasks ≤ 2 ^ 32 },
     ghost noughts: { (k x : ℕ) → value_at k knot ≡ Some x → x ≡ 0 },
-    ghost fresh: { (k : ℕ) → pages ≤ k → k < 2 ^ 63 → value_at k knot ≡ None },
+    ghost fresh: { (k : ℕ) → free ≤ k → k < 2 ^ 63 → value_at k knot ≡ None },
     ghost fresh_own: { (t : ℕ) → tasks ≤ t → value_at (own_key t) knot ≡ None },
 }
 
@@ -36,7 +36,7 @@ impl<M: Machine, J: OfHistory + OfTies> Setup<M, J> {
     pub fn new(history: hist_count::Opened<M::Entry>, ties: sn_ties::Opened<u64>) -> Setup<M, J>
         requires history { history.table.shared.table_id ≡ J.history }
         requires ties { ties.table.shared.table_id ≡ J.ties }
-        ensures { result.pages ≡ 0 }
+        ensures { result.free ≡ 0 }
     {
         let (history, pen) = history.named::<J>();
         let (ties, knot) = ties.named::<J>();
@@ -44,23 +44,23 @@ impl<M: Machine, J: OfHistory + OfTies> Setup<M, J> {
             wires: Wires { history, ties },
             pen,
             knot,
-            pages: 0,
+            free: 0,
             tasks: 0,
         }
     }
 
-    /// The next page.
-    pub fn page(&mut self, content: M::Part) -> Option<Page<M, J>>
-        requires { content ≡ M.rules.opening (self.old.pages) }
-        ensures page { IfSome result (λ page. page.key ≡ self.old.pages) }
-        ensures next { IfSome result (λ _. self.new.pages ≡ self.old.pages + 1) }
+    /// A page with a key above those of all pages before, and below 2^63. `None`: its key is another.
+    pub fn page(&mut self, key: u64, content: M::Part) -> Option<Page<M, J>>
+        requires { content ≡ M.rules.opening key }
+        ensures page { IfSome result (λ page. page.key ≡ key) }
+        ensures next { IfSome result (λ _. self.new.free ≡ key + 1) }
+        ensures none { IfNone result ((key < self.old.free) ⊎ (2 ^ 63 ≤ key)) }
     {
-        if self.pages >= 1 << 62 {
+        if key < self.free || key >= 1 << 63 {
             return None;
         }
-        let key = self.pages;
         let share = self.wires.ties.add(&mut self.knot, key, 0);
-        self.pages = key + 1;
+        self.free = key + 1;
         let front = self.wires.history.front(&mut self.pen);
         let cell = Cell {
             share,
@@ -76,7 +76,7 @@ impl<M: Machine, J: OfHistory + OfTies> Setup<M, J> {
     /// The next task's seat.
     pub fn seat(&mut self) -> Option<Seat<M, J>>
         ensures seat { IfSome result (λ seat. seat.front ≡ []) }
-        ensures same { self.new.pages ≡ self.old.pages }
+        ensures same { self.new.free ≡ self.old.free }
     {
         if self.tasks >= 1 << 32 {
             return None;
