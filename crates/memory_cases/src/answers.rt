@@ -132,6 +132,13 @@ pub fn of_protection(done: Result<(), AreaFault>) -> Answer {
     }
 }
 
+pub fn of_place(page: Result<u64, AreaFault>) -> Answer {
+    match page {
+        Ok(page) => Answer::Number(page),
+        Err(fault) => of_fault(fault),
+    }
+}
+
 pub fn of_mapping(address: Result<u64, AreaErr>) -> Answer {
     match address {
         Ok(address) => Answer::Number(address),

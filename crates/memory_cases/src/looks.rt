@@ -1,7 +1,7 @@
 //! What is seen of areas, and of the areas of an address space.
 
 use crate::answers::{
-    Answer, of_byte, of_count, of_mapping, of_number, of_rights, of_shared, of_word,
+    Answer, of_byte, of_count, of_number, of_place, of_rights, of_shared, of_word,
 };
 use crate::words::Words;
 use mm_areas::{Areas, Content, Rights, SharedPage};
@@ -30,7 +30,7 @@ fn content(areas: &Areas, page: u64) -> Option<SharedPage> {
 fn place_of(areas: &Areas, words: &mut Words<'_>) -> Option<Answer> {
     let at = words.asked()?;
     let length = words.number()?;
-    Some(of_mapping(areas.place_of(at, length)))
+    Some(of_place(areas.place_of(at, length)))
 }
 
 fn byte(areas: &Areas, words: &mut Words<'_>) -> Option<Answer> {
