@@ -1,7 +1,7 @@
 //! LISAFS messages as bytes: what a client asks of a server of files, what that answers, and how both are spelled.
 //!
-//! A caller sees a `RequestRef` or an `Answer`, by the fields that it has. A `Request` is one that was read: it owns its
-//! names, and lends itself as a `RequestRef`. A `PlainAnswer` is an answer without lists. Contracts see each as a
+//! A caller sees a `RequestRef` or an `Answer`, by the fields that it has. A `Request` is one that was read: it owns
+//! its names, and lends itself as a `RequestRef`. A `PlainAnswer` is an answer without lists. Contracts see each as a
 //! `Message`: a number, the values of its fields, and the groups behind them (`asked`, `answered` of
 //! `specs/Messages.antt`). The grammar is one table of requests and one of answers, a line a message
 //! (`specs/Grammar.antt`): which fields it has, what may stand in each, and what may stand behind them. `spelling` is

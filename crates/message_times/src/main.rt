@@ -1,9 +1,9 @@
 //! The program `message_times`: how long LISAFS messages take to be put and to be read.
 //!
-//! `message_times ROUNDS` puts and reads a message of each kind so many times, a PWrite and the answer to a PRead with as
-//! much data as may be among them, and prints for each how many bytes it has. `message_times ROUNDS times` prints too how
-//! many nanoseconds of the clock a round took, and how many a copy of that data. It ends with status 0 where each message
-//! was read and put as it was, and else with 2.
+//! `message_times ROUNDS` puts and reads a message of each kind so many times, a PWrite and the answer to a PRead with
+//! as much data as may be among them, and prints for each how many bytes it has. `message_times ROUNDS times` prints
+//! too how many nanoseconds of the clock a round took, and how many a copy of that data. It ends with status 0 where
+//! each message was read and put as it was, and else with 2.
 //!
 //! Proved: the functions here are safe, and end.
 //!

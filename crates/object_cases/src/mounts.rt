@@ -26,11 +26,7 @@ fn count_roots(places: &[Option<Name>]) -> usize
 }
 
 /// The places of a case; whether each is one.
-fn push_places(
-    alloc: Global,
-    places: &mut Vec<Option<Name>>,
-    words: &str,
-) -> Result<bool, Bad> {
+fn push_places(alloc: Global, places: &mut Vec<Option<Name>>, words: &str) -> Result<bool, Bad> {
     for word in words.split(' ') {
         if word == "/" {
             places.push(None)?;

@@ -127,10 +127,10 @@ settles slots id i r s h homes at small =
     let v = knotted i r in
     let one = h.2 id v at refl in
     let balance : (g : Note → ℕ) → held_by g s.views + sum_by g r ≡ sum_by g i = λ g.
-        let c = h.3 g in
-        let p = ap (sum_by g) one.1 in
-        let q = ap (sum_by g) one.2 in
-        omega (arith, c, p, q)
+    let c = h.3 g in
+    let p = ap (sum_by g) one.1 in
+    let q = ap (sum_by g) one.2 in
+    omega (arith, c, p, q)
     in (
       v,
       keeps,

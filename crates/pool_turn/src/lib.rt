@@ -3,10 +3,9 @@
 //! A caller sees a task as three facts that `Turn` tells of it: its number, the numbers of the children that it forked,
 //! in order, and what its last turn answered (`Last`). A turn takes the task and gives it back, unless memory ran out.
 //!
-//! Proved: nothing here runs. The clauses of `Turn::turn` are what each implementation owes and each pool may rest on: a
-//! turn keeps the task's number (`number`); the child of a fork, which is new, is the only one that it adds to those
-//! forked (`forked`, `child`); and the task tells what the turn answered (`last`). No task gets a turn after
-//! `Ended`.
+//! Proved: nothing here runs. The clauses of `Turn::turn` are what each implementation owes and each pool may rest on:
+//! a turn keeps the task's number (`number`); the child of a fork, which is new, is the only one that it adds to those
+//! forked (`forked`, `child`); and the task tells what the turn answered (`last`). No task gets a turn after `Ended`.
 //! `Open` is the gate that does nothing.
 //!
 //! Not said: what a turn computes, how long it takes, or that it ends, since a turn may wait.

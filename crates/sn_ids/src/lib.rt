@@ -1,16 +1,14 @@
 //! Numbers that many threads draw, no number twice.
 //!
 //! A caller sees a `Pass` as the runs of numbers that were drawn with it, newest first, each as its first number and
-//! how
-//! many there are; the numbers of a run stand in a row. A new pass has drawn nothing, and each thread draws with a pass
-//! of its own, so nobody waits.
+//! how many there are; the numbers of a run stand in a row. A new pass has drawn nothing, and each thread draws with a
+//! pass of its own, so nobody waits.
 //!
 //! Proved of `draw`: it answers the first of `count` numbers in a row (`drawn`), all above 0 (`positive`) and below
 //! 2^63 + 16 (`small`), and of all runs of the pass no two have a number in common (`once`). Where another thread drew
 //! between its two steps, or 2^63 numbers are gone, it answers `Raced` with what it found (`raced`), and has drawn
 //! nothing (`nothing`). Proved of `join`: the runs of both passes are in hand (`both`), and no two of them have a
-//! number
-//! in common (`once`), so what two passes drew differs at all times.
+//! number in common (`once`), so what two passes drew differs at all times.
 //!
 //! Only `Opened::new` takes memory.
 //!

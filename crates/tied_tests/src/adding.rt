@@ -133,8 +133,8 @@ impl<J: OfHistory + OfTies> Kernel<J> {
         }
     }
 
-    /// Adds a pair's first to a counter, and tries again where the pair was changed meanwhile. `None`: no room for an entry, or no memory, or
-    /// parts of other kinds; nothing was entered.
+    /// Adds a pair's first to a counter, and tries again where the pair was changed meanwhile. `None`: no room for an
+    /// entry, or no memory, or parts of other kinds; nothing was entered.
     pub fn add<R: Wait>(
         &self,
         rt: &R,

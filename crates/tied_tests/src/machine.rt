@@ -35,6 +35,7 @@ impl Machine for Tally {
     ghost use Rattle.tied_tests.specs.Tallies.{tally, tally_stays};
 
     type Part = Part;
+
     type Entry = Entry;
 
     ghost rules = { tally };

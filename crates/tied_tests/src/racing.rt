@@ -13,6 +13,7 @@ use tied_cells::{Book, Page, Round, RoundCheck, Seat, Setup};
 
 /// The key of the pair, the least that there is, and of the counter, the greatest.
 pub const PAIR: u64 = 0;
+
 pub const COUNTER: u64 = (1 << 63) - 1;
 
 /// What a race came to: the greatest of the last replies, and the number of entries.
