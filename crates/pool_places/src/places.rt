@@ -86,6 +86,13 @@ impl<K: Drop> Places<K> {
         self.halt == Halt::Runs && self.ready.is_empty() && self.running > 0
     }
 
+    /// Whether who waits for a task is to look again: more than one is ready, or no turn begins any more.
+    pub fn wakes(&self) -> bool
+        ensures { IsTrue result ↔ ((1 < deque_len self.now.ready) ⊎ (self.now.running ≡ 0) ⊎ (self.now.halt ≢ Halt.Runs)) }
+    {
+        self.ready.len() > 1 || self.running == 0 || self.halt != Halt::Runs
+    }
+
     /// Whether nothing more happens: none is out, and no turn begins.
     pub fn is_over(&self) -> bool
         ensures { IsTrue result ↔ ((self.now.running ≡ 0) × ((self.now.halt ≢ Halt.Runs) ⊎ (self.now.ready.items ≡ []))) }

@@ -9,6 +9,9 @@ use Rattle.std.proofs.Math.Bool.{or-true, true-or}
 use Rattle.pool_places.specs.declared.ends.Tried.{Tried}
 use Rattle.pool_turn.specs.declared.turn.Last.{Last}
 use Rattle.pool_turn.specs.declared.turn.Last.TheVariants.{New, GoesOn, Waits, Over, NoRoom}
+use Rattle.pool_places.specs.declared.ends.PoolEnd.{PoolEnd}
+use Rattle.pool_places.specs.declared.ends.PoolEnd.TheVariants.{AllEnded, Stuck, Full as Filled', Memory as Gone}
+use Rattle.pool_places.specs.Ends.{IfStuck}
 use Rattle.worker_pool.specs.Accounts.{tasks, may_go, is_parked, is_full}
 
 module _ {X : Type 0} (p : X → Bool) where
@@ -114,3 +117,10 @@ module _ {K : Type 0} (last : K → Last) where
       still_parked (λ k. is_parked (last k)) (p ++ t ∷ []) p' n n' queue count
       (all_push (λ (u : Tried K). is_parked (last u.task) && (u.began == n)) p t parked (and_from (is_parked (last t.task)) (t.began == n) now at))
   parked_park false p p' n n' t stays queue count parked now = still_parked (λ k. is_parked (last k)) p p' n n' queue count parked
+
+-- what holds of a pool that is stuck, by what follows from it
+pub stuck_map : {K : Type 0} (e : PoolEnd K) (P Q : ℕ → Type 0) → ((n : ℕ) → P n → Q n) → IfStuck e P → IfStuck e Q
+stuck_map (AllEnded es) P Q f h = tt
+stuck_map (Stuck ts es n) P Q f h = f n h
+stuck_map (Filled' ts es) P Q f h = tt
+stuck_map Gone P Q f h = tt

@@ -1,14 +1,18 @@
 //! What lies under the pool's lock: the places, and the knot of what is out.
 
-ghost use Rattle.std.specs.Prelude.{◌≡◌, ◌≢◌, ◌+◌, ◌++◌, ◌∷◌, [], length, ℕ, true, ◌&&◌, ◌==◌, IfSome};
+ghost use Rattle.std.specs.Prelude.{map, All, ◌⊎◌, ◌≡◌, ◌≢◌, ◌+◌, ◌++◌, ◌∷◌, [], length, ℕ, true, ◌&&◌, ◌==◌, IfSome};
 ghost use Rattle.std.specs.List.{list_all, list_any};
 ghost use Rattle.pool_places.specs.declared.places.Halt.TheVariants.{Runs, Full, Lost};
-ghost use Rattle.worker_pool.specs.Accounts.{Balanced, here, may_go, is_parked, is_over, is_full};
+ghost use Rattle.pool_places.specs.Ends.{left_of, over_of, IfKept, IfStuck, OnFull};
+ghost use Rattle.pool_turn.specs.Ends.{task_of, children_of, last_of};
+ghost use Rattle.pool_turn.specs.declared.turn.Last.TheVariants.{New};
+ghost use Rattle.worker_pool.specs.Accounts.{SameNumbers, tasks, Balanced, here, may_go, is_parked, is_over, is_full};
 
 use crate::handed::Handed;
-use pool_places::{Halt, Places, Tried};
+use pool_places::{Places, PoolEnd, Tried};
 use pool_ties::{Knot, OfTies, Share, Ties};
-use pool_turn::Turn;
+use pool_turn::{Turn, TurnEnd};
+use std::alloc::Global;
 use std::marker::Brand;
 
 /// What lies under the pool's lock.
@@ -107,5 +111,42 @@ impl<T: Turn, J: OfTies + Handed> Desk<T, J> {
     {
         ties.redeem(&mut self.knot, share);
         self.places.lose();
+    }
+
+    /// A turn that began at that count ended: its task is put back, with its child.
+    pub fn give(
+        &mut self,
+        ties: &Ties<J>,
+        end: TurnEnd<T::Task>,
+        share: Share<J>,
+        began: u64,
+    )
+        requires number { IfSome (task_of end) (λ t. T.number t ≡ share.number) }
+        requires forked { IfSome (task_of end) (λ t. T.forked t ≡ share.forked ++ map T.number (children_of end)) }
+        requires last { IfSome (task_of end) (λ t. T.last t ≡ last_of end) }
+        requires child { All (λ c. (T.forked c ≡ []) × (T.last c ≡ New)) (children_of end) }
+        requires began { share.began ≡ began }
+    {
+        match end {
+            TurnEnd::Ready(task) => self.put(ties, Tried { task, began }, share),
+            TurnEnd::Forked(task, child) => self.fork(ties, Tried { task, began }, child, share),
+            TurnEnd::Parked(task) => self.park(ties, Tried { task, began }, share),
+            TurnEnd::Ended(task) => self.end(ties, task, share),
+            TurnEnd::Full(task) => self.fill(ties, Tried { task, began }, share),
+            TurnEnd::Memory => self.lose(ties, share),
+        }
+    }
+
+    /// How the pool ended, with all tasks.
+    pub fn close(&mut self, ties: &Ties<J>, alloc: Global) -> PoolEnd<T::Task>
+        requires idle { self.old.places.running ≡ 0 }
+        requires still { (self.old.places.halt ≢ Runs) ⊎ (self.old.places.ready.items ≡ []) }
+        ensures numbers { IfKept result (SameNumbers T.number T.forked J.handed J.before (tasks (left_of result) ++ over_of result)) }
+        ensures over { list_all (λ t. is_over (T.last t)) (over_of result) ≡ true }
+        ensures stuck { IfStuck result (λ n. (left_of result ≢ []) × (list_all (λ t. is_parked (T.last t.task) && (t.began == n)) (left_of result) ≡ true)) }
+        ensures full { OnFull result (list_any (λ t. is_full (T.last t.task)) (left_of result) ≡ true) }
+    {
+        ties.settle(&mut self.knot);
+        self.places.close(alloc)
     }
 }

@@ -3,6 +3,7 @@
 
 mod desk;
 mod handed;
+mod pool;
 
 pub use handed::Handed;
 pub use pool_places::{PoolEnd, Tried};
