@@ -23,10 +23,14 @@ pub struct Crew<T: Turn, J: OfTies + Handed> {
 impl<T: Turn, J: OfTies + Handed> Crew<T, J> {
     // The next task that is ready, once one is; none where no turn begins any more.
     fn next<R: Wait>(&self, rt: &R) -> Option<Out<T, J>> {
-        let mut desk = self
-            .changed
-            .wait_while(rt, self.desk.lock(rt), |desk| desk.places.must_wait());
-        desk.take(&self.ties)
+        for _ in rt.forever() {
+            let mut desk = self.desk.lock(rt);
+            if !desk.places.must_wait() {
+                return desk.take(&self.ties);
+            }
+            let _woken = self.changed.wait(rt, desk);
+        }
+        unreachable!()
     }
 
     // Runs turns until none begins any more.
@@ -59,9 +63,13 @@ impl<T: Turn, J: OfTies + Handed> Crew<T, J> {
         ensures stuck { IfStuck result (λ n. (left_of result ≢ []) × (list_all (λ t. is_parked (T.last t.task) && (t.began == n)) (left_of result) ≡ true)) }
         ensures full { OnFull result (list_any (λ t. is_full (T.last t.task)) (left_of result) ≡ true) }
     {
-        let mut desk = self
-            .changed
-            .wait_while(rt, self.desk.lock(rt), |desk| !desk.places.is_over());
-        desk.close(&self.ties, alloc)
+        for _ in rt.forever() {
+            let mut desk = self.desk.lock(rt);
+            if desk.places.is_over() {
+                return desk.close(&self.ties, alloc);
+            }
+            let _woken = self.changed.wait(rt, desk);
+        }
+        unreachable!()
     }
 }
