@@ -1,5 +1,5 @@
 -- What the tasks of a queue tell of themselves, as the queues change.
-use Rattle.std.proofs.Common.{◌≡◌, ℕ, List, [], ◌∷◌, ◌++◌, Bool, true, false, map, refl, sym, ap, ◌∙◌, true≢false}
+use Rattle.std.proofs.Common.{◌≡◌, ℕ, List, [], ◌∷◌, ◌++◌, Bool, true, false, refl, sym, ap, ◌∙◌}
 use Rattle.std.specs.Prelude.{◌&&◌, ◌||◌, ◌==◌, ◌-◌, ◌^◌, nat_lt, if◌then◌else◌}
 use Rattle.pool_places.specs.Turns.{waits}
 use Rattle.std.specs.List.{list_all, list_any}

@@ -114,13 +114,7 @@ impl<T: Turn, J: OfTies + Handed> Desk<T, J> {
     }
 
     /// A turn that began at that count ended: its task is put back, with its child.
-    pub fn give(
-        &mut self,
-        ties: &Ties<J>,
-        end: TurnEnd<T::Task>,
-        share: Share<J>,
-        began: u64,
-    )
+    pub fn give(&mut self, ties: &Ties<J>, end: TurnEnd<T::Task>, share: Share<J>, began: u64)
         requires number { IfSome (task_of end) (λ t. T.number t ≡ share.number) }
         requires forked { IfSome (task_of end) (λ t. T.forked t ≡ share.forked ++ map T.number (children_of end)) }
         requires last { IfSome (task_of end) (λ t. T.last t ≡ last_of end) }

@@ -1,6 +1,3 @@
-use Rattle.std.proofs.Common.{◌≡◌, ◌≢◌, ℕ, [], true}
-use Rattle.std.specs.Prelude.{◌&&◌, ◌==◌}
-use Rattle.std.specs.List.{list_all}
 use Rattle.pool_places.specs.Ends.{left_of}
 use Rattle.worker_pool.specs.Accounts.{is_parked}
 use Rattle.worker_pool.proofs.Standings.{still_parked, stuck_map}

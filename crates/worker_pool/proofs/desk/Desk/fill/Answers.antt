@@ -1,4 +1,4 @@
-use Rattle.std.proofs.Common.{◌≡◌, ◌∷◌, ◌++◌, [], ◌∙◌, ap, sym, refl}
+use Rattle.std.proofs.Common.{◌++◌, ◌∙◌, ap, refl}
 use Rattle.std.specs.List.{list_all}
 use Rattle.pool_places.specs.Turns.{filled}
 use Rattle.worker_pool.specs.Accounts.{here, is_over}

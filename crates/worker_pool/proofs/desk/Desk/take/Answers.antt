@@ -1,4 +1,4 @@
-use Rattle.std.proofs.Common.{◌≡◌, ◌∷◌, ◌∙◌, ap, sym, refl, arith}
+use Rattle.std.proofs.Common.{◌∷◌, ◌∙◌, ap, sym}
 use Rattle.std.specs.List.{list_all}
 use Rattle.worker_pool.specs.Accounts.{here, may_go, is_parked, is_over}
 use Rattle.worker_pool.proofs.Weights.{takes, taken}
