@@ -1,5 +1,6 @@
 //! Accesses that ask for a shared area, and others.
 
+use area_laws::trying;
 use guest_access::asks_for_area;
 use kernel_model::{GuestSpace, locality};
 use mm_areas::{AreaErr, Areas, Backing, Rights};
@@ -63,6 +64,7 @@ fn expect_asks(alloc: Global, space: &GuestSpace) -> Result<(), Fail> {
 #[test]
 fn an_access_asks_for_the_areas_of_its_shared_pages(rt: HostRuntime) -> Result<(), Fail> {
     locality();
+    trying();
     let space = space(rt.alloc()).ok().ok_or("no space")?;
     expect_asks(rt.alloc(), &space)
 }

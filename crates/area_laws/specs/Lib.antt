@@ -1,0 +1,2 @@
+-- What the laws of areas say, by subject.
+pub mod Whole
