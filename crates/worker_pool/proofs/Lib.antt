@@ -1,2 +1,3 @@
 pub mod Weights
 pub mod Standings
+pub mod Opening

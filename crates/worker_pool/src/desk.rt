@@ -1,6 +1,6 @@
 //! What lies under the pool's lock: the places, and the knot of what is out.
 
-ghost use Rattle.std.specs.Prelude.{map, All, ◌⊎◌, ◌≡◌, ◌≢◌, ◌+◌, ◌++◌, ◌∷◌, [], length, ℕ, true, ◌&&◌, ◌==◌, IfSome};
+ghost use Rattle.std.specs.Prelude.{map, All, ◌⊎◌, ◌≡◌, ◌≢◌, ◌+◌, ◌++◌, ◌∷◌, [], length, ℕ, true, ◌&&◌, ◌==◌, IfSome, flat_map};
 ghost use Rattle.std.specs.List.{list_all, list_any};
 ghost use Rattle.pool_places.specs.declared.places.Halt.TheVariants.{Runs, Full, Lost};
 ghost use Rattle.pool_places.specs.Ends.{left_of, over_of, IfKept, IfStuck, OnFull};
@@ -12,7 +12,7 @@ use crate::handed::Handed;
 use pool_places::{Places, PoolEnd, Tried};
 use pool_ties::{Knot, OfTies, Share, Ties};
 use pool_turn::{Turn, TurnEnd};
-use std::alloc::Global;
+use std::alloc::{AllocError, Global};
 use std::marker::Brand;
 
 /// What lies under the pool's lock.
@@ -40,6 +40,17 @@ pub struct Out<T: Turn, J: OfTies + Handed> {
 }
 
 impl<T: Turn, J: OfTies + Handed> Desk<T, J> {
+    /// All tasks are ready, and none is out. `Err`: no memory.
+    pub fn new(alloc: Global, knot: Knot<J>, handed: Vec<T::Task>) -> Result<Desk<T, J>, AllocError>
+        requires knot { knot ≡ ([], []) }
+        requires handed { J.handed ≡ map T.number handed.items }
+        requires before { J.before ≡ flat_map T.forked handed.items }
+        requires going { list_all (λ t. may_go (T.last t)) handed.items ≡ true }
+    {
+        let places = Places::new(alloc, handed)?;
+        Ok(Desk { places, knot })
+    }
+
     /// The first task that is ready goes out.
     pub fn take(&mut self, ties: &Ties<J>) -> Option<Out<T, J>>
         ensures going { IfSome result (λ _. self.old.places.halt ≡ Runs) }

@@ -1,75 +1,85 @@
-//! The workers: each takes a task, runs its turn with no lock held, and puts it back.
+//! A pool of workers: how it is run.
 
-ghost use Rattle.std.specs.Prelude.{◌≡◌, ◌≢◌, ◌≤◌, ◌<◌, ◌++◌, ◌&&◌, ◌==◌, [], true};
+ghost use Rattle.std.specs.Prelude.{◌≡◌, ◌≢◌, ◌≤◌, ◌<◌, ◌++◌, ◌&&◌, ◌==◌, ◌↔◌, [], true, map, flat_map};
 ghost use Rattle.std.specs.List.{list_all, list_any};
-ghost use Rattle.pool_places.specs.Ends.{left_of, over_of, IfKept, IfStuck, OnFull};
-ghost use Rattle.worker_pool.specs.Accounts.{SameNumbers, tasks, is_parked, is_over, is_full};
+ghost use Rattle.pool_places.specs.Ends.{left_of, over_of, IfKept, IfStuck, OnFull, IsAllEnded};
+ghost use Rattle.worker_pool.specs.Accounts.{SameNumbers, tasks, may_go, is_parked, is_over, is_full};
 
-use crate::desk::{Desk, Out};
+use crate::crew::Crew;
 use crate::handed::Handed;
 use pool_places::PoolEnd;
-use pool_ties::{OfTies, Ties};
-use pool_turn::{Gate, Point, Turn};
+use pool_ties::{OfTies, Opened};
+use pool_turn::{Gate, Turn};
 use std::alloc::Global;
-use std::sync::{Condvar, Mutex, Wait};
+use std::marker::Brand;
+use std::sync::Wait;
+use std::thread::{Threads, for_each_mut};
 
-/// The pool's lock, and where workers sleep that find no task.
-pub struct Crew<T: Turn, J: OfTies + Handed> {
-    desk: Mutex<Desk<T, J>>,
-    changed: Condvar,
-    ties: Ties<J>,
-}
+/// How many workers there may be.
+pub const WORKERS: usize = 16;
 
-impl<T: Turn, J: OfTies + Handed> Crew<T, J> {
-    // The next task that is ready, once one is; none where no turn begins any more.
-    fn next<R: Wait>(&self, rt: &R) -> Option<Out<T, J>> {
-        for _ in rt.forever() {
-            let mut desk = self.desk.lock(rt);
-            if !desk.places.must_wait() {
-                return desk.take(&self.ties);
-            }
-            let _woken = self.changed.wait(rt, desk);
-        }
-        unreachable!()
-    }
+// The workers' numbers.
+const NUMBERS: [u32; WORKERS] = [0, 1, 2, 3, 4, 5, 6, 7, 8, 9, 10, 11, 12, 13, 14, 15];
 
-    // Runs turns until none begins any more.
-    fn work<G: Gate, R: Wait>(&self, rt: &R, turn: &T, gate: &G, worker: u32) {
-        for _ in rt.forever() {
-            let Some(out) = self.next(rt) else {
-                break;
-            };
-            self.run_one(rt, turn, gate, worker, out);
-        }
-    }
+/// A pool of workers.
+pub struct Pool;
 
-    // One turn, with no lock held. Whoever may go on by it is woken.
-    fn run_one<G: Gate, R: Wait>(&self, rt: &R, turn: &T, gate: &G, worker: u32, out: Out<T, J>) {
-        let Out { tried, share } = out;
-        gate.pass(rt, worker, turn.number(&tried.task), Point::Turn);
-        let began = tried.began;
-        let end = turn.turn(rt, worker, tried.task);
-        let mut desk = self.desk.lock(rt);
-        desk.give(&self.ties, end, share, began);
-        if desk.places.wakes() {
-            self.changed.notify_all();
-        }
-    }
-
-    // Waits until nothing more happens, and tells how the pool ended.
-    fn close<R: Wait>(&self, rt: &R, alloc: Global) -> PoolEnd<T::Task>
-        ensures numbers { IfKept result (SameNumbers T.number T.forked J.handed J.before (tasks (left_of result) ++ over_of result)) }
+impl Pool {
+    /// Runs turns of these tasks, and of those that they fork, by up to so many workers at once, the caller among them,
+    /// until no turn can begin, and tells how it ended. A worker has a thread of its own where one is to be had. `rt` is
+    /// what threads and waits are asked of; the tasks are tried in their order. `Memory` comes also where there is none
+    /// to begin with; the tasks are gone then.
+    pub fn run<T: Turn, G: Gate, R: Threads + Wait + Sync>(
+        rt: &R,
+        alloc: Global,
+        turn: &T,
+        gate: &G,
+        handed: Vec<T::Task>,
+        workers: usize,
+    ) -> PoolEnd<T::Task>
+        requires workers { (0 < workers) × (workers ≤ 16) }
+        requires going { list_all (λ t. may_go (T.last t)) handed.items ≡ true }
+        ensures numbers { IfKept result (SameNumbers T.number T.forked (map T.number handed.items) (flat_map T.forked handed.items) (tasks (left_of result) ++ over_of result)) }
         ensures over { list_all (λ t. is_over (T.last t)) (over_of result) ≡ true }
         ensures stuck { IfStuck result (λ n. (left_of result ≢ []) × (list_all (λ t. is_parked (T.last t.task) && (t.began == n)) (left_of result) ≡ true)) }
         ensures full { OnFull result (list_any (λ t. is_full (T.last t.task)) (left_of result) ≡ true) }
     {
-        for _ in rt.forever() {
-            let mut desk = self.desk.lock(rt);
-            if desk.places.is_over() {
-                return desk.close(&self.ties, alloc);
-            }
-            let _woken = self.changed.wait(rt, desk);
-        }
-        unreachable!()
+        let Ok(opened) = Opened::new(alloc) else {
+            return PoolEnd::Memory;
+        };
+        run_named::<T, G, R, Brand>(rt, alloc, turn, gate, handed, workers, opened)
     }
+}
+
+// The same, with ties that have a name.
+fn run_named<T: Turn, G: Gate, R: Threads + Wait + Sync, J: OfTies + Handed + Send + Sync>(
+    rt: &R,
+    alloc: Global,
+    turn: &T,
+    gate: &G,
+    handed: Vec<T::Task>,
+    workers: usize,
+    opened: Opened,
+) -> PoolEnd<T::Task>
+    requires workers { (0 < workers) × (workers ≤ 16) }
+    requires named { opened.table.shared.table_id ≡ J.ties }
+    requires handed { J.handed ≡ map T.number handed.items }
+    requires before { J.before ≡ flat_map T.forked handed.items }
+    requires going { list_all (λ t. may_go (T.last t)) handed.items ≡ true }
+    ensures numbers { IfKept result (SameNumbers T.number T.forked J.handed J.before (tasks (left_of result) ++ over_of result)) }
+    ensures over { list_all (λ t. is_over (T.last t)) (over_of result) ≡ true }
+    ensures stuck { IfStuck result (λ n. (left_of result ≢ []) × (list_all (λ t. is_parked (T.last t.task) && (t.began == n)) (left_of result) ≡ true)) }
+    ensures full { OnFull result (list_any (λ t. is_full (T.last t.task)) (left_of result) ≡ true) }
+{
+    let Ok(crew) = Crew::<T, J>::new(alloc, opened, handed) else {
+        return PoolEnd::Memory;
+    };
+    let mut numbers = NUMBERS;
+    for_each_mut(
+        rt,
+        &mut numbers[..workers],
+        workers,
+        &|_, number| { crew.work(rt, turn, gate, *number) },
+    );
+    crew.close(rt, alloc)
 }
