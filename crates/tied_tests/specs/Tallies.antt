@@ -1,14 +1,15 @@
 -- The machine of counters and pairs.
-use Rattle.std.specs.Prelude.{◌≡◌, ◌==◌, ◌+◌, ◌%◌, ◌^◌, ◌&&◌, ℕ, Bool, true, false, if◌then◌else◌}
+use Rattle.std.specs.Prelude.{◌==◌, ◌+◌, ◌%◌, ◌^◌, ◌||◌, ℕ, Bool, true, false, if◌then◌else◌}
 use Rattle.std.proofs.Common.{ap}
 use Rattle.tied_cells.specs.Machines.{Rules, Stays}
 use Rattle.tied_tests.specs.declared.machine.Part.{Part}
 use Rattle.tied_tests.specs.declared.machine.Part.TheVariants.{Counter, Pair}
 use Rattle.tied_tests.specs.declared.machine.Entry.{Entry}
-use Rattle.tied_tests.specs.declared.machine.Entry.TheVariants.{Add, Put}
+use Rattle.tied_tests.specs.declared.machine.Entry.TheVariants.{Add, Put, Move}
 
+-- page 0 has a pair, page 1 all that is moved, and the others nothing
 abbrev pub opening : ℕ → Part
-opening key = if key == 0 then Pair 1 10 else Counter 0
+opening key = if key == 0 then Pair 1 10 else (if key == 1 then Counter 1000 else Counter 0)
 
 abbrev pub is_pair : Part → Bool
 is_pair (Counter n) = false
@@ -20,27 +21,38 @@ is_sum (Counter m) c reply = false
 is_sum (Pair a b) (Counter n) reply = reply == (n + a) % 2 ^ 64
 is_sum (Pair a b) (Pair m n) reply = false
 
+-- two counters have this together
+abbrev pub have : Part → Part → ℕ → Bool
+have (Counter m) (Counter n) sum = m + n == sum
+have (Counter m) (Pair a b) sum = false
+have (Pair a b) c sum = false
+
 abbrev pub fits : ℕ → (ℕ → Part) → Entry → Bool
 fits n s (Add t p c reply) = is_sum (s p) (s c) reply
 fits n s (Put t p a b) = is_pair (s p)
+fits n s (Move t l h a b) = if l == h then false else have (s l) (s h) (a + b)
 
 abbrev pub touches : (ℕ → Part) → Entry → ℕ → Bool
 touches s (Add t p c reply) key = c == key
 touches s (Put t p a b) key = p == key
+touches s (Move t l h a b) key = (l == key) || (h == key)
 
-abbrev pub written : Entry → Part
-written (Add t p c reply) = Counter reply
-written (Put t p a b) = Pair a b
+-- what an entry leaves in a part that it touches
+abbrev pub written : Entry → ℕ → Part
+written (Add t p c reply) key = Counter reply
+written (Put t p a b) key = Pair a b
+written (Move t l h a b) key = if l == key then Counter a else Counter b
 
 abbrev pub after : ℕ → (ℕ → Part) → Entry → ℕ → Part
-after n s e key = if touches s e key then written e else s key
+after n s e key = if touches s e key then written e key else s key
 
 abbrev pub task : Entry → ℕ
 task (Add t p c reply) = t
 task (Put t p a b) = t
+task (Move t l h a b) = t
 
 abbrev pub tally : Rules Part Entry
 tally = record { opening = opening; fits = fits; after = after; touches = touches; task = task }
 
 pub tally_stays : Stays tally
-tally_stays n s e key none = ap (λ (b : Bool). if b then written e else s key) none
+tally_stays n s e key none = ap (λ (b : Bool). if b then written e key else s key) none

@@ -22,7 +22,7 @@ IfStopped (Done a) fact = ⊤
 IfStopped Again fact = ⊤
 IfStopped Stopped fact = fact
 
--- the counter, changed
+-- a counter, changed
 abbrev pub added_part : ℕ → ℕ → HeldPart Part
 added_part key n = record { key = key; content = Counter n; changed = true }
 

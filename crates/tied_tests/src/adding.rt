@@ -43,7 +43,9 @@ impl<J: OfHistory + OfTies> Kernel<J> {
         pair: &Page<Tally, J>,
         counter: &Page<Tally, J>,
     ) -> Tried
-        ensures done { IfDone result (λ a. Commits tally seat.old.task seat.old.front (Add seat.old.task pair.now.key counter.now.key a.reply) seat.new.front × (a.place ≡ length seat.new.front) × (a.seen ≡ length seat.new.front)) }
+        ensures done { IfDone result (λ a. (a.place ≡ length seat.new.front) × (a.seen ≡ length seat.new.front)
+            × Commits tally seat.old.task seat.old.front
+            (Add seat.old.task pair.now.key counter.now.key a.reply) seat.new.front) }
         ensures again { IfAgain result (Learns tally seat.old.task seat.old.front seat.new.front) }
         ensures stopped { IfStopped result (Learns tally seat.old.task seat.old.front seat.new.front) }
         ensures task { seat.new.task ≡ seat.old.task }
@@ -90,8 +92,10 @@ impl<J: OfHistory + OfTies> Kernel<J> {
         left: u64,
         count: u64,
     ) -> Tried
-        requires { (seen : _) × (left_of (replay tally seen pair) ≡ Some left) × (round.0 ≡ (pair, seen) ∷ []) × (round.1.0 ≡ held_part counter (Counter count) ∷ []) }
-        ensures done { IfDone result (λ a. Commits tally seat.old.task seat.old.front (Add seat.old.task pair counter a.reply) seat.new.front × (a.place ≡ length seat.new.front) × (a.seen ≡ length seat.new.front)) }
+        requires { (seen : _) × (left_of (replay tally seen pair) ≡ Some left) × (round.0 ≡ (pair, seen) ∷ [])
+            × (round.1.0 ≡ held_part counter (Counter count) ∷ []) }
+        ensures done { IfDone result (λ a. (a.place ≡ length seat.new.front) × (a.seen ≡ length seat.new.front)
+            × Commits tally seat.old.task seat.old.front (Add seat.old.task pair counter a.reply) seat.new.front) }
         ensures again { IfAgain result (Learns tally seat.old.task seat.old.front seat.new.front) }
         ensures stopped { IfStopped result (Learns tally seat.old.task seat.old.front seat.new.front) }
         ensures task { seat.new.task ≡ seat.old.task }
@@ -143,7 +147,9 @@ impl<J: OfHistory + OfTies> Kernel<J> {
         pair: &Page<Tally, J>,
         counter: &Page<Tally, J>,
     ) -> Option<Added>
-        ensures done { IfSome result (λ a. Commits tally seat.old.task seat.old.front (Add seat.old.task pair.now.key counter.now.key a.reply) seat.new.front × (a.place ≡ length seat.new.front) × (a.seen ≡ length seat.new.front)) }
+        ensures done { IfSome result (λ a. (a.place ≡ length seat.new.front) × (a.seen ≡ length seat.new.front)
+            × Commits tally seat.old.task seat.old.front
+            (Add seat.old.task pair.now.key counter.now.key a.reply) seat.new.front) }
         ensures none { IfNone result (Learns tally seat.old.task seat.old.front seat.new.front) }
         ensures task { seat.new.task ≡ seat.old.task }
     {

@@ -10,6 +10,7 @@
 mod adding;
 mod kernel;
 mod machine;
+mod moving;
 mod putting;
 mod racing;
 #[cfg(test)]
@@ -19,5 +20,6 @@ mod turns;
 pub use adding::{Added, Tried};
 pub use kernel::Kernel;
 pub use machine::{Entry, Part, Tally};
+pub use moving::Counts;
 pub use racing::{COUNTER, PAIR, Raced, race};
 pub use turns::{Turned, take_turns};

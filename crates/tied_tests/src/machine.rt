@@ -1,4 +1,5 @@
-//! The machine: counters, and pairs. An entry adds a pair's first to a counter, or writes a pair.
+//! The machine: counters, and pairs. An entry adds a pair's first to a counter, writes a pair, or moves between two
+//! counters.
 
 ghost use Rattle.std.specs.Prelude.{◌≡◌};
 
@@ -11,7 +12,8 @@ pub enum Part {
     Pair(u64, u64),
 }
 
-/// An entry: a task adds a pair's first to a counter, which is its reply; or writes a pair.
+/// An entry: a task adds a pair's first to a counter, which is its reply; or writes a pair; or moves from one counter to
+/// another, which have `left` and `right` then.
 #[derive(Drop)]
 pub enum Entry {
     Add {
@@ -23,6 +25,13 @@ pub enum Entry {
     Put {
         task: u64,
         pair: u64,
+        left: u64,
+        right: u64,
+    },
+    Move {
+        task: u64,
+        low: u64,
+        high: u64,
         left: u64,
         right: u64,
     },

@@ -26,7 +26,8 @@ impl<J: OfHistory + OfTies> Kernel<J> {
         left: u64,
         right: u64,
     ) -> Option<u64>
-        ensures done { IfSome result (λ n. Commits tally seat.old.task seat.old.front (Put seat.old.task pair.now.key left right) seat.new.front × (n ≡ length seat.new.front)) }
+        ensures done { IfSome result (λ n. (n ≡ length seat.new.front) × Commits tally seat.old.task
+            seat.old.front (Put seat.old.task pair.now.key left right) seat.new.front) }
         ensures none { IfNone result (Learns tally seat.old.task seat.old.front seat.new.front) }
         ensures task { seat.new.task ≡ seat.old.task }
     {
@@ -55,7 +56,8 @@ impl<J: OfHistory + OfTies> Kernel<J> {
         right: u64,
     ) -> Option<u64>
         requires { (round.0 ≡ []) × (round.1.0 ≡ held_part pair (Pair old.0 old.1) ∷ []) }
-        ensures done { IfSome result (λ n. Commits tally seat.old.task seat.old.front (Put seat.old.task pair left right) seat.new.front × (n ≡ length seat.new.front)) }
+        ensures done { IfSome result (λ n. (n ≡ length seat.new.front) × Commits tally seat.old.task seat.old.front
+            (Put seat.old.task pair left right) seat.new.front) }
         ensures none { IfNone result (Learns tally seat.old.task seat.old.front seat.new.front) }
         ensures task { seat.new.task ≡ seat.old.task }
     {
