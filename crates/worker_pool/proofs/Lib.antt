@@ -1,3 +1,4 @@
 pub mod Weights
 pub mod Standings
 pub mod Opening
+pub mod Endings

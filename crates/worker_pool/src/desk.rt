@@ -1,11 +1,13 @@
 //! What lies under the pool's lock: the places, and the knot of what is out.
 
-ghost use Rattle.std.specs.Prelude.{map, All, ◌⊎◌, ◌≡◌, ◌≢◌, ◌+◌, ◌++◌, ◌∷◌, [], length, ℕ, true, ◌&&◌, ◌==◌, IfSome, flat_map};
+ghost use Rattle.std.specs.Prelude.{map, All, ◌⊎◌, ◌≡◌, ◌≢◌, ◌+◌, ◌++◌, ◌∷◌, [], length, ℕ, true, ◌&&◌, ◌==◌, IfSome, flat_map, if◌then◌else◌};
 ghost use Rattle.std.specs.List.{list_all, list_any};
 ghost use Rattle.pool_places.specs.declared.places.Halt.TheVariants.{Runs, Full, Lost};
 ghost use Rattle.pool_places.specs.Ends.{left_of, over_of, IfKept, IfStuck, OnFull};
 ghost use Rattle.pool_turn.specs.Ends.{task_of, children_of, last_of};
 ghost use Rattle.pool_turn.specs.declared.turn.Last.TheVariants.{New};
+ghost use Rattle.pool_places.specs.Turns.{born, waits, filled};
+ghost use Rattle.worker_pool.specs.Given.{counted, ready_after, parked_after, over_after, turns_after, halt_after};
 ghost use Rattle.worker_pool.specs.Accounts.{SameNumbers, tasks, Balanced, here, may_go, is_parked, is_over, is_full};
 
 use crate::handed::Handed;
@@ -66,6 +68,13 @@ impl<T: Turn, J: OfTies + Handed> Desk<T, J> {
         requires number { T.number tried.task ≡ share.number }
         requires forked { T.forked tried.task ≡ share.forked }
         requires going { may_go (T.last tried.task) ≡ true }
+        ensures ready { self.new.places.ready.items ≡ self.old.places.ready.items ++ self.old.places.parked.items ++ tried ∷ [] }
+        ensures parked { self.new.places.parked.items ≡ [] }
+        ensures ended { self.new.places.ended.items ≡ self.old.places.ended.items }
+        ensures turns { self.new.places.turns ≡ counted self.old.places.turns }
+        ensures halt { self.new.places.halt ≡ self.old.places.halt }
+        ensures running { self.new.places.running + 1 ≡ self.old.places.running }
+        ensures knot { self.new.knot ≡ (self.old.knot.0, share ∷ self.old.knot.1) }
     {
         ties.redeem(&mut self.knot, share);
         self.places.put(tried);
@@ -78,6 +87,13 @@ impl<T: Turn, J: OfTies + Handed> Desk<T, J> {
         requires child { T.forked child ≡ [] }
         requires going { may_go (T.last tried.task) ≡ true }
         requires child_going { may_go (T.last child) ≡ true }
+        ensures ready { self.new.places.halt ≢ Lost → self.new.places.ready.items ≡ self.old.places.ready.items ++ self.old.places.parked.items ++ tried ∷ [] ++ born child ∷ [] }
+        ensures none_parked { self.new.places.halt ≢ Lost → self.new.places.parked.items ≡ [] }
+        ensures ended { self.new.places.ended.items ≡ self.old.places.ended.items }
+        ensures turns { self.new.places.halt ≢ Lost → self.new.places.turns ≡ counted self.old.places.turns }
+        ensures halt { (self.new.places.halt ≡ self.old.places.halt) ⊎ (self.new.places.halt ≡ Lost) }
+        ensures running { self.new.places.running + 1 ≡ self.old.places.running }
+        ensures knot { self.new.knot ≡ (self.old.knot.0, share ∷ self.old.knot.1) }
     {
         ties.redeem(&mut self.knot, share);
         match self.places.fork(tried, child) {
@@ -91,6 +107,13 @@ impl<T: Turn, J: OfTies + Handed> Desk<T, J> {
         requires number { T.number tried.task ≡ share.number }
         requires forked { T.forked tried.task ≡ share.forked }
         requires parked { is_parked (T.last tried.task) ≡ true }
+        ensures ready { self.new.places.ready.items ≡ (if waits self.old.places.turns tried.began then self.old.places.ready.items else self.old.places.ready.items ++ tried ∷ []) }
+        ensures now_parked { self.new.places.parked.items ≡ (if waits self.old.places.turns tried.began then self.old.places.parked.items ++ tried ∷ [] else self.old.places.parked.items) }
+        ensures ended { self.new.places.ended.items ≡ self.old.places.ended.items }
+        ensures turns { self.new.places.turns ≡ self.old.places.turns }
+        ensures halt { self.new.places.halt ≡ self.old.places.halt }
+        ensures running { self.new.places.running + 1 ≡ self.old.places.running }
+        ensures knot { self.new.knot ≡ (self.old.knot.0, share ∷ self.old.knot.1) }
     {
         ties.redeem(&mut self.knot, share);
         self.places.park(tried);
@@ -101,6 +124,13 @@ impl<T: Turn, J: OfTies + Handed> Desk<T, J> {
         requires number { T.number task ≡ share.number }
         requires forked { T.forked task ≡ share.forked }
         requires over { is_over (T.last task) ≡ true }
+        ensures ready { self.new.places.ready.items ≡ self.old.places.ready.items ++ self.old.places.parked.items }
+        ensures parked { self.new.places.parked.items ≡ [] }
+        ensures ended { self.new.places.ended.items ≡ self.old.places.ended.items ++ task ∷ [] }
+        ensures turns { self.new.places.turns ≡ counted self.old.places.turns }
+        ensures halt { self.new.places.halt ≡ self.old.places.halt }
+        ensures running { self.new.places.running + 1 ≡ self.old.places.running }
+        ensures knot { self.new.knot ≡ (self.old.knot.0, share ∷ self.old.knot.1) }
     {
         ties.redeem(&mut self.knot, share);
         self.places.end(task);
@@ -111,6 +141,13 @@ impl<T: Turn, J: OfTies + Handed> Desk<T, J> {
         requires number { T.number tried.task ≡ share.number }
         requires forked { T.forked tried.task ≡ share.forked }
         requires full { is_full (T.last tried.task) ≡ true }
+        ensures ready { self.new.places.ready.items ≡ self.old.places.ready.items ++ self.old.places.parked.items ++ tried ∷ [] }
+        ensures parked { self.new.places.parked.items ≡ [] }
+        ensures ended { self.new.places.ended.items ≡ self.old.places.ended.items }
+        ensures turns { self.new.places.turns ≡ counted self.old.places.turns }
+        ensures halt { self.new.places.halt ≡ filled self.old.places.halt }
+        ensures running { self.new.places.running + 1 ≡ self.old.places.running }
+        ensures knot { self.new.knot ≡ (self.old.knot.0, share ∷ self.old.knot.1) }
     {
         ties.redeem(&mut self.knot, share);
         self.places.fill(tried);
@@ -118,7 +155,9 @@ impl<T: Turn, J: OfTies + Handed> Desk<T, J> {
 
     // Memory ran out in a turn.
     fn lose(&mut self, ties: &Ties<J>, share: Share<J>)
-        ensures { self.new.places.halt ≡ Lost }
+        ensures halt { self.new.places.halt ≡ Lost }
+        ensures running { self.new.places.running + 1 ≡ self.old.places.running }
+        ensures knot { self.new.knot ≡ (self.old.knot.0, share ∷ self.old.knot.1) }
     {
         ties.redeem(&mut self.knot, share);
         self.places.lose();
@@ -131,6 +170,14 @@ impl<T: Turn, J: OfTies + Handed> Desk<T, J> {
         requires last { IfSome (task_of end) (λ t. T.last t ≡ last_of end) }
         requires child { All (λ c. (T.forked c ≡ []) × (T.last c ≡ New)) (children_of end) }
         requires began { share.began ≡ began }
+        ensures ready { self.new.places.halt ≢ Lost → self.new.places.ready.items ≡ ready_after end began self.old.places.turns self.old.places.ready.items self.old.places.parked.items }
+        ensures parked { self.new.places.halt ≢ Lost → self.new.places.parked.items ≡ parked_after end began self.old.places.turns self.old.places.parked.items }
+        ensures over { self.new.places.halt ≢ Lost → self.new.places.ended.items ≡ over_after end self.old.places.ended.items }
+        ensures turns { self.new.places.halt ≢ Lost → self.new.places.turns ≡ turns_after end self.old.places.turns }
+        ensures halt { children_of end ≡ [] → self.new.places.halt ≡ halt_after end self.old.places.halt }
+        ensures forked { children_of end ≢ [] → (self.new.places.halt ≡ self.old.places.halt) ⊎ (self.new.places.halt ≡ Lost) }
+        ensures running { self.new.places.running + 1 ≡ self.old.places.running }
+        ensures knot { self.new.knot ≡ (self.old.knot.0, share ∷ self.old.knot.1) }
     {
         match end {
             TurnEnd::Ready(task) => self.put(ties, Tried { task, began }, share),

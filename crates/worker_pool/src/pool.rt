@@ -39,6 +39,7 @@ impl Pool {
     ) -> PoolEnd<T::Task>
         requires workers { (0 < workers) × (workers ≤ 16) }
         requires going { list_all (λ t. may_go (T.last t)) handed.items ≡ true }
+        ensures all_ended { IfKept result (IsAllEnded result ↔ list_all (λ t. is_over (T.last t)) (tasks (left_of result) ++ over_of result) ≡ true) }
         ensures numbers { IfKept result (SameNumbers T.number T.forked (map T.number handed.items) (flat_map T.forked handed.items) (tasks (left_of result) ++ over_of result)) }
         ensures over { list_all (λ t. is_over (T.last t)) (over_of result) ≡ true }
         ensures stuck { IfStuck result (λ n. (left_of result ≢ []) × (list_all (λ t. is_parked (T.last t.task) && (t.began == n)) (left_of result) ≡ true)) }
