@@ -1,6 +1,7 @@
 //! A call: it holds a pair, and writes it.
 
 ghost use Rattle.std.specs.Prelude.{◌≡◌, ◌∷◌, [], ℕ, Ok, IfSome, IfNone, length, true};
+ghost use Rattle.tied_cells.specs.Ended.{IfDone, IfAgain, IfFull, IfMemory};
 ghost use Rattle.tied_cells.specs.Rounds.{Commits, Learns, held_part};
 ghost use Rattle.tied_tests.specs.Tallies.{tally};
 ghost use Rattle.tied_tests.specs.Tries.{put_part};
@@ -40,11 +41,16 @@ impl<J: OfHistory + OfTies> Kernel<J> {
             Some(Part::Counter(_)) => return None,
             None => return None,
         };
-        self.write(rt, alloc, seat, round, pair.key, old, left, right)
+        match self.write(rt, alloc, seat, round, pair.key, old, left, right) {
+            RoundEnd::Done(placed) => Some(placed.place),
+            RoundEnd::Again(_) => None,
+            RoundEnd::Full => None,
+            RoundEnd::Memory => None,
+        }
     }
 
-    /// Enters it.
-    fn write<R: Wait>(
+    /// Ends a round that holds the pair, whatever it looked at, and writes the pair.
+    pub(crate) fn write<R: Wait>(
         &self,
         rt: &R,
         alloc: Global,
@@ -54,15 +60,17 @@ impl<J: OfHistory + OfTies> Kernel<J> {
         old: (u64, u64),
         left: u64,
         right: u64,
-    ) -> Option<u64>
-        requires { (round.0 ≡ []) × (round.1.0 ≡ held_part pair (Pair old.0 old.1) ∷ []) }
-        ensures done { IfSome result (λ n. (n ≡ length seat.new.front) × Commits tally seat.old.task seat.old.front
-            (Put seat.old.task pair left right) seat.new.front) }
-        ensures none { IfNone result (Learns tally seat.old.task seat.old.front seat.new.front) }
+    ) -> RoundEnd
+        requires { round.1.0 ≡ held_part pair (Pair old.0 old.1) ∷ [] }
+        ensures done { IfDone result (λ p. (p.place ≡ length seat.new.front) × Commits tally seat.old.task
+            seat.old.front (Put seat.old.task pair left right) seat.new.front) }
+        ensures again { IfAgain result (λ _. Learns tally seat.old.task seat.old.front seat.new.front) }
+        ensures full { IfFull result (Learns tally seat.old.task seat.old.front seat.new.front) }
+        ensures memory { IfMemory result (seat.new.front ≡ seat.old.front) }
         ensures task { seat.new.task ≡ seat.old.task }
     {
         let task = seat.task;
-        let ended = round.end(
+        round.end(
             rt,
             alloc,
             &self.book,
@@ -84,12 +92,6 @@ impl<J: OfHistory + OfTies> Kernel<J> {
                     right,
                 })
             },
-        );
-        match ended {
-            RoundEnd::Done(placed) => Some(placed.place),
-            RoundEnd::Again(_) => None,
-            RoundEnd::Full => None,
-            RoundEnd::Memory => None,
-        }
+        )
     }
 }

@@ -4,6 +4,7 @@ ghost use Rattle.std.specs.Prelude.{◌≡◌};
 
 use crate::kernel::Kernel;
 use crate::machine::{Entry, Part, Tally};
+use crate::orders::counts_in;
 use hist_count::OfHistory;
 use sn_ties::OfTies;
 use std::alloc::Global;
@@ -16,11 +17,12 @@ pub const PAIR: u64 = 0;
 
 pub const COUNTER: u64 = (1 << 63) - 1;
 
-/// What a race came to: the greatest of the last replies, and the number of entries.
+/// What a race came to: the greatest of the last replies, and the number of entries of each thread's task, which stand
+/// in the order in which the thread made them.
 #[derive(Drop)]
 pub struct Raced {
     pub sum: u64,
-    pub entries: u64,
+    pub entries: [u64; 4],
 }
 
 /// Three threads add a pair's first, 1, to a counter, so many times each, while a fourth writes the pair as often.
@@ -41,7 +43,6 @@ pub fn race<J: OfHistory + OfTies + Send + Sync, R: Threads + Wait + Sync>(
     let two = setup.seat()?;
     let three = setup.seat()?;
     let four = setup.seat()?;
-    let mut last = setup.seat()?;
     let kernel = Kernel {
         book: setup.book(alloc, 1 << 20),
     };
@@ -64,7 +65,7 @@ pub fn race<J: OfHistory + OfTies + Send + Sync, R: Threads + Wait + Sync>(
     );
     d?;
     let sum = a?.max(b?).max(c?);
-    let entries = entries_of(rt, alloc, &kernel.book, &mut last)?;
+    let entries = counts_in(rt, &kernel.book)?;
     Some(Raced { sum, entries })
 }
 
@@ -82,7 +83,7 @@ pub fn entries_of<J: OfHistory + OfTies, R: Wait>(
     }
 }
 
-/// Adds so many times, and answers the last reply.
+/// Adds so many times, and answers the last reply. `None`: one isn't above that before it.
 fn add_all<J: OfHistory + OfTies, R: Wait>(
     rt: &R,
     alloc: Global,
@@ -94,7 +95,11 @@ fn add_all<J: OfHistory + OfTies, R: Wait>(
 ) -> Option<u64> {
     let mut reply = 0;
     for _ in 0..times {
-        reply = kernel.add(rt, alloc, &mut seat, pair, counter)?.reply;
+        let next = kernel.add(rt, alloc, &mut seat, pair, counter)?.reply;
+        if next <= reply {
+            return None;
+        }
+        reply = next;
     }
     Some(reply)
 }
@@ -110,7 +115,7 @@ fn put_all<J: OfHistory + OfTies, R: Wait>(
 ) -> Option<u64> {
     let mut place = 0;
     for k in 0..times {
-        place = kernel.put(rt, alloc, &mut seat, pair, 1, k)?;
+        place = kernel.put(rt, alloc, &mut seat, pair, 1, k + 1)?;
     }
     Some(place)
 }
