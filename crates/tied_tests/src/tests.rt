@@ -33,7 +33,8 @@ fn race_of<J: OfHistory + OfTies + Send + Sync, R: Threads + Wait + Abort + Sync
     requires ties { ties.table.shared.table_id ≡ J.ties }
 {
     let raced = race::<J, R>(rt, alloc, history, ties, 10_000).ok_or("all are entered")?;
-    assert_eq!(rt; (raced.sum, raced.entries), (30_000, [10_000; 4]));
+    let entries = raced.entries;
+    assert_eq!(rt; (raced.sum, entries), (30_000, [10_000; 4]));
     Ok(())
 }
 
