@@ -1,0 +1,2 @@
+-- Lemmas of what is measured.
+pub mod Lists
