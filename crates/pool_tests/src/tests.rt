@@ -21,8 +21,8 @@ use worker_pool::{Pool, PoolEnd, Tried};
 enum Want {
     /// So many tasks are over, and none is left.
     AllEnded(usize),
-    /// So many are parked, and so many over.
-    Stuck(usize, usize),
+    /// So many are parked, so many over, and so many turns answered anything but Parked.
+    Stuck(usize, usize, u64),
     /// So many are over or left.
     Full(usize),
     Memory,
@@ -57,10 +57,10 @@ const ROWS: [Row; 15] = [
     Row { first: (Part::Passes, 3_333), others: (Part::Passes, 3_333), count: 2, most: 3, want: Want::AllEnded(3) },
     Row { first: (Part::Forks, 0), others: (Part::Forks, 0), count: 0, most: 256, want: Want::AllEnded(256) },
     Row { first: (Part::Forks, 0), others: (Part::Counts, 100), count: 2, most: 300, want: Want::AllEnded(300) },
-    Row { first: (Part::Parks, 0), others: (Part::Parks, 0), count: 0, most: 1, want: Want::Stuck(1, 0) },
-    Row { first: (Part::Parks, 0), others: (Part::Parks, 0), count: 255, most: 256, want: Want::Stuck(256, 0) },
-    Row { first: (Part::Parks, 0), others: (Part::Counts, 40), count: 2, most: 3, want: Want::Stuck(1, 2) },
-    Row { first: (Part::Parks, 0), others: (Part::Forks, 0), count: 1, most: 100, want: Want::Stuck(1, 99) },
+    Row { first: (Part::Parks, 0), others: (Part::Parks, 0), count: 0, most: 1, want: Want::Stuck(1, 0, 0) },
+    Row { first: (Part::Parks, 0), others: (Part::Parks, 0), count: 255, most: 256, want: Want::Stuck(256, 0, 0) },
+    Row { first: (Part::Parks, 0), others: (Part::Counts, 40), count: 2, most: 3, want: Want::Stuck(1, 2, 82) },
+    Row { first: (Part::Parks, 0), others: (Part::Forks, 0), count: 1, most: 100, want: Want::Stuck(1, 99, 197) },
     Row { first: (Part::Fills, 7), others: (Part::Counts, 1_000_000), count: 255, most: 256, want: Want::Full(256) },
     Row { first: (Part::Loses, 7), others: (Part::Counts, 1_000_000), count: 255, most: 256, want: Want::Memory },
     Row { first: (Part::Loses, 0), others: (Part::Parks, 0), count: 2, most: 3, want: Want::Memory },
@@ -143,9 +143,16 @@ fn ends_so<G: Gate, R: Threads + Wait + Abort + Sync>(
         (PoolEnd::AllEnded { ended }, Want::AllEnded(count)) => {
             assert_eq!(rt; (ended.len(), sum_ended(&ended)), (count, sum_below(count)));
         }
-        (PoolEnd::Stuck { tasks, ended, .. }, Want::Stuck(parked, over)) => {
+        (
+            PoolEnd::Stuck {
+                tasks,
+                ended,
+                turns,
+            },
+            Want::Stuck(parked, over, count),
+        ) => {
             let came = come_back(&tasks, &ended);
-            assert_eq!(rt; (came.left, came.ended), (parked, over));
+            assert_eq!(rt; (came.left, came.ended, turns), (parked, over, count));
             assert_eq!(rt; came.sum, sum_below(parked.wrapping_add(over)));
         }
         (PoolEnd::Full { tasks, ended }, Want::Full(count)) => {
@@ -159,12 +166,23 @@ fn ends_so<G: Gate, R: Threads + Wait + Abort + Sync>(
     Ok(())
 }
 
+fn each_number_of_workers<R: Threads + Wait + Abort + Sync>(
+    rt: &R,
+    alloc: Global,
+    row: &Row,
+) -> Result<(), Fail> {
+    for workers in [1, 2, 4, 16] {
+        ends_so(rt, alloc, &Open, row, workers)?;
+    }
+    Ok(())
+}
+
 #[test]
 fn pools_end_so_by_any_number_of_workers(rt: HostRuntime) -> Result<(), Fail> {
     let alloc = rt.alloc();
-    for row in &ROWS {
-        for workers in [1, 2, 4, 16] {
-            ends_so(&rt, alloc, &Open, row, workers)?;
+    for _ in 0..100 {
+        for row in &ROWS {
+            each_number_of_workers(&rt, alloc, row)?;
         }
     }
     Ok(())

@@ -1,6 +1,6 @@
 //! What lies under the pool's lock: the places, and the knot of what is out.
 
-ghost use Rattle.std.specs.Prelude.{map, All, ◌⊎◌, ◌≡◌, ◌≢◌, ◌+◌, ◌++◌, ◌∷◌, [], length, ℕ, true, ◌&&◌, ◌==◌, IfSome, flat_map, if◌then◌else◌};
+ghost use Rattle.std.specs.Prelude.{map, All, ◌⊎◌, ◌≡◌, ◌≢◌, ◌+◌, ◌++◌, ◌∷◌, [], length, ℕ, true, ◌&&◌, ◌==◌, IfSome, IfNone, flat_map, if◌then◌else◌};
 ghost use Rattle.std.specs.List.{list_all, list_any};
 ghost use Rattle.pool_places.specs.declared.places.Halt.TheVariants.{Runs, Full, Lost};
 ghost use Rattle.pool_places.specs.Ends.{left_of, over_of, IfKept, IfStuck, OnFull};
@@ -57,6 +57,12 @@ impl<T: Turn, J: OfTies + Handed> Desk<T, J> {
     pub fn take(&mut self, ties: &Ties<J>) -> Option<Out<T, J>>
         ensures going { IfSome result (λ _. self.old.places.halt ≡ Runs) }
         ensures began { IfSome result (λ o. o.tried.began ≡ self.old.places.turns) }
+        ensures first { IfSome result (λ o. tasks self.old.places.ready.items ≡ o.tried.task ∷ tasks self.new.places.ready.items) }
+        ensures share { IfSome result (λ o. self.new.knot ≡ (o.share ∷ self.old.knot.0, self.old.knot.1)) }
+        ensures none { IfNone result ((self.old.places.halt ≢ Runs) ⊎ (self.old.places.ready.items ≡ [])) }
+        ensures parked { self.new.places.parked.items ≡ self.old.places.parked.items }
+        ensures over { self.new.places.ended.items ≡ self.old.places.ended.items }
+        ensures same { (self.new.places.turns ≡ self.old.places.turns) × (self.new.places.halt ≡ self.old.places.halt) }
     {
         let tried = self.places.take()?;
         let share = ties.issue::<Tried<T::Task>, Brand>(&mut self.knot, &tried);
