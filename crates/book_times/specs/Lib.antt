@@ -1,0 +1,2 @@
+-- The definitions of the crate, by topic.
+pub mod Marks
