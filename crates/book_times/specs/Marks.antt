@@ -11,13 +11,19 @@ use Rattle.book_times.specs.declared.machine.Mark.TheVariants.{One, Two}
 abbrev pub next : ℕ → ℕ
 next n = (n + 1) % 2 ^ 64
 
+-- the pages that an entry is of
+-- profile
 abbrev pub touches : (ℕ → ℕ) → Mark → ℕ → Bool
 touches s (One t page) key = page == key
 touches s (Two t low high) key = (low == key) || (high == key)
 
+-- 1 is added to the parts of these, and the others stay
+-- profile
 abbrev pub after : ℕ → (ℕ → ℕ) → Mark → ℕ → ℕ
 after n s e key = if touches s e key then next (s key) else s key
 
+-- whose an entry is
+-- profile
 abbrev pub task : Mark → ℕ
 task (One t page) = t
 task (Two t low high) = t
@@ -27,6 +33,8 @@ task (Two t low high) = t
 abbrev pub marks : Rules ℕ Mark
 marks = record { opening = λ key. 0; fits = λ n s e. true; after = after; touches = touches; task = task }
 
+-- a part that isn't touched stays
+-- profile
 pub marks_stay : Stays marks
 marks_stay n s e key none = ap (λ (b : Bool). if b then next (s key) else s key) none
 

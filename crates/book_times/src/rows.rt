@@ -21,10 +21,10 @@ pub struct Row {
 pub const ROWS: &[Row] = &[
     Row { name: "a held page, 1 thread", kind: Kind::One, has_four: false, is_apart: true },
     Row { name: "a held page, 4 threads apart", kind: Kind::One, has_four: true, is_apart: true },
-    Row { name: "a held page, 4 threads on one", kind: Kind::One, has_four: true, is_apart: false },
-    Row { name: "three looks and two held pages, 1 thread", kind: Kind::Five, has_four: false, is_apart: true },
-    Row { name: "three looks and two held pages, 4 threads apart", kind: Kind::Five, has_four: true, is_apart: true },
-    Row { name: "three looks and two held pages, 4 threads on the same", kind: Kind::Five, has_four: true, is_apart: false },
+    Row { name: "a held page, 4 threads together", kind: Kind::One, has_four: true, is_apart: false },
+    Row { name: "three looks, two held pages, 1 thread", kind: Kind::Five, has_four: false, is_apart: true },
+    Row { name: "three looks, two held pages, 4 threads apart", kind: Kind::Five, has_four: true, is_apart: true },
+    Row { name: "three looks, two held pages, 4 threads together", kind: Kind::Five, has_four: true, is_apart: false },
 ];
 
 impl Row {

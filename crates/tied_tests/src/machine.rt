@@ -12,8 +12,8 @@ pub enum Part {
     Pair(u64, u64),
 }
 
-/// An entry: a task adds a pair's first to a counter, which is its reply; or writes a pair; or moves from one counter to
-/// another, which have `left` and `right` then.
+/// An entry: a task adds a pair's first to a counter, which is its reply; or writes a pair; or moves from one counter
+/// to another, which have `left` and `right` then.
 #[derive(Drop)]
 pub enum Entry {
     Add {

@@ -43,8 +43,8 @@ fn moved(before: Counts, upward: bool) -> Option<Counts>
 }
 
 impl<J: OfHistory + OfTies> Kernel<J> {
-    /// Moves 1 from the counter of the lower key to the other, or back. `None`: there is none to move, or no room for an
-    /// entry, or no memory, or parts of other kinds; nothing was entered.
+    /// Moves 1 from the counter of the lower key to the other, or back. `None`: there is none to move, or no room for
+    /// an entry, or no memory, or parts of other kinds; nothing was entered.
     pub fn shift<R: Wait>(
         &self,
         rt: &R,
