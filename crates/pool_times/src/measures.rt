@@ -75,7 +75,8 @@ fn lock_all<R: Wait>(rt: &HostRuntime, threads: &R, times: u64) -> Result<Durati
     Ok(start.elapsed(rt)?)
 }
 
-/// Prints a line: what was done by so many workers, and, where times are told, how many nanoseconds one of so many took.
+/// Prints a line: what was done by so many workers, and, where times are told, how many nanoseconds one of so many
+/// took.
 fn tell(
     rt: &HostRuntime,
     plan: Plan,

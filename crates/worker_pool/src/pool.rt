@@ -26,9 +26,9 @@ pub struct Pool;
 
 impl Pool {
     /// Runs turns of these tasks, and of those that they fork, by up to so many workers at once, the caller among them,
-    /// until no turn can begin, and tells how it ended. A worker has a thread of its own where one is to be had. `rt` is
-    /// what threads and waits are asked of; the tasks are tried in their order. `Memory` comes also where there is none
-    /// to begin with; the tasks are gone then.
+    /// until no turn can begin, and tells how it ended. A worker has a thread of its own where one is to be had. `rt`
+    /// is what threads and waits are asked of; the tasks are tried in their order. `Memory` comes also where there is
+    /// none to begin with; the tasks are gone then.
     pub fn run<T: Turn, G: Gate, R: Threads + Wait + Sync>(
         rt: &R,
         alloc: Global,
