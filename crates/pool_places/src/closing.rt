@@ -18,7 +18,8 @@ impl<K: Drop> Places<K> {
         ensures over { IfKept result (over_of result ≡ self.old.ended.items) }
         ensures kept { IfKept result (self.old.halt ≢ Halt.Lost) }
         ensures ended { IsAllEnded result → self.old.parked.items ≡ [] }
-        ensures stuck { IfStuck result (λ n. (n ≡ self.old.turns) × (left_of result ≡ self.old.parked.items) × (left_of result ≢ [])) }
+        ensures stuck { IfStuck result (λ n. (n ≡ self.old.turns) × (left_of result ≡ self.old.parked.items) ×
+            (left_of result ≢ [])) }
         ensures full { OnFull result (self.old.halt ≡ Halt.Full) }
         ensures empty { (self.new.ready.items ≡ []) × (self.new.parked.items ≡ []) × (self.new.ended.items ≡ []) }
         ensures running { self.new.running ≡ 0 }

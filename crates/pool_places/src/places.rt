@@ -88,25 +88,29 @@ impl<K: Drop> Places<K> {
 
     /// Whether who waits for a task is to look again: more than one is ready, or no turn begins any more.
     pub fn wakes(&self) -> bool
-        ensures { IsTrue result ↔ ((1 < deque_len self.now.ready) ⊎ (self.now.running ≡ 0) ⊎ (self.now.halt ≢ Halt.Runs)) }
+        ensures { IsTrue result ↔
+            ((1 < deque_len self.now.ready) ⊎ (self.now.running ≡ 0) ⊎ (self.now.halt ≢ Halt.Runs)) }
     {
         self.ready.len() > 1 || self.running == 0 || self.halt != Halt::Runs
     }
 
     /// Whether nothing more happens: none is out, and no turn begins.
     pub fn is_over(&self) -> bool
-        ensures { IsTrue result ↔ ((self.now.running ≡ 0) × ((self.now.halt ≢ Halt.Runs) ⊎ (self.now.ready.items ≡ []))) }
+        ensures { IsTrue result ↔
+            ((self.now.running ≡ 0) × ((self.now.halt ≢ Halt.Runs) ⊎ (self.now.ready.items ≡ []))) }
     {
         self.running == 0 && (self.halt != Halt::Runs || self.ready.is_empty())
     }
 
     /// The first task that is ready goes out for a turn.
     pub fn take(&mut self) -> Option<Tried<K>>
-        ensures first { IfSome result (λ t. map (λ u. u.task) self.old.ready.items ≡ t.task ∷ map (λ u. u.task) self.new.ready.items) }
+        ensures first { IfSome result (λ t. map (λ u. u.task) self.old.ready.items ≡
+            t.task ∷ map (λ u. u.task) self.new.ready.items) }
         ensures began { IfSome result (λ t. t.began ≡ self.old.turns) }
         ensures going { IfSome result (λ t. self.old.halt ≡ Halt.Runs) }
         ensures running { self.new.running ≡ (if is_some result then self.old.running + 1 else self.old.running) }
-        ensures none { IfNone result (((self.old.halt ≢ Halt.Runs) ⊎ (self.old.ready.items ≡ [])) × (self.new.ready.items ≡ self.old.ready.items)) }
+        ensures none { IfNone result (((self.old.halt ≢ Halt.Runs) ⊎ (self.old.ready.items ≡ [])) ×
+            (self.new.ready.items ≡ self.old.ready.items)) }
         ensures parked { self.new.parked.items ≡ self.old.parked.items }
         ensures ended { self.new.ended.items ≡ self.old.ended.items }
         ensures same { (self.new.turns ≡ self.old.turns) × (self.new.halt ≡ self.old.halt) }

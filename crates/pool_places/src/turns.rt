@@ -18,10 +18,12 @@ impl<K: Drop> Places<K> {
         ensures turns { self.new.turns ≡ min (self.old.turns + 1) (2 ^ 64 - 1) }
         ensures running { self.new.running ≡ self.old.running }
         ensures halt { self.new.halt ≡ self.old.halt }
-        ensures long { (deque_len self.new.ready ≡ deque_len self.old.ready + deque_len self.old.parked) × (deque_len self.new.parked ≡ 0) }
+        ensures long { (deque_len self.new.ready ≡ deque_len self.old.ready + deque_len self.old.parked) ×
+            (deque_len self.new.parked ≡ 0) }
         ensures room { deque_capacity self.old.ready ≤ deque_capacity self.new.ready }
         ensures parked_room { deque_capacity self.old.parked ≤ deque_capacity self.new.parked }
-        ensures ended_room { (vec_capacity self.old.ended ≤ vec_capacity self.new.ended) × (vec_len self.new.ended ≡ vec_len self.old.ended) }
+        ensures ended_room { (vec_capacity self.old.ended ≤ vec_capacity self.new.ended) ×
+            (vec_len self.new.ended ≡ vec_len self.old.ended) }
     {
         let _ = self.ready.append(&mut self.parked);
         self.turns = self.turns.saturating_add(1);
@@ -46,11 +48,13 @@ impl<K: Drop> Places<K> {
     /// was, and both are gone.
     pub fn fork(&mut self, tried: Tried<K>, child: K) -> Result<(), AllocError>
         requires { 0 < self.old.running }
-        ensures queue { OnOk result (self.new.ready.items ≡ self.old.ready.items ++ self.old.parked.items ++ tried ∷ [] ++ born child ∷ []) }
+        ensures queue { OnOk result (self.new.ready.items ≡ self.old.ready.items ++ self.old.parked.items ++
+            tried ∷ [] ++ born child ∷ []) }
         ensures parked { OnOk result (self.new.parked.items ≡ []) }
         ensures running { OnOk result (self.new.running + 1 ≡ self.old.running) }
         ensures turns { OnOk result (self.new.turns ≡ min (self.old.turns + 1) (2 ^ 64 - 1)) }
-        ensures err { OnErr result ((self.new.ready.items ≡ self.old.ready.items) × (self.new.parked.items ≡ self.old.parked.items)) }
+        ensures err { OnErr result ((self.new.ready.items ≡ self.old.ready.items) ×
+            (self.new.parked.items ≡ self.old.parked.items)) }
         ensures err_counts { OnErr result ((self.new.running ≡ self.old.running) × (self.new.turns ≡ self.old.turns)) }
         ensures ended { self.new.ended.items ≡ self.old.ended.items }
         ensures halt { self.new.halt ≡ self.old.halt }
@@ -74,8 +78,10 @@ impl<K: Drop> Places<K> {
     /// but this.
     pub fn park(&mut self, tried: Tried<K>)
         requires { 0 < self.old.running }
-        ensures ready { self.new.ready.items ≡ (if waits self.old.turns tried.began then self.old.ready.items else self.old.ready.items ++ tried ∷ []) }
-        ensures parked { self.new.parked.items ≡ (if waits self.old.turns tried.began then self.old.parked.items ++ tried ∷ [] else self.old.parked.items) }
+        ensures ready { self.new.ready.items ≡
+            (if waits self.old.turns tried.began then self.old.ready.items else self.old.ready.items ++ tried ∷ []) }
+        ensures parked { self.new.parked.items ≡ (if waits self.old.turns tried.began then self.old.parked.items ++
+            tried ∷ [] else self.old.parked.items) }
         ensures ended { self.new.ended.items ≡ self.old.ended.items }
         ensures running { self.new.running + 1 ≡ self.old.running }
         ensures turns { self.new.turns ≡ self.old.turns }

@@ -85,7 +85,8 @@ impl Stage {
     // A child of this number.
     fn forked(&self, job: Job, number: u32) -> TurnEnd<Job>
         ensures number { IfSome (task_of result) (λ t. t.number ≡ job.number) }
-        ensures forked { IfSome (task_of result) (λ t. t.children.items ≡ job.children.items ++ map (λ c. c.number) (children_of result)) }
+        ensures forked { IfSome (task_of result) (λ t. t.children.items ≡ job.children.items ++
+            map (λ c. c.number) (children_of result)) }
         ensures last { IfSome (task_of result) (λ t. t.last ≡ last_of result) }
         ensures child { All (λ c. (c.children.items ≡ []) × (c.last ≡ New)) (children_of result) }
     {

@@ -14,33 +14,41 @@ off : false ≡ true → ⊥
 off e = true≢false (sym e)
 
 -- what is held, after a change of one view
-held_set : (f : View → ℕ) (views : List View) (id : ℕ) (v w : View) → get_elem? views id ≡ some v → sum_by f (set views id w) + f v ≡ sum_by f views + f w
+held_set : (f : View → ℕ) (views : List View) (id : ℕ) (v w : View) → get_elem? views id ≡ some v →
+    sum_by f (set views id w) + f v ≡ sum_by f views + f w
 held_set f [] id v w e = absurd (some-ne-none v (sym e))
-held_set f (x ∷ xs) zero v w e = let q = ap f (some-injective x v e) in omega (arith, q, sum_by-cons f x xs, sum_by-cons f w xs)
-held_set f (x ∷ xs) (suc id) v w e = let r = held_set f xs id v w e in omega (arith, r, sum_by-cons f x xs, sum_by-cons f x (set xs id w))
+held_set f (x ∷ xs) zero v w e = let q = ap f (some-injective x v e) in
+    omega (arith, q, sum_by-cons f x xs, sum_by-cons f w xs)
+held_set f (x ∷ xs) (suc id) v w e = let r = held_set f xs id v w e in
+    omega (arith, r, sum_by-cons f x xs, sum_by-cons f x (set xs id w))
 
 -- the knot is the first seat, and what it knows is what the rule says
 abbrev pub Knows : List Note → List Note → List View → Type 0
-Knows issued returned views = (id : ℕ) (v : View) → get_elem? views id ≡ some v → v.knot ≡ true → (id ≡ 0) × (v.issued ≡ issued) × (v.returned ≡ returned)
+Knows issued returned views = (id : ℕ) (v : View) → get_elem? views id ≡ some v → v.knot ≡ true → (id ≡ 0) ×
+    (v.issued ≡ issued) × (v.returned ≡ returned)
 
 -- after a change of the knot's own view
-knows_set : (issued returned : List Note) (views : List View) (id : ℕ) (v w : View) → Knows issued returned views → get_elem? views id ≡ some v → v.knot ≡ true → Knows w.issued w.returned (set views id w)
+knows_set : (issued returned : List Note) (views : List View) (id : ℕ) (v w : View) → Knows issued returned views →
+    get_elem? views id ≡ some v → v.knot ≡ true → Knows w.issued w.returned (set views id w)
 knows_set issued returned views id v w h at knot j x e k =
     let one = h id v at knot in
     ⊎_elim
-    (λ (t : (j ≡ id) × (w ≡ x)). (t.0 ∙ one.0, sym (ap (λ (u : View). u.issued) t.1), sym (ap (λ (u : View). u.returned) t.1)))
+    (λ (t : (j ≡ id) ×
+    (w ≡ x)). (t.0 ∙ one.0, sym (ap (λ (u : View). u.issued) t.1), sym (ap (λ (u : View). u.returned) t.1)))
     (λ (t : (j ≢ id) × (get_elem? views j ≡ some x)). absurd (t.0 ((h j x t.1 k).0 ∙ sym one.0)))
     (at_set views id j w x e)
 
 -- after a view that is no knot's comes in another's place, or behind
-knows_else : (issued returned : List Note) (views : List View) (id : ℕ) (w : View) → Knows issued returned views → w.knot ≡ false → Knows issued returned (set views id w)
+knows_else : (issued returned : List Note) (views : List View) (id : ℕ) (w : View) → Knows issued returned views →
+    w.knot ≡ false → Knows issued returned (set views id w)
 knows_else issued returned views id w h plain j x e k =
     ⊎_elim
     (λ (t : (j ≡ id) × (w ≡ x)). absurd (off (sym plain ∙ (ap (λ (u : View). u.knot) t.1 ∙ k))))
     (λ (t : (j ≢ id) × (get_elem? views j ≡ some x)). h j x t.1 k)
     (at_set views id j w x e)
 
-knows_snoc : (issued returned : List Note) (views : List View) (w : View) → Knows issued returned views → w.knot ≡ false → Knows issued returned (views ++ w ∷ [])
+knows_snoc : (issued returned : List Note) (views : List View) (w : View) → Knows issued returned views →
+    w.knot ≡ false → Knows issued returned (views ++ w ∷ [])
 knows_snoc issued returned views w h plain j x e k =
     ⊎_elim
     (λ was. h j x was k)
@@ -69,7 +77,8 @@ issues id n i r s h at =
           omega (arith, a, b, c, d, e, k, p, q),
     )
 
-pub redeems : (id : ℕ) (i r : List Note) (other : ℕ) (n : Note) → Joins Kept id (knotted i r) other (sharing n) (redeemed (knotted i r) (sharing n)) idle
+pub redeems : (id : ℕ) (i r : List Note) (other : ℕ) (n : Note) →
+    Joins Kept id (knotted i r) other (sharing n) (redeemed (knotted i r) (sharing n)) idle
 redeems id i r other n s h at apart there =
     let v = knotted i r in
     let w = redeemed v (sharing n) in
@@ -106,7 +115,8 @@ none_held g (v ∷ vs) e =
     let b = none_held g vs (omega (arith, e, all (λ _. 1))) in
     omega (arith, a, b, all g)
 
-same_notes : (i r : List Note) (views : List View) → ((h : Note → ℕ) → held_by h views + sum_by h r ≡ sum_by h i) → length i ≡ length r → SameNotes i r
+same_notes : (i r : List Note) (views : List View) → ((h : Note → ℕ) → held_by h views + sum_by h r ≡ sum_by h i) →
+    length i ≡ length r → SameNotes i r
 same_notes i r views kept even g =
     let a = kept (λ _. 1) in
     let b = counts i in
@@ -115,14 +125,16 @@ same_notes i r views kept even g =
     let e = kept g in
     omega (arith, d, e)
 
-fewer_notes : (i r : List Note) (views : List View) → ((h : Note → ℕ) → held_by h views + sum_by h r ≡ sum_by h i) → length r ≤ length i
+fewer_notes : (i r : List Note) (views : List View) → ((h : Note → ℕ) → held_by h views + sum_by h r ≡ sum_by h i) →
+    length r ≤ length i
 fewer_notes i r views kept =
     let a = kept (λ _. 1) in
     let b = counts i in
     let c = counts r in
     omega (arith, a, b, c)
 
-pub settles : (slots id : ℕ) (i r : List Note) → Allows Kept slots id (knotted i r, []) 0 (λ n. n) (Settles (step slots 0 0 0 none) (knotted i r, []))
+pub settles : (slots id : ℕ) (i r : List Note) →
+    Allows Kept slots id (knotted i r, []) 0 (λ n. n) (Settles (step slots 0 0 0 none) (knotted i r, []))
 settles slots id i r s h homes at small =
     let v = knotted i r in
     let one = h.2 id v at refl in
@@ -135,7 +147,12 @@ settles slots id i r s h homes at small =
       v,
       keeps,
       tt,
-      subst (λ (l : List View). Kept record { words = set s.words 0 (slice_index s.words 0); homes = s.homes; views = l }) (sym (set_again s.views id v at)) h,
+      subst (λ (l : List View). Kept record {
+        words = set s.words 0 (slice_index s.words 0);
+        homes = s.homes;
+        views =
+            l;
+      }) (sym (set_again s.views id v at)) h,
       (
         fewer_notes i r s.views balance,
         same_notes i r s.views balance,
@@ -146,19 +163,28 @@ settles slots id i r s h homes at small =
 pub begins : Kept (opening (0 ∷ []) [] (knotted [] []))
 begins = ([], [], one, (λ g. refl))
   where
-    one : (id : ℕ) (v : View) → get_elem? (knotted [] [] ∷ []) id ≡ some v → v.knot ≡ true → (id ≡ 0) × (v.issued ≡ []) × (v.returned ≡ [])
-    one zero v e k = let q = some-injective _ _ e in (refl, sym (ap (λ (u : View). u.issued) q), sym (ap (λ (u : View). u.returned) q))
+    one : (id : ℕ) (v : View) → get_elem? (knotted [] [] ∷ []) id ≡ some v → v.knot ≡ true → (id ≡ 0) ×
+        (v.issued ≡ []) × (v.returned ≡ [])
+    one zero v e k = let q = some-injective _ _ e in
+        (refl, sym (ap (λ (u : View). u.issued) q), sym (ap (λ (u : View). u.returned) q))
     one (suc id) v e k = absurd (some-ne-none v (sym e))
 
 -- the steps, at a seat that is known
 abbrev pub S : Type 0
 S = Me Unit View
 
-pub issues_as : (id : ℕ) (n : Note) (i r : List Note) (me : S) → me ≡ (knotted i r, []) → Splits Kept id me.0 (issuing n me.0) (sharing n)
+pub issues_as : (id : ℕ) (n : Note) (i r : List Note) (me : S) → me ≡ (knotted i r, []) →
+    Splits Kept id me.0 (issuing n me.0) (sharing n)
 issues_as id n i r me is = subst (λ (m : S). Splits Kept id m.0 (issuing n m.0) (sharing n)) (sym is) (issues id n i r)
 
-pub redeems_as : (id : ℕ) (i r : List Note) (other : ℕ) (n : Note) (me share : S) → me ≡ (knotted i r, []) → share ≡ (sharing n, []) → Joins Kept id me.0 other share.0 (redeemed me.0 share.0) idle
-redeems_as id i r other n me share p q = subst (λ (m : S × S). Joins Kept id m.0.0 other m.1.0 (redeemed m.0.0 m.1.0) idle) (λ k. (sym p k, sym q k)) (redeems id i r other n)
+pub redeems_as : (id : ℕ) (i r : List Note) (other : ℕ) (n : Note) (me share : S) → me ≡ (knotted i r, []) →
+    share ≡ (sharing n, []) → Joins Kept id me.0 other share.0 (redeemed me.0 share.0) idle
+redeems_as id i r other n me share p q =
+    subst (λ (m : S × S). Joins Kept id m.0.0 other m.1.0 (redeemed m.0.0 m.1.0) idle) (λ k. (sym p k, sym q k))
+    (redeems id i r other n)
 
-pub settles_as : (slots id : ℕ) (i r : List Note) (me : S) → me ≡ (knotted i r, []) → Allows Kept slots id me 0 (λ n. n) (Settles (step slots 0 0 0 none) me)
-settles_as slots id i r me is = subst (λ (m : S). Allows Kept slots id m 0 (λ n. n) (Settles (step slots 0 0 0 none) m)) (sym is) (settles slots id i r)
+pub settles_as : (slots id : ℕ) (i r : List Note) (me : S) → me ≡ (knotted i r, []) →
+    Allows Kept slots id me 0 (λ n. n) (Settles (step slots 0 0 0 none) me)
+settles_as slots id i r me is =
+    subst (λ (m : S). Allows Kept slots id m 0 (λ n. n) (Settles (step slots 0 0 0 none) m)) (sym is)
+    (settles slots id i r)

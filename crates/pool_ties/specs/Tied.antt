@@ -41,9 +41,11 @@ held_by h views = sum_by (λ (v : View). sum_by h v.held) views
 -- the first seat alone is the knot, and what was issued is what came back and what seats hold
 abbrev pub Kept : State Unit View → Type 0
 Kept s = (issued : List Note) × (returned : List Note)
-    × ((id : ℕ) (v : View) → get_elem? s.views id ≡ some v → v.knot ≡ true → (id ≡ 0) × (v.issued ≡ issued) × (v.returned ≡ returned))
+    × ((id : ℕ) (v : View) → get_elem? s.views id ≡ some v → v.knot ≡ true → (id ≡ 0) × (v.issued ≡ issued) ×
+    (v.returned ≡ returned))
     × ((h : Note → ℕ) → held_by h s.views + sum_by h returned ≡ sum_by h issued)
 
 -- no more came back than were issued, and where as many did, they are the same
 abbrev pub Settles : Step Unit → Me Unit View → ℕ → Me Unit View → Type 0
-Settles st me n now = (length me.0.returned ≤ length me.0.issued) × (length me.0.issued ≡ length me.0.returned → SameNotes me.0.issued me.0.returned) × (now ≡ me)
+Settles st me n now = (length me.0.returned ≤ length me.0.issued) ×
+    (length me.0.issued ≡ length me.0.returned → SameNotes me.0.issued me.0.returned) × (now ≡ me)

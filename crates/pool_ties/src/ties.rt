@@ -43,7 +43,8 @@ impl<J: OfTies> Model for Knot<J> {
 
     ghost view = { λ k. (k.seat.me.0.issued, k.seat.me.0.returned) };
 
-    ghost invariant = { λ k. (k.seat.table_id ≡ J.ties) × (k.seat.me ≡ (knotted k.seat.me.0.issued k.seat.me.0.returned, [])) };
+    ghost invariant = { λ k. (k.seat.table_id ≡ J.ties) ×
+        (k.seat.me ≡ (knotted k.seat.me.0.issued k.seat.me.0.returned, [])) };
 }
 
 /// A share. Contracts see it as its note.

@@ -17,7 +17,8 @@ sum_map h f (t ∷ ts) =
     let c = sum_map h f ts in
     omega (arith, a, b, c)
 
-pub sum_flat : {K X : Type 0} (h : X → ℕ) (f : K → List X) (ts : List K) → sum_by h (flat_map f ts) ≡ sum_by (λ t. sum_by h (f t)) ts
+pub sum_flat : {K X : Type 0} (h : X → ℕ) (f : K → List X) (ts : List K) →
+    sum_by h (flat_map f ts) ≡ sum_by (λ t. sum_by h (f t)) ts
 sum_flat h f [] = refl
 sum_flat h f (t ∷ ts) =
     let a = sum_by-append h (f t) (flat_map f ts) in
@@ -27,7 +28,9 @@ sum_flat h f (t ∷ ts) =
 
 module _ {K : Type 0} (number : K → ℕ) (forked : K → List ℕ) (handed before : List ℕ) where
   -- all tasks are ready, and none is out
-  pub opened : (ks : List K) (r p : List (Tried K)) (e : List K) (knot : Knotted) → handed ≡ map number ks → before ≡ flat_map forked ks → tasks r ≡ ks → p ≡ [] → e ≡ [] → knot ≡ ([], []) → Balanced number forked handed before (here r p e) knot
+  pub opened : (ks : List K) (r p : List (Tried K)) (e : List K) (knot : Knotted) → handed ≡ map number ks →
+      before ≡ flat_map forked ks → tasks r ≡ ks → p ≡ [] → e ≡ [] → knot ≡ ([], []) →
+      Balanced number forked handed before (here r p e) knot
   opened ks r p e knot of_numbers of_forked ready parked ended new h =
       let a = of_here (λ t. h (number t)) r p e in
       let b = of_here (λ t. sum_by h (forked t)) r p e in
@@ -46,5 +49,6 @@ module _ {K : Type 0} (number : K → ℕ) (forked : K → List ℕ) (handed bef
       omega (arith, a, b, c, d, i, j, k, l, m, n, s, u, v, w)
 
 -- what each task tells, the tasks stand in a queue
-pub all_ready : {K : Type 0} (p : K → Bool) (ks : List K) (r : List (Tried K)) → tasks r ≡ ks → list_all p ks ≡ true → list_all (λ (u : Tried K). p u.task) r ≡ true
+pub all_ready : {K : Type 0} (p : K → Bool) (ks : List K) (r : List (Tried K)) → tasks r ≡ ks → list_all p ks ≡ true →
+    list_all (λ (u : Tried K). p u.task) r ≡ true
 all_ready p ks r ready all = sym (list_all-map p (λ (u : Tried _). u.task) r) ∙ (ap (list_all p) ready ∙ all)

@@ -66,5 +66,7 @@ module _ {K : Type 0} (number : K → ℕ) (forked : K → List ℕ) where
   -- profile
   abbrev pub Balanced : List ℕ → List ℕ → List K → List Note × List Note → Type 0
   Balanced handed before ts knot = (h : ℕ → ℕ)
-      → weight h ts + sum_by (λ (n : Note). h n.number) knot.0 + sum_by (λ (n : Note). sum_by h n.forked) knot.1 + sum_by h before
-      ≡ sum_by h handed + weight_forked h ts + sum_by (λ (n : Note). sum_by h n.forked) knot.0 + sum_by (λ (n : Note). h n.number) knot.1
+      → weight h ts + sum_by (λ (n : Note). h n.number) knot.0 + sum_by (λ (n : Note). sum_by h n.forked) knot.1 +
+      sum_by h before
+      ≡ sum_by h handed + weight_forked h ts + sum_by (λ (n : Note). sum_by h n.forked) knot.0 +
+      sum_by (λ (n : Note). h n.number) knot.1

@@ -79,9 +79,11 @@ impl<T: Turn, J: OfTies + Handed> Crew<T, J> {
 
     /// Waits until nothing more happens, and tells how the pool ended.
     pub fn close<R: Wait>(&self, rt: &R, alloc: Global) -> PoolEnd<T::Task>
-        ensures numbers { IfKept result (SameNumbers T.number T.forked J.handed J.before (tasks (left_of result) ++ over_of result)) }
+        ensures numbers { IfKept result (
+            SameNumbers T.number T.forked J.handed J.before (tasks (left_of result) ++ over_of result)) }
         ensures over { list_all (λ t. is_over (T.last t)) (over_of result) ≡ true }
-        ensures stuck { IfStuck result (λ n. (left_of result ≢ []) × (list_all (λ t. is_parked (T.last t.task) && (t.began == n)) (left_of result) ≡ true)) }
+        ensures stuck { IfStuck result (λ n. (left_of result ≢ []) ×
+            (list_all (λ t. is_parked (T.last t.task) && (t.began == n)) (left_of result) ≡ true)) }
         ensures full { OnFull result (list_any (λ t. is_full (T.last t.task)) (left_of result) ≡ true) }
     {
         for _ in rt.forever() {

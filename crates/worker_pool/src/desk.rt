@@ -23,7 +23,9 @@ pub struct Desk<T: Turn, J: OfTies + Handed> {
     pub places: Places<T::Task>,
     pub knot: Knot<J>,
     ghost counted: { places.running + length knot.1 ≡ length knot.0 },
-    ghost balanced: { places.halt ≢ Lost → Balanced T.number T.forked J.handed J.before (here places.ready.items places.parked.items places.ended.items) knot },
+    ghost balanced: { places.halt ≢ Lost →
+        Balanced T.number T.forked J.handed J.before (here places.ready.items places.parked.items places.ended.items)
+        knot },
     ghost going: { list_all (λ t. may_go (T.last t.task)) places.ready.items ≡ true },
     ghost parked: { list_all (λ t. is_parked (T.last t.task) && (t.began == places.turns)) places.parked.items ≡ true },
     ghost over: { list_all (λ t. is_over (T.last t)) places.ended.items ≡ true },
@@ -57,7 +59,8 @@ impl<T: Turn, J: OfTies + Handed> Desk<T, J> {
     pub fn take(&mut self, ties: &Ties<J>) -> Option<Out<T, J>>
         ensures going { IfSome result (λ _. self.old.places.halt ≡ Runs) }
         ensures began { IfSome result (λ o. o.tried.began ≡ self.old.places.turns) }
-        ensures first { IfSome result (λ o. tasks self.old.places.ready.items ≡ o.tried.task ∷ tasks self.new.places.ready.items) }
+        ensures first { IfSome result (λ o.
+            tasks self.old.places.ready.items ≡ o.tried.task ∷ tasks self.new.places.ready.items) }
         ensures share { IfSome result (λ o. self.new.knot ≡ (o.share ∷ self.old.knot.0, self.old.knot.1)) }
         ensures none { IfNone result ((self.old.places.halt ≢ Runs) ⊎ (self.old.places.ready.items ≡ [])) }
         ensures parked { self.new.places.parked.items ≡ self.old.places.parked.items }
@@ -74,7 +77,8 @@ impl<T: Turn, J: OfTies + Handed> Desk<T, J> {
         requires number { T.number tried.task ≡ share.number }
         requires forked { T.forked tried.task ≡ share.forked }
         requires going { may_go (T.last tried.task) ≡ true }
-        ensures ready { self.new.places.ready.items ≡ self.old.places.ready.items ++ self.old.places.parked.items ++ tried ∷ [] }
+        ensures ready { self.new.places.ready.items ≡ self.old.places.ready.items ++ self.old.places.parked.items ++
+            tried ∷ [] }
         ensures parked { self.new.places.parked.items ≡ [] }
         ensures ended { self.new.places.ended.items ≡ self.old.places.ended.items }
         ensures turns { self.new.places.turns ≡ counted self.old.places.turns }
@@ -93,7 +97,8 @@ impl<T: Turn, J: OfTies + Handed> Desk<T, J> {
         requires child { T.forked child ≡ [] }
         requires going { may_go (T.last tried.task) ≡ true }
         requires child_going { may_go (T.last child) ≡ true }
-        ensures ready { self.new.places.halt ≢ Lost → self.new.places.ready.items ≡ self.old.places.ready.items ++ self.old.places.parked.items ++ tried ∷ [] ++ born child ∷ [] }
+        ensures ready { self.new.places.halt ≢ Lost → self.new.places.ready.items ≡ self.old.places.ready.items ++
+            self.old.places.parked.items ++ tried ∷ [] ++ born child ∷ [] }
         ensures none_parked { self.new.places.halt ≢ Lost → self.new.places.parked.items ≡ [] }
         ensures ended { self.new.places.ended.items ≡ self.old.places.ended.items }
         ensures turns { self.new.places.halt ≢ Lost → self.new.places.turns ≡ counted self.old.places.turns }
@@ -113,8 +118,12 @@ impl<T: Turn, J: OfTies + Handed> Desk<T, J> {
         requires number { T.number tried.task ≡ share.number }
         requires forked { T.forked tried.task ≡ share.forked }
         requires parked { is_parked (T.last tried.task) ≡ true }
-        ensures ready { self.new.places.ready.items ≡ (if waits self.old.places.turns tried.began then self.old.places.ready.items else self.old.places.ready.items ++ tried ∷ []) }
-        ensures now_parked { self.new.places.parked.items ≡ (if waits self.old.places.turns tried.began then self.old.places.parked.items ++ tried ∷ [] else self.old.places.parked.items) }
+        ensures ready { self.new.places.ready.items ≡
+            (if waits self.old.places.turns tried.began then self.old.places.ready.items else
+            self.old.places.ready.items ++ tried ∷ []) }
+        ensures now_parked { self.new.places.parked.items ≡
+            (if waits self.old.places.turns tried.began then self.old.places.parked.items ++
+            tried ∷ [] else self.old.places.parked.items) }
         ensures ended { self.new.places.ended.items ≡ self.old.places.ended.items }
         ensures turns { self.new.places.turns ≡ self.old.places.turns }
         ensures halt { self.new.places.halt ≡ self.old.places.halt }
@@ -147,7 +156,8 @@ impl<T: Turn, J: OfTies + Handed> Desk<T, J> {
         requires number { T.number tried.task ≡ share.number }
         requires forked { T.forked tried.task ≡ share.forked }
         requires full { is_full (T.last tried.task) ≡ true }
-        ensures ready { self.new.places.ready.items ≡ self.old.places.ready.items ++ self.old.places.parked.items ++ tried ∷ [] }
+        ensures ready { self.new.places.ready.items ≡ self.old.places.ready.items ++ self.old.places.parked.items ++
+            tried ∷ [] }
         ensures parked { self.new.places.parked.items ≡ [] }
         ensures ended { self.new.places.ended.items ≡ self.old.places.ended.items }
         ensures turns { self.new.places.turns ≡ counted self.old.places.turns }
@@ -176,12 +186,17 @@ impl<T: Turn, J: OfTies + Handed> Desk<T, J> {
         requires last { IfSome (task_of end) (λ t. T.last t ≡ last_of end) }
         requires child { All (λ c. (T.forked c ≡ []) × (T.last c ≡ New)) (children_of end) }
         requires began { share.began ≡ began }
-        ensures ready { self.new.places.halt ≢ Lost → self.new.places.ready.items ≡ ready_after end began self.old.places.turns self.old.places.ready.items self.old.places.parked.items }
-        ensures parked { self.new.places.halt ≢ Lost → self.new.places.parked.items ≡ parked_after end began self.old.places.turns self.old.places.parked.items }
-        ensures over { self.new.places.halt ≢ Lost → self.new.places.ended.items ≡ over_after end self.old.places.ended.items }
+        ensures ready { self.new.places.halt ≢ Lost →
+            self.new.places.ready.items ≡ ready_after end began self.old.places.turns self.old.places.ready.items
+            self.old.places.parked.items }
+        ensures parked { self.new.places.halt ≢ Lost →
+            self.new.places.parked.items ≡ parked_after end began self.old.places.turns self.old.places.parked.items }
+        ensures over { self.new.places.halt ≢ Lost →
+            self.new.places.ended.items ≡ over_after end self.old.places.ended.items }
         ensures turns { self.new.places.halt ≢ Lost → self.new.places.turns ≡ turns_after end self.old.places.turns }
         ensures halt { children_of end ≡ [] → self.new.places.halt ≡ halt_after end self.old.places.halt }
-        ensures forked { children_of end ≢ [] → (self.new.places.halt ≡ self.old.places.halt) ⊎ (self.new.places.halt ≡ Lost) }
+        ensures forked { children_of end ≢ [] → (self.new.places.halt ≡ self.old.places.halt) ⊎
+            (self.new.places.halt ≡ Lost) }
         ensures running { self.new.places.running + 1 ≡ self.old.places.running }
         ensures knot { self.new.knot ≡ (self.old.knot.0, share ∷ self.old.knot.1) }
     {
@@ -199,9 +214,11 @@ impl<T: Turn, J: OfTies + Handed> Desk<T, J> {
     pub fn close(&mut self, ties: &Ties<J>, alloc: Global) -> PoolEnd<T::Task>
         requires idle { self.old.places.running ≡ 0 }
         requires still { (self.old.places.halt ≢ Runs) ⊎ (self.old.places.ready.items ≡ []) }
-        ensures numbers { IfKept result (SameNumbers T.number T.forked J.handed J.before (tasks (left_of result) ++ over_of result)) }
+        ensures numbers { IfKept result (
+            SameNumbers T.number T.forked J.handed J.before (tasks (left_of result) ++ over_of result)) }
         ensures over { list_all (λ t. is_over (T.last t)) (over_of result) ≡ true }
-        ensures stuck { IfStuck result (λ n. (left_of result ≢ []) × (list_all (λ t. is_parked (T.last t.task) && (t.began == n)) (left_of result) ≡ true)) }
+        ensures stuck { IfStuck result (λ n. (left_of result ≢ []) ×
+            (list_all (λ t. is_parked (T.last t.task) && (t.began == n)) (left_of result) ≡ true)) }
         ensures full { OnFull result (list_any (λ t. is_full (T.last t.task)) (left_of result) ≡ true) }
     {
         ties.settle(&mut self.knot);

@@ -26,9 +26,9 @@ pub struct Pool;
 
 impl Pool {
     /// Runs turns of these tasks, and of those that they fork, by up to so many workers at once, the caller among them,
-    /// until no turn can begin, and tells how it ended. A worker has a thread of its own where one is to be had. `rt`
-    /// is what threads and waits are asked of; the tasks are tried in their order. `Memory` comes also where there is
-    /// none to begin with; the tasks are gone then.
+    /// until no turn can begin, and tells how it ended. Threads and waits are asked of `rt`: a worker has a thread of
+    /// its own where one is to be had. Tasks have their turns in the order in which they are handed in. `Memory`: there
+    /// was none to begin with, or a turn found none; the tasks are gone.
     pub fn run<T: Turn, G: Gate, R: Threads + Wait + Sync>(
         rt: &R,
         alloc: Global,
@@ -39,10 +39,13 @@ impl Pool {
     ) -> PoolEnd<T::Task>
         requires workers { (0 < workers) × (workers ≤ 16) }
         requires going { list_all (λ t. may_go (T.last t)) handed.items ≡ true }
-        ensures all_ended { IfKept result (IsAllEnded result ↔ list_all (λ t. is_over (T.last t)) (tasks (left_of result) ++ over_of result) ≡ true) }
-        ensures numbers { IfKept result (SameNumbers T.number T.forked (map T.number handed.items) (flat_map T.forked handed.items) (tasks (left_of result) ++ over_of result)) }
+        ensures all_ended { IfKept result (IsAllEnded result ↔
+            list_all (λ t. is_over (T.last t)) (tasks (left_of result) ++ over_of result) ≡ true) }
+        ensures numbers { IfKept result (SameNumbers T.number T.forked
+            (map T.number handed.items) (flat_map T.forked handed.items) (tasks (left_of result) ++ over_of result)) }
         ensures over { list_all (λ t. is_over (T.last t)) (over_of result) ≡ true }
-        ensures stuck { IfStuck result (λ n. (left_of result ≢ []) × (list_all (λ t. is_parked (T.last t.task) && (t.began == n)) (left_of result) ≡ true)) }
+        ensures stuck { IfStuck result (λ n. (left_of result ≢ []) ×
+            (list_all (λ t. is_parked (T.last t.task) && (t.began == n)) (left_of result) ≡ true)) }
         ensures full { OnFull result (list_any (λ t. is_full (T.last t.task)) (left_of result) ≡ true) }
     {
         let Ok(opened) = Opened::new(alloc) else {
@@ -67,9 +70,11 @@ fn run_named<T: Turn, G: Gate, R: Threads + Wait + Sync, J: OfTies + Handed + Se
     requires handed { J.handed ≡ map T.number handed.items }
     requires before { J.before ≡ flat_map T.forked handed.items }
     requires going { list_all (λ t. may_go (T.last t)) handed.items ≡ true }
-    ensures numbers { IfKept result (SameNumbers T.number T.forked J.handed J.before (tasks (left_of result) ++ over_of result)) }
+    ensures numbers { IfKept result (
+        SameNumbers T.number T.forked J.handed J.before (tasks (left_of result) ++ over_of result)) }
     ensures over { list_all (λ t. is_over (T.last t)) (over_of result) ≡ true }
-    ensures stuck { IfStuck result (λ n. (left_of result ≢ []) × (list_all (λ t. is_parked (T.last t.task) && (t.began == n)) (left_of result) ≡ true)) }
+    ensures stuck { IfStuck result (λ n. (left_of result ≢ []) ×
+        (list_all (λ t. is_parked (T.last t.task) && (t.began == n)) (left_of result) ≡ true)) }
     ensures full { OnFull result (list_any (λ t. is_full (T.last t.task)) (left_of result) ≡ true) }
 {
     let Ok(crew) = Crew::<T, J>::new(alloc, opened, handed) else {

@@ -8,4 +8,5 @@ decreases-loop-task g l = deque_len l.tasks
 
 abbrev pub invariant-loop-task : goal.invariant-loop-task
 invariant-loop-task g l =
-    (map (λ t. t.task) l.ready.items ++ l.tasks.items ≡ l.fn.tasks.items) × (deque_len l.ready + deque_len l.tasks ≡ vec_len l.fn.tasks) × (l.room ≤ deque_capacity l.ready)
+    (map (λ t. t.task) l.ready.items ++ l.tasks.items ≡ l.fn.tasks.items) ×
+    (deque_len l.ready + deque_len l.tasks ≡ vec_len l.fn.tasks) × (l.room ≤ deque_capacity l.ready)

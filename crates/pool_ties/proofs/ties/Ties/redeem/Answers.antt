@@ -12,5 +12,6 @@ join_seat-requires g c =
       c.share.invariant.0 ∙ sym h.named,
       ap (λ (m : S). m.1) c.share.invariant.1,
       omega (arith, h.words),
-      redeems_as seat.id seat.me.0.issued seat.me.0.returned share.id (first_held share.me.0) seat.me share.me c.knot.invariant.1 c.share.invariant.1,
+      redeems_as seat.id seat.me.0.issued seat.me.0.returned share.id (first_held share.me.0) seat.me share.me
+          c.knot.invariant.1 c.share.invariant.1,
     )
