@@ -177,15 +177,33 @@ fn each_number_of_workers<R: Threads + Wait + Abort + Sync>(
     Ok(())
 }
 
-#[test]
-fn pools_end_so_by_any_number_of_workers(rt: HostRuntime) -> Result<(), Fail> {
-    let alloc = rt.alloc();
-    for _ in 0..100 {
-        for row in &ROWS {
-            each_number_of_workers(&rt, alloc, row)?;
+/// Each row a thousand times, by each number of workers as often.
+fn a_thousand_times<R: Threads + Wait + Abort + Sync>(
+    rt: &R,
+    alloc: Global,
+    rows: &[Row],
+) -> Result<(), Fail> {
+    for _ in 0..250 {
+        for row in rows {
+            each_number_of_workers(rt, alloc, row)?;
         }
     }
     Ok(())
+}
+
+#[test]
+fn tasks_that_count_or_pass_a_token_are_all_over(rt: HostRuntime) -> Result<(), Fail> {
+    a_thousand_times(&rt, rt.alloc(), &ROWS[..6])
+}
+
+#[test]
+fn tasks_that_fork_are_all_over_and_those_that_park_are_stuck(rt: HostRuntime) -> Result<(), Fail> {
+    a_thousand_times(&rt, rt.alloc(), &ROWS[6..12])
+}
+
+#[test]
+fn a_full_turn_and_one_without_memory_end_the_pool(rt: HostRuntime) -> Result<(), Fail> {
+    a_thousand_times(&rt, rt.alloc(), &ROWS[12..])
 }
 
 #[test]
