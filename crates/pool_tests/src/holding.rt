@@ -4,13 +4,18 @@ use pool_turn::{Gate, Point};
 use std::sync::{Condvar, Mutex, Wait};
 use std::time::Duration;
 
-/// How many workers have come, and whether each was another than the first.
+/// How many waits there are for another worker, all in all.
+const WAITS: u32 = 1000;
+
+/// Who has come.
 #[derive(Drop)]
 pub struct Comers {
     /// The worker that came first.
     pub first: Option<u32>,
     /// Whether another came.
     pub met: bool,
+    /// How many waits are left.
+    pub waits: u32,
 }
 
 /// Holds the worker that comes first until another has come, for at most 1,000 waits of a millisecond.
@@ -27,6 +32,7 @@ impl Held {
             comers: Mutex::new(Comers {
                 first: None,
                 met: false,
+                waits: WAITS,
             }),
             changed: Condvar::new(),
         }
@@ -37,28 +43,34 @@ impl Held {
         self.comers.lock(rt).met
     }
 
-    // This worker comes. Whether it is the first, and the only one by now.
-    fn come<R: Wait>(&self, rt: &R, worker: u32) -> bool {
+    // This worker comes.
+    fn come<R: Wait>(&self, rt: &R, worker: u32) {
         let mut comers = self.comers.lock(rt);
         match comers.first {
             None => comers.first = Some(worker),
             Some(first) if first != worker => comers.met = true,
             Some(_) => {}
         }
-        !comers.met
+    }
+
+    // Whether a worker is to wait once more.
+    fn holds<R: Wait>(&self, rt: &R) -> bool {
+        let mut comers = self.comers.lock(rt);
+        if comers.met || comers.waits == 0 {
+            return false;
+        }
+        comers.waits -= 1;
+        true
     }
 }
 
 impl Gate for Held {
     fn pass<R: Wait>(&self, rt: &R, worker: u32, _task: u32, _point: Point) {
-        let alone = self.come(rt, worker);
-        if !alone {
-            self.changed.notify_all();
-            return;
-        }
-        for _ in 0..1000 {
+        self.come(rt, worker);
+        self.changed.notify_all();
+        for _ in 0..WAITS {
             let seen = self.changed.notifications();
-            if self.met(rt) {
+            if !self.holds(rt) {
                 break;
             }
             self.changed.sleep(rt, seen, Duration::from_millis(1));
