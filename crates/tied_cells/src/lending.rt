@@ -9,7 +9,7 @@ ghost use mathlib.Core.List.{IsPrefix};
 ghost use Rattle.sn_ties.specs.Tied.{value_at};
 ghost use Rattle.tied_cells.specs.Machines.{own_key, replay, times, is_history};
 ghost use Rattle.tied_cells.specs.Counts.{HaveRoom, count_in, in_counts, keys_of};
-ghost use Rattle.tied_cells.specs.Rounds.{Agrees, AllBegin, Pairs, LentTo, DueTo, Owing, in_knot, changed_in, lent_of, behind};
+ghost use Rattle.tied_cells.specs.Rounds.{Agrees, AllBegin, AreHad, Pairs, LentTo, DueTo, Owing, in_knot, changed_in, lent_of, behind};
 
 use crate::held::HeldPart;
 use crate::log::{Log, Wires};
@@ -61,6 +61,7 @@ impl<M: Machine, J: OfHistory + OfTies> Cell<M, J> {
             → Owing M.rules pen.old (in_knot knot.new) rest }
         ensures counts { (rest : List _) → Owing M.rules pen.old (in_counts counts.old) (part ∷ rest)
             → Owing M.rules pen.old (in_counts counts.new) rest }
+        ensures had { (free : ℕ) → AreHad M.rules free pen.old knot.old → AreHad M.rules free pen.old knot.new }
     {
         let HeldPart {
             key,
@@ -197,6 +198,7 @@ pub(crate) fn settle_all<M: Machine, J: OfHistory + OfTies>(
     ensures pen { pen.new ≡ pen.old }
     ensures knot { Owing M.rules pen.old (in_knot knot.new) [] }
     ensures counts { Owing M.rules pen.old (in_counts counts.new) [] }
+    ensures had { (free : ℕ) → AreHad M.rules free pen.old knot.old → AreHad M.rules free pen.old knot.new }
 {
     if let Some(mut guard) = held.pop_front() {
         if let Some(part) = parts.pop_front() {

@@ -1,11 +1,11 @@
 //! What lies under the book's lock: the entries, how many of them touch each part, the pen and the knot.
 
-ghost use Rattle.std.specs.Prelude.{◌≡◌, ◌≢◌, ◌+◌, ◌<◌, ◌≤◌, ◌^◌, ◌∷◌, ◌++◌, [], ℕ, length, true, Some, None, IfSome, IfNone, map};
+ghost use Rattle.std.specs.Prelude.{◌≡◌, ◌≢◌, ◌⊎◌, ◌+◌, ◌<◌, ◌≤◌, ◌^◌, ◌∷◌, ◌++◌, [], ℕ, length, true, false, Some, None, IfSome, IfNone, map};
 ghost use mathlib.Core.List.{IsPrefix};
 ghost use Rattle.sn_ties.specs.Tied.{value_at};
 ghost use Rattle.tied_cells.specs.Machines.{own_key, replay, times, is_history};
 ghost use Rattle.tied_cells.specs.Counts.{count_in};
-ghost use Rattle.tied_cells.specs.Rounds.{Agrees, AllBegin, begun, seen_of};
+ghost use Rattle.tied_cells.specs.Rounds.{Agrees, AllBegin, AreHad, begun, seen_of};
 
 use crate::ended::Stale;
 use crate::machine::Machine;
@@ -22,17 +22,20 @@ pub struct Wires<M: Machine, J: OfHistory + OfTies> {
     pub ties: Ties<u64, J>,
 }
 
-/// The book's inside: its entries, how many of them touch each part, the pen, and the knot. The book's lock guards it.
+/// The book's inside: its entries, how many of them touch each part, the pen, the knot, and the least key above those of
+/// the pages that there were at the beginning. The book's lock guards it.
 #[derive(Drop)]
 pub struct Log<M: Machine, J: OfHistory + OfTies> {
     pub entries: Vec<M::Entry>,
     pub counts: Map<u64>,
     pub pen: Pen<M::Entry, J>,
     pub knot: Knot<u64, J>,
+    pub free: u64,
     ghost same: { pen ≡ entries.items },
     ghost history: { is_history M.rules pen ≡ true },
     ghost tied: { (k x : ℕ) → value_at k knot ≡ Some x → x ≡ times M.rules k pen },
     ghost counted: { (k : ℕ) → k < 2 ^ 63 → count_in counts k ≡ times M.rules k pen },
+    ghost had: { AreHad M.rules free pen knot },
 }
 
 /// A task's seat: what it has seen of the book, and its share, whose value is the number of the task's entries. Its
@@ -88,6 +91,19 @@ impl<M: Machine, J: OfHistory + OfTies> Log<M, J> {
                 has,
             })
         }
+    }
+
+    /// Whether the book surely has no page of a key: it is above those of the pages that there were at the beginning, and
+    /// below 2^63, and no entry touches it.
+    pub fn lacks(&self, key: u64) -> bool
+        ensures lacks { result ≡ true → value_at key self.now.knot ≡ None }
+        ensures touched { result ≡ false → (key < self.now.free) ⊎ (2 ^ 63 ≤ key)
+            ⊎ (0 < times M.rules key self.now.pen) }
+    {
+        if key < self.free || key >= 1 << 63 {
+            return false;
+        }
+        counted(&self.counts, key) == 0
     }
 
     /// Whether all looks are true now. All are gone through, so that the pen meets all that was seen.

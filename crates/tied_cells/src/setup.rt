@@ -96,6 +96,7 @@ impl<M: Machine, J: OfHistory + OfTies> Setup<M, J> {
             wires,
             pen,
             knot,
+            free,
             ..
         } = self;
         let log = Log {
@@ -103,6 +104,7 @@ impl<M: Machine, J: OfHistory + OfTies> Setup<M, J> {
             counts: Map::new(alloc),
             pen,
             knot,
+            free,
         };
         Book {
             wires,

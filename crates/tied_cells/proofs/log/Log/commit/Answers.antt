@@ -2,6 +2,7 @@ use Rattle.std.proofs.Common.{rules, ◌≡◌, ◌+◌, ◌<◌, ◌^◌, ◌�
 use Rattle.tied_cells.specs.Machines.{own_key, times}
 use Rattle.tied_cells.specs.Rounds.{behind, in_knot}
 use Rattle.tied_cells.specs.Counts.{count_in, in_counts}
+use Rattle.tied_cells.proofs.Had.{had_set, had_next}
 use Rattle.tied_cells.proofs.Runs.{times-le, history-next}
 use Rattle.tied_cells.proofs.Lent.{due, owed_knot, owed_counts, own-next-of, settled}
 use Rattle.tied_cells.proofs.log.Log.commit.Goals as goal
@@ -61,6 +62,10 @@ invariant_of-self g c =
     let r = g.M.Machine.rules in
     let now = c.args.self.now in
     let pen = c.settle_all.ensures.pen ∙ (c.front.ensures.same ∙ c.append-mine.ensures.appended) in
+    let seat = c.args.seat.now in
+    let key = seat.key in
+    let own = had_set r now.free (now.pen ++ c.args.entry ∷ []) now.knot seat.share.0 (c.value.result.now + 1)
+    (λ small. absurd (omega (arith, key, small))) (had_next r now.free now.pen c.args.entry now.knot now.had) in
     record {
       same = pen ∙ (ap (λ l. l ++ c.args.entry ∷ []) now.same ∙ sym c.push_reserved.ensures.items);
       history = rw pen (history-next r now.pen c.args.entry now.history c.requires.fits);
@@ -69,4 +74,9 @@ invariant_of-self g c =
       counted = λ k small. rw c.settle_all.ensures.pen
           ((settled r c.front.new.pen (in_counts c.settle_all.new.counts) c.settle_all.ensures.counts k
           (count_in c.settle_all.new.counts k) (small, refl)));
+      had = rw c.settle_all.ensures.pen (c.settle_all.ensures.had now.free (rw (
+        c.set.ensures.knot,
+        c.front.ensures.same,
+        c.append-mine.ensures.appended,
+      ) own));
     }

@@ -10,4 +10,5 @@ invariant_of-self g c =
       history = rw s now.history;
       tied = λ k x at. rw s (now.tied k x at);
       counted = λ k small. rw s (now.counted k small);
+      had = rw s now.had;
     }
