@@ -60,6 +60,8 @@ fn turns_of<J: OfHistory + OfTies, R: Wait + Abort>(
     let refused = turned.refused;
     assert_eq!(rt; (refused.key, refused.saw, refused.has), (0, 0, 1));
     assert_eq!(rt; (turned.written, turned.full), (3, true));
+    let lacks = turned.lacks;
+    assert_eq!(rt; lacks, [false, true, false]);
     Ok(())
 }
 

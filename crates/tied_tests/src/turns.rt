@@ -12,8 +12,8 @@ use std::sync::Wait;
 use tied_cells::{Look, Page, Round, RoundCheck, RoundEnd, Seat, Setup, Stale};
 
 /// What two tasks met: the look that went stale, as its key, what it saw and what the pair has; the same of a round
-/// that would have made an entry; the place of the last entry that the second task could make; and whether the first
-/// finds the book full then.
+/// that would have made an entry; the place of the last entry that the second task could make; whether the first
+/// finds the book full then; and whether the book has no page of the pair's key, of the next and of one too great.
 #[derive(Drop)]
 pub struct Turned {
     pub key: u64,
@@ -22,6 +22,7 @@ pub struct Turned {
     pub refused: Stale,
     pub written: u64,
     pub full: bool,
+    pub lacks: [bool; 3],
 }
 
 /// One task looks at the pair, another writes it, and then the first ends a round of this look with no entry, and one
@@ -63,6 +64,9 @@ pub fn take_turns<J: OfHistory + OfTies, R: Wait>(
         Round::new(alloc).check(rt, &kernel.book, &mut one),
         RoundCheck::Full
     );
+    let guard = kernel.book.log.lock(rt);
+    let log = &*guard;
+    let lacks = [log.lacks(PAIR), log.lacks(PAIR + 1), log.lacks(COUNTER + 1)];
     Some(Turned {
         key: stale.key,
         saw: stale.saw,
@@ -70,6 +74,7 @@ pub fn take_turns<J: OfHistory + OfTies, R: Wait>(
         refused,
         written,
         full,
+        lacks,
     })
 }
 
