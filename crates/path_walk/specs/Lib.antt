@@ -1,0 +1,5 @@
+-- What contracts of this crate say.
+pub mod Faults
+pub mod Parts
+pub mod Questions
+pub mod Resolve
