@@ -19,8 +19,10 @@
 
 mod dirs;
 mod error;
+mod moves;
 mod node;
 mod path;
+mod texts;
 
 pub use dirs::Dirs;
 pub use error::{DirErr, WalkErr};
