@@ -1,5 +1,5 @@
 -- What a walk does by one part, in words of the code's own: it goes to a node, onto a link, or has found what it wants.
-use Rattle.std.specs.Prelude.{◌≡◌, ◌<◌, ⊤, Bool, true, false, Result, Ok, Err}
+use Rattle.std.specs.Prelude.{◌≡◌, ◌<◌, ⊤, ℕ, List, Bool, true, false, Option, Some, Result, Ok, Err}
 use Rattle.mount_tree.specs.Mounts.{Places}
 use Rattle.path_walk.specs.declared.error.WalkErr.{WalkErr}
 use Rattle.path_walk.specs.declared.error.WalkErr.TheVariants.{Errno as RefusedFor, Host, Numbers, Memory}
@@ -7,6 +7,7 @@ use Rattle.path_walk.specs.declared.moves.Move.{Move}
 use Rattle.path_walk.specs.declared.moves.Move.TheVariants.{To, Onto, At}
 use Rattle.path_walk.specs.declared.node.NodeId.{NodeId}
 use Rattle.path_walk.specs.declared.node.Want.{Want}
+use Rattle.path_walk.specs.Parts.{part_error}
 use Rattle.path_walk.specs.Questions.{TreeAnswers, Walk, Finds, Refuses, Ends, come_to}
 use Rattle.path_walk.specs.Resolve.{Going}
 
@@ -50,3 +51,11 @@ HasDrawnLate (RefusedFor errno) = ⊤
 HasDrawnLate Host = ⊤
 HasDrawnLate (Numbers ino) = 65536 < ino
 HasDrawnLate Memory = ⊤
+
+-- why a part gave no name: its error, or want of memory
+-- path_resolution(7), ENAMETOOLONG; malloc(3), ENOMEM
+abbrev pub IsPartError : List ℕ → WalkErr → Type 0
+IsPartError part (RefusedFor errno) = part_error part ≡ Some errno
+IsPartError part Host = ⊥
+IsPartError part (Numbers ino) = ⊥
+IsPartError part Memory = ⊤

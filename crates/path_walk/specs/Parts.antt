@@ -4,8 +4,9 @@ use Rattle.std.specs.Prelude.{if◌then◌else◌, unwrap_or}
 use Rattle.std.specs.Str.{bytes_eq}
 use Rattle.sn_errno.specs.declared.errno.Errno.{Errno}
 use Rattle.sn_errno.specs.declared.errno.Errno.TheVariants.{ENOENT, ENAMETOOLONG}
-use Rattle.sn_text.specs.declared.fault.TheConstants.{NAME_MAX}
-use Rattle.sn_text.specs.Names.{has_byte}
+use Rattle.sn_text.specs.declared.fault.NameFault.{NameFault}
+use Rattle.sn_text.specs.declared.fault.NameFault.TheVariants.{Empty, Long, Slash, Nul, Dot, Memory}
+use Rattle.sn_text.specs.Names.{name_fault_of}
 use Rattle.mount_tree.specs.Mounts.{Places, above, root_mount}
 use Rattle.path_walk.specs.declared.node.NodeId.{NodeId}
 use Rattle.path_walk.specs.declared.path.TheConstants.{PATH_MAX}
@@ -18,13 +19,21 @@ path_error path =
     else if nat_lt (length path) PATH_MAX then None
     else Some ENAMETOOLONG
 
--- why a part can be the name of nothing: it is above 255 bytes, or has a NUL, which no name has
+-- why a part can be the name of nothing, from why it is no file name: above 255 bytes, or with a NUL
 -- path_resolution(7), ENAMETOOLONG; a NUL in the text of a link: profile
+abbrev pub name_error : Option NameFault → Option Errno
+name_error None = None
+name_error (Some Empty) = Some ENOENT
+name_error (Some Long) = Some ENAMETOOLONG
+name_error (Some Slash) = Some ENOENT
+name_error (Some Nul) = Some ENOENT
+name_error (Some Dot) = Some ENOENT
+name_error (Some Memory) = Some ENOENT
+
+-- why a part that is neither `.` nor `..` can be the name of nothing
+-- path_resolution(7), ENAMETOOLONG
 abbrev pub part_error : List ℕ → Option Errno
-part_error part =
-    if nat_lt NAME_MAX (length part) then Some ENAMETOOLONG
-    else if has_byte 0 part then Some ENOENT
-    else None
+part_error part = name_error (name_fault_of part)
 
 -- the part stands for the directory itself
 -- POSIX.1-2017, Base Definitions, Dot

@@ -20,6 +20,7 @@
 mod dirs;
 mod error;
 mod moves;
+mod names;
 mod node;
 mod path;
 mod texts;

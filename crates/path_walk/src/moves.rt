@@ -81,6 +81,7 @@ fn mount_at(tree: &MountTree, dir: NodeId, name: &Name) -> Option<u32>
 }
 
 /// The move from a directory by a name.
+#[tactic(auto, using(crate::proofs::Moving::by_found_child))]
 pub(crate) fn by_name<D: Dirs>(
     dirs: &mut D,
     rules: Rules<'_>,

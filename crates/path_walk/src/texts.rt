@@ -1,14 +1,13 @@
 //! What the bytes of a path tell: why it leads nowhere, where it starts, and what its parts stand for.
 
 ghost use Rattle.std.specs.Prelude.{◌≡◌};
-ghost use Rattle.path_walk.specs.Parts.{path_error, part_error, is_dot, is_dot_dot, is_absolute, ends_in_slash};
+ghost use Rattle.path_walk.specs.Parts.{path_error, is_dot, is_dot_dot, is_absolute, ends_in_slash};
 ghost use Rattle.path_walk.specs.Parts.{root_of_mount, is_mount_root, root_directory, above_root, start_of};
 
 use crate::node::NodeId;
 use crate::path::PATH_MAX;
 use mount_tree::MountTree;
 use sn_errno::Errno;
-use sn_text::NAME_MAX;
 
 /// Why a path, or the text of a link, leads nowhere.
 pub(crate) fn path_error(path: &[u8]) -> Option<Errno>
@@ -20,19 +19,6 @@ pub(crate) fn path_error(path: &[u8]) -> Option<Errno>
         None
     } else {
         Some(Errno::ENAMETOOLONG)
-    }
-}
-
-/// Why a part can be the name of nothing.
-pub(crate) fn part_error(part: &[u8]) -> Option<Errno>
-    ensures { result ≡ part_error part.now }
-{
-    if part.len() > NAME_MAX {
-        Some(Errno::ENAMETOOLONG)
-    } else if part.contains(&0) {
-        Some(Errno::ENOENT)
-    } else {
-        None
     }
 }
 
