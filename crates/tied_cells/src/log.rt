@@ -22,8 +22,8 @@ pub struct Wires<M: Machine, J: OfHistory + OfTies> {
     pub ties: Ties<u64, J>,
 }
 
-/// The book's inside: its entries, how many of them touch each part, the pen, the knot, and the least key above those of
-/// the pages that there were at the beginning. The book's lock guards it.
+/// The book's inside: its entries, how many of them touch each part, the pen, the knot, and the least key above those
+/// of the pages that there were at the beginning. The book's lock guards it.
 #[derive(Drop)]
 pub struct Log<M: Machine, J: OfHistory + OfTies> {
     pub entries: Vec<M::Entry>,
@@ -93,8 +93,8 @@ impl<M: Machine, J: OfHistory + OfTies> Log<M, J> {
         }
     }
 
-    /// Whether the book surely has no page of a key: it is above those of the pages that there were at the beginning, and
-    /// below 2^63, and no entry touches it.
+    /// Whether the book surely has no page of a key: it is above those of the pages that there were at the beginning,
+    /// and below 2^63, and no entry touches it.
     pub fn lacks(&self, key: u64) -> bool
         ensures lacks { result ≡ true → value_at key self.now.knot ≡ None }
         ensures touched { result ≡ false → (key < self.now.free) ⊎ (2 ^ 63 ≤ key)
