@@ -1,5 +1,5 @@
 -- What a walk of one part comes to, once a question has its answer.
-use Rattle.std.proofs.Common.{◌≡◌, ℕ, List, Bool, Option, Some, None, Result, Ok, Err, sym, subst}
+use Rattle.std.proofs.Common.{◌≡◌, ℕ, List, Bool, Option, None, Result, Ok, Err, sym, subst}
 use Rattle.path_walk.specs.declared.error.WalkErr.{WalkErr}
 use Rattle.path_walk.specs.declared.error.WalkErr.TheVariants.{Errno as RefusedFor, Host, Numbers, Memory}
 use Rattle.path_walk.specs.declared.moves.Move.{Move}

@@ -1,5 +1,5 @@
 -- What a walk does by one part, in words of the code's own: it goes to a node, onto a link, or has found what it wants.
-use Rattle.std.specs.Prelude.{◌≡◌, ◌<◌, ⊤, ℕ, List, Bool, true, false, Option, Some, Result, Ok, Err}
+use Rattle.std.specs.Prelude.{◌≡◌, ◌<◌, ⊤, ℕ, List, Bool, true, false, Some, Result, Ok, Err}
 use Rattle.mount_tree.specs.Mounts.{Places}
 use Rattle.path_walk.specs.declared.error.WalkErr.{WalkErr}
 use Rattle.path_walk.specs.declared.error.WalkErr.TheVariants.{Errno as RefusedFor, Host, Numbers, Memory}

@@ -125,6 +125,21 @@ by_part going onto dir part slash at_end next =
     else unless_error (part_error part)
     (by_name going onto dir part slash at_end (mount_at going.places dir part) next)
 
+-- the walk from a directory by a part: its owner may search it; a last part whose directory is wanted is not walked to
+-- path_resolution(7), steps 2 and 3
+abbrev pub directory_part : Going → (onto : NodeId → Walk) → NodeId → (part : List ℕ) → (slash at_end : Bool) →
+    (next : NodeId → Walk) → Walk
+directory_part going onto dir part slash at_end next =
+    if at_end && wants_parent going.want then last_part dir part slash
+    else in_searched dir (by_part going onto dir part slash at_end next)
+
+-- the walk from a node, which has to be a directory, by a part
+-- path_resolution(7), ENOTDIR
+abbrev pub walk_part : Going → (onto : NodeId → Walk) → NodeId → (part : List ℕ) → (slash at_end : Bool) →
+    (next : NodeId → Walk) → Walk
+walk_part going onto here part slash at_end next =
+    in_directory here (directory_part going onto here part slash at_end next)
+
 -- a link is followed: from its directory, the link, whether a slash ends the path, and the parts behind it
 -- symlink(7)
 abbrev pub Onto : Type 0
@@ -134,10 +149,9 @@ Onto = NodeId → NodeId → Bool → List (List ℕ) → Walk
 -- path_resolution(7), steps 2 and 3
 unfoldable pub walk_parts : Going → Onto → NodeId → (slash : Bool) → (parts : List (List ℕ)) → Walk
 walk_parts going onto here slash [] = arrives going here slash
-walk_parts going onto here slash (part ∷ rest) = in_directory here (
-    if is_end rest && wants_parent going.want then last_part here part slash
-    else in_searched here (by_part going (λ link. onto here link slash rest) here part slash (is_end rest)
-    (λ next. walk_parts going onto next slash rest)))
+walk_parts going onto here slash (part ∷ rest) =
+    walk_part going (λ link. onto here link slash rest) here part slash (is_end rest)
+    (λ next. walk_parts going onto next slash rest)
 
 -- the walk through the parts of a path, over so many links at most: the text of a link stands in its place
 -- path_resolution(7), step 2 and ELOOP; symlink(7)

@@ -22,6 +22,7 @@ mod error;
 mod moves;
 mod names;
 mod node;
+mod parts;
 mod path;
 mod texts;
 
