@@ -32,7 +32,8 @@ ComesToErr t walk Memory = ⊤
 -- a walk of one part is the move, whatever comes behind it
 -- path_resolution(7), step 2
 abbrev pub Moves : TreeAnswers → ((onto next : NodeId → Walk) → Walk) → Result Move WalkErr → Type 0
-Moves t walk (Ok move) = (onto next : NodeId → Walk) → come_to t (walk onto next) ≡ come_to t (after_move onto next move)
+Moves t walk (Ok move) =
+    (onto next : NodeId → Walk) → come_to t (walk onto next) ≡ come_to t (after_move onto next move)
 Moves t walk (Err err) = (onto next : NodeId → Walk) → ComesToErr t (walk onto next) err
 
 -- the host failed in a walk

@@ -8,6 +8,10 @@
 //! the walk by a path (`walk_by_path`). Links are counted once for a whole path. The errors of a part come in the order
 //! ENOTDIR, EACCES, ENAMETOOLONG, ENOENT, and of a link ELOOP before what its text is refused for.
 //!
+//! Proved: the move by one part of a path, over any that answers its questions, is that of the definition in each tree
+//! that the answers can stand for (`moves`); a failure is a rise of the count (`faults`). The walk along a whole path
+//! is defined, and no function of this crate does it yet.
+//!
 //! Asked of who answers (`Dirs`): an answer holds in each tree that the answers can stand for from then on (`child`,
 //! `text`), want of memory leaves these trees as they were (`memory`), and a failure is a rise of the count (`faults`).
 //!

@@ -4,7 +4,7 @@ ghost use Rattle.std.specs.Prelude.{◌≡◌, ◌&&◌, IfErr, false};
 ghost use Rattle.sn_base.specs.Faults.{HasCause};
 ghost use Rattle.path_walk.specs.Moves.{Moves, going_by, walk_met_host, HasDrawnLate};
 ghost use Rattle.path_walk.specs.Questions.{TreeAnswers};
-ghost use Rattle.path_walk.specs.Resolve.{by_part, directory_part, in_searched, is_dir, last_part, walk_part, wants_parent};
+ghost use Rattle.path_walk.specs.Resolve.{arrives, by_part, directory_part, in_searched, is_dir, last_part, walk_part, wants_parent};
 
 use crate::dirs::Dirs;
 use crate::error::WalkErr;
@@ -143,4 +143,26 @@ pub(crate) fn walk_part<D: Dirs>(
         return Err(WalkErr::Errno(Errno::ENOTDIR));
     }
     directory_part(alloc, dirs, rules, here, part, behind)
+}
+
+/// What a walk comes to where no part is left: the node, which is a directory where a slash ends the path; and where
+/// its directory is wanted, no name.
+pub(crate) fn arrives<D: Dirs>(
+    dirs: &D,
+    rules: Rules<'_>,
+    here: NodeId,
+    slash: bool,
+) -> Result<Move, WalkErr>
+    ensures moves { (t : TreeAnswers) → D.stands_for dirs.now t → Moves t (λ onto next.
+        arrives (going_by rules.entry.tree.now rules.entry.want rules.entry.follow) here slash) result }
+    ensures faults { walk_met_host result ≡ false }
+    ensures numbers { IfErr result HasDrawnLate }
+{
+    if rules.want == Want::Parent {
+        return Ok(Move::At(Found::NoName(NoName::Root)));
+    }
+    if slash && dirs.kind(here) != Kind::Dir {
+        return Err(WalkErr::Errno(Errno::ENOTDIR));
+    }
+    Ok(Move::At(Found::Node(here)))
 }
