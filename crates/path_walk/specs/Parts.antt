@@ -1,6 +1,6 @@
 -- Paths and their parts, as a walk takes them: where they start, what ends them, and which can be no name.
 use Rattle.std.specs.Prelude.{ℕ, nat_eq, nat_lt, List, [], ◌∷◌, length, Bool, false, ◌||◌, ◌==◌, Option, Some, None}
-use Rattle.std.specs.Prelude.{if◌then◌else◌, unwrap_or}
+use Rattle.std.specs.Prelude.{◌-◌, slice_index_or, if◌then◌else◌, unwrap_or}
 use Rattle.std.specs.Str.{bytes_eq}
 use Rattle.sn_errno.specs.declared.errno.Errno.{Errno}
 use Rattle.sn_errno.specs.declared.errno.Errno.TheVariants.{ENOENT, ENAMETOOLONG}
@@ -54,9 +54,7 @@ is_absolute (byte ∷ path) = nat_eq byte 47
 -- the path ends with a slash
 -- path_resolution(7), trailing slashes
 abbrev pub ends_in_slash : List ℕ → Bool
-ends_in_slash [] = false
-ends_in_slash (byte ∷ []) = nat_eq byte 47
-ends_in_slash (byte ∷ next ∷ path) = ends_in_slash (next ∷ path)
+ends_in_slash path = nat_eq (slice_index_or path (length path - 1) 0) 47
 
 -- the root directory of a mount has the number of the mount
 -- profile

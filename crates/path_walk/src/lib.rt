@@ -23,6 +23,7 @@
 
 mod dirs;
 mod error;
+mod left;
 mod moves;
 mod names;
 mod node;
